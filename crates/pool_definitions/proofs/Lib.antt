@@ -1,0 +1,7 @@
+pub mod Sums
+pub mod Orders
+pub mod Weights
+pub mod OneStage
+pub mod AllPanels
+pub mod Greatest
+pub mod Increasing

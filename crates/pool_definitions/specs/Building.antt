@@ -1,0 +1,96 @@
+-- Building a pool step by step: what each step adds, and which kinds of fault a step may have. The numbers of the kinds
+-- are those of a faulty pool text. Of several kinds that hold the lowest is the answer.
+use Rattle.std.specs.Prelude.{ℕ, ◌+◌, ◌==◌, nat_lt, nat_le, if◌then◌else◌, Bool, true, not, ◌&&◌, ◌||◌, List, [], ◌∷◌, ◌++◌, map, length, bytes_eq, Option, Some, None, unwrap_or, option_map}
+use Rattle.pool_definitions.specs.declared.Standing.TheVariants.{Open}
+use Rattle.pool_definitions.specs.Lists.{stands}
+use Rattle.pool_definitions.specs.Pool.{Pool, Category, BoundedValue, Volunteer, is_size, are_bounds, keeps_name_limits}
+
+-- the lowest kind that holds, of kinds in rising order
+abbrev pub lowest_kind : List (ℕ × Bool) → Option ℕ
+lowest_kind [] = None
+lowest_kind ((kind, holds) ∷ rest) = if holds then Some kind else lowest_kind rest
+
+abbrev pub category_names : List Category → List (List ℕ)
+category_names categories = map (λ category. category.name) categories
+
+abbrev pub value_names : List BoundedValue → List (List ℕ)
+value_names values = map (λ value. value.name) values
+
+abbrev pub ids : List Volunteer → List (List ℕ)
+ids volunteers = map (λ volunteer. volunteer.id) volunteers
+
+-- the values of the last category
+abbrev pub last_values : List Category → List BoundedValue
+last_values [] = []
+last_values (category ∷ []) = category.values
+last_values (category ∷ next ∷ later) = last_values (next ∷ later)
+
+-- a value at the end of the last category
+abbrev pub with_value : List Category → BoundedValue → List Category
+with_value [] value = []
+with_value (category ∷ []) value = record category { values = category.values ++ value ∷ [] } ∷ []
+with_value (category ∷ next ∷ later) value = category ∷ with_value (next ∷ later) value
+
+-- the place of a value's name
+abbrev pub place_of : List BoundedValue → List ℕ → Option ℕ
+place_of [] name = None
+place_of (value ∷ values) name = if bytes_eq value.name name then Some 0 else option_map (λ place. place + 1) (place_of values name)
+
+-- for each category the place of the name given for it
+abbrev pub places_of : List Category → List (List ℕ) → List ℕ
+places_of [] names = []
+places_of (category ∷ categories) [] = []
+places_of (category ∷ categories) (name ∷ names) = unwrap_or (place_of category.values name) 0 ∷ places_of categories names
+
+-- each name that is given for a category is one of its values
+abbrev pub are_known : List Category → List (List ℕ) → Bool
+are_known [] names = true
+are_known (category ∷ categories) [] = true
+are_known (category ∷ categories) (name ∷ names) = stands (value_names category.values) name && are_known categories names
+
+-- a pool before anything is added
+abbrev pub empty_pool : ℕ → Pool
+empty_pool size = record { size = size; categories = []; volunteers = [] }
+
+-- 2: the size is out of range
+abbrev pub size_kind : ℕ → Option ℕ
+size_kind size = lowest_kind ((2, not (is_size size)) ∷ [])
+
+abbrev pub category_added : Pool → List ℕ → Pool
+category_added pool name = record pool { categories = pool.categories ++ record { name = name; values = [] } ∷ [] }
+
+-- 1: volunteers are there; 3: the name stood before; 10: no such name may be, or a 21st category
+abbrev pub category_kind : Pool → List ℕ → Option ℕ
+category_kind pool name = lowest_kind (
+    (1, nat_lt 0 (length pool.volunteers))
+    ∷ (3, stands (category_names pool.categories) name)
+    ∷ (10, not (keeps_name_limits name) || nat_le 20 (length pool.categories))
+    ∷ [])
+
+abbrev pub value_added : Pool → BoundedValue → Pool
+value_added pool value = record pool { categories = with_value pool.categories value }
+
+-- 1: no category is there, or volunteers are; 4: the name stood before in the last category; 5: the bounds are out of
+-- order or range; 10: no such name may be, or a 51st value
+abbrev pub value_kind : Pool → BoundedValue → Option ℕ
+value_kind pool value = lowest_kind (
+    (1, length pool.categories == 0 || nat_lt 0 (length pool.volunteers))
+    ∷ (4, stands (value_names (last_values pool.categories)) value.name)
+    ∷ (5, not (are_bounds value.lower value.upper))
+    ∷ (10, not (keeps_name_limits value.name) || nat_le 50 (length (last_values pool.categories)))
+    ∷ [])
+
+-- a volunteer with the values of these names
+abbrev pub volunteer_added : Pool → List ℕ → List (List ℕ) → Pool
+volunteer_added pool id names =
+    record pool { volunteers = pool.volunteers ++ record { id = id; values = places_of pool.categories names; standing = Open } ∷ [] }
+
+-- 6: a name given for a category is none of its values; 7: not one name per category; 8: the id stood before; 10: no such
+-- id may be, or a 401st volunteer
+abbrev pub volunteer_kind : Pool → List ℕ → List (List ℕ) → Option ℕ
+volunteer_kind pool id names = lowest_kind (
+    (6, not (are_known pool.categories names))
+    ∷ (7, not (length names == length pool.categories))
+    ∷ (8, stands (ids pool.volunteers) id)
+    ∷ (10, not (keeps_name_limits id) || nat_le 400 (length pool.volunteers))
+    ∷ [])

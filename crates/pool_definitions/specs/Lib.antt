@@ -1,0 +1,6 @@
+pub mod Lists
+pub mod Pool
+pub mod Building
+pub mod Lottery
+pub mod Certificate
+pub mod WorkedExamples

@@ -1,0 +1,100 @@
+-- Small pools with their lotteries and certificates, on which the definitions compute.
+use Rattle.std.specs.Prelude.{ℕ, List, [], ◌∷◌, ℤ, pos, negsuc, codes}
+use Rattle.pool_definitions.specs.declared.Standing.TheVariants.{Open}
+use Rattle.pool_definitions.specs.Pool.{BoundedValue, Category, Volunteer, Pool}
+use Rattle.pool_definitions.specs.Lottery.{Row, Lottery}
+use Rattle.pool_definitions.specs.Certificate.{Stage}
+
+-- an open volunteer with the places of the values
+abbrev pub person : List ℕ → List ℕ → Volunteer
+person id values = record { id = id; values = values; standing = Open }
+
+-- a value with its bounds
+abbrev pub bounded : List ℕ → ℕ → ℕ → BoundedValue
+bounded name lower upper = record { name = name; lower = lower; upper = upper }
+
+abbrev pub category : List ℕ → List BoundedValue → Category
+category name values = record { name = name; values = values }
+
+-- a panel with its weight
+abbrev pub row : List ℕ → ℕ → Row
+row panel weight = record { panel = panel; weight = weight }
+
+abbrev pub stage : ℤ → List ℤ → Stage
+stage cap weights = record { cap = cap; weights = weights }
+
+-- two women and two men, one of each to be chosen
+abbrev pub four : Pool
+four = record {
+  size = 2;
+  categories = category (codes "gender") (bounded (codes "female") 1 1 ∷ bounded (codes "male") 1 1 ∷ []) ∷ [];
+  volunteers = person (codes "a") (0 ∷ []) ∷ person (codes "b") (0 ∷ []) ∷ person (codes "c") (1 ∷ []) ∷ person (codes "d") (1 ∷ []) ∷ [];
+}
+
+abbrev pub four_lottery : Lottery
+four_lottery = record { total = 2; rows = row (0 ∷ 2 ∷ []) 1 ∷ row (1 ∷ 3 ∷ []) 1 ∷ [] }
+
+abbrev pub four_stages : List Stage
+four_stages =
+    stage (pos 1) (pos 1 ∷ pos 1 ∷ pos 0 ∷ pos 0 ∷ []) ∷
+    stage (pos 0) (negsuc 0 ∷ negsuc 0 ∷ pos 1 ∷ pos 1 ∷ []) ∷ []
+
+-- one panel of the four
+abbrev pub four_single : Lottery
+four_single = record { total = 1; rows = row (0 ∷ 2 ∷ []) 1 ∷ [] }
+
+-- one seat, which a may not have
+abbrev pub barred : Pool
+barred = record {
+  size = 1;
+  categories = category (codes "value") (bounded (codes "x") 0 0 ∷ bounded (codes "y") 0 1 ∷ []) ∷ [];
+  volunteers = person (codes "a") (0 ∷ []) ∷ person (codes "b") (1 ∷ []) ∷ person (codes "c") (1 ∷ []) ∷ [];
+}
+
+abbrev pub barred_lottery : Lottery
+barred_lottery = record { total = 2; rows = row (1 ∷ []) 1 ∷ row (2 ∷ []) 1 ∷ [] }
+
+abbrev pub barred_stages : List Stage
+barred_stages =
+    stage (pos 0) (pos 1 ∷ pos 0 ∷ pos 0 ∷ []) ∷
+    stage (pos 1) (negsuc 1 ∷ pos 1 ∷ pos 1 ∷ []) ∷ []
+
+-- two women are asked for, and one is there
+abbrev pub short : Pool
+short = record {
+  size = 2;
+  categories = category (codes "gender") (bounded (codes "female") 2 2 ∷ bounded (codes "male") 0 2 ∷ []) ∷ [];
+  volunteers = person (codes "a") (0 ∷ []) ∷ person (codes "b") (1 ∷ []) ∷ person (codes "c") (1 ∷ []) ∷ [];
+}
+
+-- one seat, for which one category asks for a and the other for b
+abbrev pub crossed : Pool
+crossed = record {
+  size = 1;
+  categories = category (codes "one") (bounded (codes "x") 1 1 ∷ bounded (codes "y") 0 1 ∷ []) ∷ category (codes "two") (bounded (codes "p") 1 1 ∷ bounded (codes "q") 0 1 ∷ []) ∷ [];
+  volunteers = person (codes "a") (0 ∷ 1 ∷ []) ∷ person (codes "b") (1 ∷ 0 ∷ []) ∷ [];
+}
+
+-- no category and no volunteer
+abbrev pub nobody : Pool
+nobody = record {
+  size = 1;
+  categories = [];
+  volunteers = [];
+}
+
+-- two seats for two volunteers
+abbrev pub pair : Pool
+pair = record {
+  size = 2;
+  categories = category (codes "gender") (bounded (codes "female") 0 2 ∷ bounded (codes "male") 0 2 ∷ []) ∷ [];
+  volunteers = person (codes "a") (0 ∷ []) ∷ person (codes "b") (1 ∷ []) ∷ [];
+}
+
+abbrev pub pair_lottery : Lottery
+pair_lottery = record { total = 1; rows = row (0 ∷ 1 ∷ []) 1 ∷ [] }
+
+abbrev pub pair_stages : List Stage
+pair_stages =
+    stage (pos 1) (pos 1 ∷ pos 0 ∷ []) ∷
+    stage (pos 0) (negsuc 0 ∷ pos 1 ∷ []) ∷ []
