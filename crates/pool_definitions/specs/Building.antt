@@ -34,7 +34,7 @@ with_value (category ∷ next ∷ later) value = category ∷ with_value (next �
 -- the place of a value's name
 abbrev pub place_of : List BoundedValue → List ℕ → Option ℕ
 place_of [] name = None
-place_of (value ∷ values) name = if bytes_eq value.name name then Some 0 else option_map (λ place. place + 1) (place_of values name)
+place_of (value ∷ values) name = if bytes_eq name value.name then Some 0 else option_map (λ place. place + 1) (place_of values name)
 
 -- for each category the place of the name given for it
 abbrev pub places_of : List Category → List (List ℕ) → List ℕ
