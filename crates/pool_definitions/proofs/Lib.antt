@@ -5,3 +5,4 @@ pub mod OneStage
 pub mod AllPanels
 pub mod Greatest
 pub mod Increasing
+pub mod BuildingLemmas

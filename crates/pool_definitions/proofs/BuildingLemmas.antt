@@ -1,0 +1,230 @@
+-- What is added to a pool where no kind of fault holds keeps what each pool keeps.
+use Rattle.std.proofs.Common.{◌≡◌, ℕ, suc, ◌+◌, ◌<◌, Bool, true, false, cond, eqb, ltb, leb, not, ◌&&◌, ◌||◌, List, [], ◌∷◌, ◌++◌, length, Option, Some, None, option_map, unwrap_or, refl, sym, ap, ◌∙◌, arith}
+use Rattle.std.specs.List.{list_all}
+use Rattle.std.specs.Str.{is_utf8, bytes_eq}
+use Rattle.std.proofs.lemmas.Bool.{false≢true, and_parts, and_from, or_parts, or_from, not-true, not-false, not_from_false, ltb-false, leb-false, eqb-true, eqb-false, le-leb, lt-ltb}
+use Rattle.std.proofs.lemmas.Bool.Decides.{same_from_decides}
+use Rattle.std.proofs.lemmas.Slice.Eq.{bytes_eq-Decides}
+use Rattle.std.proofs.lemmas.List.{length_push, map_push, nil_from_length}
+use Rattle.std.proofs.lemmas.List.Folds.{list_all-append, list_any-append}
+use Rattle.pool_definitions.specs.declared.Standing.TheVariants.{Open}
+use Rattle.pool_definitions.specs.Lists.{stands, all_different}
+use Rattle.pool_definitions.specs.Pool.{BoundedValue, Category, Volunteer, Pool, keeps_name_limits, is_name, is_size, are_bounds, is_value, is_category, has_values, IsPool}
+use Rattle.pool_definitions.specs.Building.{category_names, value_names, ids, last_values, with_value, place_of, places_of, are_known, empty_pool, size_kind, category_added, category_kind, value_added, value_kind, volunteer_added, volunteer_kind}
+
+-- where no kind is answered the first test is false, and the others answer none
+pub no_kind : (test : Bool) (kind : ℕ) (rest : Option ℕ) → cond test (Some kind) rest ≡ None → (test ≡ false) × (rest ≡ None)
+no_kind true kind rest h = cc
+no_kind false kind rest h = (refl, h)
+
+pub same_bytes_comm : (xs ys : List ℕ) → bytes_eq xs ys ≡ bytes_eq ys xs
+same_bytes_comm xs ys =
+    let there = bytes_eq-Decides ys xs in
+    same_from_decides (bytes_eq xs ys) (bytes_eq ys xs) (bytes_eq-Decides xs ys) (λ e. sym (there.0 e), λ e. there.1 (sym e))
+
+-- a list that does not stand among different lists may follow them
+pub all_different_push : (xss : List (List ℕ)) (xs : List ℕ) → all_different xss ≡ true → stands xss xs ≡ false → all_different (xss ++ xs ∷ []) ≡ true
+all_different_push [] xs h k = refl
+all_different_push (ys ∷ yss) xs h k =
+    let parts = and_parts (not (stands yss ys)) (all_different yss) h in
+    let apart = or_parts (bytes_eq xs ys) (stands yss xs) k in
+    let other : bytes_eq ys xs ≡ false = same_bytes_comm ys xs ∙ apart.0 in
+    let none : stands (yss ++ xs ∷ []) ys ≡ false = list_any-append (bytes_eq ys) yss (xs ∷ []) ∙ or_from (stands yss ys) (bytes_eq ys xs || false) (not-true (stands yss ys) parts.0) (or_from (bytes_eq ys xs) false other refl) in
+    and_from (not (stands (yss ++ xs ∷ []) ys)) (all_different (yss ++ xs ∷ [])) (not_from_false (stands (yss ++ xs ∷ []) ys) none) (all_different_push yss xs parts.1 apart.1)
+
+-- a test of each element holds of one more
+pub list_all_push : {X : Type 0} (p : X → Bool) (xs : List X) (x : X) → list_all p xs ≡ true → p x ≡ true → list_all p (xs ++ x ∷ []) ≡ true
+list_all_push p xs x h k =
+    list_all-append p xs (x ∷ []) ∙ and_from (list_all p xs) (p x && true) h (and_from (p x) true k refl)
+
+-- the last test of each kind: no such name may be, or too many are there
+limits_and_room : (name : List ℕ) (limit count : ℕ) → (not (keeps_name_limits name) || leb limit count) ≡ false → (keeps_name_limits name ≡ true) × (count < limit)
+limits_and_room name limit count h =
+    let parts = or_parts (not (keeps_name_limits name)) (leb limit count) h in
+    (not-false (keeps_name_limits name) parts.0, leb-false limit count parts.1)
+
+-- with no kind of a size the empty pool is one
+pub IsPool-empty_pool : (size : ℕ) → size_kind size ≡ None → IsPool (empty_pool size)
+IsPool-empty_pool size h = record {
+  size = not-false (is_size size) (no_kind _ _ _ h).0;
+  few_categories = refl;
+  categories = refl;
+  different_categories = refl;
+  few_volunteers = refl;
+  ids = refl;
+  different_ids = refl;
+  values = refl;
+}
+
+-- what no kind says of a category
+pub record CategoryFits (pool : Pool) (name : List ℕ) : Type 0 where
+  pub nobody : pool.volunteers ≡ []
+  pub new : stands (category_names pool.categories) name ≡ false
+  pub limits : keeps_name_limits name ≡ true
+  pub room : length pool.categories < 20
+
+pub category_fits : (pool : Pool) (name : List ℕ) → category_kind pool name ≡ None → CategoryFits pool name
+category_fits pool name h =
+    let first = no_kind _ _ _ h in
+    let second = no_kind _ _ _ first.1 in
+    let third = no_kind _ _ _ second.1 in
+    let last = limits_and_room name 20 (length pool.categories) third.0 in
+    let none = ltb-false 0 (length pool.volunteers) first.0 in
+    record { nobody = nil_from_length pool.volunteers (omega arith); new = second.0; limits = last.0; room = last.1 }
+
+pub IsPool-category_added : (pool : Pool) (name : List ℕ) → IsPool pool → category_kind pool name ≡ None → is_utf8 name ≡ true → IsPool (category_added pool name)
+IsPool-category_added pool name p kind utf8 =
+    let fits = category_fits pool name kind in
+    let category : Category = record { name = name; values = [] } in
+    let named = and_from (keeps_name_limits name) (is_utf8 name) fits.limits utf8 in
+    let right = and_from (is_name name && true && true) true (and_from (is_name name && true) true (and_from (is_name name) true named refl) refl) refl in
+    record {
+      size = p.size;
+      few_categories = le-leb (length (pool.categories ++ category ∷ [])) 20 (omega (arith, length_push pool.categories category, fits.room));
+      categories = list_all_push is_category pool.categories category p.categories right;
+      different_categories = rw (map_push (λ (c : Category). c.name) pool.categories category) (all_different_push (category_names pool.categories) name p.different_categories fits.new);
+      few_volunteers = p.few_volunteers;
+      ids = p.ids;
+      different_ids = p.different_ids;
+      values = rw fits.nobody refl;
+    }
+
+-- a value added to the last category
+length-with_value : (categories : List Category) (value : BoundedValue) → length (with_value categories value) ≡ length categories
+length-with_value [] value = refl
+length-with_value (category ∷ []) value = refl
+length-with_value (category ∷ (next ∷ later)) value = ap suc (length-with_value (next ∷ later) value)
+
+category_names-with_value : (categories : List Category) (value : BoundedValue) → category_names (with_value categories value) ≡ category_names categories
+category_names-with_value [] value = refl
+category_names-with_value (category ∷ []) value = refl
+category_names-with_value (category ∷ (next ∷ later)) value = ap (λ names. category.name ∷ names) (category_names-with_value (next ∷ later) value)
+
+-- one more value, of a new name, in a category
+is_category_push : (category : Category) (value : BoundedValue) → is_category category ≡ true → is_value value ≡ true → stands (value_names category.values) value.name ≡ false → length category.values < 50 →
+    is_category (record category { values = category.values ++ value ∷ [] }) ≡ true
+is_category_push category value h good new room =
+    let A = is_name category.name in let B = leb (length category.values) 50 in let C = all_different (value_names category.values) in let D = list_all is_value category.values in
+    let d = and_parts (A && B && C) D h in let c = and_parts (A && B) C d.0 in let b = and_parts A B c.0 in
+    let values = category.values ++ value ∷ [] in
+    let few = le-leb (length values) 50 (omega (arith, length_push category.values value, room)) in
+    let apart : all_different (value_names values) ≡ true = rw (map_push (λ (v : BoundedValue). v.name) category.values value) (all_different_push (value_names category.values) value.name c.1 new) in
+    and_from (A && leb (length values) 50 && all_different (value_names values)) (list_all is_value values)
+    (and_from (A && leb (length values) 50) (all_different (value_names values)) (and_from A (leb (length values) 50) b.0 few) apart)
+    (list_all_push is_value category.values value d.1 good)
+
+categories_with_value : (categories : List Category) (value : BoundedValue) → list_all is_category categories ≡ true → is_value value ≡ true → stands (value_names (last_values categories)) value.name ≡ false → length (last_values categories) < 50 →
+    list_all is_category (with_value categories value) ≡ true
+categories_with_value [] value h good new room = refl
+categories_with_value (category ∷ []) value h good new room =
+    let parts = and_parts (is_category category) true h in
+    and_from (is_category (record category { values = category.values ++ value ∷ [] })) true (is_category_push category value parts.0 good new room) refl
+categories_with_value (category ∷ (next ∷ later)) value h good new room =
+    let parts = and_parts (is_category category) (list_all is_category (next ∷ later)) h in
+    and_from (is_category category) (list_all is_category (with_value (next ∷ later) value)) parts.0 (categories_with_value (next ∷ later) value parts.1 good new room)
+
+-- what no kind says of a value
+pub record ValueFits (pool : Pool) (value : BoundedValue) : Type 0 where
+  pub some : 0 < length pool.categories
+  pub nobody : pool.volunteers ≡ []
+  pub new : stands (value_names (last_values pool.categories)) value.name ≡ false
+  pub bounds : are_bounds value.lower value.upper ≡ true
+  pub limits : keeps_name_limits value.name ≡ true
+  pub room : length (last_values pool.categories) < 50
+
+pub value_fits : (pool : Pool) (value : BoundedValue) → value_kind pool value ≡ None → ValueFits pool value
+value_fits pool value h =
+    let first = no_kind _ _ _ h in
+    let second = no_kind _ _ _ first.1 in
+    let third = no_kind _ _ _ second.1 in
+    let fourth = no_kind _ _ _ third.1 in
+    let last = limits_and_room value.name 50 (length (last_values pool.categories)) fourth.0 in
+    let place = or_parts (eqb (length pool.categories) 0) (ltb 0 (length pool.volunteers)) first.0 in
+    let none = ltb-false 0 (length pool.volunteers) place.1 in
+    record {
+      some = not_zero (length pool.categories) place.0;
+      nobody = nil_from_length pool.volunteers (omega arith);
+      new = second.0;
+      bounds = not-false (are_bounds value.lower value.upper) third.0;
+      limits = last.0;
+      room = last.1;
+    }
+  where
+    not_zero : (n : ℕ) → eqb n 0 ≡ false → 0 < n
+    not_zero n e = grind (arith, eqb-false)
+
+pub IsPool-value_added : (pool : Pool) (value : BoundedValue) → IsPool pool → value_kind pool value ≡ None → is_utf8 value.name ≡ true → IsPool (value_added pool value)
+IsPool-value_added pool value p kind utf8 =
+    let fits = value_fits pool value kind in
+    let named = and_from (keeps_name_limits value.name) (is_utf8 value.name) fits.limits utf8 in
+    record {
+      size = p.size;
+      few_categories = rw (length-with_value pool.categories value) p.few_categories;
+      categories = categories_with_value pool.categories value p.categories (and_from (is_name value.name) (are_bounds value.lower value.upper) named fits.bounds) fits.new fits.room;
+      different_categories = rw (category_names-with_value pool.categories value) p.different_categories;
+      few_volunteers = p.few_volunteers;
+      ids = p.ids;
+      different_ids = p.different_ids;
+      values = rw fits.nobody refl;
+    }
+
+-- a value that stands in a category has a place there
+pub place_at : (values : List BoundedValue) (name : List ℕ) → stands (value_names values) name ≡ true → (place : ℕ) × (place_of values name ≡ Some place) × (place < length values)
+place_at [] name h = absurd (false≢true h)
+place_at (value ∷ values) name h =
+    (elim (bytes_eq value.name name) as (λ b. bytes_eq value.name name ≡ b → (place : ℕ) × (cond b (Some 0) (option_map (λ p. p + 1) (place_of values name)) ≡ Some place) × (place < suc (length values))) [
+      | true ↦ λ e. (0, refl, omega arith)
+      | false ↦ λ e.
+          let other : bytes_eq name value.name ≡ false = same_bytes_comm name value.name ∙ e in
+          let stood : (bytes_eq name value.name || stands (value_names values) name) ≡ true = h in
+          let rest = place_at values name (rw other at stood) in
+          (rest.0 + 1, ap (option_map (λ p. p + 1)) rest.1, let l = rest.2 in omega arith)
+    ]) refl
+
+-- known names give a place in each category
+has_values_places : (categories : List Category) (names : List (List ℕ)) → are_known categories names ≡ true → length names ≡ length categories → has_values categories (places_of categories names) ≡ true
+has_values_places [] names h k = refl
+has_values_places (category ∷ categories) [] h k = absurd (omega arith)
+has_values_places (category ∷ categories) (name ∷ names) h k =
+    let parts = and_parts (stands (value_names category.values) name) (are_known categories names) h in
+    let found = place_at category.values name parts.0 in
+    let here : ltb (unwrap_or (place_of category.values name) 0) (length category.values) ≡ true = rw found.1 (lt-ltb found.0 (length category.values) found.2) in
+    and_from (ltb (unwrap_or (place_of category.values name) 0) (length category.values)) (has_values categories (places_of categories names)) here (has_values_places categories names parts.1 (omega arith))
+
+-- what no kind says of a volunteer
+pub record VolunteerFits (pool : Pool) (id : List ℕ) (names : List (List ℕ)) : Type 0 where
+  pub known : are_known pool.categories names ≡ true
+  pub each : length names ≡ length pool.categories
+  pub new : stands (ids pool.volunteers) id ≡ false
+  pub limits : keeps_name_limits id ≡ true
+  pub room : length pool.volunteers < 400
+
+pub volunteer_fits : (pool : Pool) (id : List ℕ) (names : List (List ℕ)) → volunteer_kind pool id names ≡ None → VolunteerFits pool id names
+volunteer_fits pool id names h =
+    let first = no_kind _ _ _ h in
+    let second = no_kind _ _ _ first.1 in
+    let third = no_kind _ _ _ second.1 in
+    let fourth = no_kind _ _ _ third.1 in
+    let last = limits_and_room id 400 (length pool.volunteers) fourth.0 in
+    record {
+      known = not-false (are_known pool.categories names) first.0;
+      each = eqb-true (length names) (length pool.categories) (not-false (eqb (length names) (length pool.categories)) second.0);
+      new = third.0;
+      limits = last.0;
+      room = last.1;
+    }
+
+pub IsPool-volunteer_added : (pool : Pool) (id : List ℕ) (names : List (List ℕ)) → IsPool pool → volunteer_kind pool id names ≡ None → is_utf8 id ≡ true → IsPool (volunteer_added pool id names)
+IsPool-volunteer_added pool id names p kind utf8 =
+    let fits = volunteer_fits pool id names kind in
+    let volunteer : Volunteer = record { id = id; values = places_of pool.categories names; standing = Open } in
+    record {
+      size = p.size;
+      few_categories = p.few_categories;
+      categories = p.categories;
+      different_categories = p.different_categories;
+      few_volunteers = le-leb (length (pool.volunteers ++ volunteer ∷ [])) 400 (omega (arith, length_push pool.volunteers volunteer, fits.room));
+      ids = list_all_push (λ (v : Volunteer). is_name v.id) pool.volunteers volunteer p.ids (and_from (keeps_name_limits id) (is_utf8 id) fits.limits utf8);
+      different_ids = rw (map_push (λ (v : Volunteer). v.id) pool.volunteers volunteer) (all_different_push (ids pool.volunteers) id p.different_ids fits.new);
+      values = list_all_push (λ (v : Volunteer). has_values pool.categories v.values) pool.volunteers volunteer p.values (has_values_places pool.categories names fits.known fits.each);
+    }
