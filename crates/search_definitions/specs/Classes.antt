@@ -1,0 +1,68 @@
+-- Classes of volunteers.
+use Rattle.std.specs.Prelude.{ℕ, ◌==◌, Bool, not, List, map, length, filter}
+use Rattle.std.specs.List.{list_any, range_with_len}
+use Rattle.pool_definitions.specs.declared.Standing.{Standing}
+use Rattle.pool_definitions.specs.declared.Standing.TheVariants.{Open, Seated, Gone}
+use Rattle.pool_definitions.specs.Pool.{Category, Pool, volunteer}
+
+-- volunteers with the same values and standing
+pub record Class : Type 0 where
+  -- their numbers, rising
+  pub members : List ℕ
+  -- for each category the place of their value
+  pub values : List ℕ
+  -- the least and the greatest number of them that a panel may have
+  pub least : ℕ
+  pub most : ℕ
+
+-- what a search for panels goes through: the size of a panel, the categories with their bounds, and the classes
+pub record Classes : Type 0 where
+  pub size : ℕ
+  pub categories : List Category
+  pub classes : List Class
+
+-- the seated are on each panel, the gone on none
+abbrev pub least_taken : Standing → ℕ → ℕ
+least_taken Open size = 0
+least_taken Seated size = size
+least_taken Gone size = 0
+
+abbrev pub most_taken : Standing → ℕ → ℕ
+most_taken Open size = size
+most_taken Seated size = size
+most_taken Gone size = 0
+
+-- the first member of each class: nobody before is alike
+abbrev pub leaders : (ℕ → ℕ → Bool) → ℕ → List ℕ
+leaders alike count = filter (λ i. not (list_any (λ j. alike j i) (range_with_len 0 i))) (range_with_len 0 count)
+
+-- all who are alike to a leader, in number order
+abbrev pub class_of : (ℕ → ℕ → Bool) → ℕ → ℕ → List ℕ
+class_of alike count leader = filter (alike leader) (range_with_len 0 count)
+
+-- the class of a leader
+abbrev pub class_by : (ℕ → ℕ → Bool) → Pool → ℕ → Class
+class_by alike pool leader =
+    let members = class_of alike (length pool.volunteers) leader in
+    record {
+      members = members;
+      values = (volunteer pool.volunteers leader).values;
+      least = least_taken (volunteer pool.volunteers leader).standing (length members);
+      most = most_taken (volunteer pool.volunteers leader).standing (length members);
+    }
+
+-- the classes of a pool, in the order of their first members, where a test says who is alike
+abbrev pub classes_by : (ℕ → ℕ → Bool) → Pool → Classes
+classes_by alike pool = record {
+  size = pool.size;
+  categories = pool.categories;
+  classes = map (class_by alike pool) (leaders alike (length pool.volunteers));
+}
+
+-- each volunteer is a class alone
+abbrev pub are_alike : Pool → ℕ → ℕ → Bool
+are_alike pool i j = i == j
+
+-- the classes of a pool
+abbrev pub classes_of : Pool → Classes
+classes_of pool = classes_by (are_alike pool) pool

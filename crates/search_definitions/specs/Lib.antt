@@ -1,0 +1,5 @@
+pub mod Classes
+pub mod Compositions
+pub mod Fronts
+pub mod Visits
+pub mod WorkedSearches

@@ -1,0 +1,33 @@
+//! The words of the search for panels: classes of volunteers and compositions, fronts and which of them are live, the
+//! searches and their visits. They stand in `specs/`, over the words of `pool_definitions` and the rows of
+//! `row_definitions`.
+//!
+//! The functions here have no body: their contracts are laws over the definitions, and worked examples.
+#![tactic(auto)]
+
+ghost use Rattle.std.specs.Prelude.{◌≡◌, [], ◌∷◌, None, Some, pos};
+ghost use Rattle.pool_definitions.specs.WorkedExamples.{four, crossed, nobody};
+ghost use Rattle.search_definitions.specs.Classes.{classes_of};
+ghost use Rattle.search_definitions.specs.Compositions.{compositions, first_panel, price};
+ghost use Rattle.search_definitions.specs.Visits.{first_search, best_search};
+ghost use Rattle.search_definitions.specs.WorkedSearches.{either, apart, row};
+
+/// The first compositions of small pools, with the visits that find them.
+pub fn worked_first_searches()
+    ensures four { first_search (classes_of four) ≡ record { visits = 5; found = Some (1 ∷ 0 ∷ 1 ∷ 0 ∷ []) } }
+    ensures four_panel { first_panel (classes_of four) (1 ∷ 0 ∷ 1 ∷ 0 ∷ []) ≡ 0 ∷ 2 ∷ [] }
+    ensures either { first_search (classes_of either) ≡ record { visits = 3; found = Some (1 ∷ 0 ∷ []) } }
+    ensures crossed { first_search (classes_of crossed) ≡ record { visits = 2; found = None } }
+    ensures nobody { first_search (classes_of nobody) ≡ record { visits = 1; found = None } }
+{}
+
+/// The best compositions of small pools in a row, with the visits that find them.
+pub fn worked_best_searches()
+    ensures apart { best_search (classes_of apart) [] (row (pos 0) (pos 0 ∷ pos 0 ∷ pos 1 ∷ pos 0 ∷ []))
+        ≡ record { visits = 5; floor = pos 1; kept = Some (1 ∷ 0 ∷ 1 ∷ 0 ∷ []) } }
+    ensures apart_price { price (classes_of apart) [] (row (pos 0) (pos 0 ∷ pos 0 ∷ pos 1 ∷ pos 0 ∷ [])) ≡ Some (1 ∷ 0 ∷ 1 ∷ 0 ∷ []) }
+    ensures either { best_search (classes_of either) [] (row (pos 0) (pos 0 ∷ pos 1 ∷ []))
+        ≡ record { visits = 3; floor = pos 1; kept = Some (0 ∷ 1 ∷ []) } }
+    ensures either_again { best_search (classes_of either) [] (row (pos 1) (pos 1 ∷ pos 1 ∷ []))
+        ≡ record { visits = 1; floor = pos 1; kept = None } }
+{}
