@@ -22,8 +22,9 @@ pub fn gcd(x: i128, y: i128) -> i128
     common_divisor(x.unsigned_abs(), y.unsigned_abs()) as i128
 }
 
-// Euclid's algorithm: a remainder is below half of the number that is divided, so each two turns
-// at least halve the larger number, and numbers of 127 bits take at most 254 turns.
+// Euclid's algorithm. After the first turn `larger` is the larger one. Two turns later it is what
+// it left by a division by a smaller number, so below half of what it was: numbers below 2^127
+// take at most 255 turns.
 fn common_divisor(x: u128, y: u128) -> u128
     ensures value { result ≡ gcd_of x y }
     ensures small { result ≤ max x y }
@@ -52,8 +53,7 @@ pub fn lcm(x: i128, y: i128, limit: i128) -> Option<i128>
 
 // `y` times what `x` has beyond the common divisor, tested by a division before it is formed.
 fn common_multiple(x: u128, y: u128, limit: u128) -> Option<u128>
-    requires x { 0 < x }
-    requires y { 0 < y }
+    requires { 0 < x }
     ensures { SomeIff result (lcm_of x y ≤ limit) (lcm_of x y) }
 {
     let factor = x / common_divisor(x, y);
@@ -71,7 +71,8 @@ pub fn compare(an: i128, ad: i128, bn: i128, bd: i128) -> Ordering
     requires ad { pos 0 <ℤ ad }
     requires bn { pos 0 ≤ℤ bn }
     requires bd { pos 0 <ℤ bd }
-    ensures { result ≡ nat_cmp (unsigned_abs an * unsigned_abs bd) (unsigned_abs bn * unsigned_abs ad) }
+    ensures { result ≡
+        nat_cmp (unsigned_abs an * unsigned_abs bd) (unsigned_abs bn * unsigned_abs ad) }
 {
     compare_quotients(
         an.unsigned_abs(),
@@ -81,9 +82,10 @@ pub fn compare(an: i128, ad: i128, bn: i128, bd: i128) -> Ordering
     )
 }
 
-// Euclid's algorithm on both fractions side by side: the quotients decide, or else the remainders
-// over the divisors, turned over. In two turns each divisor becomes a remainder of itself, below
-// half of what it was, so divisors of 127 bits take at most 254 turns.
+// Euclid's algorithm on both fractions side by side: the quotients decide, or else the divisors
+// over the remainders, compared the other way round. Two turns later each divisor is what it left
+// by a division by a smaller number, so below half of what it was: divisors below 2^127 take at
+// most 255 turns.
 fn compare_quotients(mut an: u128, mut ad: u128, mut bn: u128, mut bd: u128) -> Ordering
     requires ad { 0 < ad }
     requires bd { 0 < bd }
@@ -160,3 +162,6 @@ pub fn lowest(num: i128, den: i128) -> Frac
         den: den / divisor,
     }
 }
+
+#[cfg(test)]
+mod tests;
