@@ -19,83 +19,107 @@ const FIBONACCI_184: i128 = 127127879743834334146972278486287885163;
 
 #[test]
 fn greatest_common_divisors(rt: HostRuntime) {
-    assert_eq!(rt; gcd(0, 0), 0);
-    assert_eq!(rt; gcd(0, 5), 5);
-    assert_eq!(rt; gcd(GREATEST, 0), GREATEST);
-    assert_eq!(rt; gcd(1, GREATEST), 1);
-    assert_eq!(rt; gcd(12, 18), 6);
-    assert_eq!(rt; gcd(35, 64), 1);
-    assert_eq!(rt; gcd(GREATEST, GREATEST), GREATEST);
-    assert_eq!(rt; gcd(TEN_38, GREATEST), 1);
-    assert_eq!(rt; gcd(TEN_38, 1267650600228229401496703205376), 274877906944);
-    assert_eq!(rt; gcd(FIBONACCI_184, FIBONACCI_183), 1);
+    let rows: [(i128, i128, i128); 10] = [
+        (0, 0, 0),
+        (0, 5, 5),
+        (GREATEST, 0, GREATEST),
+        (1, GREATEST, 1),
+        (12, 18, 6),
+        (35, 64, 1),
+        (GREATEST, GREATEST, GREATEST),
+        (TEN_38, GREATEST, 1),
+        // 2^100 has the 38 factors 2 of 10^38
+        (TEN_38, 1267650600228229401496703205376, 274877906944),
+        (FIBONACCI_184, FIBONACCI_183, 1),
+    ];
+    for (x, y, divisor) in &rows {
+        assert!(rt; *x >= 0 && *y >= 0);
+        assert!(rt; gcd(*x, *y) == *divisor);
+    }
 }
 
 #[test]
 fn least_common_multiples(rt: HostRuntime) {
-    assert_eq!(rt; lcm(4, 6, 12), Some(12));
-    assert_eq!(rt; lcm(4, 6, 11), None);
-    assert_eq!(rt; lcm(1, 1, 1), Some(1));
-    assert_eq!(rt; lcm(7, 7, 7), Some(7));
-    assert_eq!(rt; lcm(GREATEST, GREATEST, GREATEST), Some(GREATEST));
-    assert_eq!(rt; lcm(GREATEST, 1, GREATEST), Some(GREATEST));
-    assert_eq!(rt; lcm(GREATEST, 2, GREATEST), None);
-    assert_eq!(rt; lcm(TEN_38, 1024, TEN_38), Some(TEN_38));
-    assert_eq!(rt; lcm(TEN_38, TEN_38 - 1, GREATEST), None);
-    assert_eq!(rt; lcm(FIBONACCI_184, FIBONACCI_183, GREATEST), None);
+    let rows: [(i128, i128, i128, Option<i128>); 10] = [
+        (4, 6, 12, Some(12)),
+        (4, 6, 11, None),
+        (1, 1, 1, Some(1)),
+        (7, 7, 7, Some(7)),
+        (GREATEST, GREATEST, GREATEST, Some(GREATEST)),
+        (GREATEST, 1, GREATEST, Some(GREATEST)),
+        (GREATEST, 2, GREATEST, None),
+        (TEN_38, 1024, TEN_38, Some(TEN_38)),
+        (TEN_38, TEN_38 - 1, GREATEST, None),
+        (FIBONACCI_184, FIBONACCI_183, GREATEST, None),
+    ];
+    for (x, y, limit, multiple) in &rows {
+        assert!(rt; *x > 0 && *y > 0 && *limit > 0);
+        assert!(rt; lcm(*x, *y, *limit) == *multiple);
+    }
 }
 
 #[test]
 fn comparisons(rt: HostRuntime) {
-    assert_eq!(rt; compare(0, 1, 0, GREATEST), Ordering::Equal);
-    assert_eq!(rt; compare(0, 7, 1, GREATEST), Ordering::Less);
-    assert_eq!(rt; compare(1, 2, 0, 3), Ordering::Greater);
-    assert_eq!(rt; compare(2, 4, 50, 100), Ordering::Equal);
-    assert_eq!(rt; compare(2, 3, 3, 4), Ordering::Less);
-    assert_eq!(rt; compare(7, 5, 4, 3), Ordering::Greater);
-    assert_eq!(rt; compare(GREATEST, 1, GREATEST, 2), Ordering::Greater);
-    assert_eq!(rt; compare(GREATEST, GREATEST, 1, 1), Ordering::Equal);
-    assert_eq!(rt;
-        compare(GREATEST - 1, GREATEST, GREATEST - 2, GREATEST - 1),
-        Ordering::Greater
-    );
-    assert_eq!(rt;
-        compare(TEN_38 - 1, TEN_38, TEN_38, TEN_38 + 1),
-        Ordering::Less
-    );
-    assert_eq!(rt;
-        compare(FIBONACCI_184, FIBONACCI_183, FIBONACCI_183, FIBONACCI_182),
-        Ordering::Less
-    );
-    assert_eq!(rt;
-        compare(FIBONACCI_183, FIBONACCI_182, FIBONACCI_184, FIBONACCI_183),
-        Ordering::Greater
-    );
+    let rows: [((i128, i128), Ordering, (i128, i128)); 12] = [
+        ((0, 1), Ordering::Equal, (0, GREATEST)),
+        ((0, 7), Ordering::Less, (1, GREATEST)),
+        ((1, 2), Ordering::Greater, (0, 3)),
+        ((2, 4), Ordering::Equal, (50, 100)),
+        ((2, 3), Ordering::Less, (3, 4)),
+        ((7, 5), Ordering::Greater, (4, 3)),
+        ((GREATEST, 1), Ordering::Greater, (GREATEST, 2)),
+        ((GREATEST, GREATEST), Ordering::Equal, (1, 1)),
+        (
+            (GREATEST - 1, GREATEST),
+            Ordering::Greater,
+            (GREATEST - 2, GREATEST - 1),
+        ),
+        ((TEN_38 - 1, TEN_38), Ordering::Less, (TEN_38, TEN_38 + 1)),
+        (
+            (FIBONACCI_184, FIBONACCI_183),
+            Ordering::Less,
+            (FIBONACCI_183, FIBONACCI_182),
+        ),
+        (
+            (FIBONACCI_183, FIBONACCI_182),
+            Ordering::Greater,
+            (FIBONACCI_184, FIBONACCI_183),
+        ),
+    ];
+    for ((an, ad), order, (bn, bd)) in &rows {
+        assert!(rt; *an >= 0 && *ad > 0 && *bn >= 0 && *bd > 0);
+        assert!(rt; compare(*an, *ad, *bn, *bd) == *order);
+    }
 }
 
 #[test]
 fn lowest_terms(rt: HostRuntime) -> Result<(), Fail> {
-    let rows = [
-        (lowest(0, GREATEST), "0/1"),
-        (lowest(6, 4), "3/2"),
-        (lowest(3, 7), "3/7"),
-        (lowest(GREATEST, GREATEST), "1/1"),
+    let rows: [(i128, i128, i128, i128, &str); 6] = [
+        (0, GREATEST, 0, 1, "0/1"),
+        (6, 4, 3, 2, "3/2"),
+        (3, 7, 3, 7, "3/7"),
+        (GREATEST, GREATEST, 1, 1, "1/1"),
         (
-            lowest(1, GREATEST),
+            1,
+            GREATEST,
+            1,
+            GREATEST,
             "1/170141183460469231731687303715884105727",
         ),
         (
-            lowest(TEN_38, 35),
+            TEN_38,
+            35,
+            TEN_38 / 5,
+            7,
             "20000000000000000000000000000000000000/7",
         ),
     ];
-    for (fraction, text) in rows {
+    for (num, den, lowest_num, lowest_den, text) in &rows {
+        assert!(rt; *num >= 0 && *den > 0);
+        let fraction = lowest(*num, *den);
+        assert!(rt; fraction.num() == *lowest_num && fraction.den() == *lowest_den);
         let shown = format!(in rt.alloc(); "{fraction}")?;
-        assert_eq!(rt; shown.as_str(), text);
+        assert!(rt; shown.as_str() == *text);
     }
-    let half = lowest(50, 100);
-    assert_eq!(rt; half.num(), 1);
-    assert_eq!(rt; half.den(), 2);
-    assert_eq!(rt; half, lowest(1, 2));
     Ok(())
 }
