@@ -152,6 +152,7 @@ dvd-from_coprime a b n apart h =
 
 -- x = g * a and y = g * b, with no common divisor left in a and b: then a * y is the least
 least_from_parts : (g a b : ℕ) → 0 < g → gcd_of a b ≡ 1 → IsLeastCommonMultiple (g * a) (g * b) (a * (g * b))
+unfolding IsLeastCommonMultiple
 least_from_parts g a b some apart =
     let of_x : (g * a) * b ≡ a * (g * b) = omega arith in (
       subst (λ m. g * a ∣ m) of_x (dvd-mul_right (g * a) b),

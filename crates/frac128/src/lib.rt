@@ -3,9 +3,8 @@
 #![tactic(auto)]
 
 ghost use Rattle.std.specs.Prelude.{◌≡◌, ◌≤ℤ◌, ◌<ℤ◌, pos, unsigned_abs, Some, SomeIff, max, ◌*◌, ◌^◌, ◌<◌, ◌≤◌};
-ghost use Rattle.std.specs.Int.{IsGcd};
 ghost use Rattle.std.specs.Ordering.{nat_cmp};
-ghost use Rattle.frac128.specs.Divisors.{gcd_of, lcm_of, IsLeastCommonMultiple};
+ghost use Rattle.frac128.specs.Divisors.{gcd_of, lcm_of, IsGreatestCommonDivisor, IsLeastCommonMultiple};
 ghost use Rattle.frac128.specs.Fractions.{Fraction, IsLowest, fraction_text};
 
 use std::cmp::Ordering;
@@ -17,7 +16,8 @@ pub fn gcd(x: i128, y: i128) -> i128
     requires x { pos 0 ≤ℤ x }
     requires y { pos 0 ≤ℤ y }
     ensures value { result ≡ pos (gcd_of (unsigned_abs x) (unsigned_abs y)) }
-    ensures greatest { IsGcd (unsigned_abs x) (unsigned_abs y) (unsigned_abs result) }
+    ensures greatest {
+        IsGreatestCommonDivisor (unsigned_abs x) (unsigned_abs y) (unsigned_abs result) }
 {
     common_divisor(x.unsigned_abs(), y.unsigned_abs()) as i128
 }
