@@ -16,8 +16,7 @@ pub fn gcd(x: i128, y: i128) -> i128
     requires x { pos 0 ≤ℤ x }
     requires y { pos 0 ≤ℤ y }
     ensures value { result ≡ pos (gcd_of (unsigned_abs x) (unsigned_abs y)) }
-    ensures greatest {
-        IsGreatestCommonDivisor (unsigned_abs x) (unsigned_abs y) (unsigned_abs result) }
+    ensures greatest { IsGreatestCommonDivisor (unsigned_abs x) (unsigned_abs y) (unsigned_abs result) }
 {
     common_divisor(x.unsigned_abs(), y.unsigned_abs()) as i128
 }
