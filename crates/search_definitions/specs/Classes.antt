@@ -1,6 +1,6 @@
 -- Classes of volunteers.
-use Rattle.std.specs.Prelude.{ℕ, ◌==◌, Bool, not, List, map, length, filter}
-use Rattle.std.specs.List.{list_any, range_with_len}
+use Rattle.std.specs.Prelude.{◌≡◌, ℕ, ◌==◌, ◌≤◌, Bool, not, IsTrue, List, map, length, filter}
+use Rattle.std.specs.List.{list_any, range_with_len, AllByRecursion}
 use Rattle.pool_definitions.specs.declared.Standing.{Standing}
 use Rattle.pool_definitions.specs.declared.Standing.TheVariants.{Open, Seated, Gone}
 use Rattle.pool_definitions.specs.Pool.{Category, Pool, volunteer}
@@ -20,6 +20,10 @@ pub record Classes : Type 0 where
   pub size : ℕ
   pub categories : List Category
   pub classes : List Class
+
+-- each class can give at least as many as a panel must have of it
+pub record IsSearchable (all : Classes) : Type 0 where
+  pub in_order : AllByRecursion (λ class. class.least ≤ class.most) all.classes
 
 -- the seated are on each panel, the gone on none
 abbrev pub least_taken : Standing → ℕ → ℕ
@@ -66,3 +70,15 @@ are_alike pool i j = i == j
 -- the classes of a pool
 abbrev pub classes_of : Pool → Classes
 classes_of pool = classes_by (are_alike pool) pool
+
+-- an equivalence of volunteers, as a test
+pub record IsEquivalenceTest (alike : ℕ → ℕ → Bool) : Type 0 where
+  pub itself : (i : ℕ) → IsTrue (alike i i)
+  pub back : (i j : ℕ) → IsTrue (alike i j) → IsTrue (alike j i)
+  pub along : (i j k : ℕ) → IsTrue (alike i j) → IsTrue (alike j k) → IsTrue (alike i k)
+
+-- a test that makes classes of volunteers: an equivalence, and who is alike has the same values and standing
+pub record MakesClasses (pool : Pool) (alike : ℕ → ℕ → Bool) : Type 0 where
+  pub same : IsEquivalenceTest alike
+  pub values : (i j : ℕ) → IsTrue (alike i j) → (volunteer pool.volunteers i).values ≡ (volunteer pool.volunteers j).values
+  pub standing : (i j : ℕ) → IsTrue (alike i j) → (volunteer pool.volunteers i).standing ≡ (volunteer pool.volunteers j).standing

@@ -1,5 +1,5 @@
 -- Compositions: how many of each class are taken.
-use Rattle.std.specs.Prelude.{ℕ, zero, suc, ◌+◌, ◌-◌, ◌==◌, if◌then◌else◌, Bool, true, false, ◌&&◌, ◌||◌, List, [], ◌∷◌, map, length, filter, slice_index, take, ℤ, pos, ◌+ℤ◌, ◌*ℤ◌, int_lt, int_le, Option, Some, None, unwrap_or, sum_by}
+use Rattle.std.specs.Prelude.{ℕ, zero, suc, ◌+◌, ◌-◌, ◌==◌, if◌then◌else◌, Bool, true, false, ◌&&◌, ◌||◌, List, [], ◌∷◌, map, length, filter, slice_get, slice_index, take, ℤ, pos, ◌+ℤ◌, ◌*ℤ◌, int_lt, int_le, Option, Some, None, unwrap_or, sum_by}
 use Rattle.std.specs.List.{list_all, flat_map, enumerate_from, range_with_len}
 use Rattle.pool_definitions.specs.Lists.{holds}
 use Rattle.pool_definitions.specs.Pool.{Category, is_within}
@@ -44,6 +44,10 @@ is_composition all counts = taken_of (λ class. true) all.classes counts == all.
 -- all compositions, in order
 abbrev pub compositions : Classes → List (List ℕ)
 compositions all = filter (is_composition all) (all_counts all.classes)
+
+-- the first composition in order
+abbrev pub first_composition : Classes → Option (List ℕ)
+first_composition all = slice_get (compositions all) 0
 
 -- a number is among the first members of a class, as many as are taken of it
 abbrev pub is_taken : List Class → List ℕ → ℕ → Bool

@@ -7,10 +7,15 @@
 
 ghost use Rattle.std.specs.Prelude.{◌≡◌, [], ◌∷◌, None, Some, pos};
 ghost use Rattle.pool_definitions.specs.WorkedExamples.{four, crossed, nobody};
-ghost use Rattle.search_definitions.specs.Classes.{classes_of};
-ghost use Rattle.search_definitions.specs.Compositions.{compositions, first_panel, price};
+ghost use Rattle.search_definitions.specs.Classes.{Classes, IsSearchable, classes_of};
+ghost use Rattle.search_definitions.specs.Compositions.{first_composition, first_panel, price};
 ghost use Rattle.search_definitions.specs.Visits.{first_search, best_search};
 ghost use Rattle.search_definitions.specs.WorkedSearches.{either, apart, row};
+
+/// The search for the first composition finds the first of all compositions, and nothing where there is none.
+pub fn first_search_is_first()
+    ensures { (all : Classes) → IsSearchable all → (first_search all).found ≡ first_composition all }
+{}
 
 /// The first compositions of small pools, with the visits that find them.
 pub fn worked_first_searches()
