@@ -1,15 +1,15 @@
 -- The search through live fronts finds the first composition.
-use Rattle.std.proofs.Common.{◌≡◌, ℕ, zero, suc, ◌+◌, ◌-◌, ◌≤◌, ◌<◌, Bool, true, false, cond, ◌&&◌, eqb, leb, List, [], ◌∷◌, ◌++◌, map, length, filter, drop, sum_by, Option, Some, None, refl, sym, ap, ◌∙◌, arith, length-append, append_assoc}
-use Rattle.std.specs.Prelude.{is_some, slice_get}
+use Rattle.std.proofs.Common.{◌≡◌, ℕ, ◌+◌, ◌-◌, ◌≤◌, Bool, true, false, cond, ◌&&◌, eqb, leb, List, [], ◌∷◌, ◌++◌, map, length, filter, Option, Some, None, refl, sym, ap, ◌∙◌, arith, length-append, append_assoc}
+use Rattle.std.specs.Prelude.{slice_get}
 use Rattle.std.specs.List.{list_all, flat_map, enumerate_from, AllByRecursion}
-use Rattle.std.proofs.lemmas.Bool.{and_parts, and_from, eqb-true, eq-eqb, leb-true, le-leb, cases_Bool, false≢true, false_from_ne_true}
+use Rattle.std.proofs.lemmas.Bool.{and_parts, and_from, eqb-true, eq-eqb, leb-true, le-leb, false≢true, false_from_ne_true}
 use Rattle.std.proofs.lemmas.List.{map-append, map-id}
 use Rattle.std.proofs.lemmas.List.Elements.{filter-append}
 use Rattle.std.proofs.Math.Seq.{drop-append_seam}
-use Rattle.pool_definitions.specs.Pool.{Category, BoundedValue, is_within}
+use Rattle.pool_definitions.specs.Pool.{is_within}
 use Rattle.pool_definitions.proofs.Sums.{sum_by-is-total, total, each_map}
 use Rattle.search_definitions.specs.Classes.{Class, Classes, IsSearchable}
-use Rattle.search_definitions.specs.Compositions.{counts_down, counts_of, all_counts, taken_of, has_value, meets_bounds, is_composition, compositions, first_composition}
+use Rattle.search_definitions.specs.Compositions.{counts_of, all_counts, taken_of, has_value, meets_bounds, is_composition, compositions, first_composition}
 use Rattle.search_definitions.specs.Fronts.{later_than, most_of, taken_by, size_reachable, value_reachable, values_reachable, is_live}
 use Rattle.search_definitions.specs.Visits.{Search, in_turn, enter_first, first_search}
 use Rattle.search_definitions.proofs.Listed.{each_mapped, each_count, each_everywhere, none_pass, list_all_implies, append_nothing}
@@ -197,8 +197,10 @@ enter_first_finds all pre (class ∷ later) front split order live =
     (each_mapped (λ child. (is_live all child ≡ true → (enter_first all later child).found ≡ first (completions all child later)) × (is_live all child ≡ false → completions all child later ≡ []))
     (λ c. front ++ c ∷ []) (counts_of class)
     (each_everywhere (λ c. (is_live all (front ++ c ∷ []) ≡ true → (enter_first all later (front ++ c ∷ [])).found ≡ first (completions all (front ++ c ∷ []) later)) × (is_live all (front ++ c ∷ []) ≡ false → completions all (front ++ c ∷ []) later ≡ []))
-    (λ c. (λ live. enter_first_finds all (pre ++ class ∷ []) later (front ++ c ∷ []) (child_splits all pre later class front c split) order.1 live,
-    λ dead. none_from_dead all (pre ++ class ∷ []) later (front ++ c ∷ []) (child_splits all pre later class front c split) order.1 dead))
+    (λ c. (
+      λ live. enter_first_finds all (pre ++ class ∷ []) later (front ++ c ∷ []) (child_splits all pre later class front c split) order.1 live,
+      λ dead. none_from_dead all (pre ++ class ∷ []) later (front ++ c ∷ []) (child_splits all pre later class front c split) order.1 dead,
+    ))
     (counts_of class)))
     ∙ ap first (of_children all front later (counts_of class))
 

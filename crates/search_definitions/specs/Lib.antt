@@ -2,4 +2,5 @@ pub mod Classes
 pub mod Compositions
 pub mod Fronts
 pub mod Visits
+pub mod Stages
 pub mod WorkedSearches

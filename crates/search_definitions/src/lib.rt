@@ -5,16 +5,53 @@
 //! The functions here have no body: their contracts are laws over the definitions, and worked examples.
 #![tactic(auto)]
 
-ghost use Rattle.std.specs.Prelude.{◌≡◌, [], ◌∷◌, None, Some, pos};
+ghost use Rattle.std.specs.Prelude.{◌≡◌, ◌↔◌, ℕ, Bool, List, [], ◌∷◌, MatchOption, None, Some, IsTrue, pos};
+ghost use Rattle.std.specs.List.{AllByRecursion};
+ghost use Rattle.pool_definitions.specs.Lists.{is_increasing};
+ghost use Rattle.pool_definitions.specs.Pool.{Pool, panels, is_quota_panel};
 ghost use Rattle.pool_definitions.specs.WorkedExamples.{four, crossed, nobody};
-ghost use Rattle.search_definitions.specs.Classes.{Classes, IsSearchable, classes_of};
-ghost use Rattle.search_definitions.specs.Compositions.{first_composition, first_panel, price};
+ghost use Rattle.search_definitions.specs.Classes.{Classes, IsSearchable, MakesClasses, are_alike, classes_by, classes_of};
+ghost use Rattle.search_definitions.specs.Compositions.{compositions, first_composition, first_panel, price};
 ghost use Rattle.search_definitions.specs.Visits.{first_search, best_search};
 ghost use Rattle.search_definitions.specs.WorkedSearches.{either, apart, row};
+
+/// Volunteers make classes, each alone.
+pub fn alike_make_classes()
+    ensures { (pool : Pool) → MakesClasses pool (are_alike pool) }
+{}
+
+/// The classes of each pool can be searched.
+pub fn classes_are_searchable()
+    ensures { (pool : Pool) (alike : ℕ → ℕ → Bool) → IsSearchable (classes_by alike pool) }
+{}
+
+/// Where there is no composition, there is no quota panel.
+pub fn no_composition()
+    ensures { (pool : Pool) (alike : ℕ → ℕ → Bool) → MakesClasses pool alike → compositions (classes_by alike pool) ≡ [] → panels pool ≡ [] }
+{}
+
+/// The first members of each composition's classes are a quota panel.
+pub fn first_members_fit()
+    ensures { (pool : Pool) (alike : ℕ → ℕ → Bool) → MakesClasses pool alike →
+        AllByRecursion (λ counts. IsTrue (is_quota_panel pool (first_panel (classes_by alike pool) counts))) (compositions (classes_by alike pool)) }
+{}
+
+/// The first members of any counts rise.
+pub fn first_members_rise()
+    ensures { (all : Classes) (counts : List ℕ) → IsTrue (is_increasing (first_panel all counts)) }
+{}
 
 /// The search for the first composition finds the first of all compositions, and nothing where there is none.
 pub fn first_search_is_first()
     ensures { (all : Classes) → IsSearchable all → (first_search all).found ≡ first_composition all }
+{}
+
+/// The search over a pool's classes finds nothing exactly where the pool has no quota panel, and else a composition whose first
+/// members are a quota panel.
+pub fn first_search_decides()
+    ensures answer { (pool : Pool) (alike : ℕ → ℕ → Bool) → MakesClasses pool alike → MatchOption (first_search (classes_by alike pool)).found
+        (panels pool ≡ []) (λ counts. IsTrue (is_quota_panel pool (first_panel (classes_by alike pool) counts))) }
+    ensures none { (pool : Pool) (alike : ℕ → ℕ → Bool) → MakesClasses pool alike → (first_search (classes_by alike pool)).found ≡ None ↔ panels pool ≡ [] }
 {}
 
 /// The first compositions of small pools, with the visits that find them.
