@@ -6,10 +6,9 @@ use Rattle.std.proofs.lemmas.Bool.{and_parts, and_from, eqb-true, eq-eqb, leb-tr
 use Rattle.std.proofs.lemmas.List.{map-append, map-id}
 use Rattle.std.proofs.lemmas.List.Elements.{filter-append}
 use Rattle.std.proofs.Math.Seq.{drop-append_seam}
-use Rattle.pool_definitions.specs.Pool.{is_within}
 use Rattle.pool_definitions.proofs.Sums.{sum_by-is-total, total, each_map}
 use Rattle.search_definitions.specs.Classes.{Class, Classes, IsSearchable}
-use Rattle.search_definitions.specs.Compositions.{counts_of, all_counts, taken_of, has_value, meets_bounds, is_composition, compositions, first_composition}
+use Rattle.search_definitions.specs.Compositions.{counts_of, all_counts, taken_of, has_value, lies_within, meets_bounds, is_composition, compositions, first_composition}
 use Rattle.search_definitions.specs.Fronts.{later_than, most_of, taken_by, size_reachable, value_reachable, values_reachable, is_live}
 use Rattle.search_definitions.specs.Visits.{Search, in_turn, enter_first, first_search}
 use Rattle.search_definitions.proofs.Listed.{each_mapped, each_count, each_everywhere, none_pass, list_all_implies, append_nothing}
@@ -89,18 +88,18 @@ within_reach lower upper taken more most l e =
 pub live_from_composition : (all : Classes) (pre later : List Class) (front counts : List ℕ) → Split all pre later front → Gives later counts →
     is_composition all (front ++ counts) ≡ true → is_live all front ≡ true
 live_from_composition all pre later front counts split gives composes =
-    let parts = and_parts (eqb (taken_of (λ class. true) all.classes (front ++ counts)) all.size) (meets_bounds all.categories all.classes (front ++ counts)) composes in
+    let parts = and_parts (eqb (taken_of (λ class. true) all.classes (front ++ counts)) all.size) (meets_bounds all.bounds all.classes (front ++ counts)) composes in
     let after = later_is all pre later front split in
     let taken = taken_split all pre later front counts split in
     let size : size_reachable all front ≡ true = rw after (reached all.size (taken_by all front) (taken_of (λ class. true) later counts) (most_of (λ class. true) later) (taken_within_most (λ class. true) later counts gives) (rw (taken (λ class. true)) at parts.0)) in
     let values : values_reachable all front ≡ true = list_all_implies
-    (λ (c, category). list_all (λ (v, value). is_within value (taken_of (has_value c v) all.classes (front ++ counts))) (enumerate_from 0 category.values))
-    (λ (c, category). list_all (value_reachable all front c) (enumerate_from 0 category.values))
-    (λ (c, category). list_all_implies (λ (v, value). is_within value (taken_of (has_value c v) all.classes (front ++ counts))) (value_reachable all front c)
-    (λ (v, value) within. rw after (within_reach value.lower value.upper (taken_of (has_value c v) all.classes front) (taken_of (has_value c v) later counts) (most_of (has_value c v) later)
+    (λ (c, values). list_all (λ (v, bound). lies_within bound (taken_of (has_value c v) all.classes (front ++ counts))) (enumerate_from 0 values))
+    (λ (c, values). list_all (value_reachable all front c) (enumerate_from 0 values))
+    (λ (c, values). list_all_implies (λ (v, bound). lies_within bound (taken_of (has_value c v) all.classes (front ++ counts))) (value_reachable all front c)
+    (λ (v, bound) within. rw after (within_reach bound.lower bound.upper (taken_of (has_value c v) all.classes front) (taken_of (has_value c v) later counts) (most_of (has_value c v) later)
     (taken_within_most (has_value c v) later counts gives) (rw (taken (has_value c v)) at within)))
-    (enumerate_from 0 category.values))
-    (enumerate_from 0 all.categories) parts.1 in
+    (enumerate_from 0 values))
+    (enumerate_from 0 all.bounds) parts.1 in
     and_from (size_reachable all front) (values_reachable all front) size values
 
 -- a live front of all classes is a composition
@@ -111,14 +110,14 @@ composition_from_live all pre front split live =
     let sizes = and_parts (leb (taken_by all front) all.size) (leb all.size (taken_by all front + most_of (λ class. true) (later_than front all.classes))) parts.0 in
     let low = leb-true (taken_by all front) all.size sizes.0 in
     let high : all.size ≤ taken_by all front + 0 = leb-true all.size (taken_by all front + 0) (rw after at sizes.1) in
-    let bounds : meets_bounds all.categories all.classes front ≡ true = list_all_implies
-    (λ (c, category). list_all (value_reachable all front c) (enumerate_from 0 category.values))
-    (λ (c, category). list_all (λ (v, value). is_within value (taken_of (has_value c v) all.classes front)) (enumerate_from 0 category.values))
-    (λ (c, category). list_all_implies (value_reachable all front c) (λ (v, value). is_within value (taken_of (has_value c v) all.classes front))
-    (λ (v, value) reach. whole value.lower value.upper (taken_of (has_value c v) all.classes front) (rw after at reach))
-    (enumerate_from 0 category.values))
-    (enumerate_from 0 all.categories) parts.1 in
-    and_from (eqb (taken_by all front) all.size) (meets_bounds all.categories all.classes front) (eq-eqb (taken_by all front) all.size (omega arith)) bounds
+    let bounds : meets_bounds all.bounds all.classes front ≡ true = list_all_implies
+    (λ (c, values). list_all (value_reachable all front c) (enumerate_from 0 values))
+    (λ (c, values). list_all (λ (v, bound). lies_within bound (taken_of (has_value c v) all.classes front)) (enumerate_from 0 values))
+    (λ (c, values). list_all_implies (value_reachable all front c) (λ (v, bound). lies_within bound (taken_of (has_value c v) all.classes front))
+    (λ (v, bound) reach. whole bound.lower bound.upper (taken_of (has_value c v) all.classes front) (rw after at reach))
+    (enumerate_from 0 values))
+    (enumerate_from 0 all.bounds) parts.1 in
+    and_from (eqb (taken_by all front) all.size) (meets_bounds all.bounds all.classes front) (eq-eqb (taken_by all front) all.size (omega arith)) bounds
   where
     whole : (lower upper count : ℕ) → (leb count upper && leb lower (count + 0)) ≡ true → (leb lower count && leb count upper) ≡ true
     whole lower upper count h =

@@ -8,7 +8,7 @@ use Rattle.pool_definitions.specs.Pool.{Pool, volunteer, is_within, is_quota_pan
 use Rattle.pool_definitions.proofs.Sums.{total, total_ext, sum_by-is-total, each_map}
 use Rattle.pool_definitions.proofs.AllPanels.{each_panel}
 use Rattle.search_definitions.specs.Classes.{Class, Classes, IsSearchable, MakesClasses, leaders, class_of, class_by, classes_by, are_alike}
-use Rattle.search_definitions.specs.Compositions.{counts_of, has_value, is_taken, first_panel, compositions, all_counts, taken_of, is_composition}
+use Rattle.search_definitions.specs.Compositions.{counts_of, has_value, lies_within, is_taken, first_panel, compositions, all_counts, taken_of, is_composition}
 use Rattle.search_definitions.specs.Visits.{first_search}
 use Rattle.search_definitions.proofs.Listed.{each_mapped, each_everywhere, each_range, list_all_equal}
 use Rattle.search_definitions.proofs.FirstSearch.{search_finds_first}
@@ -47,6 +47,10 @@ filter_range_same : (p q : ℕ → Bool) (first count : ℕ) → ((i : ℕ) → 
 filter_range_same p q first zero e = refl
 filter_range_same p q first (suc count) e = rw (e first (omega arith), filter_range_same p q (first + 1) count (λ i l. e i (omega arith))) refl
 
+all_mapped : {X Y : Type 0} (p : ℕ × Y → Bool) (f : X → Y) (first : ℕ) (xs : List X) → list_all p (enumerate_from first (map f xs)) ≡ list_all (λ (i, x). p (i, f x)) (enumerate_from first xs)
+all_mapped p f first [] = refl
+all_mapped p f first (x ∷ xs) = let rest = all_mapped p f (first + 1) xs in rw rest refl
+
 module _ (pool : Pool) (alike : ℕ → ℕ → Bool) where
   abbrev n : ℕ
   n = length pool.volunteers
@@ -68,10 +72,15 @@ module _ (pool : Pool) (alike : ℕ → ℕ → Bool) where
 
   composition_same : (counts : List ℕ) → is_composition (classes_by alike pool) counts ≡ by_leader.is_composition pool firsts counts
   composition_same counts =
-      let bounds = list_all_equal
-      (λ (c, category). list_all (λ (v, value). is_within value (taken_of (has_value c v) (map of_leader firsts) counts)) (enumerate_from 0 category.values))
+      let bounds =
+      all_mapped (λ (c, values). list_all (λ (v, bound). lies_within bound (taken_of (has_value c v) (map of_leader firsts) counts)) (enumerate_from 0 values))
+      (λ category. map (λ value. record { lower = value.lower; upper = value.upper }) category.values) 0 pool.categories
+      ∙ list_all_equal
+      (λ (c, category). list_all (λ (v, bound). lies_within bound (taken_of (has_value c v) (map of_leader firsts) counts)) (enumerate_from 0 (map (λ value. record { lower = value.lower; upper = value.upper }) category.values)))
       (λ (c, category). list_all (λ (v, value). is_within value (by_leader.taken_of (λ leader. eqb (slice_index (volunteer pool.volunteers leader).values c) v) firsts counts)) (enumerate_from 0 category.values))
-      (λ (c, category). list_all_equal
+      (λ (c, category).
+      all_mapped (λ (v, bound). lies_within bound (taken_of (has_value c v) (map of_leader firsts) counts)) (λ value. record { lower = value.lower; upper = value.upper }) 0 category.values
+      ∙ list_all_equal
       (λ (v, value). is_within value (taken_of (has_value c v) (map of_leader firsts) counts))
       (λ (v, value). is_within value (by_leader.taken_of (λ leader. eqb (slice_index (volunteer pool.volunteers leader).values c) v) firsts counts))
       (λ (v, value). ap (is_within value) (taken_same (has_value c v) firsts counts)) (enumerate_from 0 category.values))

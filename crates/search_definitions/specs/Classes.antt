@@ -15,10 +15,15 @@ pub record Class : Type 0 where
   pub least : ℕ
   pub most : ℕ
 
--- what a search for panels goes through: the size of a panel, the categories with their bounds, and the classes
+-- how many members of a panel may have a value
+pub record Bounds : Type 0 where
+  pub lower : ℕ
+  pub upper : ℕ
+
+-- what a search for panels goes through: the size of a panel, for each category the bounds of its values, and the classes
 pub record Classes : Type 0 where
   pub size : ℕ
-  pub categories : List Category
+  pub bounds : List (List Bounds)
   pub classes : List Class
 
 -- each class can give at least as many as a panel must have of it
@@ -55,11 +60,15 @@ class_by alike pool leader =
       most = most_taken (volunteer pool.volunteers leader).standing (length members);
     }
 
+-- for each category the bounds of its values
+abbrev pub bounds_of : List Category → List (List Bounds)
+bounds_of categories = map (λ category. map (λ value. record { lower = value.lower; upper = value.upper }) category.values) categories
+
 -- the classes of a pool, in the order of their first members, where a test says who is alike
 abbrev pub classes_by : (ℕ → ℕ → Bool) → Pool → Classes
 classes_by alike pool = record {
   size = pool.size;
-  categories = pool.categories;
+  bounds = bounds_of pool.categories;
   classes = map (class_by alike pool) (leaders alike (length pool.volunteers));
 }
 

@@ -1,10 +1,9 @@
 -- Compositions: how many of each class are taken.
-use Rattle.std.specs.Prelude.{ℕ, zero, suc, ◌+◌, ◌-◌, ◌==◌, if◌then◌else◌, Bool, true, false, ◌&&◌, ◌||◌, List, [], ◌∷◌, map, length, filter, slice_get, slice_index, take, ℤ, pos, ◌+ℤ◌, ◌*ℤ◌, int_lt, int_le, Option, Some, None, unwrap_or, sum_by}
+use Rattle.std.specs.Prelude.{ℕ, zero, suc, ◌+◌, ◌-◌, ◌==◌, nat_le, if◌then◌else◌, Bool, true, false, ◌&&◌, ◌||◌, List, [], ◌∷◌, map, length, filter, slice_get, slice_index, take, ℤ, pos, ◌+ℤ◌, ◌*ℤ◌, int_lt, int_le, Option, Some, None, unwrap_or, sum_by}
 use Rattle.std.specs.List.{list_all, flat_map, enumerate_from, range_with_len}
 use Rattle.pool_definitions.specs.Lists.{holds}
-use Rattle.pool_definitions.specs.Pool.{Category, is_within}
 use Rattle.row_definitions.specs.Row.{Row}
-use Rattle.search_definitions.specs.Classes.{Class, Classes}
+use Rattle.search_definitions.specs.Classes.{Class, Classes, Bounds}
 
 -- the counts from the greatest, so many above the least, down to the least
 abbrev pub counts_down : ℕ → ℕ → List ℕ
@@ -30,16 +29,20 @@ taken_of passes (class ∷ classes) (c ∷ counts) = (if passes class then c els
 abbrev pub has_value : ℕ → ℕ → Class → Bool
 has_value category value class = slice_index class.values category == value
 
+-- a number lies within bounds
+abbrev pub lies_within : Bounds → ℕ → Bool
+lies_within bound count = nat_le bound.lower count && nat_le count bound.upper
+
 -- each value's number lies within its bounds
-abbrev pub meets_bounds : List Category → List Class → List ℕ → Bool
-meets_bounds categories classes counts =
-    list_all (λ (c, category).
-    list_all (λ (v, value). is_within value (taken_of (has_value c v) classes counts)) (enumerate_from 0 category.values))
-    (enumerate_from 0 categories)
+abbrev pub meets_bounds : List (List Bounds) → List Class → List ℕ → Bool
+meets_bounds bounds classes counts =
+    list_all (λ (c, values).
+    list_all (λ (v, bound). lies_within bound (taken_of (has_value c v) classes counts)) (enumerate_from 0 values))
+    (enumerate_from 0 bounds)
 
 -- the counts sum to the size, and each value's number lies within its bounds
 abbrev pub is_composition : Classes → List ℕ → Bool
-is_composition all counts = taken_of (λ class. true) all.classes counts == all.size && meets_bounds all.categories all.classes counts
+is_composition all counts = taken_of (λ class. true) all.classes counts == all.size && meets_bounds all.bounds all.classes counts
 
 -- all compositions, in order
 abbrev pub compositions : Classes → List (List ℕ)

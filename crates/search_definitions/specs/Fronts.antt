@@ -1,9 +1,8 @@
 -- Fronts: counts for the first classes. A front is live where it may still lead to a composition that is sought.
 use Rattle.std.specs.Prelude.{ℕ, ◌+◌, ◌-◌, nat_le, if◌then◌else◌, Bool, true, ◌&&◌, List, [], ◌∷◌, ◌++◌, drop, length, replicate, take, fold, sum_by, ℤ, pos, ◌+ℤ◌, int_lt, int_le}
 use Rattle.std.specs.List.{list_all, enumerate_from}
-use Rattle.pool_definitions.specs.Pool.{BoundedValue}
 use Rattle.row_definitions.specs.Row.{Row}
-use Rattle.search_definitions.specs.Classes.{Class, Classes}
+use Rattle.search_definitions.specs.Classes.{Class, Classes, Bounds}
 use Rattle.search_definitions.specs.Compositions.{taken_of, has_value, weight_in}
 
 -- the classes after a front
@@ -24,14 +23,14 @@ size_reachable all front =
     nat_le (taken_by all front) all.size && nat_le all.size (taken_by all front + most_of (λ class. true) (later_than front all.classes))
 
 -- a value's count is at most its upper bound, and with all that later classes can give at least its lower bound
-abbrev pub value_reachable : Classes → List ℕ → ℕ → ℕ × BoundedValue → Bool
-value_reachable all front c (v, value) =
+abbrev pub value_reachable : Classes → List ℕ → ℕ → ℕ × Bounds → Bool
+value_reachable all front c (v, bound) =
     let count = taken_of (has_value c v) all.classes front in
-    nat_le count value.upper && nat_le value.lower (count + most_of (has_value c v) (later_than front all.classes))
+    nat_le count bound.upper && nat_le bound.lower (count + most_of (has_value c v) (later_than front all.classes))
 
 abbrev pub values_reachable : Classes → List ℕ → Bool
 values_reachable all front =
-    list_all (λ (c, category). list_all (value_reachable all front c) (enumerate_from 0 category.values)) (enumerate_from 0 all.categories)
+    list_all (λ (c, values). list_all (value_reachable all front c) (enumerate_from 0 values)) (enumerate_from 0 all.bounds)
 
 -- a front is live for the first composition: size and values are in reach
 abbrev pub is_live : Classes → List ℕ → Bool
