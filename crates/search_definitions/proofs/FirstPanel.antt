@@ -101,7 +101,7 @@ first_some a c (suc count) =
     let last : one_if (a (0 + count)) ≡ one_if (a count) = ap (λ z. one_if (a z)) e in
     omega (arith, first_some a c count, more, upto, term, last, chosen_one (a count) (rank a count) c)
 
-rank_below : (a : ℕ → Bool) (i count : ℕ) → i < count → rank a i + one_if (a i) ≤ rank a count
+pub rank_below : (a : ℕ → Bool) (i count : ℕ) → i < count → rank a i + one_if (a i) ≤ rank a count
 rank_below a i zero l = absurd (omega arith)
 rank_below a i (suc count) l =
     let more = total-range_more (λ j. one_if (a j)) 0 count in

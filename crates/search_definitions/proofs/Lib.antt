@@ -5,3 +5,4 @@ pub mod ByClass
 pub mod PanelCompositions
 pub mod FirstPanel
 pub mod PoolClasses
+pub mod Limits

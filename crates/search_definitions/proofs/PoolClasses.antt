@@ -224,7 +224,7 @@ module _ (pool : Pool) (alike : ℕ → ℕ → Bool) (makes : MakesClasses pool
       or_false false = refl
 
   -- all classes have as many members as there are volunteers
-  members_in_all : sum_by (λ class. length class.members) (map class_at (leaders alike many)) ≡ many
+  pub members_in_all : sum_by (λ class. length class.members) (map class_at (leaders alike many)) ≡ many
   members_in_all =
       sum_by-is-total (λ class. length class.members) (map class_at (leaders alike many))
       ∙ each_size (leaders alike many)

@@ -1,6 +1,6 @@
 -- Classes of volunteers.
-use Rattle.std.specs.Prelude.{◌≡◌, ℕ, ◌==◌, ◌≤◌, Bool, not, IsTrue, List, map, length, filter}
-use Rattle.std.specs.List.{list_any, range_with_len, AllByRecursion}
+use Rattle.std.specs.Prelude.{◌≡◌, ℕ, ◌==◌, ◌≤◌, ◌<◌, Bool, not, IsTrue, List, [], map, length, filter, slice_index, slice_index_or, sum_by}
+use Rattle.std.specs.List.{list_any, range_with_len, All, AllByRecursion}
 use Rattle.pool_definitions.specs.declared.Standing.{Standing}
 use Rattle.pool_definitions.specs.declared.Standing.TheVariants.{Open, Seated, Gone}
 use Rattle.pool_definitions.specs.Pool.{Category, Pool, volunteer}
@@ -26,9 +26,32 @@ pub record Classes : Type 0 where
   pub bounds : List (List Bounds)
   pub classes : List Class
 
+-- a class has one value per category, which is one of the category's
+pub record HasPlaces (bounds : List (List Bounds)) (class : Class) : Type 0 where
+  pub one_each : length class.values ≡ length bounds
+  pub within : (c : ℕ) → c < length bounds → slice_index class.values c < length (slice_index_or bounds c [])
+
 -- each class can give at least as many as a panel must have of it
 pub record IsSearchable (all : Classes) : Type 0 where
   pub in_order : AllByRecursion (λ class. class.least ≤ class.most) all.classes
+
+-- what the classes of each pool keep: few of everything, so that sums over them stay small
+pub record KeepsLimits (all : Classes) : Type 0 where
+  -- a panel has 1 to 200 members
+  pub size : (1 ≤ all.size) × (all.size ≤ 200)
+  -- at most 20 categories, each of at most 50 values, with bounds in order and at most 999
+  pub few_categories : length all.bounds ≤ 20
+  pub few_values : All (λ values. length values ≤ 50) all.bounds
+  pub bounds : All (λ values. All (λ bound. (bound.lower ≤ bound.upper) × (bound.upper ≤ 999)) values) all.bounds
+  -- at most 400 classes, with at most 400 members in all
+  pub few_classes : length all.classes ≤ 400
+  pub few_members : sum_by (λ class. length class.members) all.classes ≤ 400
+  -- each class has a member, and at most all its members are taken
+  pub members : All (λ class. 1 ≤ length class.members) all.classes
+  pub most : All (λ class. class.most ≤ length class.members) all.classes
+  pub searchable : IsSearchable all
+  -- each class has one value per category
+  pub values : All (HasPlaces all.bounds) all.classes
 
 -- the seated are on each panel, the gone on none
 abbrev pub least_taken : Standing → ℕ → ℕ

@@ -8,9 +8,9 @@
 ghost use Rattle.std.specs.Prelude.{◌≡◌, ◌↔◌, ℕ, Bool, List, [], ◌∷◌, MatchOption, None, Some, IsTrue, pos};
 ghost use Rattle.std.specs.List.{AllByRecursion};
 ghost use Rattle.pool_definitions.specs.Lists.{is_increasing};
-ghost use Rattle.pool_definitions.specs.Pool.{Pool, panels, is_quota_panel};
+ghost use Rattle.pool_definitions.specs.Pool.{Pool, IsPool, panels, is_quota_panel};
 ghost use Rattle.pool_definitions.specs.WorkedExamples.{four, crossed, nobody};
-ghost use Rattle.search_definitions.specs.Classes.{Classes, IsSearchable, MakesClasses, are_alike, classes_by, classes_of};
+ghost use Rattle.search_definitions.specs.Classes.{Classes, IsSearchable, KeepsLimits, MakesClasses, are_alike, classes_by, classes_of};
 ghost use Rattle.search_definitions.specs.Compositions.{compositions, first_composition, first_panel, price};
 ghost use Rattle.search_definitions.specs.Visits.{first_search, best_search};
 ghost use Rattle.search_definitions.specs.WorkedSearches.{either, apart, row};
@@ -23,6 +23,11 @@ pub fn alike_make_classes()
 /// The classes of each pool can be searched.
 pub fn classes_are_searchable()
     ensures { (pool : Pool) (alike : ℕ → ℕ → Bool) → IsSearchable (classes_by alike pool) }
+{}
+
+/// The classes of a pool keep limits like those of the pool.
+pub fn classes_keep_limits()
+    ensures { (pool : Pool) (alike : ℕ → ℕ → Bool) → IsPool pool → MakesClasses pool alike → KeepsLimits (classes_by alike pool) }
 {}
 
 /// Where there is no composition, there is no quota panel.
