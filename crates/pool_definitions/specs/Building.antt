@@ -34,7 +34,7 @@ with_value (category ∷ next ∷ later) value = category ∷ with_value (next �
 -- the place of a value's name
 abbrev pub place_of : List BoundedValue → List ℕ → Option ℕ
 place_of [] name = None
-place_of (value ∷ values) name = if bytes_eq value.name name then Some 0 else option_map (λ place. place + 1) (place_of values name)
+place_of (value ∷ values) name = if bytes_eq name value.name then Some 0 else option_map (λ place. place + 1) (place_of values name)
 
 -- for each category the place of the name given for it
 abbrev pub places_of : List Category → List (List ℕ) → List ℕ
@@ -53,32 +53,41 @@ abbrev pub empty_pool : ℕ → Pool
 empty_pool size = record { size = size; categories = []; volunteers = [] }
 
 -- 2: the size is out of range
+abbrev pub size_kinds : ℕ → List (ℕ × Bool)
+size_kinds size = (2, not (is_size size)) ∷ []
+
 abbrev pub size_kind : ℕ → Option ℕ
-size_kind size = lowest_kind ((2, not (is_size size)) ∷ [])
+size_kind size = lowest_kind (size_kinds size)
 
 abbrev pub category_added : Pool → List ℕ → Pool
 category_added pool name = record pool { categories = pool.categories ++ record { name = name; values = [] } ∷ [] }
 
 -- 1: volunteers are there; 3: the name stood before; 10: no such name may be, or a 21st category
-abbrev pub category_kind : Pool → List ℕ → Option ℕ
-category_kind pool name = lowest_kind (
+abbrev pub category_kinds : Pool → List ℕ → List (ℕ × Bool)
+category_kinds pool name =
     (1, nat_lt 0 (length pool.volunteers))
     ∷ (3, stands (category_names pool.categories) name)
     ∷ (10, not (keeps_name_limits name) || nat_le 20 (length pool.categories))
-    ∷ [])
+    ∷ []
+
+abbrev pub category_kind : Pool → List ℕ → Option ℕ
+category_kind pool name = lowest_kind (category_kinds pool name)
 
 abbrev pub value_added : Pool → BoundedValue → Pool
 value_added pool value = record pool { categories = with_value pool.categories value }
 
 -- 1: no category is there, or volunteers are; 4: the name stood before in the last category; 5: the bounds are out of
 -- order or range; 10: no such name may be, or a 51st value
-abbrev pub value_kind : Pool → BoundedValue → Option ℕ
-value_kind pool value = lowest_kind (
+abbrev pub value_kinds : Pool → BoundedValue → List (ℕ × Bool)
+value_kinds pool value =
     (1, length pool.categories == 0 || nat_lt 0 (length pool.volunteers))
     ∷ (4, stands (value_names (last_values pool.categories)) value.name)
     ∷ (5, not (are_bounds value.lower value.upper))
     ∷ (10, not (keeps_name_limits value.name) || nat_le 50 (length (last_values pool.categories)))
-    ∷ [])
+    ∷ []
+
+abbrev pub value_kind : Pool → BoundedValue → Option ℕ
+value_kind pool value = lowest_kind (value_kinds pool value)
 
 -- a volunteer with the values of these names
 abbrev pub volunteer_added : Pool → List ℕ → List (List ℕ) → Pool
@@ -87,10 +96,13 @@ volunteer_added pool id names =
 
 -- 6: a name given for a category is none of its values; 7: not one name per category; 8: the id stood before; 10: no such
 -- id may be, or a 401st volunteer
-abbrev pub volunteer_kind : Pool → List ℕ → List (List ℕ) → Option ℕ
-volunteer_kind pool id names = lowest_kind (
+abbrev pub volunteer_kinds : Pool → List ℕ → List (List ℕ) → List (ℕ × Bool)
+volunteer_kinds pool id names =
     (6, not (are_known pool.categories names))
     ∷ (7, not (length names == length pool.categories))
     ∷ (8, stands (ids pool.volunteers) id)
     ∷ (10, not (keeps_name_limits id) || nat_le 400 (length pool.volunteers))
-    ∷ [])
+    ∷ []
+
+abbrev pub volunteer_kind : Pool → List ℕ → List (List ℕ) → Option ℕ
+volunteer_kind pool id names = lowest_kind (volunteer_kinds pool id names)

@@ -38,12 +38,12 @@ shifted false n = refl
 one_less : (n m : ℕ) → ltb (1 + n) (suc m) ≡ ltb n m
 one_less n m = grind (arith, nat_tests)
 
-pub place_of-is_position : (values : List BoundedValue) (name : List ℕ) → place_of values name ≡ position (λ value. bytes_eq value.name name) values
+pub place_of-is_position : (values : List BoundedValue) (name : List ℕ) → place_of values name ≡ position (λ value. bytes_eq name value.name) values
 place_of-is_position [] name = refl
 place_of-is_position (value ∷ values) name =
-    (elim (bytes_eq value.name name) as (λ b. cond b (Some 0) (option_map (λ p. p + 1) (place_of values name)) ≡ (let n = cond (not b) (1 + position_or_len (λ (v : BoundedValue). bytes_eq v.name name) values) 0 in cond (ltb n (suc (length values))) (Some n) None)) [
+    (elim (bytes_eq name value.name) as (λ b. cond b (Some 0) (option_map (λ p. p + 1) (place_of values name)) ≡ (let n = cond (not b) (1 + position_or_len (λ (v : BoundedValue). bytes_eq name v.name) values) 0 in cond (ltb n (suc (length values))) (Some n) None)) [
       | true ↦ rw (lt-ltb 0 (suc (length values)) (omega arith)) refl
       | false ↦
-          let n = position_or_len (λ (v : BoundedValue). bytes_eq v.name name) values in
+          let n = position_or_len (λ (v : BoundedValue). bytes_eq name v.name) values in
           rw (place_of-is_position values name, shifted (ltb n (length values)) n, one_less n (length values)) refl
     ])

@@ -62,7 +62,7 @@ fn place(values: &[BoundedValue], name: &[u8]) -> Option<usize>
 {
     values
         .iter()
-        .position(|value| value.name().as_bytes() == name)
+        .position(|value| name == value.name().as_bytes())
 }
 
 /// For each category the place of the value whose name is given for it, 0 where there is none.

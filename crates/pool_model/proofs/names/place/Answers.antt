@@ -9,5 +9,5 @@ use Rattle.pool_model.proofs.names.place.Goals as goal
 pub returns : goal.returns
 returns c =
     let name = c.args.name.now in
-    position_from_yields_List (λ (value : BoundedValue). bytes_eq value.name name) _ _ c.position.result c.position.ensures.ran (YieldsList-from_slice c.args.values.now cc) (λ x b q k. search (rules, tests))
+    position_from_yields_List (λ (value : BoundedValue). bytes_eq name value.name) _ _ c.position.result c.position.ensures.ran (YieldsList-from_slice c.args.values.now cc) (λ x b q k. search (rules, tests))
     ∙ sym (place_of-is_position c.args.values.now name)
