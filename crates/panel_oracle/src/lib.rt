@@ -10,6 +10,9 @@ ghost use Rattle.panel_oracle.specs.Beginnings.{panels_from};
 use pool_model::{Panel, Pool, fits};
 use std::alloc::{AllocError, Global};
 
+#[cfg(test)]
+mod tests;
+
 /// The quota panels of a pool, in lexicographic order.
 pub fn quota_panels(alloc: Global, pool: &Pool) -> Result<Vec<Panel>, AllocError>
     ensures { IfOk result (λ found. found.items ≡ panels pool.now) }
