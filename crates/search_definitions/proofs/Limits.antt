@@ -8,7 +8,8 @@ use Rattle.pool_definitions.specs.declared.Standing.TheVariants.{Open, Seated, G
 use Rattle.pool_definitions.specs.Lists.{all_different}
 use Rattle.pool_definitions.specs.Pool.{Pool, IsPool, Category, BoundedValue, volunteer, is_name, are_bounds, is_value, is_category, has_values}
 use Rattle.pool_definitions.proofs.Sums.{total, sum_by-is-total, each_map, each_from_list_all}
-use Rattle.search_definitions.specs.Classes.{Class, Bounds, HasPlaces, KeepsLimits, MakesClasses, leaders, class_of, class_by, classes_by, bounds_of, most_taken}
+use Rattle.search_definitions.specs.declared.Bounds.{Bounds}
+use Rattle.search_definitions.specs.Classes.{Class, HasPlaces, KeepsLimits, MakesClasses, leaders, class_of, class_by, classes_by, bounds_of, most_taken}
 use Rattle.search_definitions.proofs.Listed.{each_mapped, each_range, each_filter}
 use Rattle.search_definitions.proofs.PanelCompositions.{length-filter-total}
 use Rattle.search_definitions.proofs.FirstPanel.{rank_below}

@@ -4,6 +4,7 @@ use Rattle.std.specs.List.{list_any, range_with_len, All, AllByRecursion}
 use Rattle.pool_definitions.specs.declared.Standing.{Standing}
 use Rattle.pool_definitions.specs.declared.Standing.TheVariants.{Open, Seated, Gone}
 use Rattle.pool_definitions.specs.Pool.{Category, Pool, volunteer}
+use Rattle.search_definitions.specs.declared.Bounds.{Bounds}
 
 -- volunteers with the same values and standing
 pub record Class : Type 0 where
@@ -14,11 +15,6 @@ pub record Class : Type 0 where
   -- the least and the greatest number of them that a panel may have
   pub least : ℕ
   pub most : ℕ
-
--- how many members of a panel may have a value
-pub record Bounds : Type 0 where
-  pub lower : ℕ
-  pub upper : ℕ
 
 -- what a search for panels goes through: the size of a panel, for each category the bounds of its values, and the classes
 pub record Classes : Type 0 where

@@ -3,7 +3,8 @@ use Rattle.std.specs.Prelude.{ℕ, zero, suc, ◌+◌, ◌-◌, ◌==◌, nat_le
 use Rattle.std.specs.List.{list_all, flat_map, enumerate_from, range_with_len}
 use Rattle.pool_definitions.specs.Lists.{holds}
 use Rattle.row_definitions.specs.Row.{Row}
-use Rattle.search_definitions.specs.Classes.{Class, Classes, Bounds}
+use Rattle.search_definitions.specs.declared.Bounds.{Bounds}
+use Rattle.search_definitions.specs.Classes.{Class, Classes}
 
 -- the counts from the greatest, so many above the least, down to the least
 abbrev pub counts_down : ℕ → ℕ → List ℕ

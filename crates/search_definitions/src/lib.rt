@@ -15,6 +15,15 @@ ghost use Rattle.search_definitions.specs.Compositions.{compositions, first_comp
 ghost use Rattle.search_definitions.specs.Visits.{first_search, best_search};
 ghost use Rattle.search_definitions.specs.WorkedSearches.{either, apart, row};
 
+/// How many members of a panel may have a value: from `lower` to `upper`, both included.
+#[derive(Clone, Copy, Debug, PartialEq, Eq)]
+pub struct Bounds {
+    /// The least number of members.
+    pub lower: usize,
+    /// The greatest number of members.
+    pub upper: usize,
+}
+
 /// Volunteers make classes, each alone.
 pub fn alike_make_classes()
     ensures { (pool : Pool) → MakesClasses pool (are_alike pool) }
