@@ -5,6 +5,8 @@
 mod composing;
 mod grouping;
 mod groups;
+#[cfg(test)]
+mod tests;
 
 pub use composing::{Composition, first_panel};
 pub use grouping::classes;
