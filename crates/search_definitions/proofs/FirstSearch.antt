@@ -70,7 +70,7 @@ pub later_is : (all : Classes) (pre later : List Class) (front : List ℕ) → S
 later_is all pre later front split =
     let whole = split.whole in let fits = split.fits in rw (whole, fits) (drop-append_seam pre later)
 
-taken_split : (all : Classes) (pre later : List Class) (front counts : List ℕ) → Split all pre later front → (p : Class → Bool) →
+pub taken_split : (all : Classes) (pre later : List Class) (front counts : List ℕ) → Split all pre later front → (p : Class → Bool) →
     taken_of p all.classes (front ++ counts) ≡ taken_of p all.classes front + taken_of p later counts
 taken_split all pre later front counts split p = let whole = split.whole in rw whole (taken-append p pre later front counts split.fits)
 

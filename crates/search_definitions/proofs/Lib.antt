@@ -6,3 +6,6 @@ pub mod PanelCompositions
 pub mod FirstPanel
 pub mod PoolClasses
 pub mod Limits
+pub mod GreatestSum
+pub mod BestSearch
+pub mod NothingToPrice

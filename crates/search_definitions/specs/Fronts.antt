@@ -1,6 +1,6 @@
 -- Fronts: counts for the first classes. A front is live where it may still lead to a composition that is sought.
-use Rattle.std.specs.Prelude.{ℕ, ◌+◌, ◌-◌, nat_le, if◌then◌else◌, Bool, true, ◌&&◌, List, [], ◌∷◌, ◌++◌, drop, length, replicate, take, fold, sum_by, ℤ, pos, ◌+ℤ◌, int_lt, int_le}
-use Rattle.std.specs.List.{list_all, enumerate_from}
+use Rattle.std.specs.Prelude.{◌≡◌, ℕ, ◌+◌, ◌-◌, nat_le, if◌then◌else◌, Bool, true, ◌&&◌, List, [], ◌∷◌, ◌++◌, drop, length, replicate, take, fold, sum_by, ℤ, pos, ◌+ℤ◌, int_lt, int_le}
+use Rattle.std.specs.List.{list_all, enumerate_from, AllByRecursion}
 use Rattle.row_definitions.specs.Row.{Row}
 use Rattle.search_definitions.specs.declared.Bounds.{Bounds}
 use Rattle.search_definitions.specs.Classes.{Class, Classes}
@@ -9,6 +9,10 @@ use Rattle.search_definitions.specs.Compositions.{taken_of, has_value, weight_in
 -- the classes after a front
 abbrev pub later_than : List ℕ → List Class → List Class
 later_than front classes = drop (length front) classes
+
+-- each of the rows has one entry per class
+abbrev pub HaveEntries : Classes → List Row → Type 0
+HaveEntries all rows = AllByRecursion (λ row. length row.a ≡ length all.classes) rows
 
 -- the most that later classes can give, of those that pass
 abbrev pub most_of : (Class → Bool) → List Class → ℕ

@@ -5,13 +5,17 @@
 //! The functions here have no body: their contracts are laws over the definitions, and worked examples.
 #![tactic(auto)]
 
-ghost use Rattle.std.specs.Prelude.{◌≡◌, ◌↔◌, ℕ, Bool, List, [], ◌∷◌, MatchOption, None, Some, IsTrue, pos};
+ghost use Rattle.std.specs.Prelude.{◌≡◌, ◌↔◌, ℕ, Bool, List, [], ◌∷◌, map, MatchOption, None, Some, IsTrue, pos};
 ghost use Rattle.std.specs.List.{AllByRecursion};
+ghost use Rattle.pool_definitions.specs.Certificate.{Stage, is_capped};
 ghost use Rattle.pool_definitions.specs.Lists.{is_increasing};
 ghost use Rattle.pool_definitions.specs.Pool.{Pool, IsPool, panels, is_quota_panel};
 ghost use Rattle.pool_definitions.specs.WorkedExamples.{four, crossed, nobody};
+ghost use Rattle.row_definitions.specs.Row.{Row};
 ghost use Rattle.search_definitions.specs.Classes.{Classes, IsSearchable, KeepsLimits, MakesClasses, are_alike, classes_by, classes_of};
 ghost use Rattle.search_definitions.specs.Compositions.{compositions, first_composition, first_panel, price};
+ghost use Rattle.search_definitions.specs.Fronts.{HaveEntries};
+ghost use Rattle.search_definitions.specs.Stages.{WeighAlike, row_of};
 ghost use Rattle.search_definitions.specs.Visits.{first_search, best_search};
 ghost use Rattle.search_definitions.specs.WorkedSearches.{either, apart, row};
 
@@ -66,6 +70,20 @@ pub fn first_search_decides()
     ensures answer { (pool : Pool) (alike : ℕ → ℕ → Bool) → MakesClasses pool alike → MatchOption (first_search (classes_by alike pool)).found
         (panels pool ≡ []) (λ counts. IsTrue (is_quota_panel pool (first_panel (classes_by alike pool) counts))) }
     ensures none { (pool : Pool) (alike : ℕ → ℕ → Bool) → MakesClasses pool alike → (first_search (classes_by alike pool)).found ≡ None ↔ panels pool ≡ [] }
+{}
+
+/// The search for the best composition keeps the price: of the compositions that attain the closed rows, the first of greatest weight
+/// above the row's right side, and nothing where there is none.
+pub fn best_search_is_price()
+    ensures { (all : Classes) (closed : List Row) (priced : Row) → IsSearchable all → HaveEntries all (priced ∷ closed) →
+        (best_search all closed priced).kept ≡ price all closed priced }
+{}
+
+/// Where pricing finds nothing over the classes of a pool, with stages that weigh alike volunteers alike, no quota panel that attains
+/// the earlier caps weighs more than the cap.
+pub fn nothing_to_price()
+    ensures { (pool : Pool) (alike : ℕ → ℕ → Bool) (earlier : List Stage) (stage : Stage) → MakesClasses pool alike → WeighAlike alike (stage ∷ earlier) →
+        price (classes_by alike pool) (map (row_of alike pool) earlier) (row_of alike pool stage) ≡ None → IsTrue (is_capped pool earlier stage) }
 {}
 
 /// The first compositions of small pools, with the visits that find them.
