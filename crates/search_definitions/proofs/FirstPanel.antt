@@ -54,7 +54,7 @@ holds_before p i first (suc count) l =
     ]
 
 -- a filter of a range holds what passes
-holds_filter : (p : ℕ → Bool) (i first count : ℕ) → first ≤ i → i < first + count → holds (filter p (range_with_len first count)) i ≡ p i
+pub holds_filter : (p : ℕ → Bool) (i first count : ℕ) → first ≤ i → i < first + count → holds (filter p (range_with_len first count)) i ≡ p i
 holds_filter p i first zero l m = absurd (omega arith)
 holds_filter p i first (suc count) l m =
     ⊎_elim (λ (e : first ≡ i).
@@ -352,22 +352,28 @@ least_to_most Open size = omega arith
 least_to_most Seated size = le_of_eq refl
 least_to_most Gone size = le_of_eq refl
 
--- the first members of each composition's classes are a quota panel
-pub each_first_panel : (pool : Pool) (alike : ℕ → ℕ → Bool) → MakesClasses pool alike → AllByRecursion (λ counts. is_quota_panel pool (first_panel alike (length pool.volunteers) counts) ≡ true) (compositions pool alike)
+-- the first members of counts are a quota panel, with these counts for its composition
+abbrev pub FitsAndComposes : Pool → (ℕ → ℕ → Bool) → List ℕ → Type 0
+FitsAndComposes pool alike counts =
+    (is_quota_panel pool (first_panel alike (length pool.volunteers) counts) ≡ true)
+    × (composition_of alike (leaders alike (length pool.volunteers)) (first_panel alike (length pool.volunteers) counts) ≡ counts)
+
+-- the first members of each composition's classes
+pub each_first_panel : (pool : Pool) (alike : ℕ → ℕ → Bool) → MakesClasses pool alike → AllByRecursion (FitsAndComposes pool alike) (compositions pool alike)
 unfolding leads
 each_first_panel pool alike makes =
     let n = length pool.volunteers in
     let low : ℕ → ℕ = λ l. least_taken (volunteer pool.volunteers l).standing (length (class_of alike n l)) in
     let high : ℕ → ℕ = λ l. most_taken (volunteer pool.volunteers l).standing (length (class_of alike n l)) in
     let given = by_leader low high (λ l. least_to_most (volunteer pool.volunteers l).standing (length (class_of alike n l))) (leaders alike n) (filter_increases (leads alike makes.same n) 0 n) in
-    each_filter (λ counts. is_quota_panel pool (first_panel alike n counts) ≡ true) (is_composition pool (leaders alike n)) (all_counts low high (leaders alike n))
-    (each_map (ByLeader low high (leaders alike n)) (λ counts. is_composition pool (leaders alike n) counts ≡ true → is_quota_panel pool (first_panel alike n counts) ≡ true)
+    each_filter (FitsAndComposes pool alike) (is_composition pool (leaders alike n)) (all_counts low high (leaders alike n))
+    (each_map (ByLeader low high (leaders alike n)) (λ counts. is_composition pool (leaders alike n) counts ≡ true → FitsAndComposes pool alike counts)
     (λ counts given composes.
     let at_leader = each_from_filter (λ l. (low l ≤ given.of l) × (given.of l ≤ high l)) (leads alike makes.same n) (range_with_len 0 n) given.within in
-    subst (λ z. is_quota_panel pool (first_panel alike n z) ≡ true) (sym given.is)
-    (first_panel_fits pool alike makes given.of
-    (λ l below lead.
+    let within : (l : ℕ) → l < n → leads alike makes.same n l ≡ true → (least_taken (volunteer pool.volunteers l).standing (rank (alike l) n) ≤ given.of l) × (given.of l ≤ most_taken (volunteer pool.volunteers l).standing (rank (alike l) n)) =
+    λ l below lead.
     let bounds = at_range (λ l. leads alike makes.same n l ≡ true → (low l ≤ given.of l) × (given.of l ≤ high l)) l 0 n (omega arith) (omega arith) at_leader lead in
-    subst (λ size. (least_taken (volunteer pool.volunteers l).standing size ≤ given.of l) × (given.of l ≤ most_taken (volunteer pool.volunteers l).standing size)) (length-filter-total (alike l) (range_with_len 0 n)) bounds)
-    (subst (λ z. is_composition pool (leaders alike n) z ≡ true) given.is composes)))
+    subst (λ size. (least_taken (volunteer pool.volunteers l).standing size ≤ given.of l) × (given.of l ≤ most_taken (volunteer pool.volunteers l).standing size)) (length-filter-total (alike l) (range_with_len 0 n)) bounds in
+    let composed = subst (λ z. is_composition pool (leaders alike n) z ≡ true) given.is composes in
+    subst (FitsAndComposes pool alike) (sym given.is) (first_panel_fits pool alike makes given.of within composed, same_composition pool alike makes given.of within composed))
     (all_counts low high (leaders alike n)) given)

@@ -5,17 +5,17 @@ use Rattle.std.specs.List.{flat_map, list_all, AllByRecursion, range_with_len, e
 use Rattle.std.proofs.lemmas.Bool.{cases_Bool, eqb-true, eq-eqb, ne_eqb, cases_lt, false≢true, le-ltb, lt-ltb}
 use Rattle.pool_definitions.specs.Lists.{holds, is_increasing}
 use Rattle.pool_definitions.specs.Pool.{Pool, volunteer, is_within, is_quota_panel, panels}
-use Rattle.pool_definitions.proofs.Sums.{total, total_ext, sum_by-is-total, each_map}
+use Rattle.pool_definitions.proofs.Sums.{total, total_eq, total_ext, sum_by-is-total, each_map}
 use Rattle.pool_definitions.proofs.AllPanels.{each_panel}
 use Rattle.search_definitions.specs.Classes.{Class, Classes, IsSearchable, MakesClasses, leaders, class_of, class_by, classes_by, are_alike}
-use Rattle.search_definitions.specs.Compositions.{counts_of, has_value, lies_within, is_taken, first_panel, compositions, all_counts, taken_of, is_composition}
+use Rattle.search_definitions.specs.Compositions.{counts_of, has_value, lies_within, is_taken, composition_of, first_panel, compositions, all_counts, taken_of, is_composition}
 use Rattle.search_definitions.specs.Visits.{first_search}
-use Rattle.search_definitions.proofs.Listed.{each_mapped, each_everywhere, each_range, list_all_equal}
+use Rattle.search_definitions.proofs.Listed.{each_mapped, each_filter, each_everywhere, each_range, list_all_equal}
 use Rattle.search_definitions.proofs.FirstSearch.{search_finds_first}
 use Rattle.search_definitions.proofs.LeaderForm as by_leader
 use Rattle.search_definitions.proofs.ByClass.{one_if, taken, by_class, one_leader}
 use Rattle.search_definitions.proofs.PanelCompositions.{length-filter-total, counted_is, no_panel}
-use Rattle.search_definitions.proofs.FirstPanel.{filter_increases, each_first_panel, least_to_most}
+use Rattle.search_definitions.proofs.FirstPanel.{FitsAndComposes, filter_increases, holds_filter, each_first_panel, least_to_most}
 
 -- ---- classes
 
@@ -248,8 +248,30 @@ module _ (pool : Pool) (alike : ℕ → ℕ → Bool) (makes : MakesClasses pool
   pub first_panels_fit : AllByRecursion (λ counts. is_quota_panel pool (first_panel (classes_by alike pool) counts) ≡ true) (compositions (classes_by alike pool))
   first_panels_fit =
       subst (λ all. AllByRecursion (λ counts. is_quota_panel pool (first_panel (classes_by alike pool) counts) ≡ true) all) (sym (compositions_same pool alike))
-      (each_map (λ counts. is_quota_panel pool (by_leader.first_panel alike many counts) ≡ true) (λ counts. is_quota_panel pool (first_panel (classes_by alike pool) counts) ≡ true)
-      (λ counts fits. let e = first_panel_same counts in rw e fits) (by_leader.compositions pool alike) (each_first_panel pool alike makes))
+      (each_map (FitsAndComposes pool alike) (λ counts. is_quota_panel pool (first_panel (classes_by alike pool) counts) ≡ true)
+      (λ counts fits. let e = first_panel_same counts in rw e fits.0) (by_leader.compositions pool alike) (each_first_panel pool alike makes))
+
+  -- who is in a class is alike its leader
+  composition_of_same : (panel : List ℕ) → AllByRecursion (λ i. i < many) panel → (xs : List ℕ) → map (λ class. count_by (holds class.members) panel) (map class_at xs) ≡ by_leader.composition_of alike xs panel
+  composition_of_same panel below [] = refl
+  composition_of_same panel below (l ∷ xs) =
+      let here : count_by (holds (class_of alike many l)) panel ≡ count_by (alike l) panel =
+      counted_is (holds (class_of alike many l)) panel
+      ∙ total_eq (λ i. one_if (holds (class_of alike many l) i)) (λ i. one_if (alike l i)) panel
+      (each_map (λ i. i < many) (λ i. one_if (holds (class_of alike many l) i) ≡ one_if (alike l i)) (λ i b. ap one_if (holds_filter (alike l) i 0 many (omega arith) (omega arith))) panel below)
+      ∙ sym (counted_is (alike l) panel) in
+      let rest = composition_of_same panel below xs in rw (here, rest) refl
+
+  pub first_panels_compose : AllByRecursion (λ counts. composition_of (classes_by alike pool) (first_panel (classes_by alike pool) counts) ≡ counts) (compositions (classes_by alike pool))
+  first_panels_compose =
+      subst (λ all. AllByRecursion (λ counts. composition_of (classes_by alike pool) (first_panel (classes_by alike pool) counts) ≡ counts) all) (sym (compositions_same pool alike))
+      (each_map (FitsAndComposes pool alike) (λ counts. composition_of (classes_by alike pool) (first_panel (classes_by alike pool) counts) ≡ counts)
+      (λ counts fits. let e = first_panel_same counts in rw e (composition_of_same (by_leader.first_panel alike many counts) (below counts) (leaders alike many) ∙ fits.1))
+      (by_leader.compositions pool alike) (each_first_panel pool alike makes))
+    where
+      below : (counts : List ℕ) → AllByRecursion (λ i. i < many) (by_leader.first_panel alike many counts)
+      below counts = each_filter (λ i. i < many) (λ i. ltb (before i) (by_leader.taken_of (λ l. alike l i) (leaders alike many) counts)) (range_with_len 0 many)
+          (each_range (λ i. ltb (before i) (by_leader.taken_of (λ l. alike l i) (leaders alike many) counts) ≡ true → i < many) 0 many (λ i from below taken. omega arith))
 
 pub first_panel_rises : (all : Classes) (counts : List ℕ) → is_increasing (first_panel all counts) ≡ true
 first_panel_rises all counts = filter_increases (is_taken all.classes counts) 0 (sum_by (λ class. length class.members) all.classes)

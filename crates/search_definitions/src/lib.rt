@@ -13,7 +13,7 @@ ghost use Rattle.pool_definitions.specs.Pool.{Pool, IsPool, panels, is_quota_pan
 ghost use Rattle.pool_definitions.specs.WorkedExamples.{four, crossed, nobody};
 ghost use Rattle.row_definitions.specs.Row.{Row};
 ghost use Rattle.search_definitions.specs.Classes.{Classes, IsSearchable, KeepsLimits, MakesClasses, are_alike, classes_by, classes_of};
-ghost use Rattle.search_definitions.specs.Compositions.{compositions, first_composition, first_panel, price};
+ghost use Rattle.search_definitions.specs.Compositions.{composition_of, compositions, first_composition, first_panel, price};
 ghost use Rattle.search_definitions.specs.Fronts.{HaveEntries};
 ghost use Rattle.search_definitions.specs.Stages.{WeighAlike, row_of};
 ghost use Rattle.search_definitions.specs.Visits.{first_search, best_search};
@@ -52,6 +52,12 @@ pub fn no_composition()
 pub fn first_members_fit()
     ensures { (pool : Pool) (alike : ℕ → ℕ → Bool) → MakesClasses pool alike →
         AllByRecursion (λ counts. IsTrue (is_quota_panel pool (first_panel (classes_by alike pool) counts))) (compositions (classes_by alike pool)) }
+{}
+
+/// The first members of each composition's classes have that composition.
+pub fn first_members_compose()
+    ensures { (pool : Pool) (alike : ℕ → ℕ → Bool) → MakesClasses pool alike →
+        AllByRecursion (λ counts. composition_of (classes_by alike pool) (first_panel (classes_by alike pool) counts) ≡ counts) (compositions (classes_by alike pool)) }
 {}
 
 /// The first members of any counts rise.
