@@ -1,0 +1,10 @@
+//! The search for a composition of a pool's classes under a budget of visits. `alike` stands below, which makes the classes;
+//! `search_definitions` says what a visit is, and what a search finds.
+#![tactic(auto)]
+
+mod searching;
+mod tallies;
+#[cfg(test)]
+mod tests;
+
+pub use searching::{SearchStop, first};

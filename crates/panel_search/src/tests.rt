@@ -1,0 +1,151 @@
+//! The first compositions of small pools, and the visits that they take. The visits were counted over the definitions by another
+//! program.
+
+use crate::{SearchStop, first};
+use alike::{Classes, Composition, classes};
+use pool_model::{BuildStop, Name, Pool};
+use std::alloc::{AllocError, Global};
+use std::process::Abort;
+use std::test::Fail;
+
+/// A pool, by the bounds of its categories' values and its volunteers' values, and what the search finds in it.
+#[derive(Clone, Copy, Debug)]
+struct Given<'a> {
+    name: &'a str,
+    size: usize,
+    bounds: &'a [&'a [(usize, usize)]],
+    volunteers: &'a [&'a [usize]],
+    visits: u64,
+    found: Option<&'a [usize]>,
+}
+
+const SMALL: &[Given<'static>] = &[
+    Given {
+        name: "one woman and one man of two each",
+        size: 2,
+        bounds: &[&[(1, 1), (1, 1)]],
+        volunteers: &[&[0], &[0], &[1], &[1]],
+        visits: 5,
+        found: Some(&[1, 0, 1, 0]),
+    },
+    Given {
+        name: "one seat for one of two",
+        size: 1,
+        bounds: &[&[(0, 1), (0, 1)]],
+        volunteers: &[&[0], &[1]],
+        visits: 3,
+        found: Some(&[1, 0]),
+    },
+    Given {
+        name: "each lacks what the other has",
+        size: 1,
+        bounds: &[&[(1, 1), (0, 1)], &[(1, 1), (0, 1)]],
+        volunteers: &[&[0, 1], &[1, 0]],
+        visits: 2,
+        found: None,
+    },
+    Given {
+        name: "nobody for one seat",
+        size: 1,
+        bounds: &[],
+        volunteers: &[],
+        visits: 1,
+        found: None,
+    },
+    Given {
+        name: "each has another value",
+        size: 2,
+        bounds: &[&[(0, 1), (0, 1), (0, 1), (0, 1)]],
+        volunteers: &[&[0], &[1], &[2], &[3]],
+        visits: 5,
+        found: Some(&[1, 1, 0, 0]),
+    },
+    Given {
+        name: "one woman of two that are asked for",
+        size: 2,
+        bounds: &[&[(2, 2), (0, 2)]],
+        volunteers: &[&[0], &[1], &[1]],
+        visits: 1,
+        found: None,
+    },
+    Given {
+        name: "the first may not be taken",
+        size: 1,
+        bounds: &[&[(0, 0), (0, 1)]],
+        volunteers: &[&[0], &[1], &[1]],
+        visits: 4,
+        found: Some(&[0, 1, 0]),
+    },
+    Given {
+        name: "the second of a pair fits",
+        size: 2,
+        bounds: &[&[(1, 1), (1, 1)], &[(1, 1), (1, 1)]],
+        volunteers: &[&[0, 0], &[0, 1], &[1, 0], &[1, 0]],
+        visits: 6,
+        found: Some(&[0, 1, 1, 0]),
+    },
+    Given {
+        name: "each has one value that one alone may have",
+        size: 2,
+        bounds: &[&[(1, 1), (1, 2)], &[(1, 1), (1, 2)], &[(1, 1), (1, 2)]],
+        volunteers: &[&[0, 1, 1], &[1, 0, 1], &[1, 1, 0]],
+        visits: 3,
+        found: None,
+    },
+    Given {
+        name: "two who lack each other's value",
+        size: 2,
+        bounds: &[&[(1, 1), (1, 2)], &[(1, 1), (1, 2)]],
+        volunteers: &[&[0, 1], &[1, 0], &[0, 0], &[1, 1]],
+        visits: 5,
+        found: Some(&[1, 1, 0, 0]),
+    },
+    Given {
+        name: "all three are taken",
+        size: 3,
+        bounds: &[],
+        volunteers: &[&[], &[], &[]],
+        visits: 4,
+        found: Some(&[1, 1, 1]),
+    },
+    Given {
+        name: "two volunteers for three seats",
+        size: 3,
+        bounds: &[],
+        volunteers: &[&[], &[]],
+        visits: 1,
+        found: None,
+    },
+];
+
+fn built(alloc: Global, given: &Given<'_>) -> Result<Pool, BuildStop> {
+    let mut pool = Pool::new(alloc, given.size)?;
+    for (c, values) in given.bounds.iter().enumerate() {
+        pool.add_category(&format!(in alloc; "{c}")?)?;
+        for (v, (lower, upper)) in values.iter().enumerate() {
+            pool.add_value(&format!(in alloc; "{v}")?, *lower, *upper)?;
+        }
+    }
+    for (i, places) in given.volunteers.iter().enumerate() {
+        let mut values = Vec::new(alloc);
+        for place in *places {
+            values.push(Name::new(alloc, &format!(in alloc; "{place}")?)?)?;
+        }
+        pool.add_volunteer(&format!(in alloc; "{i}")?, &values)?;
+    }
+    Ok(pool)
+}
+
+#[test]
+fn small_pools_take_so_many_visits(rt: HostRuntime) -> Result<(), Fail> {
+    let alloc = rt.alloc();
+    for given in SMALL {
+        let all = classes(alloc, &built(alloc, given)?)?;
+        let found = first(alloc, &all, given.visits)?;
+        let counts = found.as_ref().map(|composition| composition.counts());
+        assert_eq!(rt; counts, given.found, "{}", given.name);
+        let short = first(alloc, &all, given.visits - 1);
+        assert!(rt; matches!(short, Err(SearchStop::Spent)), "{}", given.name);
+    }
+    Ok(())
+}
