@@ -98,6 +98,7 @@ impl<'a> Search<'a> {
         Ok(())
     }
 
+    #[cycle(search)]
     // Enters a live front of the first `depth` classes: does it go on to a composition?
     fn enter(&mut self, depth: usize) -> Result<bool, BudgetSpent> {
         self.spend()?;
@@ -115,6 +116,7 @@ impl<'a> Search<'a> {
         Ok(found)
     }
 
+    #[cycle(search)]
     // Tries the children of the front, with counts of the next class from so many above the least down to it.
     fn children(&mut self, depth: usize, above: usize) -> Result<bool, BudgetSpent> {
         let class = &self.classes.classes()[depth];
