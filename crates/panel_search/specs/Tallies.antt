@@ -15,9 +15,9 @@ pub record HaveCells (values cells : List ℕ) : Type 0 where
 abbrev pub CanGive : List ℕ → List ℕ → ℕ → Type 0
 CanGive values cells count = (c : ℕ) → c < length values → count ≤ slice_index cells (cell c (slice_index values c))
 
--- each cell is at most a number
-abbrev pub AreAtMost : ℕ → List ℕ → Type 0
-AreAtMost most cells = (i : ℕ) → i < length cells → slice_index cells i ≤ most
+-- the cells of the first categories are at most a number
+abbrev pub AreAtMost : ℕ → ℕ → List ℕ → Type 0
+AreAtMost most categories cells = (c v : ℕ) → c < categories → v < 50 → slice_index cells (cell c v) ≤ most
 
 -- so many at a value where the values have it, else nothing
 abbrev pub share : List ℕ → ℕ → ℕ → ℕ → ℕ

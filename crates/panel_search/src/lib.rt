@@ -4,6 +4,7 @@
 
 mod searching;
 mod tallies;
+mod tally;
 #[cfg(test)]
 mod tests;
 

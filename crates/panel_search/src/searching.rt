@@ -5,8 +5,8 @@ ghost use Rattle.panel_search.specs.Answers.{Answers};
 ghost use Rattle.search_definitions.specs.Compositions.{first_composition};
 ghost use Rattle.search_definitions.specs.Visits.{first_search};
 
-use crate::tallies::{PLACES, add_to, all_within_reach, take_from, values_allow};
-use alike::{Class, Classes, Composition};
+use crate::tally::Tally;
+use alike::{Classes, Composition};
 use std::alloc::{AllocError, Global};
 use thiserror::Error;
 
@@ -31,10 +31,10 @@ pub fn first(
     ensures answers { Answers (first_search classes.now) nodes result }
     ensures first { IfOk result (λ found. found ≡ first_composition classes.now) }
 {
-    let Ok(mut search) = Search::start(alloc, classes, nodes) else {
+    let Ok(mut search) = Search::new(alloc, classes, nodes) else {
         return Err(SearchStop::OutOfMemory);
     };
-    match search.from_the_empty_front() {
+    match search.from_the_empty_front(classes) {
         Ok(true) => Ok(Some(Composition::new(search.counts))),
         Ok(false) => Ok(None),
         Err(BudgetSpent) => Err(SearchStop::Spent),
@@ -45,44 +45,28 @@ pub fn first(
 #[derive(Debug, Clone, Copy)]
 struct BudgetSpent;
 
-// The front that the search stands at, with what it takes, and the most that the classes after it give: in all, and of each value.
+// Where a search stands: the counts of the front's classes, of which there is a place for each class; what the front takes; and how
+// many visits are left.
 #[derive(Debug, Drop)]
-struct Search<'a> {
-    classes: &'a Classes,
-    // a place for each class, of which the front has the first ones
+struct Search {
     counts: Vec<usize>,
-    taken: usize,
-    held: Vec<usize>,
-    later_taken: usize,
-    later: Vec<usize>,
-    nodes: u64,
+    tally: Tally,
+    left: u64,
 }
 
-impl<'a> Search<'a> {
-    // At the empty front: nothing is taken, and each class comes later.
-    fn start(alloc: Global, classes: &'a Classes, nodes: u64) -> Result<Search<'a>, AllocError> {
-        let cells = PLACES * classes.bounds().len();
-        let mut later = vec![in alloc; 0; cells]?;
-        let mut later_taken = 0;
-        for class in classes.classes() {
-            add_to(&mut later, class.values(), class.most());
-            later_taken += class.most();
-        }
+impl Search {
+    fn new(alloc: Global, classes: &Classes, nodes: u64) -> Result<Search, AllocError> {
         Ok(Search {
-            classes,
             counts: vec![in alloc; 0; classes.classes().len()]?,
-            taken: 0,
-            held: vec![in alloc; 0; cells]?,
-            later_taken,
-            later,
-            nodes,
+            tally: Tally::new(alloc, classes)?,
+            left: nodes,
         })
     }
 
     // Enters the empty front, where it is live.
-    fn from_the_empty_front(&mut self) -> Result<bool, BudgetSpent> {
-        if self.size_allows(0) && all_within_reach(self.classes.bounds(), &self.held, &self.later) {
-            self.enter(0)
+    fn from_the_empty_front(&mut self, classes: &Classes) -> Result<bool, BudgetSpent> {
+        if self.tally.is_alive(classes) {
+            self.enter(classes, 0)
         } else {
             self.spend()?;
             Ok(false)
@@ -91,68 +75,47 @@ impl<'a> Search<'a> {
 
     // Counts a visit.
     fn spend(&mut self) -> Result<(), BudgetSpent> {
-        if self.nodes == 0 {
+        if self.left == 0 {
             return Err(BudgetSpent);
         }
-        self.nodes -= 1;
+        self.left -= 1;
         Ok(())
     }
 
     #[cycle(search)]
     // Enters a live front of the first `depth` classes: does it go on to a composition?
-    fn enter(&mut self, depth: usize) -> Result<bool, BudgetSpent> {
+    fn enter(&mut self, classes: &Classes, depth: usize) -> Result<bool, BudgetSpent> {
         self.spend()?;
-        if depth == self.classes.classes().len() {
+        if depth == classes.classes().len() {
             return Ok(true);
         }
-        let class = &self.classes.classes()[depth];
-        take_from(&mut self.later, class.values(), class.most());
-        self.later_taken -= class.most();
-        let found = self.children(depth, class.most() - class.least())?;
-        if !found {
-            add_to(&mut self.later, class.values(), class.most());
-            self.later_taken += class.most();
-        }
+        let class = &classes.classes()[depth];
+        self.tally.begin_class(classes, &self.counts[..depth]);
+        let found = self.children(classes, depth, class.most() - class.least())?;
+        self.tally.end_class(classes, &self.counts[..depth]);
         Ok(found)
     }
 
     #[cycle(search)]
     // Tries the children of the front, with counts of the next class from so many above the least down to it.
-    fn children(&mut self, depth: usize, above: usize) -> Result<bool, BudgetSpent> {
-        let class = &self.classes.classes()[depth];
-        let count = class.least() + above;
-        if self.allows(class, count) {
+    fn children(
+        &mut self,
+        classes: &Classes,
+        depth: usize,
+        above: usize,
+    ) -> Result<bool, BudgetSpent> {
+        let count = classes.classes()[depth].least() + above;
+        if self.tally.allows(classes, &self.counts[..depth], count) {
+            self.tally.take(classes, &self.counts[..depth], count);
             self.counts[depth] = count;
-            self.taken += count;
-            add_to(&mut self.held, class.values(), count);
-            if self.enter(depth + 1)? {
+            if self.enter(classes, depth + 1)? {
                 return Ok(true);
             }
-            self.taken -= count;
-            take_from(&mut self.held, class.values(), count);
+            self.tally.give_back(classes, &self.counts[..depth], count);
         }
         if above == 0 {
             return Ok(false);
         }
-        self.children(depth, above - 1)
-    }
-
-    // Is the front live, with so many of the next class?
-    fn allows(&self, class: &Class, count: usize) -> bool {
-        self.size_allows(count)
-            && values_allow(
-                self.classes.bounds(),
-                &self.held,
-                &self.later,
-                class.values(),
-                count,
-            )
-    }
-
-    // Can the size be reached, with so many more?
-    fn size_allows(&self, count: usize) -> bool {
-        let taken = self.taken + count;
-        let size = self.classes.size();
-        taken <= size && size <= taken + self.later_taken
+        self.children(classes, depth, above - 1)
     }
 }

@@ -1,6 +1,6 @@
 //! Numbers for the values of the categories, 50 places for each category, and what they allow.
 
-ghost use Rattle.std.specs.Prelude.{◌≡◌, true, false, ◌≤◌, ◌<◌, ◌+◌, ◌^◌};
+ghost use Rattle.std.specs.Prelude.{◌≡◌, true, false, ◌≤◌, ◌<◌, ◌+◌, ◌^◌, length};
 ghost use Rattle.panel_search.specs.Tallies.{HaveCells, CanGive, AreAtMost, HasMore, HaveBounds, AllReach, OneFails, FitCells, EachReaches, SomeFails, within_reach};
 
 use alike::{Bounds, ValueBounds};
@@ -11,7 +11,7 @@ pub(crate) const PLACES: usize = 50;
 // Adds the count at each category's value.
 pub(crate) fn add_to(cells: &mut [usize], values: &[usize], count: usize)
     requires cells { HaveCells values.now cells.old }
-    requires small { AreAtMost 1000000 cells.old }
+    requires small { AreAtMost 1000000 (length values.now) cells.old }
     requires count { count ≤ 1000000 }
     ensures { HasMore values.now count cells.old cells.new }
 {
@@ -42,8 +42,8 @@ pub(crate) fn values_allow(
     requires bounds { HaveBounds bounds.now values.now }
     requires held { HaveCells values.now held.now }
     requires later { HaveCells values.now later.now }
-    requires small { AreAtMost 1000000 held.now }
-    requires small_later { AreAtMost 1000000 later.now }
+    requires small { AreAtMost 1000000 (length values.now) held.now }
+    requires small_later { AreAtMost 1000000 (length values.now) later.now }
     requires count { count ≤ 1000000 }
     ensures allowed { result ≡ true → AllReach bounds.now held.now later.now values.now count }
     ensures refused { result ≡ false → OneFails bounds.now held.now later.now values.now count }
@@ -62,8 +62,8 @@ pub(crate) fn values_allow(
 pub(crate) fn all_within_reach(bounds: &[ValueBounds], held: &[usize], later: &[usize]) -> bool
     requires held { FitCells bounds.now held.now }
     requires later { FitCells bounds.now later.now }
-    requires small { AreAtMost 1000000 held.now }
-    requires small_later { AreAtMost 1000000 later.now }
+    requires small { AreAtMost 1000000 (length bounds.now) held.now }
+    requires small_later { AreAtMost 1000000 (length bounds.now) later.now }
     ensures all { result ≡ true → EachReaches bounds.now held.now later.now }
     ensures some { result ≡ false → SomeFails bounds.now held.now later.now }
 {

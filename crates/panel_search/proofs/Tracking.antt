@@ -1,0 +1,231 @@
+-- A tally follows its front, as a class begins and ends and counts are taken of it.
+use Rattle.std.proofs.Common.{◌≡◌, ℕ, zero, suc, ◌+◌, ◌*◌, ◌≤◌, ◌<◌, Bool, true, false, cond, eqb, List, [], ◌∷◌, ◌++◌, length, map, sum_by, take, drop, get_or, refl, sym, ap, ◌∙◌, arith, subst}
+use Rattle.std.specs.Prelude.{slice_index, slice_index_or}
+use Rattle.std.specs.List.{All, AllByRecursion}
+use Rattle.std.proofs.lemmas.Bool.{eq-eqb, leb-true, and_parts}
+use Rattle.std.proofs.lemmas.List.{drop_more, take-append-drop, length-take-le}
+use Rattle.std.proofs.lemmas.List.Elements.{All-get_or}
+use Rattle.std.proofs.lemmas.List.Sums.{get_or-le-sum_by, sum_by-take-drop}
+use Rattle.pool_definitions.proofs.Sums.{sum_by-is-total, total}
+use Rattle.search_definitions.specs.declared.Bounds.{Bounds}
+use Rattle.search_definitions.specs.Classes.{Class, Classes, HasPlaces, KeepsLimits}
+use Rattle.search_definitions.specs.Compositions.{taken_of, has_value}
+use Rattle.search_definitions.specs.Fronts.{most_of, taken_by, is_live, size_reachable, values_reachable, later_than}
+use Rattle.search_definitions.proofs.FirstSearch.{Split, taken_split}
+use Rattle.panel_search.specs.Tallies.{cell, share, HaveCells, CanGive, AreAtMost, HasMore, HaveBounds}
+use Rattle.panel_search.specs.Front.{Tracks}
+use Rattle.panel_search.specs.declared.tally.Tally.{Tally}
+
+-- ---- classes
+
+-- a class in its place
+pub record Stands (all : Classes) (i : ℕ) (class : Class) : Type 0 where
+  pub below : i < length all.classes
+  pub is : class ≡ get_or all.classes i class
+
+pub comes_next : (all : Classes) (i : ℕ) (class : Class) → Stands all i class → drop i all.classes ≡ class ∷ drop (i + 1) all.classes
+comes_next all i class stands = drop_more all.classes i class stands.below ∙ ap (λ (c : Class). c ∷ drop (i + 1) all.classes) (sym stands.is)
+
+pub most_of_class : (all : Classes) (i : ℕ) (class : Class) → KeepsLimits all → Stands all i class → class.most ≤ 400
+most_of_class all i class limits stands =
+    let few = All-get_or (λ (class : Class). class.most ≤ length class.members) all.classes i class stands.below limits.most in
+    let one = get_or-le-sum_by (λ (class : Class). length class.members) all.classes i class stands.below in
+    let here = stands.is in let sum = limits.few_members in
+    rw here (omega arith)
+
+pub places_of_class : (all : Classes) (i : ℕ) (class : Class) → KeepsLimits all → Stands all i class → HasPlaces all.bounds class
+places_of_class all i class limits stands =
+    subst (HasPlaces all.bounds) (sym stands.is) (All-get_or (HasPlaces all.bounds) all.classes i class stands.below limits.values)
+
+pub few_places : (all : Classes) → KeepsLimits all → (c : ℕ) → c < length all.bounds → length (slice_index_or all.bounds c []) ≤ 50
+few_places all limits c below = All-get_or (λ (values : List Bounds). length values ≤ 50) all.bounds c [] below limits.few_values
+
+pub cells_of_class : (all : Classes) (class : Class) (cells : List ℕ) → KeepsLimits all → HasPlaces all.bounds class → length cells ≡ 50 * length all.bounds → HaveCells class.values cells
+cells_of_class all class cells limits places size = record {
+  places = λ c below. let few = few_places all limits c (omega (arith, places.one_each)) in let within = places.within c (omega (arith, places.one_each)) in omega arith;
+  room = omega (arith, places.one_each);
+}
+
+pub bounds_of_class : (all : Classes) (class : Class) → HasPlaces all.bounds class → HaveBounds all.bounds class.values
+bounds_of_class all class places = record { one_each = places.one_each; within = λ c below. places.within c (omega (arith, places.one_each)) }
+
+-- ---- sums
+
+pub most_more : (p : Class → Bool) (class : Class) (rest : List Class) → most_of p (class ∷ rest) ≡ cond (p class) class.most 0 + most_of p rest
+most_more p class rest =
+    let f : Class → ℕ = λ class. cond (p class) class.most 0 in sum_by-is-total f (class ∷ rest) ∙ sym (ap (λ n. f class + n) (sum_by-is-total f rest))
+
+pub most_of_none : (p : Class → Bool) → most_of p [] ≡ 0
+most_of_none p = sum_by-is-total (λ class. cond (p class) class.most 0) []
+
+most_of_members : (p : Class → Bool) (classes : List Class) → AllByRecursion (λ class. class.most ≤ length class.members) classes → most_of p classes ≤ sum_by (λ class. length class.members) classes
+most_of_members p [] h = omega (arith, most_of_none p)
+most_of_members p (class ∷ classes) h =
+    let rest = most_of_members p classes h.1 in let more = most_more p class classes in let here = h.0 in
+    let a = sum_by-is-total (λ (class : Class). length class.members) (class ∷ classes) in let b = sum_by-is-total (λ (class : Class). length class.members) classes in
+    (elim (p class) as (λ b. most_of p (class ∷ classes) ≡ cond b class.most 0 + most_of p classes → most_of p (class ∷ classes) ≤ sum_by (λ class. length class.members) (class ∷ classes)) [
+      | true ↦ λ e. omega arith
+      | false ↦ λ e. omega arith
+    ]) more
+
+taken_within_all : (p : Class → Bool) (classes : List Class) (counts : List ℕ) → taken_of p classes counts ≤ taken_of (λ class. true) classes counts
+taken_within_all p [] counts = omega arith
+taken_within_all p (class ∷ classes) [] = omega arith
+taken_within_all p (class ∷ classes) (c ∷ counts) =
+    let rest = taken_within_all p classes counts in
+    elim (p class) as (λ b. cond b c 0 + taken_of p classes counts ≤ c + taken_of (λ class. true) classes counts) [
+      | true ↦ omega arith
+      | false ↦ omega arith
+    ]
+
+-- a live front takes few
+pub few_taken : (all : Classes) (front : List ℕ) (p : Class → Bool) → KeepsLimits all → is_live all front ≡ true → taken_of p all.classes front ≤ 200
+few_taken all front p limits live =
+    let parts = and_parts (size_reachable all front) (values_reachable all front) live in
+    let low = leb-true (taken_by all front) all.size (and_parts _ _ parts.0).0 in
+    let within = taken_within_all p all.classes front in let size = limits.size.1 in omega arith
+
+taken_none : (p : Class → Bool) (classes : List Class) → taken_of p classes [] ≡ 0
+taken_none p [] = refl
+taken_none p (class ∷ classes) = refl
+
+pub nothing_taken : (p : Class → Bool) (classes : List Class) → taken_of p classes [] ≡ 0
+nothing_taken p classes = taken_none p classes
+
+-- ---- a front and the classes after it
+
+pub split_at : (all : Classes) (front : List ℕ) → length front ≤ length all.classes → Split all (take (length front) all.classes) (drop (length front) all.classes) front
+split_at all front few = record { whole = sym (take-append-drop (length front) all.classes); fits = sym (length-take-le (length front) all.classes few) }
+
+-- what a front takes with so many more of the next class
+pub taken_more : (all : Classes) (front : List ℕ) (class : Class) (count : ℕ) → Stands all (length front) class → (p : Class → Bool) →
+    taken_of p all.classes (front ++ count ∷ []) ≡ taken_of p all.classes front + cond (p class) count 0
+taken_more all front class count stands p =
+    let split = split_at all front (omega (arith, stands.below)) in
+    let next = comes_next all (length front) class stands in
+    let none = taken_none p (drop (length front + 1) all.classes) in
+    taken_split all (take (length front) all.classes) (drop (length front) all.classes) front (count ∷ []) split p
+    ∙ ap (λ n. taken_of p all.classes front + n) (ap (λ (classes : List Class). taken_of p classes (count ∷ [])) next ∙ omega (arith, none))
+
+-- ---- steps of a tally
+
+-- a class begins: these are tallies before and after
+pub begun : (all : Classes) (front : List ℕ) (class : Class) (rest : List Class) (before after : Tally) → HasPlaces all.bounds class → Tracks all front (class ∷ rest) before →
+    after.taken ≡ before.taken → after.held.items ≡ before.held.items → after.later_taken + class.most ≡ before.later_taken → HasMore class.values class.most after.later.items before.later.items →
+    Tracks all front rest after
+begun all front class rest before after places tracks e f g more = record {
+  taken = e ∙ tracks.taken;
+  later_taken = omega (arith, g, tracks.later_taken, most_more (λ class. true) class rest);
+  held_cells = ap length f ∙ tracks.held_cells;
+  later_cells = sym more.same ∙ tracks.later_cells;
+  held = λ c v a b. ap (λ cells. slice_index cells (cell c v)) f ∙ tracks.held c v a b;
+  later = λ c v a b. omega (arith, more.cells c v (omega (arith, places.one_each)) b, tracks.later c v a b, most_more (has_value c v) class rest);
+}
+
+-- a class ends
+pub ended : (all : Classes) (front : List ℕ) (class : Class) (rest : List Class) (before after : Tally) → HasPlaces all.bounds class → Tracks all front rest before →
+    after.taken ≡ before.taken → after.held.items ≡ before.held.items → after.later_taken ≡ before.later_taken + class.most → HasMore class.values class.most before.later.items after.later.items →
+    Tracks all front (class ∷ rest) after
+ended all front class rest before after places tracks e f g more = record {
+  taken = e ∙ tracks.taken;
+  later_taken = omega (arith, g, tracks.later_taken, most_more (λ class. true) class rest);
+  held_cells = ap length f ∙ tracks.held_cells;
+  later_cells = more.same ∙ tracks.later_cells;
+  held = λ c v a b. ap (λ cells. slice_index cells (cell c v)) f ∙ tracks.held c v a b;
+  later = λ c v a b. omega (arith, more.cells c v (omega (arith, places.one_each)) b, tracks.later c v a b, most_more (has_value c v) class rest);
+}
+
+-- so many of a class are taken
+pub taken_on : (all : Classes) (front : List ℕ) (class : Class) (count : ℕ) (rest : List Class) (before after : Tally) → HasPlaces all.bounds class → Stands all (length front) class → Tracks all front rest before →
+    after.taken ≡ before.taken + count → after.later.items ≡ before.later.items → after.later_taken ≡ before.later_taken → HasMore class.values count before.held.items after.held.items →
+    Tracks all (front ++ count ∷ []) rest after
+taken_on all front class count rest before after places stands tracks e f g more = record {
+  taken = omega (arith, e, tracks.taken, taken_more all front class count stands (λ class. true));
+  later_taken = g ∙ tracks.later_taken;
+  held_cells = more.same ∙ tracks.held_cells;
+  later_cells = ap length f ∙ tracks.later_cells;
+  held = λ c v a b. omega (arith, more.cells c v (omega (arith, places.one_each)) b, tracks.held c v a b, taken_more all front class count stands (has_value c v));
+  later = λ c v a b. ap (λ cells. slice_index cells (cell c v)) f ∙ tracks.later c v a b;
+}
+
+-- they are given back
+pub given_back : (all : Classes) (front : List ℕ) (class : Class) (count : ℕ) (rest : List Class) (before after : Tally) → HasPlaces all.bounds class → Stands all (length front) class → Tracks all (front ++ count ∷ []) rest before →
+    after.taken + count ≡ before.taken → after.later.items ≡ before.later.items → after.later_taken ≡ before.later_taken → HasMore class.values count after.held.items before.held.items →
+    Tracks all front rest after
+given_back all front class count rest before after places stands tracks e f g more = record {
+  taken = omega (arith, e, tracks.taken, taken_more all front class count stands (λ class. true));
+  later_taken = g ∙ tracks.later_taken;
+  held_cells = sym more.same ∙ tracks.held_cells;
+  later_cells = ap length f ∙ tracks.later_cells;
+  held = λ c v a b. omega (arith, more.cells c v (omega (arith, places.one_each)) b, tracks.held c v a b, taken_more all front class count stands (has_value c v));
+  later = λ c v a b. ap (λ cells. slice_index cells (cell c v)) f ∙ tracks.later c v a b;
+}
+
+-- ---- what the tallies of values need
+
+each_of : {X : Type 0} (P : X → Type 0) (xs : List X) → All P xs → AllByRecursion P xs
+each_of P [] h = tt
+each_of P (x ∷ xs) h = (h 0 x (omega arith), each_of P xs (λ k d l. h (suc k) d (omega arith)))
+
+pub most_small : (all : Classes) (i : ℕ) (p : Class → Bool) → KeepsLimits all → most_of p (drop i all.classes) ≤ 400
+most_small all i p limits =
+    let parts = sum_by-take-drop (λ class. cond (p class) class.most 0) all.classes i in
+    let whole = most_of_members p all.classes (each_of (λ (class : Class). class.most ≤ length class.members) all.classes limits.most) in
+    omega (arith, limits.few_members)
+
+pub few_later : (all : Classes) (front : List ℕ) (i n : ℕ) (tally : Tally) → KeepsLimits all → n ≡ length all.bounds → Tracks all front (drop i all.classes) tally → AreAtMost 1000000 n tally.later.items
+few_later all front i n tally limits e tracks = λ c v a b. omega (arith, tracks.later c v (omega arith) b, most_small all i (has_value c v) limits)
+
+pub few_held : (all : Classes) (front : List ℕ) (rest : List Class) (n : ℕ) (tally : Tally) → KeepsLimits all → n ≡ length all.bounds → is_live all front ≡ true → Tracks all front rest tally → AreAtMost 1000000 n tally.held.items
+few_held all front rest n tally limits e live tracks = λ c v a b. omega (arith, tracks.held c v (omega arith) b, few_taken all front (has_value c v) limits live)
+
+own_value : (class : Class) (c : ℕ) → has_value c (slice_index class.values c) class ≡ true
+own_value class c = eq-eqb (slice_index class.values c) (slice_index class.values c) refl
+
+-- a class that comes next can leave what comes later
+pub can_leave : (all : Classes) (front : List ℕ) (class : Class) (rest : List Class) (tally : Tally) → KeepsLimits all → HasPlaces all.bounds class → Tracks all front (class ∷ rest) tally → CanGive class.values tally.later.items class.most
+can_leave all front class rest tally limits places tracks c below =
+    let v = slice_index class.values c in
+    let few = few_places all limits c (omega (arith, places.one_each)) in
+    let within = places.within c (omega (arith, places.one_each)) in
+    let own = own_value class c in
+    let more : most_of (has_value c v) (class ∷ rest) ≡ cond true class.most 0 + most_of (has_value c v) rest = most_more (has_value c v) class rest ∙ ap (λ b. cond b class.most 0 + most_of (has_value c v) rest) own in
+    omega (arith, tracks.later c v (omega (arith, places.one_each)) (omega arith))
+
+-- what was taken of a class can be given back
+pub can_give_back : (all : Classes) (front : List ℕ) (class : Class) (count : ℕ) (rest : List Class) (tally : Tally) → KeepsLimits all → HasPlaces all.bounds class → Stands all (length front) class →
+    Tracks all (front ++ count ∷ []) rest tally → CanGive class.values tally.held.items count
+can_give_back all front class count rest tally limits places stands tracks c below =
+    let v = slice_index class.values c in
+    let few = few_places all limits c (omega (arith, places.one_each)) in
+    let within = places.within c (omega (arith, places.one_each)) in
+    let own = own_value class c in
+    let more : taken_of (has_value c v) all.classes (front ++ count ∷ []) ≡ taken_of (has_value c v) all.classes front + cond true count 0 =
+        taken_more all front class count stands (has_value c v) ∙ ap (λ b. taken_of (has_value c v) all.classes front + cond b count 0) own in
+    omega (arith, tracks.held c v (omega (arith, places.one_each)) (omega arith))
+
+-- ---- in the words of the code
+
+pub stands_there : (all : Classes) (i : ℕ) (classes : List Class) (class : Class) → i < length all.classes → classes ≡ all.classes → class ≡ get_or classes i class → Stands all i class
+stands_there all i classes class below e is = record { below = below; is = is ∙ ap (λ cs. get_or cs i class) e }
+
+pub more_same : (values values' : List ℕ) (count count' : ℕ) (a a' b b' : List ℕ) → values ≡ values' → count ≡ count' → a ≡ a' → b ≡ b' → HasMore values count a b → HasMore values' count' a' b'
+more_same values values' count count' a a' b b' e f g h more =
+    subst (λ x. HasMore x count' a' b') e (subst (λ x. HasMore values x a' b') f (subst (λ x. HasMore values count x b') g (subst (λ x. HasMore values count a x) h more)))
+
+pub cells_same : (values values' cells cells' : List ℕ) → values ≡ values' → cells ≡ cells' → HaveCells values' cells' → HaveCells values cells
+cells_same values values' cells cells' e f have = subst (λ x. HaveCells x cells) (sym e) (subst (HaveCells values') (sym f) have)
+
+pub give_same : (values values' cells cells' : List ℕ) (count count' : ℕ) → values ≡ values' → cells ≡ cells' → count ≡ count' → CanGive values' cells' count' → CanGive values cells count
+give_same values values' cells cells' count count' e f g give =
+    subst (λ x. CanGive x cells count) (sym e) (subst (λ x. CanGive values' x count) (sym f) (subst (CanGive values' cells') (sym g) give))
+
+pub small_same : (n n' : ℕ) (cells cells' : List ℕ) → n ≡ n' → cells ≡ cells' → AreAtMost 1000000 n' cells' → AreAtMost 1000000 n cells
+small_same n n' cells cells' e f small = subst (λ x. AreAtMost 1000000 x cells) (sym e) (subst (AreAtMost 1000000 n') (sym f) small)
+
+-- the next class stands before those after it
+pub with_next : (all : Classes) (front : List ℕ) (class : Class) (tally : Tally) → Stands all (length front) class → Tracks all front (drop (length front) all.classes) tally → Tracks all front (class ∷ drop (length front + 1) all.classes) tally
+with_next all front class tally stands tracks = subst (λ rest. Tracks all front rest tally) (comes_next all (length front) class stands) tracks
+
+pub from_next : (all : Classes) (front : List ℕ) (class : Class) (tally : Tally) → Stands all (length front) class → Tracks all front (class ∷ drop (length front + 1) all.classes) tally → Tracks all front (drop (length front) all.classes) tally
+from_next all front class tally stands tracks = subst (λ rest. Tracks all front rest tally) (sym (comes_next all (length front) class stands)) tracks

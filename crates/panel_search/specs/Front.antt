@@ -1,0 +1,16 @@
+-- What a search keeps of the front that it stands at.
+use Rattle.std.specs.Prelude.{◌≡◌, ℕ, ◌*◌, ◌<◌, true, List, length, slice_index}
+use Rattle.search_definitions.specs.Classes.{Class, Classes}
+use Rattle.search_definitions.specs.Compositions.{taken_of, has_value}
+use Rattle.search_definitions.specs.Fronts.{taken_by, most_of}
+use Rattle.panel_search.specs.Tallies.{cell}
+use Rattle.panel_search.specs.declared.tally.Tally.{Tally}
+
+-- how many the front takes, and the most that these classes give: in all, and of each value
+pub record Tracks (all : Classes) (front : List ℕ) (rest : List Class) (tally : Tally) : Type 0 where
+  pub taken : tally.taken ≡ taken_by all front
+  pub later_taken : tally.later_taken ≡ most_of (λ class. true) rest
+  pub held_cells : length tally.held.items ≡ 50 * length all.bounds
+  pub later_cells : length tally.later.items ≡ 50 * length all.bounds
+  pub held : (c v : ℕ) → c < length all.bounds → v < 50 → slice_index tally.held.items (cell c v) ≡ taken_of (has_value c v) all.classes front
+  pub later : (c v : ℕ) → c < length all.bounds → v < 50 → slice_index tally.later.items (cell c v) ≡ most_of (has_value c v) rest

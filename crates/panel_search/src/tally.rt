@@ -1,0 +1,122 @@
+//! What a front takes of everybody and of each value, and the most that the classes after it give.
+
+ghost use Rattle.std.specs.Prelude.{◌≡◌, ◌+◌, ◌≤◌, ◌<◌, ◌++◌, ◌^◌, [], ◌∷◌, IfOk, true, nat_le, ◌&&◌, drop, length};
+ghost use Rattle.panel_search.specs.Front.{Tracks};
+ghost use Rattle.search_definitions.specs.Fronts.{is_live};
+
+use crate::tallies::{PLACES, add_to, all_within_reach, take_from, values_allow};
+use alike::{Class, Classes};
+use std::alloc::{AllocError, Global};
+
+/// How many a front takes, and the most that later classes give: in all, and of each value.
+#[derive(Debug, Drop)]
+pub(crate) struct Tally {
+    taken: usize,
+    held: Vec<usize>,
+    later_taken: usize,
+    later: Vec<usize>,
+}
+
+impl Tally {
+    // Of the empty front: each class comes later.
+    pub(crate) fn new(alloc: Global, classes: &Classes) -> Result<Tally, AllocError>
+        ensures { IfOk result (λ tally. Tracks classes.now [] classes.now.classes tally) }
+    {
+        let cells = PLACES * classes.bounds().len();
+        let mut later = vec![in alloc; 0; cells]?;
+        let mut later_taken = 0;
+        for class in classes.classes() {
+            add_to(&mut later, class.values(), class.most());
+            later_taken += class.most();
+        }
+        Ok(Tally {
+            taken: 0,
+            held: vec![in alloc; 0; cells]?,
+            later_taken,
+            later,
+        })
+    }
+
+    // The class after the front no longer comes later.
+    pub(crate) fn begin_class(&mut self, classes: &Classes, front: &[usize])
+        requires below { length front.now < length classes.now.classes }
+        requires stands { Tracks classes.now front.now (drop (length front.now) classes.now.classes) self.old }
+        ensures { Tracks classes.now front.now (drop (length front.now + 1) classes.now.classes) self.new }
+    {
+        classes.facts();
+        let class = &classes.classes()[front.len()];
+        take_from(&mut self.later, class.values(), class.most());
+        self.later_taken -= class.most();
+    }
+
+    // It comes later again.
+    pub(crate) fn end_class(&mut self, classes: &Classes, front: &[usize])
+        requires below { length front.now < length classes.now.classes }
+        requires stands { Tracks classes.now front.now (drop (length front.now + 1) classes.now.classes) self.old }
+        ensures { Tracks classes.now front.now (drop (length front.now) classes.now.classes) self.new }
+    {
+        classes.facts();
+        let class = &classes.classes()[front.len()];
+        add_to(&mut self.later, class.values(), class.most());
+        self.later_taken += class.most();
+    }
+
+    // The front goes on with so many of the next class.
+    pub(crate) fn take(&mut self, classes: &Classes, front: &[usize], count: usize)
+        requires below { length front.now < length classes.now.classes }
+        requires live { is_live classes.now front.now ≡ true }
+        requires few { count ≤ 400 }
+        requires stands { Tracks classes.now front.now (drop (length front.now + 1) classes.now.classes) self.old }
+        ensures { Tracks classes.now (front.now ++ count ∷ []) (drop (length front.now + 1) classes.now.classes) self.new }
+    {
+        classes.facts();
+        let class = &classes.classes()[front.len()];
+        add_to(&mut self.held, class.values(), count);
+        self.taken += count;
+    }
+
+    // It no longer does.
+    pub(crate) fn give_back(&mut self, classes: &Classes, front: &[usize], count: usize)
+        requires below { length front.now < length classes.now.classes }
+        requires stands { Tracks classes.now (front.now ++ count ∷ []) (drop (length front.now + 1) classes.now.classes) self.old }
+        ensures { Tracks classes.now front.now (drop (length front.now + 1) classes.now.classes) self.new }
+    {
+        classes.facts();
+        let class = &classes.classes()[front.len()];
+        take_from(&mut self.held, class.values(), count);
+        self.taken -= count;
+    }
+
+    // Is the front live with so many of the next class?
+    pub(crate) fn allows(&self, classes: &Classes, front: &[usize], count: usize) -> bool
+        requires below { length front.now < length classes.now.classes }
+        requires live { is_live classes.now front.now ≡ true }
+        requires few { count ≤ 400 }
+        requires stands { Tracks classes.now front.now (drop (length front.now + 1) classes.now.classes) self.now }
+        ensures { result ≡ is_live classes.now (front.now ++ count ∷ []) }
+    {
+        classes.facts();
+        let class = &classes.classes()[front.len()];
+        self.size_allows(classes.size(), count)
+            && values_allow(classes.bounds(), &self.held, &self.later, class.values(), count)
+    }
+
+    // Is the empty front live?
+    pub(crate) fn is_alive(&self, classes: &Classes) -> bool
+        requires { Tracks classes.now [] classes.now.classes self.now }
+        ensures { result ≡ is_live classes.now [] }
+    {
+        classes.facts();
+        self.size_allows(classes.size(), 0)
+            && all_within_reach(classes.bounds(), &self.held, &self.later)
+    }
+
+    // With so many more: is at most the size taken, and can it be reached?
+    fn size_allows(&self, size: usize, count: usize) -> bool
+        requires { self.now.taken + count + self.now.later_taken < 2 ^ 64 }
+        ensures { result ≡ (nat_le (self.now.taken + count) size && nat_le size (self.now.taken + count + self.now.later_taken)) }
+    {
+        let taken = self.taken + count;
+        taken <= size && size <= taken + self.later_taken
+    }
+}
