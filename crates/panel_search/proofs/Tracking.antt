@@ -1,19 +1,19 @@
 -- A tally follows its front, as a class begins and ends and counts are taken of it.
-use Rattle.std.proofs.Common.{◌≡◌, ℕ, zero, suc, ◌+◌, ◌*◌, ◌≤◌, ◌<◌, Bool, true, false, cond, eqb, List, [], ◌∷◌, ◌++◌, length, map, sum_by, take, drop, get_or, refl, sym, ap, ◌∙◌, arith, subst}
+use Rattle.std.proofs.Common.{◌≡◌, ℕ, zero, suc, ◌+◌, ◌*◌, ◌≤◌, ◌<◌, Bool, true, false, cond, eqb, List, [], ◌∷◌, ◌++◌, length, map, sum_by, take, drop, get_or, replicate, refl, sym, ap, ◌∙◌, arith, subst}
 use Rattle.std.specs.Prelude.{slice_index, slice_index_or}
 use Rattle.std.specs.List.{All, AllByRecursion}
 use Rattle.std.proofs.lemmas.Bool.{eq-eqb, leb-true, and_parts}
-use Rattle.std.proofs.lemmas.List.{drop_more, take-append-drop, length-take-le}
+use Rattle.std.proofs.lemmas.List.{get_or-replicate, length-replicate, drop_more, take-append-drop, length-take-le}
 use Rattle.std.proofs.lemmas.List.Elements.{All-get_or}
-use Rattle.std.proofs.lemmas.List.Sums.{get_or-le-sum_by, sum_by-take-drop}
+use Rattle.std.proofs.lemmas.List.Sums.{get_or-le-sum_by, sum_by-take-drop, sum_by-take-le}
 use Rattle.pool_definitions.proofs.Sums.{sum_by-is-total, total}
 use Rattle.search_definitions.specs.declared.Bounds.{Bounds}
 use Rattle.search_definitions.specs.Classes.{Class, Classes, HasPlaces, KeepsLimits}
 use Rattle.search_definitions.specs.Compositions.{taken_of, has_value}
 use Rattle.search_definitions.specs.Fronts.{most_of, taken_by, is_live, size_reachable, values_reachable, later_than}
 use Rattle.search_definitions.proofs.FirstSearch.{Split, taken_split}
-use Rattle.panel_search.specs.Tallies.{cell, share, HaveCells, CanGive, AreAtMost, HasMore, HaveBounds}
-use Rattle.panel_search.specs.Front.{Tracks}
+use Rattle.panel_search.specs.Tallies.{cell, share, HaveCells, CanGive, AreAtMost, HasMore, HaveBounds, AllReach, OneFails, FitCells, EachReaches, SomeFails}
+use Rattle.panel_search.specs.Front.{Gives, Tracks}
 use Rattle.panel_search.specs.declared.tally.Tally.{Tally}
 
 -- ---- classes
@@ -173,11 +173,44 @@ most_small all i p limits =
     let whole = most_of_members p all.classes (each_of (λ (class : Class). class.most ≤ length class.members) all.classes limits.most) in
     omega (arith, limits.few_members)
 
+-- the first classes give few too
+pub first_small : (all : Classes) (i : ℕ) (p : Class → Bool) → KeepsLimits all → most_of p (take i all.classes) ≤ 400
+first_small all i p limits =
+    let part = sum_by-take-le (λ class. cond (p class) class.most 0) all.classes i in
+    let whole = most_of_members p all.classes (each_of (λ (class : Class). class.most ≤ length class.members) all.classes limits.most) in
+    omega (arith, limits.few_members)
+
+pub few_given : (all : Classes) (i n total : ℕ) (cells : List ℕ) → KeepsLimits all → n ≡ length all.bounds → Gives all (take i all.classes) total cells → AreAtMost 1000000 n cells
+few_given all i n total cells limits e gives = λ c v a b. omega (arith, gives.each c v (omega arith) b, first_small all i (has_value c v) limits)
+
+-- cells of zero
+pub zero_cells : (n categories : ℕ) (cells : List ℕ) → cells ≡ replicate n 0 → length cells ≡ 50 * categories → AreAtMost 0 categories cells
+zero_cells n categories cells e room = λ c v a b.
+    let size : length cells ≡ n = ap length e ∙ length-replicate n 0 in
+    let below : cell c v < n = omega (arith, size, room) in
+    let is : slice_index cells (cell c v) ≡ 0 = ap (λ cells. slice_index cells (cell c v)) e ∙ get_or-replicate n (cell c v) 0 0 below in
+    omega arith
+
+-- nothing is taken, and each class comes later
+pub starts : (all : Classes) (cells : List ℕ) (tally : Tally) → tally.taken ≡ 0 → AreAtMost 0 (length all.bounds) tally.held.items → length tally.held.items ≡ 50 * length all.bounds →
+    tally.later.items ≡ cells → Gives all all.classes tally.later_taken cells → Tracks all [] all.classes tally
+starts all cells tally e none room f gives = record {
+  taken = e ∙ sym (taken_none (λ class. true) all.classes);
+  later_taken = gives.in_all;
+  held_cells = room;
+  later_cells = ap length f ∙ gives.room;
+  held = λ c v a b. omega (arith, none c v a b, taken_none (has_value c v) all.classes);
+  later = λ c v a b. ap (λ cells. slice_index cells (cell c v)) f ∙ gives.each c v a b;
+}
+
 pub few_later : (all : Classes) (front : List ℕ) (i n : ℕ) (tally : Tally) → KeepsLimits all → n ≡ length all.bounds → Tracks all front (drop i all.classes) tally → AreAtMost 1000000 n tally.later.items
 few_later all front i n tally limits e tracks = λ c v a b. omega (arith, tracks.later c v (omega arith) b, most_small all i (has_value c v) limits)
 
 pub few_held : (all : Classes) (front : List ℕ) (rest : List Class) (n : ℕ) (tally : Tally) → KeepsLimits all → n ≡ length all.bounds → is_live all front ≡ true → Tracks all front rest tally → AreAtMost 1000000 n tally.held.items
 few_held all front rest n tally limits e live tracks = λ c v a b. omega (arith, tracks.held c v (omega arith) b, few_taken all front (has_value c v) limits live)
+
+pub few_empty : (all : Classes) (rest : List Class) (tally : Tally) → Tracks all [] rest tally → AreAtMost 1000000 (length all.bounds) tally.held.items
+few_empty all rest tally tracks = λ c v a b. omega (arith, tracks.held c v a b, taken_none (has_value c v) all.classes)
 
 own_value : (class : Class) (c : ℕ) → has_value c (slice_index class.values c) class ≡ true
 own_value class c = eq-eqb (slice_index class.values c) (slice_index class.values c) refl
@@ -201,7 +234,7 @@ can_give_back all front class count rest tally limits places stands tracks c bel
     let within = places.within c (omega (arith, places.one_each)) in
     let own = own_value class c in
     let more : taken_of (has_value c v) all.classes (front ++ count ∷ []) ≡ taken_of (has_value c v) all.classes front + cond true count 0 =
-        taken_more all front class count stands (has_value c v) ∙ ap (λ b. taken_of (has_value c v) all.classes front + cond b count 0) own in
+    taken_more all front class count stands (has_value c v) ∙ ap (λ b. taken_of (has_value c v) all.classes front + cond b count 0) own in
     omega (arith, tracks.held c v (omega (arith, places.one_each)) (omega arith))
 
 -- ---- in the words of the code
@@ -222,6 +255,33 @@ give_same values values' cells cells' count count' e f g give =
 
 pub small_same : (n n' : ℕ) (cells cells' : List ℕ) → n ≡ n' → cells ≡ cells' → AreAtMost 1000000 n' cells' → AreAtMost 1000000 n cells
 small_same n n' cells cells' e f small = subst (λ x. AreAtMost 1000000 x cells) (sym e) (subst (AreAtMost 1000000 n') (sym f) small)
+
+pub bounds_same : (bounds bounds' : List (List Bounds)) (values values' : List ℕ) → bounds ≡ bounds' → values ≡ values' → HaveBounds bounds' values' → HaveBounds bounds values
+bounds_same bounds bounds' values values' e f have = subst (λ x. HaveBounds x values) (sym e) (subst (HaveBounds bounds') (sym f) have)
+
+pub reach_same : (bounds bounds' : List (List Bounds)) (held held' later later' values values' : List ℕ) (count : ℕ) → bounds ≡ bounds' → held ≡ held' → later ≡ later' → values ≡ values' →
+    AllReach bounds held later values count → AllReach bounds' held' later' values' count
+reach_same bounds bounds' held held' later later' values values' count e f g h reach =
+    subst (λ x. AllReach x held' later' values' count) e (subst (λ x. AllReach bounds x later' values' count) f (subst (λ x. AllReach bounds held x values' count) g (subst (λ x. AllReach bounds held later x count) h reach)))
+
+pub fails_same : (bounds bounds' : List (List Bounds)) (held held' later later' values values' : List ℕ) (count : ℕ) → bounds ≡ bounds' → held ≡ held' → later ≡ later' → values ≡ values' →
+    OneFails bounds held later values count → OneFails bounds' held' later' values' count
+fails_same bounds bounds' held held' later later' values values' count e f g h fails =
+    subst (λ x. OneFails x held' later' values' count) e (subst (λ x. OneFails bounds x later' values' count) f (subst (λ x. OneFails bounds held x values' count) g (subst (λ x. OneFails bounds held later x count) h fails)))
+
+pub each_same : (bounds bounds' : List (List Bounds)) (held held' later later' : List ℕ) → bounds ≡ bounds' → held ≡ held' → later ≡ later' → EachReaches bounds held later → EachReaches bounds' held' later'
+each_same bounds bounds' held held' later later' e f g reach =
+    subst (λ x. EachReaches x held' later') e (subst (λ x. EachReaches bounds x later') f (subst (λ x. EachReaches bounds held x) g reach))
+
+pub some_same : (bounds bounds' : List (List Bounds)) (held held' later later' : List ℕ) → bounds ≡ bounds' → held ≡ held' → later ≡ later' → SomeFails bounds held later → SomeFails bounds' held' later'
+some_same bounds bounds' held held' later later' e f g fails =
+    subst (λ x. SomeFails x held' later') e (subst (λ x. SomeFails bounds x later') f (subst (λ x. SomeFails bounds held x) g fails))
+
+pub fit_same : (bounds bounds' : List (List Bounds)) (cells cells' : List ℕ) → bounds ≡ bounds' → cells ≡ cells' → FitCells bounds' cells' → FitCells bounds cells
+fit_same bounds bounds' cells cells' e f fit = subst (λ x. FitCells x cells) (sym e) (subst (FitCells bounds') (sym f) fit)
+
+pub fit_cells : (all : Classes) (cells : List ℕ) → KeepsLimits all → length cells ≡ 50 * length all.bounds → FitCells all.bounds cells
+fit_cells all cells limits e = record { few = λ c below. few_places all limits c below; room = omega arith }
 
 -- the next class stands before those after it
 pub with_next : (all : Classes) (front : List ℕ) (class : Class) (tally : Tally) → Stands all (length front) class → Tracks all front (drop (length front) all.classes) tally → Tracks all front (class ∷ drop (length front + 1) all.classes) tally

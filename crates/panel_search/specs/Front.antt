@@ -14,3 +14,9 @@ pub record Tracks (all : Classes) (front : List ℕ) (rest : List Class) (tally 
   pub later_cells : length tally.later.items ≡ 50 * length all.bounds
   pub held : (c v : ℕ) → c < length all.bounds → v < 50 → slice_index tally.held.items (cell c v) ≡ taken_of (has_value c v) all.classes front
   pub later : (c v : ℕ) → c < length all.bounds → v < 50 → slice_index tally.later.items (cell c v) ≡ most_of (has_value c v) rest
+
+-- the most that these classes give: in all, and of each value
+pub record Gives (all : Classes) (classes : List Class) (total : ℕ) (cells : List ℕ) : Type 0 where
+  pub in_all : total ≡ most_of (λ class. true) classes
+  pub room : length cells ≡ 50 * length all.bounds
+  pub each : (c v : ℕ) → c < length all.bounds → v < 50 → slice_index cells (cell c v) ≡ most_of (has_value c v) classes

@@ -1,3 +1,4 @@
 pub mod Answers
 pub mod Front
+pub mod Steps
 pub mod Tallies

@@ -1,9 +1,11 @@
 //! The search for the first composition, front by front: classes in their order, of each the greatest count first.
 
-ghost use Rattle.std.specs.Prelude.{◌≡◌, IfOk};
+ghost use Rattle.std.specs.Prelude.{◌≡◌, ◌≤◌, ◌<◌, ◌+◌, [], length, take, drop, IfOk, OnOk, OnErr};
 ghost use Rattle.panel_search.specs.Answers.{Answers};
 ghost use Rattle.search_definitions.specs.Compositions.{first_composition};
-ghost use Rattle.search_definitions.specs.Visits.{first_search};
+ghost use Rattle.panel_search.specs.Front.{Tracks};
+ghost use Rattle.panel_search.specs.Steps.{StandsAt, Steps, Finds, children_first, counts_at};
+ghost use Rattle.search_definitions.specs.Visits.{enter_first, first_search};
 
 use crate::tally::Tally;
 use alike::{Classes, Composition};
@@ -55,7 +57,11 @@ struct Search {
 }
 
 impl Search {
-    fn new(alloc: Global, classes: &Classes, nodes: u64) -> Result<Search, AllocError> {
+    fn new(alloc: Global, classes: &Classes, nodes: u64) -> Result<Search, AllocError>
+        ensures counts { IfOk result (λ search. length search.counts.items ≡ length classes.now.classes) }
+        ensures left { IfOk result (λ search. search.left ≡ nodes) }
+        ensures tally { IfOk result (λ search. Tracks classes.now [] classes.now.classes search.tally) }
+    {
         Ok(Search {
             counts: vec![in alloc; 0; classes.classes().len()]?,
             tally: Tally::new(alloc, classes)?,
@@ -64,7 +70,11 @@ impl Search {
     }
 
     // Enters the empty front, where it is live.
-    fn from_the_empty_front(&mut self, classes: &Classes) -> Result<bool, BudgetSpent> {
+    fn from_the_empty_front(&mut self, classes: &Classes) -> Result<bool, BudgetSpent>
+        requires places { length self.old.counts.items ≡ length classes.now.classes }
+        requires tally { Tracks classes.now [] classes.now.classes self.old.tally }
+        ensures { Finds (first_search classes.now) self.old result self.new }
+    {
         if self.tally.is_alive(classes) {
             self.enter(classes, 0)
         } else {
@@ -74,7 +84,12 @@ impl Search {
     }
 
     // Counts a visit.
-    fn spend(&mut self) -> Result<(), BudgetSpent> {
+    fn spend(&mut self) -> Result<(), BudgetSpent>
+        ensures ok { OnOk result (self.old.left ≡ self.new.left + 1) }
+        ensures err { OnErr result (self.old.left ≡ 0) }
+        ensures counts { self.new.counts ≡ self.old.counts }
+        ensures tally { self.new.tally ≡ self.old.tally }
+    {
         if self.left == 0 {
             return Err(BudgetSpent);
         }
@@ -84,16 +99,23 @@ impl Search {
 
     #[cycle(search)]
     // Enters a live front of the first `depth` classes: does it go on to a composition?
-    fn enter(&mut self, classes: &Classes, depth: usize) -> Result<bool, BudgetSpent> {
+    fn enter(&mut self, classes: &Classes, depth: usize) -> Result<bool, BudgetSpent>
+        requires { StandsAt classes.now depth (drop depth classes.now.classes) self.old }
+        ensures { Steps classes.now depth (drop depth classes.now.classes)
+            (enter_first classes.now (drop depth classes.now.classes) (take depth self.old.counts.items)) self.old result self.new }
+    {
         self.spend()?;
         if depth == classes.classes().len() {
             return Ok(true);
         }
+        classes.facts();
         let class = &classes.classes()[depth];
         self.tally.begin_class(classes, &self.counts[..depth]);
-        let found = self.children(classes, depth, class.most() - class.least())?;
+        if self.children(classes, depth, class.most() - class.least())? {
+            return Ok(true);
+        }
         self.tally.end_class(classes, &self.counts[..depth]);
-        Ok(found)
+        Ok(false)
     }
 
     #[cycle(search)]
@@ -103,7 +125,15 @@ impl Search {
         classes: &Classes,
         depth: usize,
         above: usize,
-    ) -> Result<bool, BudgetSpent> {
+    ) -> Result<bool, BudgetSpent>
+        requires below { depth < length classes.now.classes }
+        requires few { above ≤ 400 }
+        requires stands { StandsAt classes.now depth (drop (depth + 1) classes.now.classes) self.old }
+        ensures { Steps classes.now depth (drop (depth + 1) classes.now.classes)
+            (children_first classes.now (drop (depth + 1) classes.now.classes) (take depth self.old.counts.items) (counts_at classes.now depth above))
+            self.old result self.new }
+    {
+        classes.facts();
         let count = classes.classes()[depth].least() + above;
         if self.tally.allows(classes, &self.counts[..depth], count) {
             self.tally.take(classes, &self.counts[..depth], count);

@@ -1,11 +1,12 @@
 //! What a front takes of everybody and of each value, and the most that the classes after it give.
 
-ghost use Rattle.std.specs.Prelude.{◌≡◌, ◌+◌, ◌≤◌, ◌<◌, ◌++◌, ◌^◌, [], ◌∷◌, IfOk, true, nat_le, ◌&&◌, drop, length};
-ghost use Rattle.panel_search.specs.Front.{Tracks};
+ghost use Rattle.std.specs.Prelude.{◌≡◌, ◌+◌, ◌*◌, ◌≤◌, ◌<◌, ◌++◌, ◌^◌, [], ◌∷◌, IfOk, true, nat_le, ◌&&◌, drop, length};
+ghost use Rattle.panel_search.specs.Front.{Gives, Tracks};
+ghost use Rattle.panel_search.specs.Tallies.{AreAtMost};
 ghost use Rattle.search_definitions.specs.Fronts.{is_live};
 
 use crate::tallies::{PLACES, add_to, all_within_reach, take_from, values_allow};
-use alike::{Class, Classes};
+use alike::Classes;
 use std::alloc::{AllocError, Global};
 
 /// How many a front takes, and the most that later classes give: in all, and of each value.
@@ -22,16 +23,14 @@ impl Tally {
     pub(crate) fn new(alloc: Global, classes: &Classes) -> Result<Tally, AllocError>
         ensures { IfOk result (λ tally. Tracks classes.now [] classes.now.classes tally) }
     {
+        classes.facts();
         let cells = PLACES * classes.bounds().len();
+        let held = vec![in alloc; 0; cells]?;
         let mut later = vec![in alloc; 0; cells]?;
-        let mut later_taken = 0;
-        for class in classes.classes() {
-            add_to(&mut later, class.values(), class.most());
-            later_taken += class.most();
-        }
+        let later_taken = add_all(&mut later, classes);
         Ok(Tally {
             taken: 0,
-            held: vec![in alloc; 0; cells]?,
+            held,
             later_taken,
             later,
         })
@@ -65,7 +64,7 @@ impl Tally {
     pub(crate) fn take(&mut self, classes: &Classes, front: &[usize], count: usize)
         requires below { length front.now < length classes.now.classes }
         requires live { is_live classes.now front.now ≡ true }
-        requires few { count ≤ 400 }
+        requires few { count ≤ 1000 }
         requires stands { Tracks classes.now front.now (drop (length front.now + 1) classes.now.classes) self.old }
         ensures { Tracks classes.now (front.now ++ count ∷ []) (drop (length front.now + 1) classes.now.classes) self.new }
     {
@@ -91,14 +90,20 @@ impl Tally {
     pub(crate) fn allows(&self, classes: &Classes, front: &[usize], count: usize) -> bool
         requires below { length front.now < length classes.now.classes }
         requires live { is_live classes.now front.now ≡ true }
-        requires few { count ≤ 400 }
+        requires few { count ≤ 1000 }
         requires stands { Tracks classes.now front.now (drop (length front.now + 1) classes.now.classes) self.now }
         ensures { result ≡ is_live classes.now (front.now ++ count ∷ []) }
     {
         classes.facts();
         let class = &classes.classes()[front.len()];
         self.size_allows(classes.size(), count)
-            && values_allow(classes.bounds(), &self.held, &self.later, class.values(), count)
+            && values_allow(
+                classes.bounds(),
+                &self.held,
+                &self.later,
+                class.values(),
+                count,
+            )
     }
 
     // Is the empty front live?
@@ -119,4 +124,19 @@ impl Tally {
         let taken = self.taken + count;
         taken <= size && size <= taken + self.later_taken
     }
+}
+
+// Adds to cells of zero what each class can give of each value: how much is it in all?
+fn add_all(later: &mut [usize], classes: &Classes) -> usize
+    requires room { length later.old ≡ 50 * length classes.now.bounds }
+    requires zero { AreAtMost 0 (length classes.now.bounds) later.old }
+    ensures { Gives classes.now classes.now.classes result later.new }
+{
+    classes.facts();
+    let mut later_taken = 0;
+    for class in classes.classes() {
+        add_to(later, class.values(), class.most());
+        later_taken += class.most();
+    }
+    later_taken
 }

@@ -1,0 +1,42 @@
+-- One step of a search under a budget.
+use Rattle.std.specs.Prelude.{◌≡◌, ◌≤◌, ◌<◌, ◌+◌, ℕ, Bool, true, false, List, [], ◌∷◌, ◌++◌, length, take, drop, filter, map, Result, Ok, Err, Some, None}
+use Rattle.search_definitions.specs.Classes.{Class, Classes}
+use Rattle.search_definitions.specs.Compositions.{counts_down}
+use Rattle.search_definitions.specs.Fronts.{is_live}
+use Rattle.search_definitions.specs.Visits.{Search as Due, in_turn, enter_first}
+use Rattle.panel_search.specs.Front.{Tracks}
+use Rattle.panel_search.specs.declared.searching.BudgetSpent.{BudgetSpent}
+use Rattle.panel_search.specs.declared.searching.Search.{Search}
+
+-- a search stands at a live front of the first classes, where these classes come after it
+pub record StandsAt (all : Classes) (depth : ℕ) (rest : List Class) (search : Search) : Type 0 where
+  pub places : length search.counts.items ≡ length all.classes
+  pub within : depth ≤ length all.classes
+  pub live : is_live all (take depth search.counts.items) ≡ true
+  pub tally : Tracks all (take depth search.counts.items) rest search.tally
+
+-- the children of a front, with these counts of the next class, one after the other
+abbrev pub children_first : Classes → List Class → List ℕ → List ℕ → Due
+children_first all later front counts = in_turn (map (λ child. enter_first all later child) (filter (is_live all) (map (λ c. front ++ c ∷ []) counts)))
+
+abbrev pub counts_among : List Class → ℕ → List ℕ
+counts_among [] above = []
+counts_among (class ∷ later) above = counts_down class.least above
+
+-- the counts of the class in a place, from so many above the least down to it
+abbrev pub counts_at : Classes → ℕ → ℕ → List ℕ
+counts_at all depth above = counts_among (drop depth all.classes) above
+
+-- a step finds what is due and takes the visits that are due, or it finds that they are more than are left; without a find it
+-- stands where it stood
+abbrev pub Steps : Classes → ℕ → List Class → Due → Search → Result Bool BudgetSpent → Search → Type 0
+Steps all depth rest due before (Ok true) after = (before.left ≡ after.left + due.visits) × (due.found ≡ Some after.counts.items)
+Steps all depth rest due before (Ok false) after =
+    (before.left ≡ after.left + due.visits) × (due.found ≡ None) × (take depth after.counts.items ≡ take depth before.counts.items) × StandsAt all depth rest after
+Steps all depth rest due before (Err spent) after = before.left < due.visits
+
+-- what a whole search finds
+abbrev pub Finds : Due → Search → Result Bool BudgetSpent → Search → Type 0
+Finds due before (Ok true) after = (before.left ≡ after.left + due.visits) × (due.found ≡ Some after.counts.items)
+Finds due before (Ok false) after = (before.left ≡ after.left + due.visits) × (due.found ≡ None)
+Finds due before (Err spent) after = before.left < due.visits
