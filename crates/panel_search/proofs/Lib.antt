@@ -1,3 +1,4 @@
 pub mod Adding
 pub mod Liveness
+pub mod Stepping
 pub mod Tracking

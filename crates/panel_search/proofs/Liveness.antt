@@ -1,5 +1,5 @@
 -- What a tally says about live fronts.
-use Rattle.std.proofs.Common.{◌≡◌, ℕ, zero, suc, ◌+◌, ◌≤◌, ◌<◌, Bool, true, false, cond, ◌&&◌, eqb, leb, List, [], ◌∷◌, ◌++◌, length, drop, Option, Some, None, refl, sym, ap, ◌∙◌, arith, subst, length-append}
+use Rattle.std.proofs.Common.{◌≡◌, ℕ, zero, suc, ◌+◌, ◌<◌, Bool, true, false, cond, ◌&&◌, leb, List, [], ◌∷◌, ◌++◌, length, drop, Some, refl, sym, ap, ◌∙◌, arith, subst, length-append}
 use Rattle.std.specs.Prelude.{slice_get, slice_index, slice_index_or}
 use Rattle.std.specs.List.{list_all, enumerate_from}
 use Rattle.std.proofs.lemmas.Bool.{and_parts, and_from, eqb-true, eq-eqb, false≢true, false_from_ne_true}
@@ -7,8 +7,8 @@ use Rattle.std.proofs.lemmas.Option.{get_or_from_slice_get, slice_get-get_or, sl
 use Rattle.search_definitions.specs.declared.Bounds.{Bounds}
 use Rattle.search_definitions.specs.Classes.{Class, Classes, HasPlaces, KeepsLimits}
 use Rattle.search_definitions.specs.Compositions.{taken_of, has_value}
-use Rattle.search_definitions.specs.Fronts.{most_of, taken_by, is_live, size_reachable, value_reachable, values_reachable, later_than}
-use Rattle.panel_search.specs.Tallies.{cell, HasBound, within_reach, reaches, AllReach, OneFails, EachReaches, SomeFails}
+use Rattle.search_definitions.specs.Fronts.{most_of, is_live, size_reachable, value_reachable, values_reachable, later_than}
+use Rattle.panel_search.specs.Tallies.{cell, HasBound, reaches, AllReach, OneFails, EachReaches, SomeFails}
 use Rattle.panel_search.specs.Front.{Tracks}
 use Rattle.panel_search.specs.declared.tally.Tally.{Tally}
 use Rattle.panel_search.proofs.Tracking.{Stands, comes_next, few_places, most_more, taken_more}

@@ -1,5 +1,5 @@
 -- A tally follows its front, as a class begins and ends and counts are taken of it.
-use Rattle.std.proofs.Common.{◌≡◌, ℕ, zero, suc, ◌+◌, ◌*◌, ◌≤◌, ◌<◌, Bool, true, false, cond, eqb, List, [], ◌∷◌, ◌++◌, length, map, sum_by, take, drop, get_or, replicate, refl, sym, ap, ◌∙◌, arith, subst}
+use Rattle.std.proofs.Common.{◌≡◌, ℕ, suc, ◌+◌, ◌*◌, ◌≤◌, ◌<◌, Bool, true, false, cond, List, [], ◌∷◌, ◌++◌, length, sum_by, take, drop, get_or, replicate, refl, sym, ap, ◌∙◌, arith, subst}
 use Rattle.std.specs.Prelude.{slice_index, slice_index_or}
 use Rattle.std.specs.List.{All, AllByRecursion}
 use Rattle.std.proofs.lemmas.Bool.{eq-eqb, leb-true, and_parts}
@@ -10,9 +10,9 @@ use Rattle.pool_definitions.proofs.Sums.{sum_by-is-total, total}
 use Rattle.search_definitions.specs.declared.Bounds.{Bounds}
 use Rattle.search_definitions.specs.Classes.{Class, Classes, HasPlaces, KeepsLimits}
 use Rattle.search_definitions.specs.Compositions.{taken_of, has_value}
-use Rattle.search_definitions.specs.Fronts.{most_of, taken_by, is_live, size_reachable, values_reachable, later_than}
+use Rattle.search_definitions.specs.Fronts.{most_of, taken_by, is_live, size_reachable, values_reachable}
 use Rattle.search_definitions.proofs.FirstSearch.{Split, taken_split}
-use Rattle.panel_search.specs.Tallies.{cell, share, HaveCells, CanGive, AreAtMost, HasMore, HaveBounds, AllReach, OneFails, FitCells, EachReaches, SomeFails}
+use Rattle.panel_search.specs.Tallies.{cell, HaveCells, CanGive, AreAtMost, HasMore, HaveBounds, AllReach, OneFails, FitCells, EachReaches, SomeFails}
 use Rattle.panel_search.specs.Front.{Gives, Tracks}
 use Rattle.panel_search.specs.declared.tally.Tally.{Tally}
 

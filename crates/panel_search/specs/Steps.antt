@@ -1,5 +1,5 @@
 -- One step of a search under a budget.
-use Rattle.std.specs.Prelude.{◌≡◌, ◌≤◌, ◌<◌, ◌+◌, ℕ, Bool, true, false, List, [], ◌∷◌, ◌++◌, length, take, drop, filter, map, Result, Ok, Err, Some, None}
+use Rattle.std.specs.Prelude.{◌≡◌, ◌≤◌, ◌<◌, ◌+◌, ℕ, if◌then◌else◌, Bool, true, false, List, [], ◌∷◌, ◌++◌, length, take, drop, filter, map, Result, Ok, Err, Some, None}
 use Rattle.search_definitions.specs.Classes.{Class, Classes}
 use Rattle.search_definitions.specs.Compositions.{counts_down}
 use Rattle.search_definitions.specs.Fronts.{is_live}
@@ -15,6 +15,10 @@ pub record StandsAt (all : Classes) (depth : ℕ) (rest : List Class) (search : 
   pub live : is_live all (take depth search.counts.items) ≡ true
   pub tally : Tracks all (take depth search.counts.items) rest search.tally
 
+-- a child where it is live, else nothing
+abbrev pub child_first : Classes → List Class → List ℕ → Due
+child_first all later child = if is_live all child then enter_first all later child else record { visits = 0; found = None }
+
 -- the children of a front, with these counts of the next class, one after the other
 abbrev pub children_first : Classes → List Class → List ℕ → List ℕ → Due
 children_first all later front counts = in_turn (map (λ child. enter_first all later child) (filter (is_live all) (map (λ c. front ++ c ∷ []) counts)))
@@ -27,16 +31,19 @@ counts_among (class ∷ later) above = counts_down class.least above
 abbrev pub counts_at : Classes → ℕ → ℕ → List ℕ
 counts_at all depth above = counts_among (drop depth all.classes) above
 
--- a step finds what is due and takes the visits that are due, or it finds that they are more than are left; without a find it
--- stands where it stood
-abbrev pub Steps : Classes → ℕ → List Class → Due → Search → Result Bool BudgetSpent → Search → Type 0
-Steps all depth rest due before (Ok true) after = (before.left ≡ after.left + due.visits) × (due.found ≡ Some after.counts.items)
-Steps all depth rest due before (Ok false) after =
-    (before.left ≡ after.left + due.visits) × (due.found ≡ None) × (take depth after.counts.items ≡ take depth before.counts.items) × StandsAt all depth rest after
-Steps all depth rest due before (Err spent) after = before.left < due.visits
+-- a step from a front, with so many visits left: it finds what is due and takes the visits that are due, or it finds that they are
+-- more than are left; without a find it stands where it stood
+abbrev pub StepsFrom : Classes → ℕ → List Class → Due → ℕ → List ℕ → Result Bool BudgetSpent → Search → Type 0
+StepsFrom all depth rest due left front (Ok true) after = (left ≡ after.left + due.visits) × (due.found ≡ Some after.counts.items)
+StepsFrom all depth rest due left front (Ok false) after =
+    (left ≡ after.left + due.visits) × (due.found ≡ None) × (take depth after.counts.items ≡ front) × StandsAt all depth rest after
+StepsFrom all depth rest due left front (Err spent) after = left < due.visits
 
--- what a whole search finds
-abbrev pub Finds : Due → Search → Result Bool BudgetSpent → Search → Type 0
-Finds due before (Ok true) after = (before.left ≡ after.left + due.visits) × (due.found ≡ Some after.counts.items)
-Finds due before (Ok false) after = (before.left ≡ after.left + due.visits) × (due.found ≡ None)
-Finds due before (Err spent) after = before.left < due.visits
+abbrev pub Steps : Classes → ℕ → List Class → Due → Search → Result Bool BudgetSpent → Search → Type 0
+Steps all depth rest due before result after = StepsFrom all depth rest due before.left (take depth before.counts.items) result after
+
+-- what a whole search finds, with so many visits left
+abbrev pub Finds : Due → ℕ → Result Bool BudgetSpent → Search → Type 0
+Finds due left (Ok true) after = (left ≡ after.left + due.visits) × (due.found ≡ Some after.counts.items)
+Finds due left (Ok false) after = (left ≡ after.left + due.visits) × (due.found ≡ None)
+Finds due left (Err spent) after = left < due.visits

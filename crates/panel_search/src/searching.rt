@@ -1,10 +1,10 @@
 //! The search for the first composition, front by front: classes in their order, of each the greatest count first.
 
-ghost use Rattle.std.specs.Prelude.{◌≡◌, ◌≤◌, ◌<◌, ◌+◌, [], length, take, drop, IfOk, OnOk, OnErr};
+ghost use Rattle.std.specs.Prelude.{◌≡◌, ◌≤◌, ◌<◌, ◌+◌, [], ◌∷◌, ◌++◌, length, take, drop, IfOk, OnOk, OnErr};
 ghost use Rattle.panel_search.specs.Answers.{Answers};
 ghost use Rattle.search_definitions.specs.Compositions.{first_composition};
 ghost use Rattle.panel_search.specs.Front.{Tracks};
-ghost use Rattle.panel_search.specs.Steps.{StandsAt, Steps, Finds, children_first, counts_at};
+ghost use Rattle.panel_search.specs.Steps.{StandsAt, Steps, Finds, child_first, children_first, counts_at};
 ghost use Rattle.search_definitions.specs.Visits.{enter_first, first_search};
 
 use crate::tally::Tally;
@@ -33,6 +33,7 @@ pub fn first(
     ensures answers { Answers (first_search classes.now) nodes result }
     ensures first { IfOk result (λ found. found ≡ first_composition classes.now) }
 {
+    classes.facts();
     let Ok(mut search) = Search::new(alloc, classes, nodes) else {
         return Err(SearchStop::OutOfMemory);
     };
@@ -73,7 +74,7 @@ impl Search {
     fn from_the_empty_front(&mut self, classes: &Classes) -> Result<bool, BudgetSpent>
         requires places { length self.old.counts.items ≡ length classes.now.classes }
         requires tally { Tracks classes.now [] classes.now.classes self.old.tally }
-        ensures { Finds (first_search classes.now) self.old result self.new }
+        ensures { Finds (first_search classes.now) self.old.left result self.new }
     {
         if self.tally.is_alive(classes) {
             self.enter(classes, 0)
@@ -135,17 +136,39 @@ impl Search {
     {
         classes.facts();
         let count = classes.classes()[depth].least() + above;
-        if self.tally.allows(classes, &self.counts[..depth], count) {
-            self.tally.take(classes, &self.counts[..depth], count);
-            self.counts[depth] = count;
-            if self.enter(classes, depth + 1)? {
-                return Ok(true);
-            }
-            self.tally.give_back(classes, &self.counts[..depth], count);
+        if self.try_child(classes, depth, count)? {
+            return Ok(true);
         }
         if above == 0 {
             return Ok(false);
         }
         self.children(classes, depth, above - 1)
+    }
+
+    #[cycle(search)]
+    // Enters the child with this count of the next class, where it is live.
+    fn try_child(
+        &mut self,
+        classes: &Classes,
+        depth: usize,
+        count: usize,
+    ) -> Result<bool, BudgetSpent>
+        requires below { depth < length classes.now.classes }
+        requires few { count ≤ 1000 }
+        requires stands { StandsAt classes.now depth (drop (depth + 1) classes.now.classes) self.old }
+        ensures { Steps classes.now depth (drop (depth + 1) classes.now.classes)
+            (child_first classes.now (drop (depth + 1) classes.now.classes) (take depth self.old.counts.items ++ count ∷ []))
+            self.old result self.new }
+    {
+        if !self.tally.allows(classes, &self.counts[..depth], count) {
+            return Ok(false);
+        }
+        self.tally.take(classes, &self.counts[..depth], count);
+        self.counts[depth] = count;
+        if self.enter(classes, depth + 1)? {
+            return Ok(true);
+        }
+        self.tally.give_back(classes, &self.counts[..depth], count);
+        Ok(false)
     }
 }

@@ -1,4 +1,3 @@
-use Rattle.std.proofs.Common.{◌≡◌, ◌≤◌, ℕ, ◌+◌, ◌*◌, length}
 use Rattle.panel_search.proofs.Adding.{SharesUpTo}
 use Rattle.panel_search.proofs.tallies.take_from.Given as goal
 

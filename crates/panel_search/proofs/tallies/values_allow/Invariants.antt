@@ -1,4 +1,4 @@
-use Rattle.std.proofs.Common.{◌≡◌, ◌<◌, ℕ}
+use Rattle.std.proofs.Common.{◌<◌, ℕ}
 use Rattle.std.specs.Prelude.{IsTrue, slice_index}
 use Rattle.search_definitions.specs.declared.Bounds.{Bounds}
 use Rattle.panel_search.specs.Tallies.{HasBound, reaches}

@@ -1,5 +1,4 @@
-use Rattle.std.proofs.Common.{◌≡◌, ◌+◌, Bool, ◌&&◌, leb, drop, length, refl, sym, ap, ◌∙◌, arith, true}
-use Rattle.panel_search.specs.Tallies.{AllReach, OneFails}
+use Rattle.std.proofs.Common.{◌+◌, ◌&&◌, leb, length, sym, ap, ◌∙◌, arith, true}
 use Rattle.panel_search.proofs.Tracking.{stands_there, places_of_class, cells_of_class, bounds_of_class, bounds_same, cells_same, small_same, few_later, few_held, few_taken, most_small, reach_same, fails_same}
 use Rattle.panel_search.proofs.Liveness.{child_live, child_dead}
 use Rattle.panel_search.proofs.tally.Tally.allows.Goals as goal

@@ -1,7 +1,6 @@
 use Rattle.std.proofs.Common.{◌+◌, drop, length, refl, sym, ap, ◌∙◌, arith, true}
 use Rattle.std.proofs.lemmas.List.{with_items_is}
-use Rattle.search_definitions.specs.Compositions.{has_value}
-use Rattle.panel_search.proofs.Tracking.{Stands, stands_there, places_of_class, most_of_class, cells_of_class, can_leave, can_give_back, cells_same, give_same, small_same, more_same, few_later, few_held, few_taken, most_small, most_more, taken_more, with_next, from_next, begun, ended, taken_on, given_back}
+use Rattle.panel_search.proofs.Tracking.{stands_there, places_of_class, most_of_class, cells_of_class, cells_same, small_same, more_same, few_later, most_small, from_next, ended}
 use Rattle.panel_search.proofs.tally.Tally.end_class.Goals as goal
 
 pub add_to-requires-clause-cells : goal.add_to-requires-clause-cells

@@ -1,4 +1,4 @@
-use Rattle.std.proofs.Common.{◌≡◌, ◌+◌, Bool, ◌&&◌, leb, drop, length, [], refl, sym, ap, ◌∙◌, arith, true}
+use Rattle.std.proofs.Common.{◌+◌, ◌&&◌, leb, length, [], refl, sym, ap, ◌∙◌, arith, true}
 use Rattle.panel_search.proofs.Tracking.{fit_same, fit_cells, small_same, few_later, few_empty, most_small, nothing_taken, each_same, some_same}
 use Rattle.panel_search.proofs.Liveness.{empty_live, empty_dead}
 use Rattle.panel_search.proofs.tally.Tally.is_alive.Goals as goal

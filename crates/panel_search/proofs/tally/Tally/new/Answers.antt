@@ -1,5 +1,5 @@
-use Rattle.std.proofs.Common.{rules, ◌≡◌, ℕ, ◌*◌, length, replicate, ap, arith, refl, sym, ◌∙◌}
-use Rattle.std.proofs.lemmas.List.{with_items_is, length-replicate}
+use Rattle.std.proofs.Common.{rules, ◌≡◌, ◌*◌, length, replicate, ap, arith, refl, sym, ◌∙◌}
+use Rattle.std.proofs.lemmas.List.{with_items_is}
 use Rattle.panel_search.proofs.Tracking.{starts, zero_cells}
 use Rattle.panel_search.proofs.tally.Tally.new.Goals as goal
 
