@@ -2,10 +2,9 @@
 //! program.
 
 use crate::{SearchStop, first};
-use alike::{Classes, Composition, classes};
+use alike::classes;
 use pool_model::{BuildStop, Name, Pool};
-use std::alloc::{AllocError, Global};
-use std::process::Abort;
+use std::alloc::Global;
 use std::test::Fail;
 
 /// A pool, by the bounds of its categories' values and its volunteers' values, and what the search finds in it.
@@ -144,7 +143,7 @@ fn small_pools_take_so_many_visits(rt: HostRuntime) -> Result<(), Fail> {
         let found = first(alloc, &all, given.visits)?;
         let counts = found.as_ref().map(|composition| composition.counts());
         assert_eq!(rt; counts, given.found, "{}", given.name);
-        let short = first(alloc, &all, given.visits - 1);
+        let short = first(alloc, &all, given.visits.saturating_sub(1));
         assert!(rt; matches!(short, Err(SearchStop::Spent)), "{}", given.name);
     }
     Ok(())
