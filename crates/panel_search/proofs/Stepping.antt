@@ -133,7 +133,7 @@ pub last_none : (all : Classes) (depth : ℕ) (class : Class) (front : List ℕ)
     (left ≡ after + (children_at all depth front above).visits) × ((children_at all depth front above).found ≡ None)
 last_none all depth class front above count left after stands e z f g =
     let due = children_last all depth class front above stands z ∙ (ap (λ n. then_next (child_at all depth front n) (record { visits = 0; found = None })) (sym e)
-        ∙ found_later (child_at all depth front count) (record { visits = 0; found = None }) g) in
+    ∙ found_later (child_at all depth front count) (record { visits = 0; found = None }) g) in
     rw due (omega arith, refl)
 
 pub next_steps : (all : Classes) (depth : ℕ) (class : Class) (above count : ℕ) (before mid : Search) (result : Result Bool BudgetSpent) (after : Search) → Stands all depth class → count ≡ class.least + above → (above ≡ 0 → ⊥) →
@@ -145,7 +145,7 @@ next_steps all depth class above count before mid result after stands e some lef
     let front = take depth before.counts.items in
     let steps' = subst (λ f. Steps all depth (drop (depth + 1) all.classes) (children_at all depth f (above - 1)) mid result after) same steps in
     let due : children_at all depth front above ≡ then_next (child_at all depth front count) (children_at all depth front (above - 1)) =
-        children_next all depth class front above stands some ∙ ap (λ n. then_next (child_at all depth front n) (children_at all depth front (above - 1))) (sym e) in
+    children_next all depth class front above stands some ∙ ap (λ n. then_next (child_at all depth front n) (children_at all depth front (above - 1))) (sym e) in
     subst (λ d. Steps all depth (drop (depth + 1) all.classes) d before result after) (sym due)
     (both all depth (drop (depth + 1) all.classes) (child_at all depth front count) (children_at all depth front (above - 1)) before mid result after left none same steps')
 

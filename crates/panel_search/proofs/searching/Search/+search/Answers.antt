@@ -85,12 +85,17 @@ enter-returns t c =
     let due = enter_due all c.args.depth class (take c.args.depth self.counts.items) (take c.args.depth c.spend.new.self.counts.items) (c.most.result - c.least.result) stands above counts in
     let steps = steps_false all c.args.depth (drop (c.args.depth + 1) all.classes) _ _ _ _ c.children.new.self c.in_ok-children.ensures c.if-branch.false in
     let none = steps.1 in
-    rw due (omega (arith, c.in_ok-spend.ensures.ok, steps.0), none, steps.2 ∙ counts, record {
-      places = steps.3.places;
-      within = steps.3.within;
-      live = steps.3.live;
-      tally = from_front all c.args.depth _ c.children.new.self.counts.items _ c.deref-2.ensures.value steps.3.places steps.3.within c.end_class.ensures;
-    })
+    rw due (
+      omega (arith, c.in_ok-spend.ensures.ok, steps.0),
+      none,
+      steps.2 ∙ counts,
+      record {
+        places = steps.3.places;
+        within = steps.3.within;
+        live = steps.3.live;
+        tally = from_front all c.args.depth _ c.children.new.self.counts.items _ c.deref-2.ensures.value steps.3.places steps.3.within c.end_class.ensures;
+      },
+    )
 
 pub try_child-give_back-requires-clause-stands : goal.try_child-give_back-requires-clause-stands
 try_child-give_back-requires-clause-stands t c =
@@ -115,9 +120,14 @@ try_child-returns t c =
     let same : take depth c.enter.new.self.counts.items ≡ front = front_of depth c.enter.new.self.counts.items front count long (steps.2 ∙ child) in
     let live : is_live all (front ++ count ∷ []) ≡ true = ap (λ items. is_live all (take depth items ++ count ∷ [])) (sym c.deref.ensures.value) ∙ (sym c.allows.ensures ∙ c.if-not-allows.false) in
     let due = child_due all (drop (depth + 1) all.classes) (front ++ count ∷ []) _ live child in
-    rw due (steps.0, steps.1, same, record {
-      places = steps.3.places;
-      within = c.requires.stands.within;
-      live = ap (is_live all) same ∙ c.requires.stands.live;
-      tally = from_front_more all depth _ c.enter.new.self.counts.items _ c.deref-3.ensures.value steps.3.places c.requires.stands.within c.give_back.ensures;
-    })
+    rw due (
+      steps.0,
+      steps.1,
+      same,
+      record {
+        places = steps.3.places;
+        within = c.requires.stands.within;
+        live = ap (is_live all) same ∙ c.requires.stands.live;
+        tally = from_front_more all depth _ c.enter.new.self.counts.items _ c.deref-3.ensures.value steps.3.places c.requires.stands.within c.give_back.ensures;
+      },
+    )
