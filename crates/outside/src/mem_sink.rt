@@ -26,7 +26,8 @@ impl Model for MemSink {
 
     ghost view = { λ s. record { written = s.written.items; room = s.room; calls = s.calls } };
 
-    ghost invariant = { λ s. (length s.written.items ≤ s.room) × (s.room ≤ vec_capacity s.written) };
+    ghost invariant = { λ s. (length s.written.items ≤ s.room)
+        × (s.room ≤ vec_capacity s.written) };
 }
 
 impl MemSink {
@@ -65,8 +66,9 @@ impl Sink for MemSink {
     ghost faults = { λ s. s.calls.faults };
 
     fn put(&mut self, piece: &[u8]) -> Result<(), Failed>
-        ensures whole { OnOk result (Appends (Some self.old.written) (Some self.new.written) piece.now) }
-        ensures part { OnErr result (AppendsPart (Some self.old.written) (Some self.new.written) piece.now) }
+        ensures part { AppendsPart (Some self.old.written) (Some self.new.written) piece.now }
+        ensures whole { OnOk result
+            (Appends (Some self.old.written) (Some self.new.written) piece.now) }
         ensures never_falls { self.old.calls.faults ≤ self.new.calls.faults }
         ensures cause { OnErr result (Rose self.old.calls.faults self.new.calls.faults) }
 
@@ -75,22 +77,24 @@ impl Sink for MemSink {
         ensures state { self.new ≡ after_put self.old piece.now }
     {
         let is_listed = self.calls.next_fails();
-        let rest = self.room - self.written.len();
-        let is_fault = is_listed || rest < piece.len();
+        let fitting = if is_listed {
+            0
+        } else {
+            self.room - self.written.len()
+        };
+        let is_fault = is_listed || fitting < piece.len();
         self.calls.count(is_fault);
-        if !is_listed {
-            append_front(&mut self.written, piece, rest);
-        }
+        append_front(&mut self.written, piece, fitting);
         if is_fault { Err(Failed) } else { Ok(()) }
     }
 }
 
-// Appends the piece, or as much of it as fits the room that is left.
-fn append_front(written: &mut Vec<u8>, piece: &[u8], rest: usize)
-    requires { length written.old.items + rest ≤ vec_capacity written.old }
-    ensures items { written.new.items ≡ written.old.items ++ take rest piece.now }
+// Appends the piece, or as much of it as fits.
+fn append_front(written: &mut Vec<u8>, piece: &[u8], fitting: usize)
+    requires { length written.old.items + fitting ≤ vec_capacity written.old }
+    ensures items { written.new.items ≡ written.old.items ++ take fitting piece.now }
     ensures room { vec_capacity written.old ≤ vec_capacity written.new }
 {
-    let count = rest.min(piece.len());
+    let count = fitting.min(piece.len());
     written.extend_from_slice(&piece[..count]).unwrap();
 }

@@ -28,12 +28,15 @@ const ROOM: usize = 4096;
 /// so there are at most `limit + 2` turns, as the loop's bound shows.
 pub fn read_all<S: Source>(alloc: Global, source: &mut S, limit: usize) -> Result<Vec<u8>, ReadStop>
     requires { limit + 2 < 2 ^ 64 }
-    ensures all { IfOk result (λ bytes. ReadsAll (S.left source.old) (S.left source.new) bytes.items) }
+    ensures all { IfOk result
+        (λ bytes. ReadsAll (S.left source.old) (S.left source.new) bytes.items) }
     ensures within { IfOk result (λ bytes. length bytes.items ≤ limit) }
 
     // When each error comes. Want of memory is free.
-    ensures fault { result ≡ Err ReadStop.Fault → Rose (S.faults source.old) (S.faults source.new) }
-    ensures long { result ≡ Err ReadStop.TooLong → IfSome (S.left source.old) (λ left. limit < length left) }
+    ensures fault { result ≡ Err ReadStop.Fault
+        → Rose (S.faults source.old) (S.faults source.new) }
+    ensures long { result ≡ Err ReadStop.TooLong
+        → IfSome (S.left source.old) (λ left. limit < length left) }
 
     // What stands after each answer.
     ensures front { LosesFront (S.left source.old) (S.left source.new) }

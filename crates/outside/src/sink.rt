@@ -14,10 +14,10 @@ pub trait Sink {
     /// How many faults the sink has counted.
     ghost faults: { Self → ℕ };
 
-    /// Appends the piece. `Failed` has appended a prefix of it, which may be none or all.
+    /// Appends a prefix of the piece: all of it at `Ok`, and none, some or all of it at `Failed`.
     fn put(&mut self, piece: &[u8]) -> Result<(), Failed>
+        ensures part { AppendsPart (written self.old) (written self.new) piece.now }
         ensures whole { OnOk result (Appends (written self.old) (written self.new) piece.now) }
-        ensures part { OnErr result (AppendsPart (written self.old) (written self.new) piece.now) }
         ensures never_falls { faults self.old ≤ faults self.new }
         ensures cause { OnErr result (Rose (faults self.old) (faults self.new)) };
 }

@@ -38,9 +38,9 @@ impl<W: Write> Sink for StdSink<W> {
     ghost faults = { λ s. s.faults };
 
     fn put(&mut self, piece: &[u8]) -> Result<(), Failed>
+        ensures part { AppendsPart (⟦<StdSink<W> as Sink>⟧.written self.old)
+            (⟦<StdSink<W> as Sink>⟧.written self.new) piece.now }
         ensures whole { OnOk result (Appends (⟦<StdSink<W> as Sink>⟧.written self.old)
-            (⟦<StdSink<W> as Sink>⟧.written self.new) piece.now) }
-        ensures part { OnErr result (AppendsPart (⟦<StdSink<W> as Sink>⟧.written self.old)
             (⟦<StdSink<W> as Sink>⟧.written self.new) piece.now) }
         ensures never_falls { ⟦<StdSink<W> as Sink>⟧.faults self.old
             ≤ ⟦<StdSink<W> as Sink>⟧.faults self.new }
@@ -62,8 +62,9 @@ impl<W: Write> Sink for StdSink<W> {
 
 // Writes the piece, and answers whether the writer took it all.
 fn write_piece<W: Write>(inner: &mut W, piece: &[u8]) -> bool
-    ensures whole { result ≡ true → Appends (W.contents inner.old) (W.contents inner.new) piece.now }
     ensures part { AppendsPart (W.contents inner.old) (W.contents inner.new) piece.now }
+    ensures whole { result ≡ true
+        → Appends (W.contents inner.old) (W.contents inner.new) piece.now }
 {
     let mut taken = 0;
     while taken < piece.len() {

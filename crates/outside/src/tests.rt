@@ -10,7 +10,12 @@ const F: Result<usize, Failed> = Err(Failed);
 #[test]
 fn reads_from_memory(rt: HostRuntime) -> Result<(), Fail> {
     let rows = [
-        ([0u64, 0], [Ok(4), Ok(4), Ok(2), Ok(0), Ok(0)], 0u64, 10usize),
+        (
+            [0u64, 0],
+            [Ok(4), Ok(4), Ok(2), Ok(0), Ok(0)],
+            0u64,
+            10usize,
+        ),
         ([1, 0], [F, Ok(4), Ok(4), Ok(2), Ok(0)], 1, 10),
         ([4, 2], [Ok(4), F, Ok(4), F, Ok(2)], 2, 10),
         ([5, 5], [Ok(4), Ok(4), Ok(2), Ok(0), F], 1, 10),
@@ -110,13 +115,19 @@ impl Read for Flaky {
 #[test]
 fn reads_from_std(rt: HostRuntime) -> Result<(), Fail> {
     let mut source = StdSource::new(b"pool 3".as_slice());
-    assert_eq!(rt; read_all(rt.alloc(), &mut source, 6)?.as_slice(), b"pool 3".as_slice());
+    assert_eq!(rt;
+        read_all(rt.alloc(), &mut source, 6)?.as_slice(),
+        b"pool 3".as_slice()
+    );
     assert_eq!(rt; source.faults(), 0);
     let mut source = StdSource::new(Cursor::new(b"pool 3".as_slice()));
     let mut room = [0u8; 4];
     assert_eq!(rt; source.read(&mut room), Ok(4));
     assert_eq!(rt; room, *b"pool");
-    assert_eq!(rt; read_all(rt.alloc(), &mut source, 1), Err(ReadStop::TooLong));
+    assert_eq!(rt;
+        read_all(rt.alloc(), &mut source, 1),
+        Err(ReadStop::TooLong)
+    );
     let mut source = StdSource::new(Flaky(0));
     assert_eq!(rt; source.read(&mut room), Err(Failed));
     assert_eq!(rt; source.read(&mut room), Ok(1));
