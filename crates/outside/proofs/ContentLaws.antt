@@ -1,9 +1,9 @@
 -- How calls follow one another, for callers that make several.
 use Rattle.std.proofs.Common.{◌≡◌, ℕ, ◌+◌, ◌≤◌, ◌++◌, List, Option, arith, length, min, subst, sym, take, ◌∙◌}
-use Rattle.std.specs.Io.KnownBytes.{Appends, Consumes}
+use Rattle.std.specs.Io.KnownBytes.{Appends}
 use Rattle.std.proofs.KnownBytes.{Appends-trans, Consumes-trans}
 use Rattle.std.proofs.lemmas.List.{take-append-le, take_min}
-use Rattle.std.proofs.Math.Seq.{take-append-add, take-append_seam}
+use Rattle.std.proofs.Math.Seq.{take-append-add}
 use Rattle.outside.specs.Content.{AppendsPart, LosesFront}
 
 take_of_longer : (count : ℕ) (piece more : List ℕ) → take (min count (length piece)) (piece ++ more) ≡ take count piece
