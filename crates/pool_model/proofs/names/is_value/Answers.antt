@@ -1,0 +1,13 @@
+use Rattle.std.proofs.Common.{ℕ, List, sym, ◌∙◌, rules, tests}
+use Rattle.std.specs.Str.{bytes_eq}
+use Rattle.std.proofs.lemmas.Iterator.{YieldsList-from_slice}
+use Rattle.std.proofs.lemmas.Iterator.Search.{any_from_yields_List}
+use Rattle.pool_definitions.specs.Pool.{BoundedValue}
+use Rattle.pool_model.proofs.NameLists.{list_any-map}
+use Rattle.pool_model.proofs.names.is_value.Goals as goal
+
+pub returns : goal.returns
+returns c =
+    let name = c.args.name.now in
+    any_from_yields_List (λ (x : BoundedValue). bytes_eq name x.name) _ _ c.any.result c.any.ensures.ran (YieldsList-from_slice c.args.values.now cc) (λ x b q k. search (rules, tests))
+    ∙ sym (list_any-map (bytes_eq name) (λ (x : BoundedValue). x.name) c.args.values.now)

@@ -1,0 +1,6 @@
+use Rattle.std.proofs.Common.{◌≡◌, ◌≤◌, take}
+use Rattle.pool_definitions.specs.Pool.{members_with}
+use Rattle.pool_model.proofs.quotas.number_with.Given as goal
+
+abbrev pub invariant-loop-i : goal.invariant-loop-i
+invariant-loop-i l = (l.count ≤ l.i-index) × (l.count ≡ members_with l.volunteers (take l.i-index l.members) l.category l.value)

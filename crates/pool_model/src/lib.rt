@@ -1,0 +1,17 @@
+//! Pools of volunteers with their quotas, and panels: values that contracts see as the records of `pool_definitions`, which
+//! stands below. A pool is built step by step and keeps its limits at each step. `fits` tests a panel against a pool.
+#![tactic(auto)]
+
+mod building;
+mod names;
+mod panels;
+mod parts;
+mod pools;
+mod quotas;
+
+pub use building::BuildStop;
+pub use panels::Panel;
+pub use parts::{Bound, BoundedValue, Category, Name, Volunteer};
+pub use pool_definitions::Standing;
+pub use pools::{Pool, size_kind};
+pub use quotas::fits;

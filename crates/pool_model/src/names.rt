@@ -1,0 +1,88 @@
+//! Tests of names and of what is given for a volunteer. They go through the lists from the front, which serves: a pool has at
+//! most 400 volunteers, 20 categories and 50 values a category. None but `bytes_of` and `places` takes memory.
+
+ghost use Rattle.std.specs.Prelude.{◌≡◌, ◌==◌, nat_le, not, ◌&&◌, map, IfOk};
+ghost use Rattle.std.specs.List.{list_all};
+ghost use Rattle.pool_definitions.specs.Lists.{stands};
+ghost use Rattle.pool_definitions.specs.Pool.{keeps_name_limits as is_within_limits};
+ghost use Rattle.pool_definitions.specs.Building.{category_names, value_names, ids, place_of, places_of, are_known as each_is_known};
+
+use crate::parts::{BoundedValue, Category, Name, Volunteer};
+use std::alloc::{AllocError, Global};
+
+/// The most bytes of a name or id.
+const MAX_NAME_LEN: usize = 200;
+
+pub(crate) fn keeps_name_limits(name: &[u8]) -> bool
+    ensures { result ≡ is_within_limits name.now }
+{
+    1 <= name.len() && name.len() <= MAX_NAME_LEN && has_right_bytes(name)
+}
+
+fn has_right_bytes(name: &[u8]) -> bool
+    ensures { result ≡ list_all (λ byte. nat_le 32 byte && not (byte == 127)) name.now }
+{
+    name.iter().all(|byte| 32 <= *byte && *byte != 127)
+}
+
+pub(crate) fn is_category(categories: &[Category], name: &[u8]) -> bool
+    ensures { result ≡ stands (category_names categories.now) name.now }
+{
+    categories
+        .iter()
+        .any(|category| name == category.name().as_bytes())
+}
+
+pub(crate) fn is_value(values: &[BoundedValue], name: &[u8]) -> bool
+    ensures { result ≡ stands (value_names values.now) name.now }
+{
+    values.iter().any(|value| name == value.name().as_bytes())
+}
+
+pub(crate) fn is_volunteer(volunteers: &[Volunteer], id: &[u8]) -> bool
+    ensures { result ≡ stands (ids volunteers.now) id.now }
+{
+    volunteers
+        .iter()
+        .any(|volunteer| id == volunteer.id().as_bytes())
+}
+
+pub(crate) fn are_known(categories: &[Category], names: &[&[u8]]) -> bool
+    ensures { result ≡ each_is_known categories.now (map (λ name. name.now) names.now) }
+{
+    categories
+        .iter()
+        .zip(names)
+        .all(|(category, name)| is_value(category.values(), name))
+}
+
+/// The place of the value of this name.
+fn place(values: &[BoundedValue], name: &[u8]) -> Option<usize>
+    ensures { result ≡ place_of values.now name.now }
+{
+    values
+        .iter()
+        .position(|value| name == value.name().as_bytes())
+}
+
+/// For each category the place of the value whose name is given for it, 0 where there is none.
+pub(crate) fn places(
+    alloc: Global,
+    categories: &[Category],
+    names: &[&[u8]],
+) -> Result<Vec<usize>, AllocError>
+    ensures { IfOk result (λ v. v.items ≡ places_of categories.now (map (λ name. name.now) names.now)) }
+{
+    categories
+        .iter()
+        .zip(names)
+        .map(|(category, name)| place(category.values(), name).unwrap_or(0))
+        .collect(alloc)
+}
+
+/// The bytes of each name.
+pub(crate) fn bytes_of(alloc: Global, names: &[Name]) -> Result<Vec<&[u8]>, AllocError>
+    ensures { IfOk result (λ v. map (λ name. name.now) v.items ≡ names.now) }
+{
+    names.iter().map(|name| name.as_bytes()).collect(alloc)
+}

@@ -1,0 +1,193 @@
+//! The parts of a pool: names, categories with bounded values, volunteers.
+
+ghost use Rattle.std.specs.Prelude.{◌≡◌, [], ◌∷◌, ◌++◌, IfOk, OnOk, OnErr};
+ghost use Rattle.pool_definitions.specs.declared.Standing.TheVariants.{Open};
+
+use pool_definitions::Standing;
+use std::alloc::{AllocError, Global};
+use std::marker::Model;
+
+/// How many members of a panel may have a value: from `lower` to `upper`, both included. In a pool both are at most 999.
+#[derive(Clone, Copy, Debug, PartialEq, Eq)]
+pub struct Bound {
+    pub lower: usize,
+    pub upper: usize,
+}
+
+/// A text, seen as its bytes.
+#[derive(Debug, Drop)]
+pub struct Name {
+    text: String,
+}
+
+impl Model for Name {
+    ghost use Rattle.std.specs.Prelude.{List, ℕ, string_bytes};
+
+    ghost Value = { List ℕ };
+
+    ghost view = { λ n. string_bytes n.text };
+}
+
+impl Name {
+    /// A copy of the text.
+    pub fn new(alloc: Global, text: &str) -> Result<Name, AllocError>
+        ensures { IfOk result (λ name. name ≡ text.now) }
+    {
+        let text = String::from_str(alloc, text)?;
+        Ok(Name { text })
+    }
+
+    pub fn as_str(&self) -> &str
+        ensures { result.now ≡ self.now }
+    {
+        self.text.as_str()
+    }
+
+    pub fn as_bytes(&self) -> &[u8]
+        ensures { result.now ≡ self.now }
+    {
+        self.text.as_bytes()
+    }
+}
+
+/// A value of a category, and how many members of a panel may have it.
+#[derive(Debug, Drop)]
+pub struct BoundedValue {
+    name: Name,
+    bound: Bound,
+}
+
+impl Model for BoundedValue {
+    ghost use Rattle.pool_definitions.specs.Pool.{BoundedValue as Seen};
+
+    ghost Value = { Seen };
+
+    ghost view = { λ v. record { name = v.name; lower = v.bound.lower; upper = v.bound.upper } };
+}
+
+impl BoundedValue {
+    pub(crate) fn new(name: Name, bound: Bound) -> BoundedValue
+        ensures { result ≡ record { name = name; lower = bound.lower; upper = bound.upper } }
+    {
+        BoundedValue { name, bound }
+    }
+
+    pub fn name(&self) -> &Name
+        ensures { result.now ≡ self.now.name }
+    {
+        &self.name
+    }
+
+    pub fn bound(&self) -> Bound
+        ensures lower { result.lower ≡ self.now.lower }
+        ensures upper { result.upper ≡ self.now.upper }
+    {
+        self.bound
+    }
+
+    pub fn lower(&self) -> usize
+        ensures { result ≡ self.now.lower }
+    {
+        self.bound.lower
+    }
+
+    pub fn upper(&self) -> usize
+        ensures { result ≡ self.now.upper }
+    {
+        self.bound.upper
+    }
+}
+
+/// A category and its values, in the order in which they were added.
+#[derive(Debug, Drop)]
+pub struct Category {
+    name: Name,
+    values: Vec<BoundedValue>,
+}
+
+impl Model for Category {
+    ghost use Rattle.pool_definitions.specs.Pool.{Category as Seen};
+
+    ghost Value = { Seen };
+
+    ghost view = { λ c. record { name = c.name; values = c.values.items } };
+}
+
+impl Category {
+    // A category without values.
+    pub(crate) fn new(alloc: Global, name: &str) -> Result<Category, AllocError>
+        ensures { IfOk result (λ category. category ≡ record { name = name.now; values = [] }) }
+    {
+        Ok(Category {
+            name: Name::new(alloc, name)?,
+            values: Vec::new(alloc),
+        })
+    }
+
+    pub(crate) fn add(&mut self, value: BoundedValue) -> Result<(), AllocError>
+        ensures ok { OnOk result (self.new ≡ record self.old { values = self.old.values ++ value ∷ [] }) }
+        ensures err { OnErr result (self.new ≡ self.old) }
+    {
+        self.values.push(value)?;
+        Ok(())
+    }
+
+    pub fn name(&self) -> &Name
+        ensures { result.now ≡ self.now.name }
+    {
+        &self.name
+    }
+
+    pub fn values(&self) -> &[BoundedValue]
+        ensures { result.now ≡ self.now.values }
+    {
+        &self.values
+    }
+}
+
+/// A volunteer: for each category the place of a value among the category's values, counted from 0.
+#[derive(Debug, Drop)]
+pub struct Volunteer {
+    id: Name,
+    values: Vec<usize>,
+    standing: Standing,
+}
+
+impl Model for Volunteer {
+    ghost use Rattle.pool_definitions.specs.Pool.{Volunteer as Seen};
+
+    ghost Value = { Seen };
+
+    ghost view = { λ v. record { id = v.id; values = v.values.items; standing = v.standing } };
+}
+
+impl Volunteer {
+    // A volunteer who may be chosen.
+    pub(crate) fn new(id: Name, values: Vec<usize>) -> Volunteer
+        ensures { result ≡ record { id = id; values = values.items; standing = Open } }
+    {
+        Volunteer {
+            id,
+            values,
+            standing: Standing::Open,
+        }
+    }
+
+    pub fn id(&self) -> &Name
+        ensures { result.now ≡ self.now.id }
+    {
+        &self.id
+    }
+
+    pub fn values(&self) -> &[usize]
+        ensures { result.now ≡ self.now.values }
+    {
+        &self.values
+    }
+
+    pub fn standing(&self) -> Standing
+        ensures { result ≡ self.now.standing }
+    {
+        self.standing
+    }
+}

@@ -1,0 +1,229 @@
+//! Pools: a size of panels, categories, and volunteers.
+
+ghost use Rattle.std.specs.Prelude.{◌≡◌, ◌<◌, map, OnOk, OnErr, IfOk, vec_len};
+ghost use Rattle.pool_definitions.specs.Pool.{IsPool};
+ghost use Rattle.pool_definitions.specs.Building.{size_kind, category_kind, value_kind, volunteer_kind, empty_pool, category_added, value_added, volunteer_added, with_value, last_values as values_of_last};
+ghost use Rattle.pool_model.specs.Answers.{Answers};
+
+use crate::building::BuildStop;
+use crate::names::{
+    are_known, bytes_of, is_category, is_value, is_volunteer, keeps_name_limits, places,
+};
+use crate::parts::{Bound, BoundedValue, Category, Name, Volunteer};
+use std::alloc::{AllocError, Global};
+use std::marker::Model;
+
+const MAX_SIZE: usize = 200;
+
+const MAX_CATEGORIES: usize = 20;
+
+const MAX_VALUES: usize = 50;
+
+const MAX_BOUND: usize = 999;
+
+const MAX_VOLUNTEERS: usize = 400;
+
+/// A pool: the size of its panels, its categories and its volunteers, who are numbered from 0. It keeps the limits: a size from 1
+/// to 200; at most 20 categories, 50 values a category and 400 volunteers; bounds in order and at most 999; names and ids of 1 to
+/// 200 bytes of UTF-8, none below 32 and none 127; different names and ids; and one value per category for each volunteer.
+#[derive(Debug, Drop)]
+pub struct Pool {
+    size: usize,
+    categories: Vec<Category>,
+    volunteers: Vec<Volunteer>,
+}
+
+impl Model for Pool {
+    ghost use Rattle.pool_definitions.specs.Pool.{Pool as Seen, IsPool};
+
+    ghost Value = { Seen };
+
+    ghost view = { λ p. record { size = p.size; categories = p.categories.items; volunteers = p.volunteers.items } };
+
+    ghost invariant = { λ p. IsPool (record { size = p.size; categories = p.categories.items; volunteers = p.volunteers.items }) };
+}
+
+impl Pool {
+    /// How many members a panel has.
+    pub fn size(&self) -> usize
+        ensures { result ≡ self.now.size }
+    {
+        self.size
+    }
+
+    /// The categories, in the order in which they were added.
+    pub fn categories(&self) -> &[Category]
+        ensures { result.now ≡ self.now.categories }
+    {
+        &self.categories
+    }
+
+    /// The volunteers by number.
+    pub fn volunteers(&self) -> &[Volunteer]
+        ensures { result.now ≡ self.now.volunteers }
+    {
+        &self.volunteers
+    }
+
+    /// Does nothing; its contract tells what each pool keeps.
+    pub fn facts(&self)
+        ensures { IsPool self.now }
+    {
+        let _ = &self.size;
+    }
+}
+
+impl Pool {
+    /// A pool with no category and no volunteer. Its panels have `size` members.
+    ///
+    /// Stops with kind 2 exactly where the size is not from 1 to 200.
+    pub fn new(alloc: Global, size: usize) -> Result<Pool, BuildStop>
+        ensures kind { Answers (size_kind size) result }
+        ensures ok { IfOk result (λ pool. pool ≡ empty_pool size) }
+    {
+        if let Some(kind) = size_kind(size) {
+            return Err(BuildStop::Kind(kind));
+        }
+        Ok(Pool {
+            size,
+            categories: Vec::new(alloc),
+            volunteers: Vec::new(alloc),
+        })
+    }
+
+    /// The kind of fault that a category of this name has here: 1 where volunteers are there, 3 where the name stood before, 10
+    /// where no such name may be or 20 categories are there; the lowest of these.
+    pub fn category_kind(&self, name: &[u8]) -> Option<u8>
+        ensures { result ≡ category_kind self.now name.now }
+    {
+        if !self.volunteers.is_empty() {
+            Some(1)
+        } else if is_category(&self.categories, name) {
+            Some(3)
+        } else if !keeps_name_limits(name) || MAX_CATEGORIES <= self.categories.len() {
+            Some(10)
+        } else {
+            None
+        }
+    }
+
+    /// Adds a category with no value. Stops with the kind that `category_kind` tells; the pool is then as before.
+    pub fn add_category(&mut self, name: &str) -> Result<(), BuildStop>
+        ensures kind { Answers (category_kind self.old name.now) result }
+        ensures ok { OnOk result (self.new ≡ category_added self.old name.now) }
+        ensures err { OnErr result (self.new ≡ self.old) }
+    {
+        if let Some(kind) = self.category_kind(name.as_bytes()) {
+            return Err(BuildStop::Kind(kind));
+        }
+        let category = Category::new(*self.categories.allocator(), name)?;
+        self.categories.push(category)?;
+        Ok(())
+    }
+
+    /// The kind of fault that a value of this name and these bounds has in the last category: 1 where no category is there or
+    /// volunteers are, 4 where the name stood before in it, 5 where the bounds are out of order or above 999, 10 where no such
+    /// name may be or 50 values are there; the lowest of these.
+    pub fn value_kind(&self, name: &[u8], lower: usize, upper: usize) -> Option<u8>
+        ensures { result ≡ value_kind self.now (record { name = name.now; lower = lower; upper = upper }) }
+    {
+        let values = last_values(&self.categories);
+        if self.categories.is_empty() || !self.volunteers.is_empty() {
+            Some(1)
+        } else if is_value(values, name) {
+            Some(4)
+        } else if upper < lower || MAX_BOUND < upper {
+            Some(5)
+        } else if !keeps_name_limits(name) || MAX_VALUES <= values.len() {
+            Some(10)
+        } else {
+            None
+        }
+    }
+
+    /// Adds a value to the last category: a panel may have from `lower` to `upper` members with it. Stops with the kind that
+    /// `value_kind` tells; the pool is then as before.
+    pub fn add_value(&mut self, name: &str, lower: usize, upper: usize) -> Result<(), BuildStop>
+        ensures kind { Answers (value_kind self.old (record { name = name.now; lower = lower; upper = upper })) result }
+        ensures ok { OnOk result (self.new ≡ value_added self.old (record { name = name.now; lower = lower; upper = upper })) }
+        ensures err { OnErr result (self.new ≡ self.old) }
+    {
+        if let Some(kind) = self.value_kind(name.as_bytes(), lower, upper) {
+            return Err(BuildStop::Kind(kind));
+        }
+        let name = Name::new(*self.categories.allocator(), name)?;
+        add_to_last(
+            &mut self.categories,
+            BoundedValue::new(name, Bound { lower, upper }),
+        )?;
+        Ok(())
+    }
+
+    /// The kind of fault that a volunteer of this id has here, with the value of each category by its name: 6 where a name given
+    /// for a category is none of its values, 7 where there is not one name per category, 8 where the id stood before, 10 where no
+    /// such id may be or 400 volunteers are there; the lowest of these.
+    pub fn volunteer_kind(&self, id: &[u8], values: &[&[u8]]) -> Option<u8>
+        ensures { result ≡ volunteer_kind self.now id.now (map (λ name. name.now) values.now) }
+    {
+        if !are_known(&self.categories, values) {
+            Some(6)
+        } else if values.len() != self.categories.len() {
+            Some(7)
+        } else if is_volunteer(&self.volunteers, id) {
+            Some(8)
+        } else if !keeps_name_limits(id) || MAX_VOLUNTEERS <= self.volunteers.len() {
+            Some(10)
+        } else {
+            None
+        }
+    }
+
+    /// Adds a volunteer, who may be chosen, with the value of each category by its name. Stops with the kind that
+    /// `volunteer_kind` tells; the pool is then as before.
+    pub fn add_volunteer(&mut self, id: &str, values: &[Name]) -> Result<(), BuildStop>
+        ensures kind { Answers (volunteer_kind self.old id.now values.now) result }
+        ensures ok { OnOk result (self.new ≡ volunteer_added self.old id.now values.now) }
+        ensures err { OnErr result (self.new ≡ self.old) }
+    {
+        let alloc = *self.volunteers.allocator();
+        let names = bytes_of(alloc, values)?;
+        if let Some(kind) = self.volunteer_kind(id.as_bytes(), &names) {
+            return Err(BuildStop::Kind(kind));
+        }
+        let places = places(alloc, &self.categories, &names)?;
+        let volunteer = Volunteer::new(Name::new(alloc, id)?, places);
+        self.volunteers.push(volunteer)?;
+        Ok(())
+    }
+}
+
+/// The kind of fault of a size: 2 exactly where it is not from 1 to 200.
+pub fn size_kind(size: usize) -> Option<u8>
+    ensures { result ≡ size_kind size }
+{
+    if 1 <= size && size <= MAX_SIZE {
+        None
+    } else {
+        Some(2)
+    }
+}
+
+// The values of the last category.
+fn last_values(categories: &[Category]) -> &[BoundedValue]
+    ensures { result.now ≡ values_of_last categories.now }
+{
+    match categories.last() {
+        Some(category) => category.values(),
+        None => &[],
+    }
+}
+
+fn add_to_last(categories: &mut Vec<Category>, value: BoundedValue) -> Result<(), AllocError>
+    requires { 0 < vec_len categories.old }
+    ensures ok { OnOk result (categories.new.items ≡ with_value categories.old.items value) }
+    ensures err { OnErr result (categories.new.items ≡ categories.old.items) }
+{
+    let last = categories.len() - 1;
+    let category = &mut categories[last];
+    category.add(value)
+}

@@ -1,0 +1,93 @@
+//! Whether a panel is a quota panel of a pool.
+
+ghost use Rattle.std.specs.Prelude.{◌≡◌, IsTrue, nat_lt, length};
+ghost use Rattle.std.specs.List.{list_all, enumerate_from};
+ghost use Rattle.pool_definitions.specs.Lists.{holds};
+ghost use Rattle.pool_definitions.specs.Pool.{members_with, allows, is_within, meets_quotas, keeps_standings, is_quota_panel};
+
+use crate::panels::Panel;
+use crate::parts::{BoundedValue, Category, Volunteer};
+use crate::pools::Pool;
+use pool_definitions::Standing;
+
+/// Is the panel a quota panel of the pool: of the pool's size, with numbers of its volunteers, with every seated and no gone
+/// volunteer, and with every bound met?
+pub fn fits(pool: &Pool, panel: &Panel) -> bool
+    ensures { result ≡ is_quota_panel pool.now panel.now }
+{
+    let members = panel.members();
+    members.len() == pool.size()
+        && are_below(members, pool.volunteers().len())
+        && keep_standings(pool.volunteers(), members)
+        && meet_quotas(pool.categories(), pool.volunteers(), members)
+}
+
+fn are_below(members: &[usize], count: usize) -> bool
+    ensures { result ≡ list_all (λ i. nat_lt i count) members.now }
+{
+    members.iter().all(|i| *i < count)
+}
+
+fn keep_standings(volunteers: &[Volunteer], members: &[usize]) -> bool
+    ensures { result ≡ keeps_standings volunteers.now members.now }
+{
+    volunteers.iter().enumerate().all(|(i, volunteer)| permits(
+        volunteer.standing(),
+        is_member(members, i),
+    ))
+}
+
+fn is_member(members: &[usize], i: usize) -> bool
+    ensures { result ≡ holds members.now i }
+{
+    members.iter().any(|member| *member == i)
+}
+
+fn permits(standing: Standing, is_in: bool) -> bool
+    ensures { result ≡ allows standing is_in }
+{
+    match standing {
+        Standing::Open => true,
+        Standing::Seated => is_in,
+        Standing::Gone => !is_in,
+    }
+}
+
+fn meet_quotas(categories: &[Category], volunteers: &[Volunteer], members: &[usize]) -> bool
+    requires members { IsTrue (list_all (λ i. nat_lt i (length volunteers.now)) members.now) }
+    ensures { result ≡ meets_quotas categories.now volunteers.now members.now }
+{
+    categories.iter().enumerate().all(|(c, category)| meets_bounds(
+        category, c, volunteers, members,
+    ))
+}
+
+fn meets_bounds(category: &Category, c: usize, volunteers: &[Volunteer], members: &[usize]) -> bool
+    requires members { IsTrue (list_all (λ i. nat_lt i (length volunteers.now)) members.now) }
+    ensures { result ≡ list_all (λ (v, value). is_within value (members_with volunteers.now members.now c v)) (enumerate_from 0 category.now.values) }
+{
+    category.values().iter().enumerate().all(|(v, value)| lies_within(
+        value,
+        number_with(volunteers, members, c, v),
+    ))
+}
+
+fn number_with(volunteers: &[Volunteer], members: &[usize], category: usize, value: usize) -> usize
+    requires members { IsTrue (list_all (λ i. nat_lt i (length volunteers.now)) members.now) }
+    ensures { result ≡ members_with volunteers.now members.now category value }
+{
+    let mut count = 0;
+    for i in members {
+        let volunteer = &volunteers[*i];
+        if volunteer.values().get(category).copied().unwrap_or(0) == value {
+            count += 1;
+        }
+    }
+    count
+}
+
+fn lies_within(value: &BoundedValue, count: usize) -> bool
+    ensures { result ≡ is_within value.now count }
+{
+    value.lower() <= count && count <= value.upper()
+}
