@@ -39,7 +39,7 @@ one_id volunteers members index before between after id seen stood l e f same is
     let id_at : ℕ → List ℕ = λ i. (volunteer volunteers i).id in
     let more : take (index + 1) members ≡ take index members ++ get_or members index 0 ∷ [] = take_more members index 0 l in
     let ids : map id_at (take (index + 1) members) ≡ map id_at (take index members) ++ id_at (get_or members index 0) ∷ [] =
-      ap (map id_at) more ∙ map-append id_at (take index members) (get_or members index 0 ∷ []) in
+    ap (map id_at) more ∙ map-append id_at (take index members) (get_or members index 0 ∷ []) in
     let its : id_at (get_or members index 0) ≡ id = ap (λ (v : Volunteer). v.id) (get_or_default volunteers (get_or members index 0) _ seen inside ∙ sym is) ∙ sym same in
     f ∙ (ap (λ x. x ++ id) (e ∙ ap (λ x. x ++ 9 ∷ []) stood)
     ∙ (ap (λ x. (line_of (codes "panel" ∷ map id_at (take index members)) ++ 9 ∷ []) ++ x) (sym its)

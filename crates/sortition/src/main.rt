@@ -7,6 +7,8 @@ mod input;
 mod office;
 mod panel;
 mod search;
+#[cfg(test)]
+mod tests;
 
 use outside::{StdSink, StdSource};
 use std::process::ExitCode;

@@ -11,7 +11,7 @@ loop-number-preserved c =
     let members = c.members-number-items.result.now in
     let same = c.members-number-items.ensures.value in
     let inside : get_or members c.loop-number.number-index 0 < length c.args.pool.now.volunteers =
-      rw same (member_in_range c.args.pool.now c.args.panel.now c.loop-number.number-index c.requires (rw same at c.loop-number-test.true)) in
+    rw same (member_in_range c.args.pool.now c.args.panel.now c.loop-number.number-index c.requires (rw same at c.loop-number-test.true)) in
     one_id c.args.pool.now.volunteers members c.loop-number.number-index _ _ _ c.as_str.result.now c.index-volunteers-number.result
     c.loop-number.invariant c.loop-number-test.true c.in_ok-push_str.ensures.bytes c.in_ok-push_str-2.ensures.bytes (c.as_str.ensures ∙ c.id.ensures)
     (rw c.volunteers.ensures at c.index-volunteers-number.is) inside
