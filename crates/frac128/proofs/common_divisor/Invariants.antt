@@ -1,0 +1,9 @@
+use Rattle.std.proofs.Common.{ℕ}
+use Rattle.std.specs.Int.{IsGcd}
+use Rattle.frac128.proofs.common_divisor.Given as goal
+
+abbrev pub invariant-loop-smaller : goal.invariant-loop-smaller
+invariant-loop-smaller l = (g : ℕ) → IsGcd l.larger l.smaller g → IsGcd l.fn.x l.fn.y g
+
+abbrev pub decreases-loop-smaller : goal.decreases-loop-smaller
+decreases-loop-smaller l = l.smaller

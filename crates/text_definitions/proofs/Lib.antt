@@ -1,0 +1,4 @@
+pub mod LineLemmas
+pub mod Spelled
+pub mod FieldLemmas
+pub mod ReadAgain

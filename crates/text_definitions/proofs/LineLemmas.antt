@@ -1,0 +1,89 @@
+-- Laws on lines, fields and numbers.
+use Rattle.std.proofs.Common.{◌≡◌, ℕ, zero, suc, ◌+◌, ◌<◌, ◌≤◌, Bool, true, false, cond, eqb, List, [], ◌∷◌, ◌++◌, length, get_or, refl, ◌∙◌, ap, subst, arith, append_assoc, Some}
+use Rattle.std.specs.Prelude.{bytes_eq}
+use Rattle.std.specs.Fmt.{decimal}
+use Rattle.std.specs.List.{AllByRecursion, find, range_with_len, All}
+use Rattle.std.specs.Str.{IsUtf8, is_utf8}
+use Rattle.std.proofs.lemmas.Slice.Eq.{bytes_eq-Decides}
+use Rattle.std.proofs.lemmas.Str.{IsUtf8-append, IsUtf8-from_ascii, IsUtf8-from_is_utf8, IsUtf8-take, IsUtf8-drop, IsCharBoundary-before_ascii, IsCharBoundary-after_ascii, is_utf8-from_IsUtf8}
+use Rattle.std.proofs.lemmas.Str.{IsUtf8-nil}
+use Rattle.std.proofs.Common.{lit<, length-append}
+use Rattle.std.proofs.Math.Seq.{get_or-append_seam, take-append_seam, drop-append-add}
+use Rattle.std.proofs.lemmas.List.Splits.{slice_split_at, slice_split_none, join_with_byte-slice_split}
+use Rattle.text_definitions.specs.Lines.{tab, line_feed, line_of, text_of, fields_of, pieces_of, number_up_to}
+
+pub bytes_are : (xs ys : List ℕ) → bytes_eq xs ys ≡ true → xs ≡ ys
+bytes_are xs ys h = (bytes_eq-Decides xs ys).0 h
+
+pub bytes_same : (xs ys : List ℕ) → xs ≡ ys → bytes_eq xs ys ≡ true
+bytes_same xs ys h = (bytes_eq-Decides xs ys).1 h
+
+-- what is found passes the test
+pub find_passes : (p : ℕ → Bool) (start count n : ℕ) → find p (range_with_len start count) ≡ Some n → (p n ≡ true) × (n < start + count)
+find_passes p start zero n h = cc
+find_passes p start (suc count) n h =
+    (elim (p start) as (λ b. p start ≡ b → cond b (Some start) (find p (range_with_len (start + 1) count)) ≡ Some n → (p n ≡ true) × (n < start + suc count)) [
+      | true ↦ λ e k. let same : start ≡ n = cc in (subst (λ m. p m ≡ true) same e, omega arith)
+      | false ↦ λ e k. let rest = find_passes p (start + 1) count n k in (rest.0, omega (arith, rest.1))
+    ]) refl h
+
+-- a number that is read is spelled by the field
+pub number_spelled : (limit n : ℕ) (field : List ℕ) → number_up_to limit field ≡ Some n → (decimal n ≡ field) × (n ≤ limit)
+number_spelled limit n field h =
+    let found = find_passes (λ m. bytes_eq (decimal m) field) 0 (limit + 1) n h in
+    (bytes_are (decimal n) field found.0, omega (arith, found.1))
+
+-- both sides of an ASCII byte are text where the whole is
+pub around_ascii : (before : List ℕ) (c : ℕ) (after : List ℕ) → c < 128 → IsUtf8 (before ++ c ∷ after) → IsUtf8 before × IsUtf8 after
+around_ascii before c after small whole =
+    let all = before ++ c ∷ after in
+    let size : length all ≡ length before + suc (length after) = length-append before (c ∷ after) in
+    let inside : length before < length all = omega (arith, size) in
+    let here : get_or all (length before) 0 ≡ c = get_or-append_seam before c after 0 in
+    let low : get_or all (length before) 0 < 128 = omega (arith, here) in
+    let first = IsUtf8-take all (length before) whole (IsCharBoundary-before_ascii all (length before) inside low) in
+    let last = IsUtf8-drop all (length before + 1) whole (IsCharBoundary-after_ascii all (length before) whole inside low) in (
+      subst IsUtf8 (take-append_seam before (c ∷ after)) first,
+      subst IsUtf8 (drop-append-add before (c ∷ after) 1) last,
+    )
+
+-- the fields of a line that is text are text
+pub each_field_is_utf8 : (fields : List (List ℕ)) → IsUtf8 (line_of fields) → AllByRecursion (λ field. is_utf8 field ≡ true) fields
+each_field_is_utf8 [] h = tt
+each_field_is_utf8 (field ∷ []) h = (is_utf8-from_IsUtf8 field h, tt)
+each_field_is_utf8 (field ∷ next ∷ later) h =
+    let sides = around_ascii field 9 (line_of (next ∷ later)) (lit< tt) h in
+    (is_utf8-from_IsUtf8 field sides.0, each_field_is_utf8 (next ∷ later) sides.1)
+
+tab_is_ascii : (i : ℕ) → get_or (9 ∷ []) i 0 < 128
+tab_is_ascii zero = lit< tt
+tab_is_ascii (suc i) = lit< tt
+
+-- a line of fields that are text is text
+pub line_is_utf8 : (fields : List (List ℕ)) → AllByRecursion (λ field. is_utf8 field ≡ true) fields → IsUtf8 (line_of fields)
+line_is_utf8 [] h = IsUtf8-nil
+line_is_utf8 (field ∷ []) h = IsUtf8-from_is_utf8 field h.0
+line_is_utf8 (field ∷ next ∷ later) h =
+    IsUtf8-append field (9 ∷ line_of (next ∷ later)) (IsUtf8-from_is_utf8 field h.0)
+    (IsUtf8-append (9 ∷ []) (line_of (next ∷ later)) (IsUtf8-from_ascii (9 ∷ []) tab_is_ascii) (line_is_utf8 (next ∷ later) h.1))
+
+-- a list without a byte
+abbrev pub Lacks : ℕ → List ℕ → Type 0
+Lacks c xs = All (λ x. eqb x c ≡ false) xs
+
+-- lines without LF are the pieces of their text, and nothing stands behind the last
+pub pieces_of-text_of : (lines : List (List ℕ)) → AllByRecursion (Lacks line_feed) lines → pieces_of (text_of lines) ≡ lines ++ [] ∷ []
+pieces_of-text_of [] h = refl
+pieces_of-text_of (line ∷ lines) h =
+    let regrouped : text_of (line ∷ lines) ≡ line ++ (line_feed ∷ text_of lines) = append_assoc line (line_feed ∷ []) (text_of lines) in
+    ap pieces_of regrouped ∙ (slice_split_at (λ b. eqb b line_feed) line line_feed (text_of lines) h.0 refl ∙ ap (λ ls. line ∷ ls) (pieces_of-text_of lines h.1))
+
+-- fields without TAB are those of their line
+pub fields_of-line_of : (field : List ℕ) (fields : List (List ℕ)) → AllByRecursion (Lacks tab) (field ∷ fields) → fields_of (line_of (field ∷ fields)) ≡ field ∷ fields
+fields_of-line_of field [] h = slice_split_none (λ b. eqb b tab) field h.0
+fields_of-line_of field (next ∷ later) h =
+    slice_split_at (λ b. eqb b tab) field tab (line_of (next ∷ later)) h.0 refl ∙ ap (λ fs. field ∷ fs) (fields_of-line_of next later h.1)
+
+-- a line is the line of its fields
+pub line_of-fields_of : (line : List ℕ) → line_of (fields_of line) ≡ line
+line_of-fields_of line = join_with_byte-slice_split tab line

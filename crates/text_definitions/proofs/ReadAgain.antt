@@ -1,0 +1,290 @@
+-- The text of a pool is read again, and gives that pool.
+use Rattle.std.proofs.Common.{◌≡◌, ℕ, zero, suc, ◌+◌, ◌<◌, ◌≤◌, true, false, not, ◌&&◌, ◌||◌, cond, eqb, ltb, leb, List, [], ◌∷◌, ◌++◌, length, get_or, map, refl, sym, ◌∙◌, ap, subst, arith, add-one, append_assoc, Some, None, unwrap_or, option_map}
+use Rattle.std.specs.Prelude.{bytes_eq, codes, Ok}
+use Rattle.std.specs.Fmt.{decimal}
+use Rattle.std.specs.List.{AllByRecursion, flat_map, list_all, list_any}
+use Rattle.std.specs.Str.{is_utf8}
+use Rattle.std.proofs.Common.{length-append}
+use Rattle.std.proofs.lemmas.Bool.{eq-eqb, false≢true, ne_eqb, and_from, and_parts, or_parts, or_left, or_right, leb-true, lt-leb, ltb-true, not-true}
+use Rattle.std.proofs.lemmas.List.{append-nil, length-map, map-append}
+use Rattle.std.proofs.lemmas.List.Folds.{list_any-append}
+use Rattle.std.proofs.lemmas.Str.{is_utf8-from_IsUtf8}
+use Rattle.pool_definitions.specs.declared.Standing.{Standing}
+use Rattle.pool_definitions.specs.declared.Standing.TheVariants.{Open, Seated, Gone}
+use Rattle.pool_definitions.specs.Lists.{stands, all_different}
+use Rattle.pool_definitions.specs.Pool.{BoundedValue, Category, Volunteer, Pool, is_name, is_value, is_category, are_bounds, has_values, keeps_name_limits}
+use Rattle.pool_definitions.specs.Building.{category_names, value_names, ids, last_values, with_value, place_of, places_of, are_known, empty_pool, size_kind, category_kind, value_kind, volunteer_kind, volunteer_added}
+use Rattle.pool_definitions.proofs.BuildingLemmas.{same_bytes_comm}
+use Rattle.pool_definitions.proofs.Sums.{each_map}
+use Rattle.text_definitions.specs.Lines.{tab, line_feed, line_of, fields_of}
+use Rattle.text_definitions.specs.PoolText.{size_line, value_line, category_lines, names_at, volunteer_line, end_line, lines_before_end, spelling, HasText, is_open}
+use Rattle.text_definitions.specs.PoolReading.{Progress, Begun, Inside, Ended, Entry, OfCategory, OfValue, OfVolunteer, TheEnd, bound_of, entry_of, entry_kind, size_of, encoding_kind, kind_or, line_kind, after_entry, after_line, at_last, fault_or, read_lines, read}
+use Rattle.text_definitions.proofs.LineLemmas.{Lacks, bytes_same, fields_of-line_of, line_is_utf8, pieces_of-text_of}
+use Rattle.text_definitions.proofs.FieldLemmas.{IsField, plain_field, name_field, decimal_field, number_again, line_lacks_feed}
+
+-- lines without LF lead from one progress to another with no fault
+abbrev pub Runs : Progress → List (List ℕ) → Progress → Type 0
+Runs before [] after = before ≡ after
+Runs before (line ∷ lines) after = Lacks line_feed line × (line_kind before line ≡ None) × Runs (after_line before line) lines after
+
+Runs-append : (before between after : Progress) (xs ys : List (List ℕ)) → Runs before xs between → Runs between ys after → Runs before (xs ++ ys) after
+Runs-append before between after [] ys h k = subst (λ progress. Runs progress ys after) (sym h) k
+Runs-append before between after (x ∷ xs) ys h k = (h.0, h.1, Runs-append (after_line before x) between after xs ys h.2 k)
+
+no_feeds : (before after : Progress) (lines : List (List ℕ)) → Runs before lines after → AllByRecursion (Lacks line_feed) lines
+no_feeds before after [] h = tt
+no_feeds before after (line ∷ lines) h = (h.0, no_feeds (after_line before line) after lines h.2)
+
+read_to_end : (number : ℕ) (before : Progress) (lines : List (List ℕ)) (pool : Pool) → Runs before lines (Ended pool) → read_lines number before (lines ++ [] ∷ []) ≡ Ok pool
+read_to_end number before [] pool h = ap (λ progress. at_last number progress []) h
+read_to_end number before (line ∷ []) pool h =
+    ap (λ kind. fault_or kind number (read_lines (number + 1) (after_line before line) ([] ∷ []))) h.1 ∙ read_to_end (number + 1) (after_line before line) [] pool h.2
+read_to_end number before (line ∷ next ∷ later) pool h =
+    ap (λ kind. fault_or kind number (read_lines (number + 1) (after_line before line) (next ∷ (later ++ [] ∷ [])))) h.1
+    ∙ read_to_end (number + 1) (after_line before line) (next ∷ later) pool h.2
+
+-- a line of fields that say a right entry, and lines that go on from there
+run_entry : (pool : Pool) (field : List ℕ) (fields : List (List ℕ)) (entry : Entry) (lines : List (List ℕ)) (after : Progress) → AllByRecursion IsField (field ∷ fields) →
+    entry_of (field ∷ fields) ≡ entry → entry_kind pool entry ≡ None → Runs (after_entry pool entry) lines after → Runs (Inside pool) (line_of (field ∷ fields) ∷ lines) after
+run_entry pool field fields entry lines after are e none rest =
+    let all = field ∷ fields in
+    let line = line_of all in
+    let same : entry_of (fields_of line) ≡ entry = ap entry_of (fields_of-line_of field fields (each_map IsField (Lacks tab) (λ f is. is.no_tab) all are)) ∙ e in
+    let text : is_utf8 line ≡ true = is_utf8-from_IsUtf8 line (line_is_utf8 all (each_map IsField (λ f. is_utf8 f ≡ true) (λ f is. is.utf8) all are)) in (
+      line_lacks_feed all are,
+      ap (λ said. kind_or (entry_kind pool said) (encoding_kind line)) same
+          ∙ (ap (λ kind. kind_or kind (encoding_kind line)) none ∙ ap (λ test. cond (not test) (Some 11) None) text),
+      subst (λ said. Runs (after_entry pool said) lines after) (sym same) rest,
+    )
+
+-- a name in a list of different names is none of those before it
+new_among : (before : List (List ℕ)) (name : List ℕ) (later : List (List ℕ)) → all_different (before ++ name ∷ later) ≡ true → stands before name ≡ false
+new_among [] name later h = refl
+new_among (first ∷ before) name later h =
+    let parts = and_parts (not (stands (before ++ name ∷ later) first)) (all_different (before ++ name ∷ later)) h in
+    let none = sym (list_any-append (bytes_eq first) before (name ∷ later)) ∙ not-true (stands (before ++ name ∷ later) first) parts.0 in
+    let behind = or_parts (list_any (bytes_eq first) before) (bytes_eq first name || list_any (bytes_eq first) later) none in
+    let here = or_parts (bytes_eq first name) (list_any (bytes_eq first) later) behind.1 in
+    let other = same_bytes_comm name first ∙ here.0 in
+    let rest = new_among before name later parts.1 in rw (other, rest) refl
+
+abbrev made : ℕ → List Category → List Volunteer → Pool
+made size categories volunteers = record { size = size; categories = categories; volunteers = volunteers }
+
+abbrev named : List ℕ → List BoundedValue → Category
+named name values = record { name = name; values = values }
+
+last_values-push : (categories : List Category) (category : Category) → last_values (categories ++ category ∷ []) ≡ category.values
+last_values-push [] category = refl
+last_values-push (first ∷ []) category = refl
+last_values-push (first ∷ next ∷ later) category = last_values-push (next ∷ later) category
+
+with_value-push : (categories : List Category) (category : Category) (value : BoundedValue) →
+    with_value (categories ++ category ∷ []) value ≡ categories ++ named category.name (category.values ++ value ∷ []) ∷ []
+with_value-push [] category value = refl
+with_value-push (first ∷ []) category value = refl
+with_value-push (first ∷ next ∷ later) category value = ap (λ rest. first ∷ rest) (with_value-push (next ∷ later) category value)
+
+bound_again : (n : ℕ) → n ≤ 999 → bound_of (decimal n) ≡ n
+bound_again n h = ap (λ o. unwrap_or o 1000) (number_again 999 n (omega arith) h)
+
+-- what a value that may be added keeps
+value_is_new : (size : ℕ) (before : List Category) (name : List ℕ) (values : List BoundedValue) (value : BoundedValue) →
+    stands (value_names values) value.name ≡ false → is_value value ≡ true → length values < 50 → value_kind (made size (before ++ named name values ∷ []) []) value ≡ None
+value_is_new size before name values value new is room =
+    let parts = and_parts (is_name value.name) (are_bounds value.lower value.upper) is in
+    let limits = (and_parts (keeps_name_limits value.name) (is_utf8 value.name) parts.0).0 in
+    let last = last_values-push before (named name values) in
+    let some : eqb (length (before ++ named name values ∷ [])) 0 ≡ false = ne_eqb (length (before ++ named name values ∷ [])) 0 (λ e. omega (arith, length-append before (named name values ∷ []))) in
+    let few : leb 50 (length values) ≡ false = lt-leb 50 (length values) room in
+    rw (some, last, new, parts.1, limits, few) refl
+
+values_run : (size : ℕ) (before : List Category) (name : List ℕ) (done todo : List BoundedValue) → list_all is_value todo ≡ true → all_different (value_names (done ++ todo)) ≡ true → length (done ++ todo) ≤ 50 →
+    Runs (Inside (made size (before ++ named name done ∷ []) [])) (map value_line todo) (Inside (made size (before ++ named name (done ++ todo) ∷ []) []))
+values_run size before name done [] are different few = ap (λ values. Inside (made size (before ++ named name values ∷ []) [])) (sym (append-nil done))
+values_run size before name done (value ∷ todo) are different few =
+    let parts = and_parts (is_value value) (list_all is_value todo) are in
+    let is = and_parts (is_name value.name) (are_bounds value.lower value.upper) parts.0 in
+    let order = and_parts (leb value.lower value.upper) (leb value.upper 999) is.1 in
+    let lower_le = leb-true value.lower value.upper order.0 in
+    let upper_le = leb-true value.upper 999 order.1 in
+    let lower_again = bound_again value.lower (omega arith) in
+    let upper_again = bound_again value.upper (omega arith) in
+    let pool = made size (before ++ named name done ∷ []) [] in
+    let fields = value.name ∷ decimal value.lower ∷ decimal value.upper ∷ [] in
+    let after = Inside (made size (before ++ named name (done ++ value ∷ todo) ∷ []) []) in
+    let regrouped : (done ++ value ∷ []) ++ todo ≡ done ++ value ∷ todo = append_assoc done (value ∷ []) todo in
+    let new = new_among (value_names done) value.name (value_names todo) (ap all_different (sym (map-append (λ v. v.name) done (value ∷ todo))) ∙ different) in
+    let sizes : length (done ++ value ∷ todo) ≡ length done + suc (length todo) = length-append done (value ∷ todo) in
+    let rest = values_run size before name (done ++ value ∷ []) todo parts.1 (ap (λ values. all_different (value_names values)) regrouped ∙ different) (subst (λ values. length values ≤ 50) (sym regrouped) few) in
+    let rest_to = subst (λ values. Runs (Inside (made size (before ++ named name (done ++ value ∷ []) ∷ []) [])) (map value_line todo) (Inside (made size (before ++ named name values ∷ []) []))) regrouped rest in
+    let said : entry_of (codes "value" ∷ fields) ≡ OfValue value = ap (λ lower. OfValue (record { name = value.name; lower = lower; upper = bound_of (decimal value.upper) })) lower_again ∙ ap (λ upper. OfValue (record { name = value.name; lower = value.lower; upper = upper })) upper_again in
+    run_entry pool (codes "value") fields (OfValue value) (map value_line todo) after
+    (plain_field (codes "value") refl, (name_field value.name is.0, (decimal_field value.lower (omega arith), (decimal_field value.upper upper_le, tt))))
+    said (value_is_new size before name done value new parts.0 (omega (arith, sizes)))
+    (subst (λ categories. Runs (Inside (made size categories [])) (map value_line todo) after) (sym (with_value-push before (named name done) value)) rest_to)
+
+-- what is known of a category
+record IsCategory (category : Category) : Type 0 where
+  name : is_name category.name ≡ true
+  few : length category.values ≤ 50
+  different : all_different (value_names category.values) ≡ true
+  values : list_all is_value category.values ≡ true
+
+category_parts : (category : Category) → is_category category ≡ true → IsCategory category
+category_parts category h =
+    let A = is_name category.name in let B = leb (length category.values) 50 in
+    let C = all_different (value_names category.values) in let D = list_all is_value category.values in
+    let d = and_parts (A && B && C) D h in let c = and_parts (A && B) C d.0 in let b = and_parts A B c.0 in
+    record { name = b.0; few = leb-true (length category.values) 50 b.1; different = c.1; values = d.1 }
+
+category_is_new : (size : ℕ) (before : List Category) (name : List ℕ) →
+    stands (category_names before) name ≡ false → is_name name ≡ true → length before < 20 → category_kind (made size before []) name ≡ None
+category_is_new size before name new is room =
+    let limits = (and_parts (keeps_name_limits name) (is_utf8 name) is).0 in
+    let few : leb 20 (length before) ≡ false = lt-leb 20 (length before) room in
+    rw (new, limits, few) refl
+
+categories_run : (size : ℕ) (done todo : List Category) → list_all is_category todo ≡ true → all_different (category_names (done ++ todo)) ≡ true → length (done ++ todo) ≤ 20 →
+    Runs (Inside (made size done [])) (flat_map category_lines todo) (Inside (made size (done ++ todo) []))
+categories_run size done [] are different few = ap (λ categories. Inside (made size categories [])) (sym (append-nil done))
+categories_run size done (category ∷ todo) are different few =
+    let parts = and_parts (is_category category) (list_all is_category todo) are in
+    let is = category_parts category parts.0 in
+    let after = Inside (made size (done ++ category ∷ todo) []) in
+    let regrouped : (done ++ category ∷ []) ++ todo ≡ done ++ category ∷ todo = append_assoc done (category ∷ []) todo in
+    let new = new_among (category_names done) category.name (category_names todo) (ap all_different (sym (map-append (λ c. c.name) done (category ∷ todo))) ∙ different) in
+    let sizes : length (done ++ category ∷ todo) ≡ length done + suc (length todo) = length-append done (category ∷ todo) in
+    let values = values_run size done category.name [] category.values is.values is.different is.few in
+    let rest = categories_run size (done ++ category ∷ []) todo parts.1 (ap (λ categories. all_different (category_names categories)) regrouped ∙ different) (subst (λ categories. length categories ≤ 20) (sym regrouped) few) in
+    let rest_to = subst (λ categories. Runs (Inside (made size (done ++ category ∷ []) [])) (flat_map category_lines todo) (Inside (made size categories []))) regrouped rest in
+    let all = Runs-append (Inside (made size (done ++ named category.name [] ∷ []) [])) (Inside (made size (done ++ category ∷ []) [])) after (map value_line category.values) (flat_map category_lines todo) values rest_to in
+    run_entry (made size done []) (codes "category") (category.name ∷ []) (OfCategory category.name) (map value_line category.values ++ flat_map category_lines todo) after
+    (plain_field (codes "category") refl, (name_field category.name is.name, tt)) refl (category_is_new size done category.name new is.name (omega (arith, sizes))) all
+
+-- a name that stands at a place of different names is known, and that is its place
+absent_at : (names : List (List ℕ)) (name : List ℕ) (i : ℕ) → stands names name ≡ false → i < length names → bytes_eq name (get_or names i []) ≡ false
+absent_at [] name i h l = absurd (omega arith)
+absent_at (first ∷ names) name zero h l = (or_parts (bytes_eq name first) (stands names name) h).0
+absent_at (first ∷ names) name (suc i) h l = absent_at names name i (or_parts (bytes_eq name first) (stands names name) h).1 (omega arith)
+
+place_again : (values : List BoundedValue) (place : ℕ) → all_different (value_names values) ≡ true → place < length values →
+    (place_of values (get_or (value_names values) place []) ≡ Some place) × (stands (value_names values) (get_or (value_names values) place []) ≡ true)
+place_again [] place h l = absurd (omega arith)
+place_again (value ∷ values) zero h l =
+    let same = bytes_same value.name value.name refl in (rw same refl, or_left (bytes_eq value.name value.name) (stands (value_names values) value.name) same)
+place_again (value ∷ values) (suc place) h l =
+    let parts = and_parts (not (stands (value_names values) value.name)) (all_different (value_names values)) h in
+    let name = get_or (value_names values) place [] in
+    let sizes : length (value_names values) ≡ length values = length-map values (λ v. v.name) in
+    let other = same_bytes_comm name value.name ∙ absent_at (value_names values) value.name place (not-true (stands (value_names values) value.name) parts.0) (omega arith) in
+    let rest = place_again values place parts.1 (omega arith) in (
+      ap (λ test. cond test (Some 0) (option_map (λ p. p + 1) (place_of values name))) other ∙ (ap (option_map (λ p. p + 1)) rest.0 ∙ ap Some (add-one place)),
+      or_right (bytes_eq name value.name) (stands (value_names values) name) rest.1,
+    )
+
+name_at_is_field : (values : List BoundedValue) (place : ℕ) → list_all is_value values ≡ true → place < length values → IsField (get_or (value_names values) place [])
+name_at_is_field [] place h l = absurd (omega arith)
+name_at_is_field (value ∷ values) zero h l =
+    name_field value.name (and_parts (is_name value.name) (are_bounds value.lower value.upper) (and_parts (is_value value) (list_all is_value values) h).0).0
+name_at_is_field (value ∷ values) (suc place) h l = name_at_is_field values place (and_parts (is_value value) (list_all is_value values) h).1 (omega arith)
+
+-- what is known of the names at a volunteer's places
+record AreNamesAt (categories : List Category) (places : List ℕ) : Type 0 where
+  known : are_known categories (names_at categories places) ≡ true
+  each : length (names_at categories places) ≡ length categories
+  again : places_of categories (names_at categories places) ≡ places
+  fields : AllByRecursion IsField (names_at categories places)
+
+are_names_at : (categories : List Category) (places : List ℕ) → list_all is_category categories ≡ true → has_values categories places ≡ true → AreNamesAt categories places
+are_names_at [] [] are have = record { known = refl; each = refl; again = refl; fields = tt }
+are_names_at [] (place ∷ places) are have = absurd (false≢true have)
+are_names_at (category ∷ categories) [] are have = absurd (false≢true have)
+are_names_at (category ∷ categories) (place ∷ places) are have =
+    let parts = and_parts (is_category category) (list_all is_category categories) are in
+    let is = category_parts category parts.0 in
+    let has = and_parts (ltb place (length category.values)) (has_values categories places) have in
+    let inside = ltb-true place (length category.values) has.0 in
+    let here = place_again category.values place is.different inside in
+    let rest = are_names_at categories places parts.1 has.1 in
+    record {
+      known = and_from (stands (value_names category.values) (get_or (value_names category.values) place [])) (are_known categories (names_at categories places)) here.1 rest.known;
+      each = let e = rest.each in omega arith;
+      again = let e = here.0 in let f = rest.again in ap (λ o. unwrap_or o 0 ∷ places_of categories (names_at categories places)) e ∙ ap (λ ps. place ∷ ps) f;
+      fields = (name_at_is_field category.values place is.values inside, rest.fields);
+    }
+
+volunteer_is_new : (pool : Pool) (id : List ℕ) (names : List (List ℕ)) → are_known pool.categories names ≡ true → length names ≡ length pool.categories →
+    stands (ids pool.volunteers) id ≡ false → is_name id ≡ true → length pool.volunteers < 400 → volunteer_kind pool id names ≡ None
+volunteer_is_new pool id names known each new is room =
+    let limits = (and_parts (keeps_name_limits id) (is_utf8 id) is).0 in
+    let same : eqb (length names) (length pool.categories) ≡ true = eq-eqb (length names) (length pool.categories) each in
+    let few : leb 400 (length pool.volunteers) ≡ false = lt-leb 400 (length pool.volunteers) room in
+    rw (known, same, new, limits, few) refl
+
+open_one : (volunteer : Volunteer) → is_open volunteer.standing ≡ true → record { id = volunteer.id; values = volunteer.values; standing = Open } ≡ volunteer
+open_one volunteer h = ap (λ standing. record { id = volunteer.id; values = volunteer.values; standing = standing }) (is_Open volunteer.standing h)
+  where
+    is_Open : (standing : Standing) → is_open standing ≡ true → Open ≡ standing
+    is_Open Open h = refl
+    is_Open Seated h = absurd (false≢true h)
+    is_Open Gone h = absurd (false≢true h)
+
+volunteers_run : (size : ℕ) (categories : List Category) (done todo : List Volunteer) → list_all is_category categories ≡ true → list_all (λ (v : Volunteer). is_name v.id) todo ≡ true →
+    list_all (λ (v : Volunteer). has_values categories v.values) todo ≡ true → list_all (λ (v : Volunteer). is_open v.standing) todo ≡ true →
+    all_different (ids (done ++ todo)) ≡ true → length (done ++ todo) ≤ 400 →
+    Runs (Inside (made size categories done)) (map (volunteer_line categories) todo) (Inside (made size categories (done ++ todo)))
+volunteers_run size categories done [] are names have are_open different few = ap (λ volunteers. Inside (made size categories volunteers)) (sym (append-nil done))
+volunteers_run size categories done (volunteer ∷ todo) are names have are_open different few =
+    let name = and_parts (is_name volunteer.id) (list_all (λ (v : Volunteer). is_name v.id) todo) names in
+    let has = and_parts (has_values categories volunteer.values) (list_all (λ (v : Volunteer). has_values categories v.values) todo) have in
+    let is = and_parts (is_open volunteer.standing) (list_all (λ (v : Volunteer). is_open v.standing) todo) are_open in
+    let at = are_names_at categories volunteer.values are has.0 in
+    let given = names_at categories volunteer.values in
+    let pool = made size categories done in
+    let after = Inside (made size categories (done ++ volunteer ∷ todo)) in
+    let regrouped : (done ++ volunteer ∷ []) ++ todo ≡ done ++ volunteer ∷ todo = append_assoc done (volunteer ∷ []) todo in
+    let new = new_among (ids done) volunteer.id (ids todo) (ap all_different (sym (map-append (λ v. v.id) done (volunteer ∷ todo))) ∙ different) in
+    let sizes : length (done ++ volunteer ∷ todo) ≡ length done + suc (length todo) = length-append done (volunteer ∷ todo) in
+    let rest = volunteers_run size categories (done ++ volunteer ∷ []) todo are name.1 has.1 is.1 (ap (λ volunteers. all_different (ids volunteers)) regrouped ∙ different) (subst (λ volunteers. length volunteers ≤ 400) (sym regrouped) few) in
+    let rest_to = subst (λ volunteers. Runs (Inside (made size categories (done ++ volunteer ∷ []))) (map (volunteer_line categories) todo) (Inside (made size categories volunteers))) regrouped rest in
+    let again : volunteer_added pool volunteer.id given ≡ made size categories (done ++ volunteer ∷ []) =
+    ap (λ values. made size categories (done ++ record { id = volunteer.id; values = values; standing = Open } ∷ [])) at.again
+    ∙ ap (λ v. made size categories (done ++ v ∷ [])) (open_one volunteer is.0) in
+    run_entry pool (codes "volunteer") (volunteer.id ∷ given) (OfVolunteer volunteer.id given) (map (volunteer_line categories) todo) after
+    (plain_field (codes "volunteer") refl, (name_field volunteer.id name.0, at.fields)) refl
+    (volunteer_is_new pool volunteer.id given at.known at.each new name.0 (omega (arith, sizes)))
+    (subst (λ p. Runs (Inside p) (map (volunteer_line categories) todo) after) (sym again) rest_to)
+
+-- the lines of a pool lead to its end
+pool_runs : (pool : Pool) → HasText pool → Runs Begun (lines_before_end pool ++ end_line ∷ []) (Ended pool)
+pool_runs pool right =
+    let is = right.is_pool in
+    let size = pool.size in
+    let at_most = leb-true size 200 (and_parts (leb 1 size) (leb size 200) is.size).1 in
+    let size_field = decimal_field size (omega arith) in
+    let size_fields : AllByRecursion IsField (codes "size" ∷ decimal size ∷ []) = (plain_field (codes "size") refl, (size_field, tt)) in
+    let size_again : size_of (fields_of (size_line size)) ≡ size =
+    ap size_of (fields_of-line_of (codes "size") (decimal size ∷ []) ((plain_field (codes "size") refl).no_tab, (size_field.no_tab, tt)))
+    ∙ ap (λ o. unwrap_or o 0) (number_again 200 size (omega arith) at_most) in
+    let categories = categories_run size [] pool.categories is.categories is.different_categories (leb-true (length pool.categories) 20 is.few_categories) in
+    let volunteers = volunteers_run size pool.categories [] pool.volunteers is.categories is.ids is.values right.all_open is.different_ids (leb-true (length pool.volunteers) 400 is.few_volunteers) in
+    let both = Runs-append (Inside (empty_pool size)) (Inside (made size pool.categories [])) (Inside pool) (flat_map category_lines pool.categories) (map (volunteer_line pool.categories) pool.volunteers) categories volunteers in
+    let last = run_entry pool (codes "end") [] TheEnd [] (Ended pool) (plain_field (codes "end") refl, tt) refl refl refl in
+    let all = Runs-append (Inside (empty_pool size)) (Inside pool) (Ended pool) (flat_map category_lines pool.categories ++ map (volunteer_line pool.categories) pool.volunteers) (end_line ∷ []) both last in
+    let entries = (flat_map category_lines pool.categories ++ map (volunteer_line pool.categories) pool.volunteers) ++ end_line ∷ [] in (
+      line_lacks_feed (codes "pool" ∷ codes "1" ∷ []) (plain_field (codes "pool") refl, (plain_field (codes "1") refl, tt)),
+      refl,
+      (
+        line_lacks_feed (codes "size" ∷ decimal size ∷ []) size_fields,
+        ap size_kind size_again ∙ ap (λ test. cond (not test) (Some 2) None) is.size,
+        subst (λ n. Runs (Inside (empty_pool n)) entries (Ended pool)) (sym size_again) all,
+      ),
+    )
+
+-- what is spelled is read
+pub spelled_is_read : (pool : Pool) → HasText pool → read (spelling pool) ≡ Ok pool
+spelled_is_read pool right =
+    let lines = lines_before_end pool ++ end_line ∷ [] in
+    let runs = pool_runs pool right in
+    ap (read_lines 1 Begun) (pieces_of-text_of lines (no_feeds Begun (Ended pool) lines runs)) ∙ read_to_end 1 Begun lines pool runs

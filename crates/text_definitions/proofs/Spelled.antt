@@ -1,0 +1,289 @@
+-- Lines that are read without a fault are those of the pool that is read.
+use Rattle.std.proofs.Common.{◌≡◌, ℕ, ◌+◌, ◌≤◌, true, not, cond, leb, List, [], ◌∷◌, ◌++◌, length, get_or, map, refl, sym, ◌∙◌, ap, subst, arith, append_assoc, Option, Some, None, unwrap_or}
+use Rattle.std.specs.Prelude.{bytes_eq, codes, Ok}
+use Rattle.std.specs.Fmt.{decimal}
+use Rattle.std.specs.List.{AllByRecursion, flat_map, join_with_byte}
+use Rattle.std.specs.Str.{is_utf8}
+use Rattle.std.proofs.lemmas.Bool.{and_parts, cond_both, leb-true, not-false}
+use Rattle.std.proofs.lemmas.Grind.{flat_map-append}
+use Rattle.std.proofs.lemmas.List.{append-nil, map-append}
+use Rattle.pool_definitions.specs.Pool.{Pool, BoundedValue, Category, Volunteer, are_bounds}
+use Rattle.pool_definitions.specs.Lists.{stands}
+use Rattle.pool_definitions.specs.Building.{value_names, size_kind, with_value, place_of, places_of, are_known}
+use Rattle.text_definitions.specs.Lines.{line_feed, line_of, text_of, fields_of, pieces_of, number_up_to}
+use Rattle.text_definitions.specs.PoolText.{version_line, size_line, value_line, category_lines, names_at, volunteer_line, end_line, lines_before_end, spelling, HasText, is_open}
+use Rattle.text_definitions.specs.PoolReading.{Progress, Begun, Versioned, Inside, Ended, Entry, OfCategory, OfValue, OfVolunteer, TheEnd, Unknown, category_entry, bound_of, value_entry, volunteer_entry, end_entry, entry_of, entry_kind, size_of, encoding_kind, kind_or, line_kind, after_entry, after_line, at_last, fault_or, read_lines, read}
+use Rattle.pool_definitions.specs.declared.Standing.TheVariants.{Open}
+use Rattle.std.specs.Str.{IsUtf8}
+use Rattle.std.proofs.lemmas.Str.{IsUtf8-from_is_utf8}
+use Rattle.std.proofs.lemmas.List.Splits.{join_with_byte-slice_split}
+use Rattle.pool_definitions.proofs.BuildingLemmas.{no_kind, list_all_push, category_fits, value_fits, volunteer_fits, place_at, IsPool-empty_pool, IsPool-category_added, IsPool-value_added, IsPool-volunteer_added}
+use Rattle.text_definitions.proofs.LineLemmas.{bytes_are, each_field_is_utf8, number_spelled, line_of-fields_of}
+
+-- neither of two kinds
+pub neither : (first second : Option ℕ) → kind_or first second ≡ None → (first ≡ None) × (second ≡ None)
+neither None second h = (refl, h)
+neither (Some kind) second h = cc
+
+-- the lines that stood
+abbrev pub lines_so_far : Progress → List (List ℕ)
+lines_so_far Begun = []
+lines_so_far Versioned = version_line ∷ []
+lines_so_far (Inside pool) = lines_before_end pool
+lines_so_far (Ended pool) = lines_before_end pool ++ end_line ∷ []
+
+-- the line that says an entry
+abbrev pub entry_line : Entry → List ℕ
+entry_line (OfCategory name) = line_of (codes "category" ∷ name ∷ [])
+entry_line (OfValue value) = value_line value
+entry_line (OfVolunteer id names) = line_of (codes "volunteer" ∷ id ∷ names)
+entry_line TheEnd = end_line
+entry_line Unknown = []
+
+-- a bound in range is spelled by its field
+bound_spelled : (field : List ℕ) → bound_of field ≤ 999 → decimal (bound_of field) ≡ field
+bound_spelled field h =
+    (elim (number_up_to 999 field) as (λ o. number_up_to 999 field ≡ o → unwrap_or o 1000 ≤ 999 → decimal (unwrap_or o 1000) ≡ field) [
+      | None ↦ λ e k. absurd (omega arith)
+      | Some n ↦ λ e k. (number_spelled 999 n field e).0
+    ]) refl h
+
+bounds_in_range : (lower upper : ℕ) → are_bounds lower upper ≡ true → (lower ≤ 999) × (upper ≤ 999)
+bounds_in_range lower upper h =
+    let parts = and_parts (leb lower upper) (leb upper 999) h in
+    let a = leb-true lower upper parts.0 in let b = leb-true upper 999 parts.1 in (omega arith, omega arith)
+
+-- the line of fields that say a right entry is the entry's line
+module _ (pool : Pool) where
+  Spells : List (List ℕ) → Entry → Type 0
+  Spells fields entry = entry_kind pool entry ≡ None → line_of fields ≡ entry_line entry
+
+  of_category : (first : List ℕ) (fields : List (List ℕ)) → first ≡ codes "category" → Spells (first ∷ fields) (category_entry fields)
+  unfolding Spells
+  of_category first [] e h = cc
+  of_category first (name ∷ []) e h = ap (λ word. line_of (word ∷ name ∷ [])) e
+  of_category first (name ∷ other ∷ fields) e h = cc
+
+  of_value : (first : List ℕ) (fields : List (List ℕ)) → first ≡ codes "value" → Spells (first ∷ fields) (value_entry fields)
+  unfolding Spells
+  of_value first [] e h = cc
+  of_value first (name ∷ []) e h = cc
+  of_value first (name ∷ lower ∷ []) e h = cc
+  of_value first (name ∷ lower ∷ upper ∷ []) e h =
+      let value : BoundedValue = record { name = name; lower = bound_of lower; upper = bound_of upper } in
+      let range = bounds_in_range (bound_of lower) (bound_of upper) (value_fits pool value h).bounds in
+      ap (λ word. line_of (word ∷ name ∷ lower ∷ upper ∷ [])) e
+      ∙ (ap (λ field. line_of (codes "value" ∷ name ∷ field ∷ upper ∷ [])) (sym (bound_spelled lower range.0))
+      ∙ ap (λ field. line_of (codes "value" ∷ name ∷ decimal (bound_of lower) ∷ field ∷ [])) (sym (bound_spelled upper range.1)))
+  of_value first (name ∷ lower ∷ upper ∷ other ∷ fields) e h = cc
+
+  of_volunteer : (first : List ℕ) (fields : List (List ℕ)) → first ≡ codes "volunteer" → Spells (first ∷ fields) (volunteer_entry fields)
+  unfolding Spells
+  of_volunteer first [] e h = cc
+  of_volunteer first (id ∷ names) e h = ap (λ word. line_of (word ∷ id ∷ names)) e
+
+  of_end : (first : List ℕ) (fields : List (List ℕ)) → first ≡ codes "end" → Spells (first ∷ fields) (end_entry fields)
+  unfolding Spells
+  of_end first [] e h = e
+  of_end first (other ∷ fields) e h = cc
+
+  pub entry_spelled : (fields : List (List ℕ)) → entry_kind pool (entry_of fields) ≡ None → line_of fields ≡ entry_line (entry_of fields)
+  unfolding Spells
+  entry_spelled [] h = cc
+  entry_spelled (first ∷ fields) h =
+      let is_end = bytes_eq first (codes "end") in
+      let ending = cond is_end (end_entry fields) Unknown in
+      let is_volunteer = bytes_eq first (codes "volunteer") in
+      let from_volunteer = cond is_volunteer (volunteer_entry fields) ending in
+      let is_value = bytes_eq first (codes "value") in
+      let from_value = cond is_value (value_entry fields) from_volunteer in
+      let all = first ∷ fields in
+      cond_both (bytes_eq first (codes "category")) (category_entry fields) from_value (Spells all) (λ e. of_category first fields (bytes_are first (codes "category") e))
+      (λ _. cond_both is_value (value_entry fields) from_volunteer (Spells all) (λ e. of_value first fields (bytes_are first (codes "value") e))
+      (λ _. cond_both is_volunteer (volunteer_entry fields) ending (Spells all) (λ e. of_volunteer first fields (bytes_are first (codes "volunteer") e))
+      (λ _. cond_both is_end (end_entry fields) Unknown (Spells all) (λ e. of_end first fields (bytes_are first (codes "end") e)) (λ _ k. cc)))) h
+
+-- the lines of a category that gets one more value
+flat_map-with_value : (categories : List Category) (value : BoundedValue) → (length categories ≡ 0 → ⊥) →
+    flat_map category_lines (with_value categories value) ≡ flat_map category_lines categories ++ value_line value ∷ []
+flat_map-with_value [] value some = absurd (some refl)
+flat_map-with_value (category ∷ []) value some =
+    let head = line_of (codes "category" ∷ category.name ∷ []) in
+    ap (λ lines. head ∷ (lines ++ [])) (map-append value_line category.values (value ∷ []))
+    ∙ (append-nil (head ∷ (map value_line category.values ++ value_line value ∷ []))
+    ∙ ap (λ lines. lines ++ value_line value ∷ []) (sym (append-nil (category_lines category))))
+flat_map-with_value (category ∷ next ∷ later) value some =
+    ap (λ lines. category_lines category ++ lines) (flat_map-with_value (next ∷ later) value (λ e. omega arith))
+    ∙ sym (append_assoc (category_lines category) (flat_map category_lines (next ∷ later)) (value_line value ∷ []))
+
+-- the name that stands at the place of a known name is that name
+name_at_place : (values : List BoundedValue) (name : List ℕ) → stands (value_names values) name ≡ true → get_or (value_names values) (unwrap_or (place_of values name) 0) [] ≡ name
+name_at_place values name h =
+    let known = place_at values name h in
+    ap (λ place. get_or (value_names values) (unwrap_or place 0) []) known.1 ∙ known.3
+
+-- the names at the places of known names are those names
+pub names_at-places_of : (categories : List Category) (names : List (List ℕ)) → are_known categories names ≡ true → length names ≡ length categories → names_at categories (places_of categories names) ≡ names
+names_at-places_of [] [] known e = refl
+names_at-places_of [] (name ∷ names) known e = absurd (omega arith)
+names_at-places_of (category ∷ categories) [] known e = absurd (omega arith)
+names_at-places_of (category ∷ categories) (name ∷ names) known e =
+    let parts = and_parts (stands (value_names category.values) name) (are_known categories names) known in
+    let rest = names_at-places_of categories names parts.1 (omega arith) in
+    let here = name_at_place category.values name parts.0 in cc
+
+-- where nobody is there, one line more of the categories is one line more of all
+under_nobody : (f g : Volunteer → List ℕ) (volunteers : List Volunteer) (after before : List (List ℕ)) (line : List ℕ) →
+    volunteers ≡ [] → after ≡ before ++ line ∷ [] → after ++ map f volunteers ≡ (before ++ map g volunteers) ++ line ∷ []
+under_nobody f g [] after before line e h = append-nil after ∙ (h ∙ ap (λ lines. lines ++ line ∷ []) (sym (append-nil before)))
+under_nobody f g (volunteer ∷ volunteers) after before line e h = cc
+
+-- what a right entry leaves has one line more: the entry's
+pub entry_adds : (pool : Pool) (entry : Entry) → entry_kind pool entry ≡ None → lines_so_far (after_entry pool entry) ≡ lines_before_end pool ++ entry_line entry ∷ []
+entry_adds pool (OfCategory name) h =
+    let fits = category_fits pool name h in
+    let category : Category = record { name = name; values = [] } in
+    ap (λ lines. version_line ∷ size_line pool.size ∷ lines)
+    (under_nobody (volunteer_line (pool.categories ++ category ∷ [])) (volunteer_line pool.categories) pool.volunteers
+    (flat_map category_lines (pool.categories ++ category ∷ [])) (flat_map category_lines pool.categories) (entry_line (OfCategory name))
+    fits.nobody (flat_map-append category_lines pool.categories (category ∷ [])))
+entry_adds pool (OfValue value) h =
+    let fits = value_fits pool value h in
+    ap (λ lines. version_line ∷ size_line pool.size ∷ lines)
+    (under_nobody (volunteer_line (with_value pool.categories value)) (volunteer_line pool.categories) pool.volunteers
+    (flat_map category_lines (with_value pool.categories value)) (flat_map category_lines pool.categories) (value_line value)
+    fits.nobody (flat_map-with_value pool.categories value (λ none. let some = fits.some in omega arith)))
+entry_adds pool (OfVolunteer id names) h =
+    let fits = volunteer_fits pool id names h in
+    let line = volunteer_line pool.categories in
+    let one : Volunteer = record { id = id; values = places_of pool.categories names; standing = Open } in
+    let before = flat_map category_lines pool.categories in
+    let spelled : line one ≡ line_of (codes "volunteer" ∷ id ∷ names) = ap (λ fields. line_of (codes "volunteer" ∷ id ∷ fields)) (names_at-places_of pool.categories names fits.known fits.each) in
+    ap (λ lines. version_line ∷ size_line pool.size ∷ lines)
+    (ap (λ lines. before ++ lines) (map-append line pool.volunteers (one ∷ []))
+    ∙ (sym (append_assoc before (map line pool.volunteers) (line one ∷ []))
+    ∙ ap (λ last. (before ++ map line pool.volunteers) ++ last ∷ []) spelled))
+entry_adds pool TheEnd h = refl
+entry_adds pool Unknown h = cc
+
+-- a size in range is spelled by the fields
+size_spelled : (fields : List (List ℕ)) → size_kind (size_of fields) ≡ None → line_of fields ≡ size_line (size_of fields)
+size_spelled [] h = cc
+size_spelled (first ∷ []) h = cc
+size_spelled (first ∷ field ∷ other ∷ fields) h = cc
+size_spelled (first ∷ field ∷ []) h =
+    cond_both (bytes_eq first (codes "size")) (unwrap_or (number_up_to 200 field) 0) 0 (λ size. size_kind size ≡ None → line_of (first ∷ field ∷ []) ≡ size_line size)
+    (λ e. (elim (number_up_to 200 field) as (λ o. number_up_to 200 field ≡ o → size_kind (unwrap_or o 0) ≡ None → line_of (first ∷ field ∷ []) ≡ size_line (unwrap_or o 0)) [
+      | None ↦ λ _ k. cc
+      | Some n ↦ λ f k. ap (λ word. line_of (word ∷ field ∷ [])) (bytes_are first (codes "size") e) ∙ ap (λ digits. line_of (codes "size" ∷ digits ∷ [])) (sym (number_spelled 200 n field f).0)
+    ]) refl)
+    (λ _ k. cc) h
+
+-- what stands is right: the pool, where there is one, has a text
+abbrev pub IsRight : Progress → Type 0
+IsRight Begun = Unit {0}
+IsRight Versioned = Unit {0}
+IsRight (Inside pool) = HasText pool
+IsRight (Ended pool) = HasText pool
+
+-- a right entry of fields that are text leaves what is right
+module _ (pool : Pool) (right : HasText pool) where
+  Keeps : Entry → Type 0
+  Keeps entry = entry_kind pool entry ≡ None → IsRight (after_entry pool entry)
+
+  keeps_category : (fields : List (List ℕ)) → AllByRecursion (λ field. is_utf8 field ≡ true) fields → Keeps (category_entry fields)
+  unfolding Keeps
+  keeps_category [] utf8 h = cc
+  keeps_category (name ∷ []) utf8 h = record { is_pool = IsPool-category_added pool name right.is_pool h utf8.0; all_open = right.all_open }
+  keeps_category (name ∷ other ∷ fields) utf8 h = cc
+
+  keeps_value : (fields : List (List ℕ)) → AllByRecursion (λ field. is_utf8 field ≡ true) fields → Keeps (value_entry fields)
+  unfolding Keeps
+  keeps_value [] utf8 h = cc
+  keeps_value (name ∷ []) utf8 h = cc
+  keeps_value (name ∷ lower ∷ []) utf8 h = cc
+  keeps_value (name ∷ lower ∷ upper ∷ []) utf8 h =
+      let value : BoundedValue = record { name = name; lower = bound_of lower; upper = bound_of upper } in
+      record { is_pool = IsPool-value_added pool value right.is_pool h utf8.0; all_open = right.all_open }
+  keeps_value (name ∷ lower ∷ upper ∷ other ∷ fields) utf8 h = cc
+
+  keeps_volunteer : (fields : List (List ℕ)) → AllByRecursion (λ field. is_utf8 field ≡ true) fields → Keeps (volunteer_entry fields)
+  unfolding Keeps
+  keeps_volunteer [] utf8 h = cc
+  keeps_volunteer (id ∷ names) utf8 h = record {
+    is_pool = IsPool-volunteer_added pool id names right.is_pool h utf8.0;
+    all_open = list_all_push (λ (volunteer : Volunteer). is_open volunteer.standing) pool.volunteers (record { id = id; values = places_of pool.categories names; standing = Open }) right.all_open refl;
+  }
+
+  keeps_end : (fields : List (List ℕ)) → Keeps (end_entry fields)
+  unfolding Keeps
+  keeps_end [] h = right
+  keeps_end (other ∷ fields) h = cc
+
+  pub entry_keeps : (fields : List (List ℕ)) → AllByRecursion (λ field. is_utf8 field ≡ true) fields → entry_kind pool (entry_of fields) ≡ None → IsRight (after_entry pool (entry_of fields))
+  unfolding Keeps
+  entry_keeps [] utf8 h = cc
+  entry_keeps (first ∷ fields) utf8 h =
+      let ending = cond (bytes_eq first (codes "end")) (end_entry fields) Unknown in
+      let from_volunteer = cond (bytes_eq first (codes "volunteer")) (volunteer_entry fields) ending in
+      let from_value = cond (bytes_eq first (codes "value")) (value_entry fields) from_volunteer in
+      cond_both (bytes_eq first (codes "category")) (category_entry fields) from_value Keeps (λ _. keeps_category fields utf8.1)
+      (λ _. cond_both (bytes_eq first (codes "value")) (value_entry fields) from_volunteer Keeps (λ _. keeps_value fields utf8.1)
+      (λ _. cond_both (bytes_eq first (codes "volunteer")) (volunteer_entry fields) ending Keeps (λ _. keeps_volunteer fields utf8.1)
+      (λ _. cond_both (bytes_eq first (codes "end")) (end_entry fields) Unknown Keeps (λ _. keeps_end fields) (λ _ k. cc)))) h
+
+-- a right line is one line more, and what stands stays right
+pub line_adds : (progress : Progress) (line : List ℕ) → IsRight progress → line_kind progress line ≡ None →
+    IsRight (after_line progress line) × (lines_so_far (after_line progress line) ≡ lines_so_far progress ++ line ∷ [])
+line_adds Begun line right h =
+    let fails = no_kind (not (bytes_eq line version_line)) 1 None h in
+    (tt, ap (λ l. l ∷ []) (sym (bytes_are line version_line (not-false (bytes_eq line version_line) fails.0))))
+line_adds Versioned line right h =
+    let spelled = sym (line_of-fields_of line) ∙ size_spelled (fields_of line) h in
+    (record { is_pool = IsPool-empty_pool (size_of (fields_of line)) h; all_open = refl }, ap (λ l. version_line ∷ l ∷ []) (sym spelled))
+line_adds (Inside pool) line right h =
+    let kinds = neither (entry_kind pool (entry_of (fields_of line))) (encoding_kind line) h in
+    let same = line_of-fields_of line in
+    let text = not-false (is_utf8 line) (no_kind (not (is_utf8 line)) 11 None kinds.1).0 in
+    let utf8 = each_field_is_utf8 (fields_of line) (subst IsUtf8 (sym same) (IsUtf8-from_is_utf8 line text)) in (
+      entry_keeps pool right (fields_of line) utf8 kinds.0,
+      entry_adds pool (entry_of (fields_of line)) kinds.0
+          ∙ ap (λ l. lines_before_end pool ++ l ∷ []) (sym (entry_spelled pool (fields_of line) kinds.0) ∙ same),
+    )
+line_adds (Ended pool) line right h = cc
+
+-- a text that ends with its last line is the text of the pool that is read
+last_is_spelled : (number : ℕ) (progress : Progress) (bytes : List ℕ) (pool : Pool) → IsRight progress → at_last number progress bytes ≡ Ok pool →
+    HasText pool × (text_of (lines_so_far progress) ++ bytes ≡ spelling pool)
+last_is_spelled number Begun bytes pool right h = cc
+last_is_spelled number Versioned bytes pool right h = cc
+last_is_spelled number (Inside other) bytes pool right h = cc
+last_is_spelled number (Ended other) (byte ∷ bytes) pool right h = cc
+last_is_spelled number (Ended other) [] pool right h =
+    let same : other ≡ pool = cc in
+    (subst HasText same right, append-nil (spelling other) ∙ ap spelling same)
+
+-- what the pieces say, after right lines: the lines up to now and the pieces are the text of the pool that is read
+pub rest_is_spelled : (number : ℕ) (progress : Progress) (pieces : List (List ℕ)) (pool : Pool) → IsRight progress → read_lines number progress pieces ≡ Ok pool →
+    HasText pool × (text_of (lines_so_far progress) ++ join_with_byte line_feed pieces ≡ spelling pool)
+rest_is_spelled number progress [] pool right h = last_is_spelled number progress [] pool right h
+rest_is_spelled number progress (bytes ∷ []) pool right h = last_is_spelled number progress bytes pool right h
+rest_is_spelled number progress (line ∷ next ∷ later) pool right h =
+    let rest = read_lines (number + 1) (after_line progress line) (next ∷ later) in
+    let behind = join_with_byte line_feed (next ∷ later) in
+    let stood = lines_so_far progress in
+    (elim (line_kind progress line) as (λ k. line_kind progress line ≡ k → fault_or k number rest ≡ Ok pool → HasText pool × (text_of stood ++ (line ++ (line_feed ∷ behind)) ≡ spelling pool)) [
+      | Some kind ↦ λ e k. cc
+      | None ↦ λ e k.
+          let step = line_adds progress line right e in
+          let later_on = rest_is_spelled (number + 1) (after_line progress line) (next ∷ later) pool step.0 k in
+          let grown : text_of (lines_so_far (after_line progress line)) ≡ text_of stood ++ ((line ++ line_feed ∷ []) ++ []) = ap text_of step.1 ∙ flat_map-append (λ l. l ++ line_feed ∷ []) stood (line ∷ []) in
+          let regrouped : (text_of stood ++ ((line ++ line_feed ∷ []) ++ [])) ++ behind ≡ text_of stood ++ (line ++ (line_feed ∷ behind)) = simp (append_assoc, append-nil) in
+          (later_on.0, sym regrouped ∙ (ap (λ text. text ++ behind) (sym grown) ∙ later_on.1))
+    ]) refl h
+
+-- what is read is spelled so, each byte of it
+pub read_is_spelled : (bytes : List ℕ) (pool : Pool) → read bytes ≡ Ok pool → HasText pool × (bytes ≡ spelling pool)
+read_is_spelled bytes pool h =
+    let all = rest_is_spelled 1 Begun (pieces_of bytes) pool tt h in
+    (all.0, sym (join_with_byte-slice_split line_feed bytes) ∙ all.1)

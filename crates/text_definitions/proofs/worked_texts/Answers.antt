@@ -1,0 +1,22 @@
+-- Numbers in digits and the tests of UTF-8 compute once they are opened.
+use Rattle.std.proofs.Common.{refl}
+use Rattle.std.specs.Fmt.{digits}
+use Rattle.std.specs.Str.{is_utf8, chars}
+use lib.Utf8.{encode}
+use Rattle.text_definitions.proofs.worked_texts.Goals as goal
+
+pub returns-clause-four_length : goal.returns-clause-four_length
+unfolding digits
+returns-clause-four_length c = refl
+
+pub returns-clause-four : goal.returns-clause-four
+unfolding digits is_utf8 chars encode
+returns-clause-four c = refl
+
+pub returns-clause-nobody : goal.returns-clause-nobody
+unfolding digits is_utf8 chars encode
+returns-clause-nobody c = refl
+
+pub returns-clause-cut : goal.returns-clause-cut
+unfolding digits is_utf8 chars encode
+returns-clause-cut c = refl

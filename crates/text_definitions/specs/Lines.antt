@@ -1,0 +1,35 @@
+-- Texts of lines: fields are parted by TAB, and each line is ended by LF.
+use Rattle.std.specs.Prelude.{ℕ, ◌+◌, ◌==◌, List, [], ◌∷◌, ◌++◌, bytes_eq, Option}
+use Rattle.std.specs.List.{flat_map, find, join_with_byte, range_with_len, slice_split}
+use Rattle.std.specs.Fmt.{decimal}
+
+abbrev pub tab : ℕ
+tab = 9
+
+abbrev pub line_feed : ℕ
+line_feed = 10
+
+-- the line of these fields
+abbrev pub line_of : List (List ℕ) → List ℕ
+line_of fields = join_with_byte tab fields
+
+-- the text of these lines
+abbrev pub text_of : List (List ℕ) → List ℕ
+text_of lines = flat_map (λ line. line ++ line_feed ∷ []) lines
+
+-- the fields of a line
+abbrev pub fields_of : List ℕ → List (List ℕ)
+fields_of line = slice_split (λ byte. byte == tab) line
+
+-- the lines of a text, and last what stands behind the last LF
+abbrev pub pieces_of : List ℕ → List (List ℕ)
+pieces_of bytes = slice_split (λ byte. byte == line_feed) bytes
+
+-- the number up to a limit that a field spells: digits with no sign and no leading zero
+abbrev pub number_up_to : ℕ → List ℕ → Option ℕ
+number_up_to limit field = find (λ number. bytes_eq (decimal number) field) (range_with_len 0 (limit + 1))
+
+-- where a faulty text first goes wrong: the line, counted from 1, and the lowest kind of fault in it
+pub record Fault : Type 0 where
+  pub line : ℕ
+  pub kind : ℕ

@@ -1,0 +1,120 @@
+-- What a list of bytes says as the text of a pool: the pool, or the first faulty line and in it the lowest kind.
+use Rattle.std.specs.Prelude.{ℕ, ◌+◌, if◌then◌else◌, not, List, [], ◌∷◌, bytes_eq, codes, Option, Some, None, Result, Ok, Err, unwrap_or}
+use Rattle.std.specs.Str.{is_utf8}
+use Rattle.pool_definitions.specs.Pool.{Pool, BoundedValue}
+use Rattle.pool_definitions.specs.Building.{lowest_kind, size_kind, empty_pool, category_kind, category_added, value_kind, value_added, volunteer_kind, volunteer_added}
+use Rattle.text_definitions.specs.Lines.{Fault, fields_of, pieces_of, number_up_to}
+use Rattle.text_definitions.specs.PoolText.{version_line}
+
+-- what right lines make of a text so far
+pub data Progress : Type 0 where
+  -- no line stood
+  Begun : Progress
+  -- the first line stood
+  Versioned : Progress
+  -- the size stood, and the lines up to now make this pool
+  Inside : (pool : Pool) → Progress
+  -- the end stood
+  Ended : (pool : Pool) → Progress
+
+-- what a line between the size and the end says, by its first field and its number of fields
+pub data Entry : Type 0 where
+  OfCategory : (name : List ℕ) → Entry
+  OfValue : (value : BoundedValue) → Entry
+  OfVolunteer : (id : List ℕ) (names : List (List ℕ)) → Entry
+  TheEnd : Entry
+  Unknown : Entry
+
+abbrev pub category_entry : List (List ℕ) → Entry
+category_entry (name ∷ []) = OfCategory name
+category_entry _ = Unknown
+
+-- a bound that a field spells, or 1000, which no bound may be
+abbrev pub bound_of : List ℕ → ℕ
+bound_of field = unwrap_or (number_up_to 999 field) 1000
+
+abbrev pub value_entry : List (List ℕ) → Entry
+value_entry (name ∷ lower ∷ upper ∷ []) = OfValue (record { name = name; lower = bound_of lower; upper = bound_of upper })
+value_entry _ = Unknown
+
+abbrev pub volunteer_entry : List (List ℕ) → Entry
+volunteer_entry [] = Unknown
+volunteer_entry (id ∷ names) = OfVolunteer id names
+
+abbrev pub end_entry : List (List ℕ) → Entry
+end_entry [] = TheEnd
+end_entry _ = Unknown
+
+abbrev pub entry_of : List (List ℕ) → Entry
+entry_of [] = Unknown
+entry_of (first ∷ fields) =
+    if bytes_eq first (codes "category") then category_entry fields
+    else (if bytes_eq first (codes "value") then value_entry fields
+    else (if bytes_eq first (codes "volunteer") then volunteer_entry fields
+    else (if bytes_eq first (codes "end") then end_entry fields else Unknown)))
+
+-- the lowest kind of fault of an entry, given the pool that stood before. 1: it may not stand there
+abbrev pub entry_kind : Pool → Entry → Option ℕ
+entry_kind pool (OfCategory name) = category_kind pool name
+entry_kind pool (OfValue value) = value_kind pool value
+entry_kind pool (OfVolunteer id names) = volunteer_kind pool id names
+entry_kind pool TheEnd = None
+entry_kind pool Unknown = Some 1
+
+-- the size that the fields of the second line give, or 0, which no size may be
+abbrev pub size_of : List (List ℕ) → ℕ
+size_of (first ∷ field ∷ []) = if bytes_eq first (codes "size") then unwrap_or (number_up_to 200 field) 0 else 0
+size_of _ = 0
+
+-- 11: the line isn't UTF-8
+abbrev pub encoding_kind : List ℕ → Option ℕ
+encoding_kind line = lowest_kind ((11, not (is_utf8 line)) ∷ [])
+
+-- the first of two kinds
+abbrev pub kind_or : Option ℕ → Option ℕ → Option ℕ
+kind_or None other = other
+kind_or (Some kind) other = Some kind
+
+-- the lowest kind of fault of a line, given what stood before. 1: another first line, or a line after the end; 2: no size
+abbrev pub line_kind : Progress → List ℕ → Option ℕ
+line_kind Begun line = lowest_kind ((1, not (bytes_eq line version_line)) ∷ [])
+line_kind Versioned line = size_kind (size_of (fields_of line))
+line_kind (Inside pool) line = kind_or (entry_kind pool (entry_of (fields_of line))) (encoding_kind line)
+line_kind (Ended pool) line = Some 1
+
+-- what stands after a right entry
+abbrev pub after_entry : Pool → Entry → Progress
+after_entry pool (OfCategory name) = Inside (category_added pool name)
+after_entry pool (OfValue value) = Inside (value_added pool value)
+after_entry pool (OfVolunteer id names) = Inside (volunteer_added pool id names)
+after_entry pool TheEnd = Ended pool
+after_entry pool Unknown = Inside pool
+
+-- what stands after a right line
+abbrev pub after_line : Progress → List ℕ → Progress
+after_line Begun line = Versioned
+after_line Versioned line = Inside (empty_pool (size_of (fields_of line)))
+after_line (Inside pool) line = after_entry pool (entry_of (fields_of line))
+after_line (Ended pool) line = Ended pool
+
+-- What the lines come to, with what stands behind the last LF. 12: the lines run out before the end. 1: bytes after the end
+abbrev pub at_last : ℕ → Progress → List ℕ → Result Pool Fault
+at_last number (Ended pool) [] = Ok pool
+at_last number (Ended pool) (byte ∷ bytes) = Err (record { line = number; kind = 1 })
+at_last number _ bytes = Err (record { line = number; kind = 12 })
+
+-- a fault in the line of a number, or what comes of the later lines
+abbrev pub fault_or : Option ℕ → ℕ → Result Pool Fault → Result Pool Fault
+fault_or None number later = later
+fault_or (Some kind) number later = Err (record { line = number; kind = kind })
+
+-- the first line that has a fault, counting from a number, or the pool
+abbrev pub read_lines : ℕ → Progress → List (List ℕ) → Result Pool Fault
+read_lines number progress [] = at_last number progress []
+read_lines number progress (bytes ∷ []) = at_last number progress bytes
+read_lines number progress (line ∷ next ∷ later) =
+    fault_or (line_kind progress line) number (read_lines (number + 1) (after_line progress line) (next ∷ later))
+
+-- the pool that the bytes spell, or their first fault
+abbrev pub read : List ℕ → Result Pool Fault
+read bytes = read_lines 1 Begun (pieces_of bytes)

@@ -1,0 +1,55 @@
+-- The text of a pool: each pool has one spelling.
+use Rattle.std.specs.Prelude.{ℕ, Bool, true, false, IsTrue, List, [], ◌∷◌, ◌++◌, map, codes, slice_index_or}
+use Rattle.std.specs.List.{flat_map, list_all}
+use Rattle.std.specs.Fmt.{decimal}
+use Rattle.pool_definitions.specs.declared.Standing.{Standing}
+use Rattle.pool_definitions.specs.declared.Standing.TheVariants.{Open, Seated, Gone}
+use Rattle.pool_definitions.specs.Pool.{BoundedValue, Category, Volunteer, Pool, IsPool}
+use Rattle.pool_definitions.specs.Building.{value_names}
+use Rattle.text_definitions.specs.Lines.{line_of, text_of}
+
+abbrev pub version_line : List ℕ
+version_line = line_of (codes "pool" ∷ codes "1" ∷ [])
+
+abbrev pub size_line : ℕ → List ℕ
+size_line size = line_of (codes "size" ∷ decimal size ∷ [])
+
+-- a value's line: its name and its bounds
+abbrev pub value_line : BoundedValue → List ℕ
+value_line value = line_of (codes "value" ∷ value.name ∷ decimal value.lower ∷ decimal value.upper ∷ [])
+
+-- a category's line, and those of its values
+abbrev pub category_lines : Category → List (List ℕ)
+category_lines category = line_of (codes "category" ∷ category.name ∷ []) ∷ map value_line category.values
+
+-- for each category the name of the value at a place
+abbrev pub names_at : List Category → List ℕ → List (List ℕ)
+names_at [] places = []
+names_at (category ∷ categories) [] = []
+names_at (category ∷ categories) (place ∷ places) = slice_index_or (value_names category.values) place [] ∷ names_at categories places
+
+-- a volunteer's line: the id, and the names of the values
+abbrev pub volunteer_line : List Category → Volunteer → List ℕ
+volunteer_line categories volunteer = line_of (codes "volunteer" ∷ volunteer.id ∷ names_at categories volunteer.values)
+
+abbrev pub end_line : List ℕ
+end_line = codes "end"
+
+-- the lines of a pool before its end
+abbrev pub lines_before_end : Pool → List (List ℕ)
+lines_before_end pool =
+    version_line ∷ size_line pool.size ∷ (flat_map category_lines pool.categories ++ map (volunteer_line pool.categories) pool.volunteers)
+
+-- the text of a pool
+abbrev pub spelling : Pool → List ℕ
+spelling pool = text_of (lines_before_end pool ++ end_line ∷ [])
+
+abbrev pub is_open : Standing → Bool
+is_open Open = true
+is_open Seated = false
+is_open Gone = false
+
+-- the pools that have a text: those in which everybody is open
+pub record HasText (pool : Pool) : Type 0 where
+  pub is_pool : IsPool pool
+  pub all_open : IsTrue (list_all (λ volunteer. is_open volunteer.standing) pool.volunteers)
