@@ -1,5 +1,5 @@
 -- The last category by its place, as code reaches it.
-use Rattle.std.proofs.Common.{◌≡◌, ℕ, zero, suc, ◌+◌, ◌-◌, ◌<◌, List, [], ◌∷◌, ◌++◌, length, get_or, set, Some, refl, ap, arith}
+use Rattle.std.proofs.Common.{◌≡◌, ℕ, zero, suc, ◌-◌, List, [], ◌∷◌, ◌++◌, length, get_or, set, Some, refl, ap, arith}
 use Rattle.std.specs.List.{slice_get}
 use Rattle.pool_definitions.specs.Pool.{BoundedValue, Category}
 use Rattle.pool_definitions.specs.Building.{last_values, with_value}

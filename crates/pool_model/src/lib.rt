@@ -8,6 +8,8 @@ mod panels;
 mod parts;
 mod pools;
 mod quotas;
+#[cfg(test)]
+mod tests;
 
 pub use building::BuildStop;
 pub use panels::Panel;

@@ -37,12 +37,14 @@ impl Name {
         Ok(Name { text })
     }
 
+    /// The text.
     pub fn as_str(&self) -> &str
         ensures { result.now ≡ self.now }
     {
         self.text.as_str()
     }
 
+    /// The bytes of the text.
     pub fn as_bytes(&self) -> &[u8]
         ensures { result.now ≡ self.now }
     {
@@ -72,12 +74,14 @@ impl BoundedValue {
         BoundedValue { name, bound }
     }
 
+    /// The value's name.
     pub fn name(&self) -> &Name
         ensures { result.now ≡ self.now.name }
     {
         &self.name
     }
 
+    /// How many members of a panel may have the value.
     pub fn bound(&self) -> Bound
         ensures lower { result.lower ≡ self.now.lower }
         ensures upper { result.upper ≡ self.now.upper }
@@ -85,12 +89,14 @@ impl BoundedValue {
         self.bound
     }
 
+    /// The least number of members with the value.
     pub fn lower(&self) -> usize
         ensures { result ≡ self.now.lower }
     {
         self.bound.lower
     }
 
+    /// The greatest number of members with the value.
     pub fn upper(&self) -> usize
         ensures { result ≡ self.now.upper }
     {
@@ -132,12 +138,14 @@ impl Category {
         Ok(())
     }
 
+    /// The category's name.
     pub fn name(&self) -> &Name
         ensures { result.now ≡ self.now.name }
     {
         &self.name
     }
 
+    /// The values with their bounds, in the order in which they were added.
     pub fn values(&self) -> &[BoundedValue]
         ensures { result.now ≡ self.now.values }
     {
@@ -173,18 +181,21 @@ impl Volunteer {
         }
     }
 
+    /// The volunteer's id.
     pub fn id(&self) -> &Name
         ensures { result.now ≡ self.now.id }
     {
         &self.id
     }
 
+    /// For each category the place of the volunteer's value among the category's values, counted from 0.
     pub fn values(&self) -> &[usize]
         ensures { result.now ≡ self.now.values }
     {
         &self.values
     }
 
+    /// Whether the volunteer may, must or can't be chosen.
     pub fn standing(&self) -> Standing
         ensures { result ≡ self.now.standing }
     {

@@ -1,5 +1,4 @@
-use Rattle.std.proofs.Common.{map, sym, rules, tests}
-use Rattle.std.specs.List.{zip}
+use Rattle.std.proofs.Common.{rules, tests}
 use Rattle.std.specs.Iterator.Adapters.{zip_first, zip_second}
 use Rattle.std.proofs.lemmas.Iterator.{YieldsList-from_slice, YieldsList-from_zip, YieldsList-from_map, items_from_collect}
 use Rattle.std.proofs.lemmas.Iterator.Consumers.{YieldsList-at}

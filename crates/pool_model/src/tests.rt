@@ -1,0 +1,261 @@
+//! A small pool with its quota panels, and the kinds of fault at their edges.
+
+use crate::{BuildStop, Name, Panel, Pool, Standing, fits, size_kind};
+use std::alloc::{AllocError, Global};
+use std::process::Abort;
+use std::test::Fail;
+
+/// What is added to a pool.
+#[derive(Clone, Copy, Debug)]
+enum Step<'a> {
+    Category(&'a str),
+    Value(&'a str, usize, usize),
+    Volunteer(&'a str, &'a [&'a str]),
+}
+
+fn add(alloc: Global, pool: &mut Pool, step: Step<'_>) -> Result<(), BuildStop> {
+    match step {
+        Step::Category(name) => pool.add_category(name),
+        Step::Value(name, lower, upper) => pool.add_value(name, lower, upper),
+        Step::Volunteer(id, texts) => {
+            let mut values = Vec::new(alloc);
+            for text in texts {
+                values.push(Name::new(alloc, text)?)?;
+            }
+            pool.add_volunteer(id, &values)
+        }
+    }
+}
+
+/// The kind of fault that the step has, by the tests over bytes.
+fn kind(alloc: Global, pool: &Pool, step: Step<'_>) -> Result<Option<u8>, AllocError> {
+    Ok(match step {
+        Step::Category(name) => pool.category_kind(name.as_bytes()),
+        Step::Value(name, lower, upper) => pool.value_kind(name.as_bytes(), lower, upper),
+        Step::Volunteer(id, texts) => {
+            let mut values = Vec::new(alloc);
+            for text in texts {
+                values.push(text.as_bytes())?;
+            }
+            pool.volunteer_kind(id.as_bytes(), &values)
+        }
+    })
+}
+
+/// The kind that was told; 0 stands for want of memory.
+fn told(answer: Result<(), BuildStop>) -> Option<u8> {
+    match answer {
+        Ok(()) => None,
+        Err(BuildStop::Kind(kind)) => Some(kind),
+        Err(BuildStop::OutOfMemory) => Some(0),
+    }
+}
+
+/// All that a pool holds.
+fn shown(alloc: Global, pool: &Pool) -> Result<String, AllocError> {
+    format!(in alloc; "{pool:?}")
+}
+
+/// Takes a step, which must tell this kind of fault, and change the pool exactly where there is none.
+fn take(
+    rt: &impl Abort,
+    alloc: Global,
+    pool: &mut Pool,
+    step: Step<'_>,
+    want: Option<u8>,
+) -> Result<(), AllocError> {
+    let before = shown(alloc, pool)?;
+    assert_eq!(rt; kind(alloc, pool, step)?, want, "at {step:?}");
+    assert_eq!(rt; told(add(alloc, pool, step)), want, "at {step:?}");
+    assert_eq!(rt;
+        shown(alloc, pool)? == before,
+        want.is_some(),
+        "at {step:?}"
+    );
+    Ok(())
+}
+
+/// A text, so many times.
+fn repeated(alloc: Global, text: &str, times: usize) -> Result<String, AllocError> {
+    let mut whole = String::new(alloc);
+    for _ in 0..times {
+        whole.push_str(text)?;
+    }
+    Ok(whole)
+}
+
+/// Two women and two men, one of each to be chosen.
+fn four(alloc: Global) -> Result<Pool, BuildStop> {
+    let mut pool = Pool::new(alloc, 2)?;
+    for step in [
+        Step::Category("gender"),
+        Step::Value("female", 1, 1),
+        Step::Value("male", 1, 1),
+        Step::Volunteer("a", &["female"]),
+        Step::Volunteer("b", &["female"]),
+        Step::Volunteer("c", &["male"]),
+        Step::Volunteer("d", &["male"]),
+    ] {
+        add(alloc, &mut pool, step)?;
+    }
+    Ok(pool)
+}
+
+#[test]
+fn holds_what_was_added(rt: HostRuntime) -> Result<(), Fail> {
+    let pool = four(rt.alloc())?;
+    assert_eq!(rt; pool.size(), 2);
+    assert_eq!(rt; pool.categories().len(), 1);
+    let category = &pool.categories()[0];
+    assert_eq!(rt; category.name().as_str(), "gender");
+    let value = category.values().last().ok_or("no value")?;
+    assert_eq!(rt; value.name().as_str(), "male");
+    assert_eq!(rt;
+        (value.lower(), value.upper(), value.bound().lower),
+        (1, 1, 1)
+    );
+    let volunteer = pool.volunteers().last().ok_or("no volunteer")?;
+    assert_eq!(rt; volunteer.id().as_bytes(), b"d".as_slice());
+    assert_eq!(rt; volunteer.values(), [1].as_slice());
+    assert_eq!(rt; volunteer.standing(), Standing::Open);
+    Ok(())
+}
+
+#[test]
+fn knows_quota_panels(rt: HostRuntime) -> Result<(), Fail> {
+    let pool = four(rt.alloc())?;
+    let rows: [(&[usize], Option<bool>); 14] = [
+        (&[0, 1], Some(false)),
+        (&[0, 2], Some(true)),
+        (&[0, 3], Some(true)),
+        (&[1, 2], Some(true)),
+        (&[1, 3], Some(true)),
+        (&[2, 3], Some(false)),
+        (&[], Some(false)),
+        (&[0], Some(false)),
+        (&[0, 1, 2], Some(false)),
+        (&[0, 4], Some(false)),
+        (&[7, 9], Some(false)),
+        (&[2, 0], None),
+        (&[1, 1], None),
+        (&[0, 2, 2], None),
+    ];
+    for (members, want) in rows {
+        let panel = Panel::new(members.to_vec(rt.alloc())?);
+        let answer = panel.map(|panel| panel.members() == members && fits(&pool, &panel));
+        assert_eq!(rt; answer, want, "at {members:?}");
+    }
+    Ok(())
+}
+
+#[test]
+fn tests_sizes(rt: HostRuntime) {
+    for (size, want) in [(0, Some(2)), (1, None), (200, None), (201, Some(2))] {
+        assert_eq!(rt; size_kind(size), want, "at {size}");
+        let answer = Pool::new(rt.alloc(), size).map(|_pool| ());
+        assert_eq!(rt; told(answer), want, "at {size}");
+    }
+}
+
+#[test]
+fn tests_names(rt: HostRuntime) -> Result<(), Fail> {
+    let alloc = rt.alloc();
+    let longest = repeated(alloc, "n", 200)?;
+    let too_long = repeated(alloc, "n", 201)?;
+    let two_bytes_each = repeated(alloc, "é", 101)?;
+    for (name, want) in [
+        ("", Some(10)),
+        ("n", None),
+        (longest.as_str(), None),
+        (too_long.as_str(), Some(10)),
+        (two_bytes_each.as_str(), Some(10)),
+        ("a\u{1f}b", Some(10)),
+        ("é ~", None),
+        ("a\u{7f}b", Some(10)),
+    ] {
+        let mut pool = Pool::new(alloc, 1)?;
+        take(&rt, alloc, &mut pool, Step::Category(name), want)?;
+        pool = Pool::new(alloc, 1)?;
+        take(&rt, alloc, &mut pool, Step::Volunteer(name, &[]), want)?;
+        pool = Pool::new(alloc, 1)?;
+        pool.add_category("category")?;
+        take(&rt, alloc, &mut pool, Step::Value(name, 0, 1), want)?;
+    }
+    Ok(())
+}
+
+#[test]
+fn tests_bounds_and_repeats(rt: HostRuntime) -> Result<(), Fail> {
+    let mut pool = Pool::new(rt.alloc(), 1)?;
+    for (step, want) in [
+        (Step::Value("a", 0, 1), Some(1)),
+        (Step::Category("first"), None),
+        (Step::Category("first"), Some(3)),
+        (Step::Value("a", 0, 0), None),
+        (Step::Value("b", 0, 999), None),
+        (Step::Value("c", 999, 999), None),
+        (Step::Value("d", 0, 1000), Some(5)),
+        (Step::Value("d", 1000, 1000), Some(5)),
+        (Step::Value("d", 2, 1), Some(5)),
+        (Step::Value("a", 0, 1), Some(4)),
+        (Step::Value("a", 2, 1), Some(4)),
+        (Step::Value("", 2, 1), Some(5)),
+        (Step::Category("second"), None),
+        (Step::Value("a", 0, 1), None),
+    ] {
+        take(&rt, rt.alloc(), &mut pool, step, want)?;
+    }
+    Ok(())
+}
+
+#[test]
+fn tests_volunteers(rt: HostRuntime) -> Result<(), Fail> {
+    let mut pool = four(rt.alloc())?;
+    for (step, want) in [
+        (Step::Volunteer("e", &["other"]), 6),
+        (Step::Volunteer("e", &[]), 7),
+        (Step::Volunteer("e", &["male", "male"]), 7),
+        (Step::Volunteer("a", &["male"]), 8),
+        (Step::Volunteer("", &["male"]), 10),
+        (Step::Volunteer("e", &["other", "male"]), 6),
+        (Step::Volunteer("a", &["Male"]), 6),
+        (Step::Volunteer("a", &[]), 7),
+        (Step::Category("age"), 1),
+        (Step::Category("gender"), 1),
+        (Step::Category(""), 1),
+        (Step::Value("other", 0, 1), 1),
+        (Step::Value("male", 0, 1000), 1),
+    ] {
+        take(&rt, rt.alloc(), &mut pool, step, Some(want))?;
+    }
+    Ok(())
+}
+
+#[test]
+fn tests_counts(rt: HostRuntime) -> Result<(), Fail> {
+    let alloc = rt.alloc();
+    let mut pool = Pool::new(alloc, 1)?;
+    for i in 0..20 {
+        pool.add_category(&format!(in alloc; "c{i}")?)?;
+    }
+    for i in 0..50 {
+        pool.add_value(&format!(in alloc; "v{i}")?, 0, 1)?;
+    }
+    for (step, want) in [
+        (Step::Category("c20"), 10),
+        (Step::Category("c3"), 3),
+        (Step::Value("v50", 0, 1), 10),
+        (Step::Value("v3", 0, 1), 4),
+        (Step::Value("v50", 2, 1), 5),
+    ] {
+        take(&rt, alloc, &mut pool, step, Some(want))?;
+    }
+    let mut crowd = Pool::new(alloc, 1)?;
+    for i in 0..400 {
+        crowd.add_volunteer(&format!(in alloc; "v{i}")?, &[])?;
+    }
+    for (id, want) in [("v400", 10), ("v399", 8)] {
+        take(&rt, alloc, &mut crowd, Step::Volunteer(id, &[]), Some(want))?;
+    }
+    Ok(())
+}
