@@ -3,7 +3,7 @@ use Rattle.std.specs.Prelude.{◌≡◌, ◌⊎◌, ℕ, List, [], ◌∷◌, Re
 use Rattle.pool_definitions.specs.Pool.{Pool, panels}
 use Rattle.text_definitions.specs.PoolText.{HasText, spelling}
 use Rattle.pool_text.specs.Answers.{fault_of}
-use Rattle.sortition.specs.Told.{Object, HasFaulted, HeldAll, Gains, GainsUnlessFaulted}
+use Rattle.sortition.specs.Told.{Object, HasFaulted, HeldAll, Gains, GainsPart, GainsUnlessFaulted}
 use Rattle.sortition.specs.Lines.{panel_line, input_line, read_fault_line, write_fault_line, want_of_memory_line}
 use Rattle.sortition.specs.Panel.{status_due}
 use Rattle.sortition.specs.Input.{RefusalSays}
@@ -20,10 +20,10 @@ OutcomeSays source (Ok NoPanel) =
     (pool : Pool) × HasText pool × HeldAll source (spelling pool) × (panels pool ≡ []) × IfSome source.before (λ bytes. status_due bytes ≡ 1)
 OutcomeSays source (Err refusal) = RefusalSays source refusal
 
--- the line went to out, or out counted a fault and errs got the line that says so
+-- the line went to out; or a prefix of it did, out counted a fault, and errs got the line that says so
 abbrev pub TellsLine : ℕ → List ℕ → ℕ → Object → Object → Type 0
 TellsLine due line status out errs =
-    ((status ≡ due) × Gains out line × Gains errs []) ⊎ ((status ≡ 8) × HasFaulted out × GainsUnlessFaulted errs write_fault_line)
+    ((status ≡ due) × Gains out line × Gains errs []) ⊎ ((status ≡ 8) × HasFaulted out × GainsPart out line × GainsUnlessFaulted errs write_fault_line)
 
 -- a refusal with its status and its line to errs. Want of memory may come in its place
 abbrev pub TellsRefusal : Refusal → ℕ → Object → Type 0

@@ -1,10 +1,10 @@
 -- What the command `panel` may tell: the first quota panel of the pool whose text the source holds.
-use Rattle.std.specs.Prelude.{◌≡◌, ◌≢◌, ℕ, nat_lt, if◌then◌else◌, List, [], ◌∷◌, length, Option, Some, None, Result, Ok, Err, IfSome}
+use Rattle.std.specs.Prelude.{◌≡◌, ◌≢◌, ◌⊎◌, ℕ, nat_lt, if◌then◌else◌, List, [], ◌∷◌, length, Option, Some, None, Result, Ok, Err, IfSome}
 use Rattle.pool_definitions.specs.Pool.{Pool, panels}
 use Rattle.text_definitions.specs.Lines.{Fault}
 use Rattle.text_definitions.specs.PoolText.{HasText, spelling}
 use Rattle.text_definitions.specs.PoolReading.{read}
-use Rattle.sortition.specs.Told.{Told, HasFaulted, Gains, GainsUnlessFaulted, HeldAll}
+use Rattle.sortition.specs.Told.{Told, HasFaulted, Gains, GainsPart, GainsUnlessFaulted, HeldAll}
 use Rattle.sortition.specs.Lines.{panel_line, no_panel_line, input_line, read_fault_line, write_fault_line, want_of_memory_line}
 
 -- the most bytes that an input may have
@@ -49,6 +49,12 @@ pub record HasNoPanel (told : Told) (pool : Pool) : Type 0 where
   pub held : HeldAll told.source (spelling pool)
   pub none : panels pool ≡ []
 
+-- a prefix of the line that the input asks for went to out
+abbrev pub TellsPart : Told → Type 0
+TellsPart told =
+    ((pool : Pool) × (panel : List ℕ) × HasFirstPanel told pool panel × GainsPart told.out (panel_line pool panel))
+    ⊎ ((pool : Pool) × HasNoPanel told pool × GainsPart told.out no_panel_line)
+
 pub record PanelIsRight (told : Told) : Type 0 where
   -- 0: the line of the first panel
   pub done : told.status ≡ 0 → (pool : Pool) × (panel : List ℕ) × HasFirstPanel told pool panel × Gains told.out (panel_line pool panel) × Gains told.errs []
@@ -58,7 +64,7 @@ pub record PanelIsRight (told : Told) : Type 0 where
   pub text : told.status ≡ 3 → (fault : Fault) × IfSome told.source.before (λ bytes. input_fault bytes ≡ Some fault) × Gains told.out [] × GainsUnlessFaulted told.errs (input_line fault)
   -- 7 and 8: the source or out counted a fault
   pub read_fault : told.status ≡ 7 → HasFaulted told.source × Gains told.out [] × GainsUnlessFaulted told.errs read_fault_line
-  pub write_fault : told.status ≡ 8 → HasFaulted told.out × GainsUnlessFaulted told.errs write_fault_line
+  pub write_fault : told.status ≡ 8 → HasFaulted told.out × TellsPart told × GainsUnlessFaulted told.errs write_fault_line
   -- 12: want of memory, which may come at any time
   pub want_of_memory : told.status ≡ 12 → Gains told.out [] × GainsUnlessFaulted told.errs want_of_memory_line
   -- no other status
