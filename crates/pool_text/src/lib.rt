@@ -7,6 +7,8 @@ mod faults;
 mod numbers;
 mod progress;
 mod reading;
+#[cfg(test)]
+mod tests;
 
 pub use faults::{PoolFault, ReadPool};
 pub use reading::read_pool;
