@@ -1,0 +1,151 @@
+//! The classes of small pools, and first panels of them.
+
+use crate::{Bounds, Classes, Composition, classes, first_panel};
+use pool_model::{BuildStop, Name, Pool};
+use std::alloc::{AllocError, Global};
+use std::process::Abort;
+use std::test::Fail;
+
+/// What is added to a pool.
+#[derive(Clone, Copy, Debug)]
+enum Step<'a> {
+    Category(&'a str),
+    Value(&'a str, usize, usize),
+    Volunteer(&'a str, &'a [&'a str]),
+}
+
+fn add(alloc: Global, pool: &mut Pool, step: Step<'_>) -> Result<(), BuildStop> {
+    match step {
+        Step::Category(name) => pool.add_category(name),
+        Step::Value(name, lower, upper) => pool.add_value(name, lower, upper),
+        Step::Volunteer(id, texts) => {
+            let mut values = Vec::new(alloc);
+            for text in texts {
+                values.push(Name::new(alloc, text)?)?;
+            }
+            pool.add_volunteer(id, &values)
+        }
+    }
+}
+
+fn built(alloc: Global, size: usize, steps: &[Step<'_>]) -> Result<Pool, BuildStop> {
+    let mut pool = Pool::new(alloc, size)?;
+    for step in steps {
+        add(alloc, &mut pool, *step)?;
+    }
+    Ok(pool)
+}
+
+/// Two women and two men, one of each to be chosen.
+fn four(alloc: Global) -> Result<Pool, BuildStop> {
+    built(
+        alloc,
+        2,
+        &[
+            Step::Category("gender"),
+            Step::Value("female", 1, 1),
+            Step::Value("male", 1, 1),
+            Step::Volunteer("a", &["female"]),
+            Step::Volunteer("b", &["female"]),
+            Step::Volunteer("c", &["male"]),
+            Step::Volunteer("d", &["male"]),
+        ],
+    )
+}
+
+/// One seat, for which one category asks for a and the other for b.
+fn crossed(alloc: Global) -> Result<Pool, BuildStop> {
+    built(
+        alloc,
+        1,
+        &[
+            Step::Category("one"),
+            Step::Value("x", 1, 1),
+            Step::Value("y", 0, 1),
+            Step::Category("two"),
+            Step::Value("p", 1, 1),
+            Step::Value("q", 0, 1),
+            Step::Volunteer("a", &["x", "q"]),
+            Step::Volunteer("b", &["y", "p"]),
+        ],
+    )
+}
+
+/// Each class is one open volunteer, in order, with these values.
+fn check_classes(rt: &impl Abort, found: &Classes, values: &[&[usize]]) {
+    assert_eq!(rt; found.classes().len(), values.len());
+    assert_eq!(rt; found.volunteers(), values.len());
+    for (i, (class, values)) in found.classes().iter().zip(values).enumerate() {
+        assert_eq!(rt; class.members(), [i].as_slice());
+        assert_eq!(rt;
+            (class.size(), class.least(), class.most()),
+            (1, 0, 1),
+            "at {i}"
+        );
+        assert_eq!(rt; class.values(), *values, "at {i}");
+    }
+}
+
+/// The first members of so many of each class are these.
+fn check_panel(
+    rt: &impl Abort,
+    alloc: Global,
+    found: &Classes,
+    counts: &[usize],
+    members: &[usize],
+) -> Result<(), AllocError> {
+    let composition = Composition::new(Vec::from_slice(alloc, counts)?);
+    assert_eq!(rt; composition.counts(), counts);
+    let panel = first_panel(alloc, found, &composition)?;
+    assert_eq!(rt; panel.members(), members, "at {counts:?}");
+    Ok(())
+}
+
+#[test]
+fn each_volunteer_is_a_class(rt: HostRuntime) -> Result<(), Fail> {
+    let alloc = rt.alloc();
+    let found = classes(alloc, &four(alloc)?)?;
+    assert_eq!(rt; found.size(), 2);
+    check_classes(&rt, &found, &[&[0], &[0], &[1], &[1]]);
+    let one = Bounds { lower: 1, upper: 1 };
+    assert_eq!(rt; found.bounds().len(), 1);
+    let gender = found.bounds().first().ok_or("no category")?;
+    assert_eq!(rt; gender.as_slice(), [one, one].as_slice());
+    for (counts, members) in [
+        ([1, 0, 1, 0], [0, 2]),
+        ([1, 0, 0, 1], [0, 3]),
+        ([0, 1, 1, 0], [1, 2]),
+        ([0, 1, 0, 1], [1, 3]),
+    ] {
+        check_panel(&rt, alloc, &found, &counts, &members)?;
+    }
+    check_panel(&rt, alloc, &found, &[2, 0, 0, 7], &[0, 3])?;
+    check_panel(&rt, alloc, &found, &[0, 1], &[1])?;
+    Ok(())
+}
+
+#[test]
+fn categories_keep_their_order(rt: HostRuntime) -> Result<(), Fail> {
+    let alloc = rt.alloc();
+    let found = classes(alloc, &crossed(alloc)?)?;
+    assert_eq!(rt; found.size(), 1);
+    check_classes(&rt, &found, &[&[0, 1], &[1, 0]]);
+    let one = Bounds { lower: 1, upper: 1 };
+    let up_to_one = Bounds { lower: 0, upper: 1 };
+    assert_eq!(rt; found.bounds().len(), 2);
+    for values in found.bounds() {
+        assert_eq!(rt; values.as_slice(), [one, up_to_one].as_slice());
+    }
+    check_panel(&rt, alloc, &found, &[0, 1], &[1])?;
+    Ok(())
+}
+
+#[test]
+fn nobody_makes_no_class(rt: HostRuntime) -> Result<(), Fail> {
+    let alloc = rt.alloc();
+    let found = classes(alloc, &Pool::new(alloc, 1)?)?;
+    check_classes(&rt, &found, &[]);
+    assert_eq!(rt; found.bounds().len(), 0);
+    check_panel(&rt, alloc, &found, &[], &[])?;
+    Ok(())
+}

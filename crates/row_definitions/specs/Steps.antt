@@ -1,0 +1,56 @@
+-- Entering and closing a stage, adding a column, and the solution.
+use Rattle.std.specs.Prelude.{if◌then◌else◌, ℕ, Bool, true, false, not, ◌||◌, List, [], ◌∷◌, ◌++◌, map, length, Option, Some, None, ℤ, pos, int_lt, unsigned_abs, unwrap_or}
+use Rattle.std.specs.List.{filter_map, range_with_len}
+use Rattle.std.specs.Option.{option_and_then}
+use Rattle.row_definitions.specs.declared.Var.TheVariants.{Column}
+use Rattle.row_definitions.specs.Table.{Table, row_at, coefficient_at, stage_variable}
+use Rattle.row_definitions.specs.Choice.{row_of}
+
+-- a stage is entered: the classes unsettled now are its own
+unfoldable pub enter_stage : Table → Table
+enter_stage table = record table { stages = table.stages ++ map not table.settled ∷ []; in_stage = true }
+
+-- the number of the open row, in which the stage's variable is basic
+abbrev pub open_row : Table → ℕ
+open_row table = unwrap_or (row_of table (stage_variable table)) 0
+
+-- who is settled once a row closes: who was, and the classes of positive entry
+abbrev pub settled_by : List ℤ → List Bool → List Bool
+settled_by xs [] = []
+settled_by [] (was ∷ settled) = was ∷ settled
+settled_by (x ∷ xs) (was ∷ settled) = (was || int_lt (pos 0) x) ∷ settled_by xs settled
+
+-- the stage closes: the open row is closed, and its classes of positive entry are settled
+unfoldable pub close_stage : Table → Table
+close_stage table = record table {
+  closed = table.closed ++ open_row table ∷ [];
+  settled = settled_by (row_at table (open_row table)).a table.settled;
+  in_stage = false;
+}
+
+-- a column is added
+unfoldable pub add_column : Table → List ℕ → Table
+add_column table counts = record table { columns = table.columns ++ counts ∷ [] }
+
+-- a column of positive value: its value is the right side over the coefficient, of the row in which it is basic
+pub record ColumnValue : Type 0 where
+  pub column : ℕ
+  pub side : ℕ
+  pub coefficient : ℕ
+
+-- a column's value, where it is basic in row i
+abbrev pub value_in : Table → ℕ → ℕ → Option ColumnValue
+value_in table c i =
+    if int_lt (pos 0) (row_at table i).b then Some (record {
+      column = c;
+      side = unsigned_abs (row_at table i).b;
+      coefficient = unsigned_abs (coefficient_at table i (Column c));
+    }) else None
+
+-- a column's value, where it is positive
+abbrev pub value_of : Table → ℕ → Option ColumnValue
+value_of table c = option_and_then (value_in table c) (row_of table (Column c))
+
+-- the columns of positive value, rising
+unfoldable pub solution : Table → List ColumnValue
+solution table = filter_map (value_of table) (range_with_len 0 (length table.columns))

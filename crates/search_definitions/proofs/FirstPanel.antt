@@ -1,0 +1,379 @@
+-- The first members of a composition's classes are a quota panel of that composition.
+use Rattle.std.proofs.Common.{◌≡◌, ℕ, zero, suc, ◌+◌, ◌-◌, ◌≤◌, ◌<◌, min, Bool, true, false, cond, ◌&&◌, eqb, ltb, List, [], ◌∷◌, map, length, filter, count_by, get_or, slice_index, refl, sym, ap, ◌∙◌, ⊎_elim, arith, subst, le_of_eq}
+use Rattle.std.specs.List.{list_all, AllByRecursion, range_with_len, enumerate_from}
+use Rattle.std.proofs.lemmas.Bool.{and_parts, and_from, cases_Bool, cases_lt, cases_eq, eqb-true, eq-eqb, ne_eqb, ltb-true, lt-ltb, le-ltb, false≢true}
+use Rattle.pool_definitions.specs.declared.Standing.{Standing}
+use Rattle.pool_definitions.specs.declared.Standing.TheVariants.{Open, Seated, Gone}
+use Rattle.pool_definitions.specs.Lists.{holds, is_increasing}
+use Rattle.pool_definitions.specs.Pool.{Pool, Volunteer, volunteer, is_quota_panel, allows, keeps_standings, meets_quotas, members_with, is_within}
+use Rattle.search_definitions.specs.Classes.{leaders, class_of, least_taken, most_taken, IsEquivalenceTest, MakesClasses}
+use Rattle.search_definitions.proofs.LeaderForm.{all_counts, compositions, composition_of, taken_of, is_composition, first_panel}
+use Rattle.pool_definitions.proofs.Sums.{each_both, each_from_filter, each_from_list_all, total, total_eq, total_ext, each_map}
+use Rattle.pool_definitions.proofs.Weights.{one_member}
+use Rattle.search_definitions.proofs.ByClass.{one_if, Least, least_passing, is_first, leads, total-filter}
+use Rattle.search_definitions.proofs.Listed.{each_count, each_mapped, each_filter, each_range, list_all_equal}
+use Rattle.search_definitions.proofs.PanelCompositions.{length-filter-total, counted_is, passing}
+
+-- ---- filters of a range
+
+pub filter_increases : (p : ℕ → Bool) (first count : ℕ) → is_increasing (filter p (range_with_len first count)) ≡ true
+filter_increases p first zero = refl
+filter_increases p first (suc count) =
+    let rest = filter_increases p (first + 1) count in
+    elim (p first) as (λ b. is_increasing (cond b (first ∷ filter p (range_with_len (first + 1) count)) (filter p (range_with_len (first + 1) count))) ≡ true) [
+      | true ↦ and_from (list_all (λ y. ltb first y) (filter p (range_with_len (first + 1) count))) (is_increasing (filter p (range_with_len (first + 1) count))) (above p first (first + 1) count (omega arith)) rest
+      | false ↦ rest
+    ]
+  where
+    above : (p : ℕ → Bool) (x first count : ℕ) → x < first → list_all (λ y. ltb x y) (filter p (range_with_len first count)) ≡ true
+    above p x first zero l = refl
+    above p x first (suc count) l =
+        let rest = above p x (first + 1) count (omega arith) in
+        elim (p first) as (λ b. list_all (λ y. ltb x y) (cond b (first ∷ filter p (range_with_len (first + 1) count)) (filter p (range_with_len (first + 1) count))) ≡ true) [
+          | true ↦ and_from (ltb x first) (list_all (λ y. ltb x y) (filter p (range_with_len (first + 1) count))) (lt-ltb x first l) rest
+          | false ↦ rest
+        ]
+
+filter_below : (p : ℕ → Bool) (n first count : ℕ) → first + count ≤ n → list_all (λ i. ltb i n) (filter p (range_with_len first count)) ≡ true
+filter_below p n first zero l = refl
+filter_below p n first (suc count) l =
+    let rest = filter_below p n (first + 1) count (omega arith) in
+    elim (p first) as (λ b. list_all (λ i. ltb i n) (cond b (first ∷ filter p (range_with_len (first + 1) count)) (filter p (range_with_len (first + 1) count))) ≡ true) [
+      | true ↦ and_from (ltb first n) (list_all (λ i. ltb i n) (filter p (range_with_len (first + 1) count))) (lt-ltb first n (omega arith)) rest
+      | false ↦ rest
+    ]
+
+holds_before : (p : ℕ → Bool) (i first count : ℕ) → i < first → holds (filter p (range_with_len first count)) i ≡ false
+holds_before p i first zero l = refl
+holds_before p i first (suc count) l =
+    let rest = holds_before p i (first + 1) count (omega arith) in
+    let e : eqb first i ≡ false = ne_eqb first i (λ e. omega arith) in
+    elim (p first) as (λ b. holds (cond b (first ∷ filter p (range_with_len (first + 1) count)) (filter p (range_with_len (first + 1) count))) i ≡ false) [
+      | true ↦ rw e rest
+      | false ↦ rest
+    ]
+
+-- a filter of a range holds what passes
+pub holds_filter : (p : ℕ → Bool) (i first count : ℕ) → first ≤ i → i < first + count → holds (filter p (range_with_len first count)) i ≡ p i
+holds_filter p i first zero l m = absurd (omega arith)
+holds_filter p i first (suc count) l m =
+    ⊎_elim (λ (e : first ≡ i).
+    let none = holds_before p i (first + 1) count (omega arith) in
+    let same : eqb first i ≡ true = eq-eqb first i e in
+    let q : p first ≡ p i = ap p e in
+    (elim (p first) as (λ b. b ≡ p i → holds (cond b (first ∷ filter p (range_with_len (first + 1) count)) (filter p (range_with_len (first + 1) count))) i ≡ p i) [
+      | true ↦ λ q. rw same q
+      | false ↦ λ q. none ∙ q
+    ]) q)
+    (λ (ne : first ≡ i → ⊥).
+    let rest = holds_filter p i (first + 1) count (omega arith) (omega arith) in
+    let other : eqb first i ≡ false = ne_eqb first i ne in
+    elim (p first) as (λ b. holds (cond b (first ∷ filter p (range_with_len (first + 1) count)) (filter p (range_with_len (first + 1) count))) i ≡ p i) [
+      | true ↦ rw other rest
+      | false ↦ rest
+    ]) (cases_eq first i)
+
+-- one more at the end of a range
+total-range_more : (f : ℕ → ℕ) (first count : ℕ) → total f (range_with_len first (suc count)) ≡ total f (range_with_len first count) + f (first + count)
+total-range_more f first zero = let e : first + 0 ≡ first = omega arith in rw e (omega arith)
+total-range_more f first (suc count) =
+    let rest = total-range_more f (first + 1) count in
+    let e : first + 1 + count ≡ first + suc count = omega arith in
+    let last : f (first + 1 + count) ≡ f (first + suc count) = ap f e in omega (arith, rest, last)
+
+-- ---- the first c of a class
+
+-- how many of a class stand before
+abbrev pub rank : (ℕ → Bool) → ℕ → ℕ
+rank a i = total (λ j. one_if (a j)) (range_with_len 0 i)
+
+chosen_one : (b : Bool) (K c : ℕ) → cond (ltb K c) (one_if b) 0 + min c K ≡ min c (K + one_if b)
+chosen_one true K c = ⊎_elim (λ (l : K < c). let e = lt-ltb K c l in rw e (omega arith)) (λ (l : c ≤ K). let e = le-ltb K c l in rw e (omega arith)) (cases_lt K c)
+chosen_one false K c = ⊎_elim (λ (l : K < c). let e = lt-ltb K c l in rw e (omega arith)) (λ (l : c ≤ K). let e = le-ltb K c l in rw e (omega arith)) (cases_lt K c)
+
+first_some : (a : ℕ → Bool) (c count : ℕ) → total (λ i. cond (ltb (rank a i) c) (one_if (a i)) 0) (range_with_len 0 count) ≡ min c (rank a count)
+first_some a c zero = omega arith
+first_some a c (suc count) =
+    let e : 0 + count ≡ count = omega arith in
+    let more = total-range_more (λ i. cond (ltb (rank a i) c) (one_if (a i)) 0) 0 count in
+    let upto = total-range_more (λ j. one_if (a j)) 0 count in
+    let term : cond (ltb (rank a (0 + count)) c) (one_if (a (0 + count))) 0 ≡ cond (ltb (rank a count) c) (one_if (a count)) 0 = ap (λ z. cond (ltb (rank a z) c) (one_if (a z)) 0) e in
+    let last : one_if (a (0 + count)) ≡ one_if (a count) = ap (λ z. one_if (a z)) e in
+    omega (arith, first_some a c count, more, upto, term, last, chosen_one (a count) (rank a count) c)
+
+pub rank_below : (a : ℕ → Bool) (i count : ℕ) → i < count → rank a i + one_if (a i) ≤ rank a count
+rank_below a i zero l = absurd (omega arith)
+rank_below a i (suc count) l =
+    let more = total-range_more (λ j. one_if (a j)) 0 count in
+    let e : 0 + count ≡ count = omega arith in
+    let last : one_if (a (0 + count)) ≡ one_if (a count) = ap (λ z. one_if (a z)) e in
+    ⊎_elim (λ (lt : i < count). let rest = rank_below a i count lt in omega (arith, rest, more))
+    (λ (ge : count ≤ i). let s : i ≡ count = omega arith in rw s (omega (arith, more, last))) (cases_lt i count)
+
+lift : (a b e : Bool) (v : ℕ) → cond a (one_if b) 0 ≡ cond e 1 0 → cond a (cond b v 0) 0 ≡ cond e v 0
+lift true true true v h = refl
+lift true true false v h = absurd (omega arith)
+lift true false true v h = absurd (omega arith)
+lift true false false v h = refl
+lift false b true v h = absurd (omega arith)
+lift false b false v h = refl
+
+taken_by : (passes : ℕ → Bool) (g : ℕ → ℕ) (firsts : List ℕ) → taken_of passes firsts (map g firsts) ≡ total (λ l. cond (passes l) (g l) 0) firsts
+taken_by passes g [] = refl
+taken_by passes g (l ∷ firsts) = omega (arith, taken_by passes g firsts)
+
+cond_zero : (b : Bool) → cond {A = ℕ} b 0 0 ≡ 0
+cond_zero true = refl
+cond_zero false = refl
+
+map_same : (f g : ℕ → ℕ) (xs : List ℕ) → AllByRecursion (λ x. f x ≡ g x) xs → map f xs ≡ map g xs
+map_same f g [] h = refl
+map_same f g (x ∷ xs) h = let e = h.0 in let r = map_same f g xs h.1 in cc
+
+module _ (alike : ℕ → ℕ → Bool) (same : IsEquivalenceTest alike) (count : ℕ) (g : ℕ → ℕ) where
+  leader_of : (i : ℕ) → Least (λ j. alike j i) i
+  leader_of i = least_passing (λ j. alike j i) i (same.itself i)
+
+  abbrev firsts : List ℕ
+  firsts = leaders alike count
+
+  abbrev panel : List ℕ
+  panel = first_panel alike count (map g firsts)
+
+  -- how many are taken of a volunteer's class
+  own : (i : ℕ) → i < count → taken_of (λ l. alike l i) firsts (map g firsts) ≡ g (leader_of i).at
+  unfolding leads
+  own i l =
+      let first = leader_of i in
+      let inside : first.at < 0 + count = omega (arith, first.within) in
+      taken_by (λ l. alike l i) g firsts
+      ∙ total-filter (λ l. cond (alike l i) (g l) 0) (leads alike same count) (range_with_len 0 count)
+      ∙ total_ext (λ j. cond (leads alike same count j) (cond (alike j i) (g j) 0) 0) (λ j. cond (eqb first.at j) (g j) 0)
+      (λ j. lift (leads alike same count j) (alike j i) (eqb first.at j) (g j) (is_first alike same count i first j)) (range_with_len 0 count)
+      ∙ one_member g first.at 0 count (omega arith) inside
+
+  -- the leader of who is alike a leader
+  leader_is : (l i : ℕ) → leads alike same count l ≡ true → alike l i ≡ true → (leader_of i).at ≡ l
+  leader_is l i lead t =
+      let e = is_first alike same count i (leader_of i) l in
+      let one : ◌≡◌ {A = ℕ} 1 (cond (eqb (leader_of i).at l) 1 0) = rw (lead, t) at e in
+      (elim (eqb (leader_of i).at l) as (λ b. eqb (leader_of i).at l ≡ b → ◌≡◌ {A = ℕ} 1 (cond b 1 0) → (leader_of i).at ≡ l) [
+        | true ↦ λ q _. eqb-true (leader_of i).at l q
+        | false ↦ λ q z. absurd (omega arith)
+      ]) refl one
+
+  alike_as : (l i j : ℕ) → alike l i ≡ true → alike i j ≡ alike l j
+  alike_as l i j t = ⊎_elim (λ (p : alike i j ≡ true). p ∙ sym (same.along l i j t p))
+      (λ (p : alike i j ≡ false). ⊎_elim (λ (q : alike l j ≡ true). absurd (false≢true (sym p ∙ same.along i l j (same.back l i t) q))) (λ (q : alike l j ≡ false). p ∙ sym q) (cases_Bool (alike l j)))
+      (cases_Bool (alike i j))
+
+  -- the test of the first panel, for a member of a leader's class
+  abbrev in_panel : ℕ → Bool
+  in_panel i = ltb (count_by (alike i) (range_with_len 0 i)) (taken_of (λ leader. alike leader i) firsts (map g firsts))
+
+  in_class : (l i : ℕ) → leads alike same count l ≡ true → i < count → alike l i ≡ true → in_panel i ≡ ltb (rank (alike l) i) (g l)
+  in_class l i lead below t =
+      let e : count_by (alike i) (range_with_len 0 i) ≡ rank (alike l) i = counted_is (alike i) (range_with_len 0 i) ∙ total_ext (λ j. one_if (alike i j)) (λ j. one_if (alike l j)) (λ j. ap one_if (alike_as l i j t)) (range_with_len 0 i) in
+      let f : taken_of (λ leader. alike leader i) firsts (map g firsts) ≡ g l = own i below ∙ ap g (leader_is l i lead t) in
+      rw (e, f) refl
+
+  term : (l i : ℕ) → leads alike same count l ≡ true → i < count → cond (in_panel i) (one_if (alike l i)) 0 ≡ cond (ltb (rank (alike l) i) (g l)) (one_if (alike l i)) 0
+  term l i lead below = ⊎_elim
+      (λ (t : alike l i ≡ true). ap (λ b. cond b (one_if (alike l i)) 0) (in_class l i lead below t))
+      (λ (t : alike l i ≡ false). rw t (cond_zero (in_panel i) ∙ sym (cond_zero (ltb (rank (alike l) i) (g l))))) (cases_Bool (alike l i))
+
+  -- as many of the class are taken as the composition says
+  takes : (l : ℕ) → leads alike same count l ≡ true → g l ≤ rank (alike l) count → count_by (alike l) panel ≡ g l
+  takes l lead fits =
+      let a = counted_is (alike l) panel in
+      let b = total-filter (λ i. one_if (alike l i)) in_panel (range_with_len 0 count) in
+      let c = total_eq (λ i. cond (in_panel i) (one_if (alike l i)) 0) (λ i. cond (ltb (rank (alike l) i) (g l)) (one_if (alike l i)) 0) (range_with_len 0 count)
+      (each_range (λ i. cond (in_panel i) (one_if (alike l i)) 0 ≡ cond (ltb (rank (alike l) i) (g l)) (one_if (alike l i)) 0) 0 count (λ i f m. term l i lead (omega arith))) in
+      let d = first_some (alike l) (g l) count in omega (arith, a, b, c, d)
+
+  -- so the panel's composition is this one
+  composition_is : ((l : ℕ) → l < count → leads alike same count l ≡ true → g l ≤ rank (alike l) count) → composition_of alike firsts panel ≡ map g firsts
+  unfolding leads
+  composition_is fits = map_same (λ l. count_by (alike l) panel) g firsts
+      (each_filter_passes (λ l. count_by (alike l) panel ≡ g l) (leads alike same count) 0 count (λ l below lead. takes l lead (fits l (omega arith) lead)))
+    where
+      each_filter_passes : (P : ℕ → Type 0) (p : ℕ → Bool) (first many : ℕ) → ((l : ℕ) → l < first + many → p l ≡ true → P l) → AllByRecursion P (filter p (range_with_len first many))
+      each_filter_passes P p first zero f = tt
+      each_filter_passes P p first (suc many) f =
+          let rest = each_filter_passes P p (first + 1) many (λ l m e. f l (omega arith) e) in
+          (elim (p first) as (λ b. p first ≡ b → AllByRecursion P (cond b (first ∷ filter p (range_with_len (first + 1) many)) (filter p (range_with_len (first + 1) many)))) [
+            | true ↦ λ e. (f first (omega arith) e, rest)
+            | false ↦ λ e. rest
+          ]) refl
+
+each_place : (q : ℕ → Volunteer → Bool) (d : Volunteer) (first : ℕ) (vs : List Volunteer) → ((k : ℕ) → k < length vs → q (first + k) (get_or vs k d) ≡ true) → list_all (λ (i, v). q i v) (enumerate_from first vs) ≡ true
+each_place q d first [] f = refl
+each_place q d first (v ∷ vs) f =
+    let e : first + 0 ≡ first = omega arith in
+    let here : q first v ≡ true = subst (λ z. q z v ≡ true) e (f 0 (omega arith)) in
+    let rest = each_place q d (first + 1) vs (λ k l. let s : first + suc k ≡ first + 1 + k = omega arith in subst (λ z. q z (get_or vs k d) ≡ true) s (f (suc k) (omega arith))) in
+    and_from (q first v) (list_all (λ (i, v). q i v) (enumerate_from (first + 1) vs)) here rest
+
+-- one volunteer: s is the standing, taken what the class gives of its size
+keeps_one : (s : Standing) (before size given : ℕ) → before < size → least_taken s size ≤ given → given ≤ most_taken s size → allows s (ltb before given) ≡ true
+keeps_one Open before size given l m n = refl
+keeps_one Seated before size given l m n = lt-ltb before given (omega arith)
+keeps_one Gone before size given l m n = let e = le-ltb before given (omega arith) in rw e refl
+
+module _ (pool : Pool) (alike : ℕ → ℕ → Bool) (makes : MakesClasses pool alike) (g : ℕ → ℕ) where
+  abbrev n : ℕ
+  n = length pool.volunteers
+
+  abbrev standing_of : ℕ → Standing
+  standing_of i = (volunteer pool.volunteers i).standing
+
+  abbrev chosen : List ℕ
+  chosen = first_panel alike n (map g (leaders alike n))
+
+  module _ (within : (l : ℕ) → l < n → leads alike makes.same n l ≡ true → (least_taken (standing_of l) (rank (alike l) n) ≤ g l) × (g l ≤ most_taken (standing_of l) (rank (alike l) n)))
+      (composes : is_composition pool (leaders alike n) (map g (leaders alike n)) ≡ true) where
+    at_most_size : (s : Standing) (size given : ℕ) → given ≤ most_taken s size → given ≤ size
+    at_most_size Open size given l = l
+    at_most_size Seated size given l = l
+    at_most_size Gone size given l = omega arith
+
+    same_composition : composition_of alike (leaders alike n) chosen ≡ map g (leaders alike n)
+    same_composition = composition_is alike makes.same n g (λ l below lead. at_most_size (standing_of l) (rank (alike l) n) (g l) (within l below lead).1)
+
+    below : list_all (λ i. ltb i n) chosen ≡ true
+    below = filter_below (in_panel alike makes.same n g) n 0 n (omega arith)
+
+    each_below : AllByRecursion (λ i. i < n) chosen
+    each_below = each_map (λ i. ltb i n ≡ true) (λ i. i < n) (λ i e. ltb-true i n e) chosen (each_from_list_all (λ i. ltb i n) chosen below)
+
+    size_is : length chosen ≡ pool.size
+    size_is =
+        let parts = and_parts (eqb (taken_of (λ leader. true) (leaders alike n) (map g (leaders alike n))) pool.size) _ composes in
+        sym (ones chosen) ∙ sym (counted_is (λ leader. true) chosen) ∙ sym (passing alike makes.same n (λ leader. true) (λ i j e. refl) chosen each_below)
+        ∙ ap (taken_of (λ leader. true) (leaders alike n)) same_composition ∙ eqb-true (taken_of (λ leader. true) (leaders alike n) (map g (leaders alike n))) pool.size parts.0
+      where
+        ones : (xs : List ℕ) → total (λ i. 1) xs ≡ length xs
+        ones [] = refl
+        ones (x ∷ xs) = omega (arith, ones xs)
+
+    value_is : (c v : ℕ) → members_with pool.volunteers chosen c v ≡ taken_of (λ leader. eqb (slice_index (volunteer pool.volunteers leader).values c) v) (leaders alike n) (map g (leaders alike n))
+    value_is c v =
+        sym (passing alike makes.same n (λ i. eqb (slice_index (volunteer pool.volunteers i).values c) v)
+        (λ i j e. ap (λ values. eqb (slice_index values c) v) (makes.values i j e)) chosen each_below)
+        ∙ ap (taken_of (λ leader. eqb (slice_index (volunteer pool.volunteers leader).values c) v) (leaders alike n)) same_composition
+
+    meets : meets_quotas pool.categories pool.volunteers chosen ≡ true
+    meets =
+        list_all_equal
+        (λ (c, category). list_all (λ (v, value). is_within value (members_with pool.volunteers chosen c v)) (enumerate_from 0 category.values))
+        (λ (c, category). list_all (λ (v, value). is_within value (taken_of (λ leader. eqb (slice_index (volunteer pool.volunteers leader).values c) v) (leaders alike n) (map g (leaders alike n)))) (enumerate_from 0 category.values))
+        (λ (c, category). list_all_equal (λ (v, value). is_within value (members_with pool.volunteers chosen c v))
+        (λ (v, value). is_within value (taken_of (λ leader. eqb (slice_index (volunteer pool.volunteers leader).values c) v) (leaders alike n) (map g (leaders alike n))))
+        (λ (v, value). ap (is_within value) (value_is c v)) (enumerate_from 0 category.values))
+        (enumerate_from 0 pool.categories)
+        ∙ (and_parts (eqb (taken_of (λ leader. true) (leaders alike n) (map g (leaders alike n))) pool.size) _ composes).1
+
+    keeps_at : (i : ℕ) → i < n → allows (standing_of i) (holds chosen i) ≡ true
+    keeps_at i l =
+        let first = leader_of alike makes.same n g i in
+        let lead = lead_of i in
+        let inside : first.at < n = omega (arith, first.within) in
+        let bounds = within first.at inside lead in
+        let s = makes.standing first.at i first.passes in
+        let before : rank (alike first.at) i + one_if (alike first.at i) ≤ rank (alike first.at) n = rank_below (alike first.at) i n l in
+        let less : rank (alike first.at) i + 1 ≤ rank (alike first.at) n = rw first.passes at before in
+        let kept = keeps_one (standing_of first.at) (rank (alike first.at) i) (rank (alike first.at) n) (g first.at) (omega arith) bounds.0 bounds.1 in
+        let test = in_class alike makes.same n g first.at i lead l first.passes in
+        let here : holds chosen i ≡ in_panel alike makes.same n g i = holds_filter (in_panel alike makes.same n g) i 0 n (omega arith) (omega arith) in
+        rw (here, test, ← s) kept
+      where
+        lead_of : (i : ℕ) → leads alike makes.same n (leader_of alike makes.same n g i).at ≡ true
+        lead_of i =
+            let first = leader_of alike makes.same n g i in
+            let e = is_first alike makes.same n i first first.at in
+            let itself : eqb first.at first.at ≡ true = eq-eqb first.at first.at refl in
+            leads_from (leads alike makes.same n first.at) (one_if (alike first.at i)) (rw itself at e)
+          where
+            leads_from : (b : Bool) (v : ℕ) → cond b v 0 ≡ 1 → b ≡ true
+            leads_from true v h = refl
+            leads_from false v h = absurd (omega arith)
+
+    -- the first members are a quota panel
+    pub first_panel_fits : is_quota_panel pool chosen ≡ true
+    first_panel_fits =
+        let A = eqb (length chosen) pool.size in let B = is_increasing chosen in let C = list_all (λ i. ltb i n) chosen in
+        let D = keeps_standings pool.volunteers chosen in let E = meets_quotas pool.categories pool.volunteers chosen in
+        let keeps = each_place (λ i v. allows v.standing (holds chosen i)) (record { id = []; values = []; standing = Gone }) 0 pool.volunteers
+        (λ k l. let e : 0 + k ≡ k = omega arith in subst (λ z. allows (standing_of k) (holds chosen z) ≡ true) (sym e) (keeps_at k l)) in
+        and_from (A && B && C && D) E (and_from (A && B && C) D (and_from (A && B) C (and_from A B (eq-eqb (length chosen) pool.size size_is) (filter_increases (in_panel alike makes.same n g) 0 n)) below) keeps) meets
+
+-- ---- each composition in the list
+
+-- counts within their bounds, given by leaders
+record ByLeader (low high : ℕ → ℕ) (firsts counts : List ℕ) : Type 0 where
+  of : ℕ → ℕ
+  is : counts ≡ map of firsts
+  within : AllByRecursion (λ l. (low l ≤ of l) × (of l ≤ high l)) firsts
+
+by_leader : (low high : ℕ → ℕ) → ((l : ℕ) → low l ≤ high l) → (firsts : List ℕ) → is_increasing firsts ≡ true → AllByRecursion (ByLeader low high firsts) (all_counts low high firsts)
+by_leader low high order [] up = (record { of = λ l. 0; is = refl; within = tt }, tt)
+by_leader low high order (l ∷ firsts) up =
+    let ups = and_parts (list_all (λ y. ltb l y) firsts) (is_increasing firsts) up in
+    let rest = by_leader low high order firsts ups.1 in
+    let later = each_map (λ y. ltb l y ≡ true) (λ y. l < y) (λ y e. ltb-true l y e) firsts (each_from_list_all (λ y. ltb l y) firsts ups.0) in
+    each_count (ByLeader low high (l ∷ firsts)) (λ c. map (λ counts. c ∷ counts) (all_counts low high firsts)) (low l) (high l - low l)
+    (λ c lo hi. let o = order l in each_mapped (ByLeader low high (l ∷ firsts)) (λ counts. c ∷ counts) (all_counts low high firsts)
+    (each_map (ByLeader low high firsts) (λ counts. ByLeader low high (l ∷ firsts) (c ∷ counts)) (λ counts given. extended low high l firsts c counts later lo (omega arith) given) (all_counts low high firsts) rest))
+  where
+    extended : (low high : ℕ → ℕ) (l : ℕ) (firsts : List ℕ) (c : ℕ) (counts : List ℕ) → AllByRecursion (λ y. l < y) firsts → low l ≤ c → c ≤ high l → ByLeader low high firsts counts → ByLeader low high (l ∷ firsts) (c ∷ counts)
+    extended low high l firsts c counts later lo hi given =
+        let of : ℕ → ℕ = λ y. cond (eqb y l) c (given.of y) in
+        let here : of l ≡ c = let e : eqb l l ≡ true = eq-eqb l l refl in rw e refl in
+        let others = each_map (λ y. l < y) (λ y. of y ≡ given.of y) (λ y m. let e : eqb y l ≡ false = ne_eqb y l (λ e. omega arith) in rw e refl) firsts later in
+        let maps = map_same of given.of firsts others in
+        let equal : map of firsts ≡ counts = maps ∙ sym given.is in
+        record {
+          of = of;
+          is = cc;
+          within = (
+            (omega arith, omega arith),
+            each_map (λ y. (of y ≡ given.of y) × ((low y ≤ given.of y) × (given.of y ≤ high y))) (λ y. (low y ≤ of y) × (of y ≤ high y))
+                (λ y p. let e = p.0 in let a = p.1.0 in let b = p.1.1 in (omega arith, omega arith)) firsts (each_both (λ y. of y ≡ given.of y) (λ y. (low y ≤ given.of y) × (given.of y ≤ high y)) firsts others given.within),
+          );
+        }
+
+at_range : (P : ℕ → Type 0) (l first count : ℕ) → first ≤ l → l < first + count → AllByRecursion P (range_with_len first count) → P l
+at_range P l first zero a b h = absurd (omega arith)
+at_range P l first (suc count) a b h =
+    ⊎_elim (λ (e : first ≡ l). subst P e h.0) (λ (ne : first ≡ l → ⊥). at_range P l (first + 1) count (omega arith) (omega arith) h.1) (cases_eq first l)
+
+pub least_to_most : (s : Standing) (size : ℕ) → least_taken s size ≤ most_taken s size
+least_to_most Open size = omega arith
+least_to_most Seated size = le_of_eq refl
+least_to_most Gone size = le_of_eq refl
+
+-- the first members of counts are a quota panel, with these counts for its composition
+abbrev pub FitsAndComposes : Pool → (ℕ → ℕ → Bool) → List ℕ → Type 0
+FitsAndComposes pool alike counts =
+    (is_quota_panel pool (first_panel alike (length pool.volunteers) counts) ≡ true)
+    × (composition_of alike (leaders alike (length pool.volunteers)) (first_panel alike (length pool.volunteers) counts) ≡ counts)
+
+-- the first members of each composition's classes
+pub each_first_panel : (pool : Pool) (alike : ℕ → ℕ → Bool) → MakesClasses pool alike → AllByRecursion (FitsAndComposes pool alike) (compositions pool alike)
+unfolding leads
+each_first_panel pool alike makes =
+    let n = length pool.volunteers in
+    let low : ℕ → ℕ = λ l. least_taken (volunteer pool.volunteers l).standing (length (class_of alike n l)) in
+    let high : ℕ → ℕ = λ l. most_taken (volunteer pool.volunteers l).standing (length (class_of alike n l)) in
+    let given = by_leader low high (λ l. least_to_most (volunteer pool.volunteers l).standing (length (class_of alike n l))) (leaders alike n) (filter_increases (leads alike makes.same n) 0 n) in
+    each_filter (FitsAndComposes pool alike) (is_composition pool (leaders alike n)) (all_counts low high (leaders alike n))
+    (each_map (ByLeader low high (leaders alike n)) (λ counts. is_composition pool (leaders alike n) counts ≡ true → FitsAndComposes pool alike counts)
+    (λ counts given composes.
+    let at_leader = each_from_filter (λ l. (low l ≤ given.of l) × (given.of l ≤ high l)) (leads alike makes.same n) (range_with_len 0 n) given.within in
+    let within : (l : ℕ) → l < n → leads alike makes.same n l ≡ true → (least_taken (volunteer pool.volunteers l).standing (rank (alike l) n) ≤ given.of l) × (given.of l ≤ most_taken (volunteer pool.volunteers l).standing (rank (alike l) n)) =
+    λ l below lead.
+    let bounds = at_range (λ l. leads alike makes.same n l ≡ true → (low l ≤ given.of l) × (given.of l ≤ high l)) l 0 n (omega arith) (omega arith) at_leader lead in
+    subst (λ size. (least_taken (volunteer pool.volunteers l).standing size ≤ given.of l) × (given.of l ≤ most_taken (volunteer pool.volunteers l).standing size)) (length-filter-total (alike l) (range_with_len 0 n)) bounds in
+    let composed = subst (λ z. is_composition pool (leaders alike n) z ≡ true) given.is composes in
+    subst (FitsAndComposes pool alike) (sym given.is) (first_panel_fits pool alike makes given.of within composed, same_composition pool alike makes given.of within composed))
+    (all_counts low high (leaders alike n)) given)

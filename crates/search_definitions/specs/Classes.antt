@@ -1,0 +1,112 @@
+-- Classes of volunteers.
+use Rattle.std.specs.Prelude.{◌≡◌, ℕ, ◌==◌, ◌≤◌, ◌<◌, Bool, not, IsTrue, List, [], map, length, filter, slice_index, slice_index_or, sum_by}
+use Rattle.std.specs.List.{list_any, range_with_len, All, AllByRecursion}
+use Rattle.pool_definitions.specs.declared.Standing.{Standing}
+use Rattle.pool_definitions.specs.declared.Standing.TheVariants.{Open, Seated, Gone}
+use Rattle.pool_definitions.specs.Pool.{Category, Pool, volunteer}
+use Rattle.search_definitions.specs.declared.Bounds.{Bounds}
+
+-- volunteers with the same values and standing
+pub record Class : Type 0 where
+  -- their numbers, rising
+  pub members : List ℕ
+  -- for each category the place of their value
+  pub values : List ℕ
+  -- the least and the greatest number of them that a panel may have
+  pub least : ℕ
+  pub most : ℕ
+
+-- what a search for panels goes through: the size of a panel, for each category the bounds of its values, and the classes
+pub record Classes : Type 0 where
+  pub size : ℕ
+  pub bounds : List (List Bounds)
+  pub classes : List Class
+
+-- a class has one value per category, which is one of the category's
+pub record HasPlaces (bounds : List (List Bounds)) (class : Class) : Type 0 where
+  pub one_each : length class.values ≡ length bounds
+  pub within : (c : ℕ) → c < length bounds → slice_index class.values c < length (slice_index_or bounds c [])
+
+-- each class can give at least as many as a panel must have of it
+pub record IsSearchable (all : Classes) : Type 0 where
+  pub in_order : AllByRecursion (λ class. class.least ≤ class.most) all.classes
+
+-- what the classes of each pool keep: few of everything, so that sums over them stay small
+pub record KeepsLimits (all : Classes) : Type 0 where
+  -- a panel has 1 to 200 members
+  pub size : (1 ≤ all.size) × (all.size ≤ 200)
+  -- at most 20 categories, each of at most 50 values, with bounds in order and at most 999
+  pub few_categories : length all.bounds ≤ 20
+  pub few_values : All (λ values. length values ≤ 50) all.bounds
+  pub bounds : All (λ values. All (λ bound. (bound.lower ≤ bound.upper) × (bound.upper ≤ 999)) values) all.bounds
+  -- at most 400 classes, with at most 400 members in all
+  pub few_classes : length all.classes ≤ 400
+  pub few_members : sum_by (λ class. length class.members) all.classes ≤ 400
+  -- each class has a member, and at most all its members are taken
+  pub members : All (λ class. 1 ≤ length class.members) all.classes
+  pub most : All (λ class. class.most ≤ length class.members) all.classes
+  pub searchable : IsSearchable all
+  -- each class has one value per category
+  pub values : All (HasPlaces all.bounds) all.classes
+
+-- the seated are on each panel, the gone on none
+abbrev pub least_taken : Standing → ℕ → ℕ
+least_taken Open size = 0
+least_taken Seated size = size
+least_taken Gone size = 0
+
+abbrev pub most_taken : Standing → ℕ → ℕ
+most_taken Open size = size
+most_taken Seated size = size
+most_taken Gone size = 0
+
+-- the first member of each class: nobody before is alike
+abbrev pub leaders : (ℕ → ℕ → Bool) → ℕ → List ℕ
+leaders alike count = filter (λ i. not (list_any (λ j. alike j i) (range_with_len 0 i))) (range_with_len 0 count)
+
+-- all who are alike to a leader, in number order
+abbrev pub class_of : (ℕ → ℕ → Bool) → ℕ → ℕ → List ℕ
+class_of alike count leader = filter (alike leader) (range_with_len 0 count)
+
+-- the class of a leader
+abbrev pub class_by : (ℕ → ℕ → Bool) → Pool → ℕ → Class
+class_by alike pool leader =
+    let members = class_of alike (length pool.volunteers) leader in
+    record {
+      members = members;
+      values = (volunteer pool.volunteers leader).values;
+      least = least_taken (volunteer pool.volunteers leader).standing (length members);
+      most = most_taken (volunteer pool.volunteers leader).standing (length members);
+    }
+
+-- for each category the bounds of its values
+abbrev pub bounds_of : List Category → List (List Bounds)
+bounds_of categories = map (λ category. map (λ value. record { lower = value.lower; upper = value.upper }) category.values) categories
+
+-- the classes of a pool, in the order of their first members, where a test says who is alike
+abbrev pub classes_by : (ℕ → ℕ → Bool) → Pool → Classes
+classes_by alike pool = record {
+  size = pool.size;
+  bounds = bounds_of pool.categories;
+  classes = map (class_by alike pool) (leaders alike (length pool.volunteers));
+}
+
+-- each volunteer is a class alone
+abbrev pub are_alike : Pool → ℕ → ℕ → Bool
+are_alike pool i j = i == j
+
+-- the classes of a pool
+abbrev pub classes_of : Pool → Classes
+classes_of pool = classes_by (are_alike pool) pool
+
+-- an equivalence of volunteers, as a test
+pub record IsEquivalenceTest (alike : ℕ → ℕ → Bool) : Type 0 where
+  pub itself : (i : ℕ) → IsTrue (alike i i)
+  pub back : (i j : ℕ) → IsTrue (alike i j) → IsTrue (alike j i)
+  pub along : (i j k : ℕ) → IsTrue (alike i j) → IsTrue (alike j k) → IsTrue (alike i k)
+
+-- a test that makes classes of volunteers: an equivalence, and who is alike has the same values and standing
+pub record MakesClasses (pool : Pool) (alike : ℕ → ℕ → Bool) : Type 0 where
+  pub same : IsEquivalenceTest alike
+  pub values : (i j : ℕ) → IsTrue (alike i j) → (volunteer pool.volunteers i).values ≡ (volunteer pool.volunteers j).values
+  pub standing : (i j : ℕ) → IsTrue (alike i j) → (volunteer pool.volunteers i).standing ≡ (volunteer pool.volunteers j).standing

@@ -1,0 +1,88 @@
+-- Compositions: how many of each class are taken.
+use Rattle.std.specs.Prelude.{ℕ, zero, suc, ◌+◌, ◌-◌, ◌==◌, nat_le, if◌then◌else◌, Bool, true, false, ◌&&◌, ◌||◌, List, [], ◌∷◌, map, length, count_by, filter, slice_get, slice_index, take, ℤ, pos, ◌+ℤ◌, ◌*ℤ◌, int_lt, int_le, Option, Some, None, unwrap_or, sum_by}
+use Rattle.std.specs.List.{list_all, flat_map, enumerate_from, range_with_len}
+use Rattle.pool_definitions.specs.Lists.{holds}
+use Rattle.row_definitions.specs.Row.{Row}
+use Rattle.search_definitions.specs.declared.Bounds.{Bounds}
+use Rattle.search_definitions.specs.Classes.{Class, Classes}
+
+-- the counts from the greatest, so many above the least, down to the least
+abbrev pub counts_down : ℕ → ℕ → List ℕ
+counts_down least zero = least ∷ []
+counts_down least (suc more) = (least + suc more) ∷ counts_down least more
+
+-- the counts that a class may have, the greatest first
+abbrev pub counts_of : Class → List ℕ
+counts_of class = counts_down class.least (class.most - class.least)
+
+-- all lists with a count for each class, class by class, the greater count first
+abbrev pub all_counts : List Class → List (List ℕ)
+all_counts [] = [] ∷ []
+all_counts (class ∷ classes) = flat_map (λ c. map (λ counts. c ∷ counts) (all_counts classes)) (counts_of class)
+
+-- the sum of the counts of the classes that pass
+abbrev pub taken_of : (Class → Bool) → List Class → List ℕ → ℕ
+taken_of passes [] counts = 0
+taken_of passes (class ∷ classes) [] = 0
+taken_of passes (class ∷ classes) (c ∷ counts) = (if passes class then c else 0) + taken_of passes classes counts
+
+-- all members of a class have a value of a category
+abbrev pub has_value : ℕ → ℕ → Class → Bool
+has_value category value class = slice_index class.values category == value
+
+-- a number lies within bounds
+abbrev pub lies_within : Bounds → ℕ → Bool
+lies_within bound count = nat_le bound.lower count && nat_le count bound.upper
+
+-- each value's number lies within its bounds
+abbrev pub meets_bounds : List (List Bounds) → List Class → List ℕ → Bool
+meets_bounds bounds classes counts =
+    list_all (λ (c, values).
+    list_all (λ (v, bound). lies_within bound (taken_of (has_value c v) classes counts)) (enumerate_from 0 values))
+    (enumerate_from 0 bounds)
+
+-- the counts sum to the size, and each value's number lies within its bounds
+abbrev pub is_composition : Classes → List ℕ → Bool
+is_composition all counts = taken_of (λ class. true) all.classes counts == all.size && meets_bounds all.bounds all.classes counts
+
+-- all compositions, in order
+abbrev pub compositions : Classes → List (List ℕ)
+compositions all = filter (is_composition all) (all_counts all.classes)
+
+-- the first composition in order
+abbrev pub first_composition : Classes → Option (List ℕ)
+first_composition all = slice_get (compositions all) 0
+
+-- a number is among the first members of a class, as many as are taken of it
+abbrev pub is_taken : List Class → List ℕ → ℕ → Bool
+is_taken [] counts i = false
+is_taken (class ∷ classes) [] i = false
+is_taken (class ∷ classes) (c ∷ counts) i = holds (take c class.members) i || is_taken classes counts i
+
+-- the first members of each class, as many as a composition takes, in number order
+abbrev pub first_panel : Classes → List ℕ → List ℕ
+first_panel all counts = filter (is_taken all.classes counts) (range_with_len 0 (sum_by (λ class. length class.members) all.classes))
+
+-- how many members of a panel are of each class
+abbrev pub composition_of : Classes → List ℕ → List ℕ
+composition_of all panel = map (λ class. count_by (holds class.members) panel) all.classes
+
+-- a composition's weight in a row: the sum of count times entry
+abbrev pub weight_in : List ℤ → List ℕ → ℤ
+weight_in [] counts = pos 0
+weight_in (x ∷ xs) [] = pos 0
+weight_in (x ∷ xs) (c ∷ counts) = pos c *ℤ x +ℤ weight_in xs counts
+
+-- a composition's weight in each closed row is at least that row's right side
+abbrev pub attains : List Row → List ℕ → Bool
+attains closed counts = list_all (λ row. int_le row.b (weight_in row.a counts)) closed
+
+-- of some lists the first of greatest weight above a floor
+abbrev pub first_greatest : (List ℕ → ℤ) → ℤ → List (List ℕ) → Option (List ℕ)
+first_greatest weight floor [] = None
+first_greatest weight floor (counts ∷ rest) =
+    if int_lt floor (weight counts) then Some (unwrap_or (first_greatest weight (weight counts) rest) counts) else first_greatest weight floor rest
+
+-- the best composition: of those that attain the closed rows, the first of greatest weight in the row above its right side
+abbrev pub price : Classes → List Row → Row → Option (List ℕ)
+price all closed row = first_greatest (weight_in row.a) row.b (filter (attains closed) (compositions all))

@@ -1,0 +1,76 @@
+-- Fronts: counts for the first classes. A front is live where it may still lead to a composition that is sought.
+use Rattle.std.specs.Prelude.{◌≡◌, ℕ, ◌+◌, ◌-◌, nat_le, if◌then◌else◌, Bool, true, ◌&&◌, List, [], ◌∷◌, ◌++◌, drop, length, replicate, take, fold, sum_by, ℤ, pos, ◌+ℤ◌, int_lt, int_le}
+use Rattle.std.specs.List.{list_all, enumerate_from, AllByRecursion}
+use Rattle.row_definitions.specs.Row.{Row}
+use Rattle.search_definitions.specs.declared.Bounds.{Bounds}
+use Rattle.search_definitions.specs.Classes.{Class, Classes}
+use Rattle.search_definitions.specs.Compositions.{taken_of, has_value, weight_in}
+
+-- the classes after a front
+abbrev pub later_than : List ℕ → List Class → List Class
+later_than front classes = drop (length front) classes
+
+-- each of the rows has one entry per class
+abbrev pub HaveEntries : Classes → List Row → Type 0
+HaveEntries all rows = AllByRecursion (λ row. length row.a ≡ length all.classes) rows
+
+-- the most that later classes can give, of those that pass
+abbrev pub most_of : (Class → Bool) → List Class → ℕ
+most_of passes later = sum_by (λ class. if passes class then class.most else 0) later
+
+-- how many a front takes
+abbrev pub taken_by : Classes → List ℕ → ℕ
+taken_by all front = taken_of (λ class. true) all.classes front
+
+-- at most the size is taken, and with all that later classes can give at least the size
+abbrev pub size_reachable : Classes → List ℕ → Bool
+size_reachable all front =
+    nat_le (taken_by all front) all.size && nat_le all.size (taken_by all front + most_of (λ class. true) (later_than front all.classes))
+
+-- a value's count is at most its upper bound, and with all that later classes can give at least its lower bound
+abbrev pub value_reachable : Classes → List ℕ → ℕ → ℕ × Bounds → Bool
+value_reachable all front c (v, bound) =
+    let count = taken_of (has_value c v) all.classes front in
+    nat_le count bound.upper && nat_le bound.lower (count + most_of (has_value c v) (later_than front all.classes))
+
+abbrev pub values_reachable : Classes → List ℕ → Bool
+values_reachable all front =
+    list_all (λ (c, values). list_all (value_reachable all front c) (enumerate_from 0 values)) (enumerate_from 0 all.bounds)
+
+-- a front is live for the first composition: size and values are in reach
+abbrev pub is_live : Classes → List ℕ → Bool
+is_live all front = size_reachable all front && values_reachable all front
+
+-- a number put into a falling list, in its place
+abbrev pub put_falling : ℤ → List ℤ → List ℤ
+put_falling x [] = x ∷ []
+put_falling x (y ∷ ys) = if int_le y x then x ∷ (y ∷ ys) else y ∷ put_falling x ys
+
+-- the numbers in falling order
+abbrev pub falling : List ℤ → List ℤ
+falling [] = []
+falling (x ∷ xs) = put_falling x (falling xs)
+
+-- each class's entry as often as the class can give
+abbrev pub units : List Class → List ℤ → List ℤ
+units [] entries = []
+units (class ∷ later) [] = []
+units (class ∷ later) (x ∷ entries) = replicate class.most x ++ units later entries
+
+abbrev pub sum_of : List ℤ → ℤ
+sum_of xs = fold (λ total x. total +ℤ x) (pos 0) xs
+
+-- the greatest sum of so many units out of classes with these entries
+abbrev pub greatest_sum : ℕ → List Class → List ℤ → ℤ
+greatest_sum count classes entries = sum_of (take count (falling (units classes entries)))
+
+-- a front's weight in a row, and the greatest sum of as many units as the size lacks out of the later classes
+abbrev pub optimistic : Classes → Row → List ℕ → ℤ
+optimistic all row front =
+    weight_in row.a front +ℤ greatest_sum (all.size - taken_by all front) (later_than front all.classes) (drop (length front) row.a)
+
+-- a front is live for the best composition above a floor: its optimistic weight is in each closed row at least the right
+-- side, and in the priced row above the floor
+abbrev pub is_live_above : Classes → List Row → Row → ℤ → List ℕ → Bool
+is_live_above all closed row floor front =
+    is_live all front && list_all (λ r. int_le r.b (optimistic all r front)) closed && int_lt floor (optimistic all row front)

@@ -1,0 +1,6 @@
+pub mod Classes
+pub mod Compositions
+pub mod Fronts
+pub mod Visits
+pub mod Stages
+pub mod WorkedSearches

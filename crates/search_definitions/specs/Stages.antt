@@ -1,0 +1,15 @@
+-- Stages of a certificate as rows over classes.
+use Rattle.std.specs.Prelude.{◌≡◌, ℕ, Bool, IsTrue, List, map, length}
+use Rattle.std.specs.List.{AllByRecursion}
+use Rattle.pool_definitions.specs.Pool.{Pool}
+use Rattle.pool_definitions.specs.Certificate.{Stage, weight_of}
+use Rattle.row_definitions.specs.Row.{Row}
+use Rattle.search_definitions.specs.Classes.{leaders}
+
+-- each of the stages weighs alike volunteers alike
+abbrev pub WeighAlike : (ℕ → ℕ → Bool) → List Stage → Type 0
+WeighAlike alike stages = AllByRecursion (λ stage. (i j : ℕ) → IsTrue (alike i j) → weight_of stage i ≡ weight_of stage j) stages
+
+-- the cap of a stage, and for each class the weight of its first member
+abbrev pub row_of : (ℕ → ℕ → Bool) → Pool → Stage → Row
+row_of alike pool stage = record { b = stage.cap; a = map (weight_of stage) (leaders alike (length pool.volunteers)) }

@@ -1,0 +1,50 @@
+-- The searches through fronts, front by front: what they find, and how many fronts they enter. To enter a front counts one
+-- visit, the empty front even where it isn't live; an entered front tries its children, the greatest count first, and each
+-- child that is live at that moment is entered.
+use Rattle.std.specs.Prelude.{ℕ, ◌+◌, if◌then◌else◌, List, [], ◌∷◌, ◌++◌, filter, map, fold, ℤ, Option, Some, None, is_some}
+use Rattle.row_definitions.specs.Row.{Row}
+use Rattle.search_definitions.specs.Classes.{Class, Classes}
+use Rattle.search_definitions.specs.Compositions.{counts_of, weight_in}
+use Rattle.search_definitions.specs.Fronts.{is_live, is_live_above}
+
+-- the visits of a search, and the composition that it found
+pub record Search : Type 0 where
+  pub visits : ℕ
+  pub found : Option (List ℕ)
+
+-- searches one after the other, up to the first that finds a composition
+abbrev pub in_turn : List Search → Search
+in_turn [] = record { visits = 0; found = None }
+in_turn (search ∷ later) =
+    if is_some search.found then search
+    else record { visits = search.visits + (in_turn later).visits; found = (in_turn later).found }
+
+-- a front is entered, where these classes come after it: a front of all classes is a composition
+abbrev pub enter_first : Classes → List Class → List ℕ → Search
+enter_first all [] front = record { visits = 1; found = Some front }
+enter_first all (class ∷ later) front =
+    let below = in_turn (map (λ child. enter_first all later child) (filter (is_live all) (map (λ c. front ++ c ∷ []) (counts_of class)))) in
+    record { visits = 1 + below.visits; found = below.found }
+
+-- the search for the first composition
+abbrev pub first_search : Classes → Search
+first_search all = if is_live all [] then enter_first all all.classes [] else record { visits = 1; found = None }
+
+-- a search for the best composition so far: its visits, the floor, and the composition that was kept last
+pub record Pricing : Type 0 where
+  pub visits : ℕ
+  pub floor : ℤ
+  pub kept : Option (List ℕ)
+
+-- a front is entered, where these classes come after it: a composition is kept, and its weight is the floor from then on
+abbrev pub enter_best : Classes → List Row → Row → List Class → List ℕ → Pricing → Pricing
+enter_best all closed row [] front so_far = record { visits = so_far.visits + 1; floor = weight_in row.a front; kept = Some front }
+enter_best all closed row (class ∷ later) front so_far =
+    fold (λ now c. if is_live_above all closed row now.floor (front ++ c ∷ []) then enter_best all closed row later (front ++ c ∷ []) now else now)
+    (record so_far { visits = so_far.visits + 1 }) (counts_of class)
+
+-- the search for the best composition: the floor begins at the row's right side
+abbrev pub best_search : Classes → List Row → Row → Pricing
+best_search all closed row =
+    let begun : Pricing = record { visits = 0; floor = row.b; kept = None } in
+    if is_live_above all closed row row.b [] then enter_best all closed row all.classes [] begun else record begun { visits = 1 }

@@ -1,0 +1,113 @@
+//! The words of the search for panels: classes of volunteers and compositions, fronts and which of them are live, the
+//! searches and their visits. They stand in `specs/`, over the words of `pool_definitions` and the rows of
+//! `row_definitions`.
+//!
+//! The functions here have no body: their contracts are laws over the definitions, and worked examples.
+#![tactic(auto)]
+
+ghost use Rattle.std.specs.Prelude.{◌≡◌, ◌↔◌, ℕ, Bool, List, [], ◌∷◌, map, MatchOption, None, Some, IsTrue, pos};
+ghost use Rattle.std.specs.List.{AllByRecursion};
+ghost use Rattle.pool_definitions.specs.Certificate.{Stage, is_capped};
+ghost use Rattle.pool_definitions.specs.Lists.{is_increasing};
+ghost use Rattle.pool_definitions.specs.Pool.{Pool, IsPool, panels, is_quota_panel};
+ghost use Rattle.pool_definitions.specs.WorkedExamples.{four, crossed, nobody};
+ghost use Rattle.row_definitions.specs.Row.{Row};
+ghost use Rattle.search_definitions.specs.Classes.{Classes, IsSearchable, KeepsLimits, MakesClasses, are_alike, classes_by, classes_of};
+ghost use Rattle.search_definitions.specs.Compositions.{composition_of, compositions, first_composition, first_panel, price};
+ghost use Rattle.search_definitions.specs.Fronts.{HaveEntries};
+ghost use Rattle.search_definitions.specs.Stages.{WeighAlike, row_of};
+ghost use Rattle.search_definitions.specs.Visits.{first_search, best_search};
+ghost use Rattle.search_definitions.specs.WorkedSearches.{either, apart, row};
+
+/// How many members of a panel may have a value: from `lower` to `upper`, both included.
+#[derive(Clone, Copy, Debug, PartialEq, Eq)]
+pub struct Bounds {
+    /// The least number of members.
+    pub lower: usize,
+    /// The greatest number of members.
+    pub upper: usize,
+}
+
+/// Volunteers make classes, each alone.
+pub fn alike_make_classes()
+    ensures { (pool : Pool) → MakesClasses pool (are_alike pool) }
+{}
+
+/// The classes of each pool can be searched.
+pub fn classes_are_searchable()
+    ensures { (pool : Pool) (alike : ℕ → ℕ → Bool) → IsSearchable (classes_by alike pool) }
+{}
+
+/// The classes of a pool keep limits like those of the pool.
+pub fn classes_keep_limits()
+    ensures { (pool : Pool) (alike : ℕ → ℕ → Bool) → IsPool pool → MakesClasses pool alike → KeepsLimits (classes_by alike pool) }
+{}
+
+/// Where there is no composition, there is no quota panel.
+pub fn no_composition()
+    ensures { (pool : Pool) (alike : ℕ → ℕ → Bool) → MakesClasses pool alike → compositions (classes_by alike pool) ≡ [] → panels pool ≡ [] }
+{}
+
+/// The first members of each composition's classes are a quota panel.
+pub fn first_members_fit()
+    ensures { (pool : Pool) (alike : ℕ → ℕ → Bool) → MakesClasses pool alike →
+        AllByRecursion (λ counts. IsTrue (is_quota_panel pool (first_panel (classes_by alike pool) counts))) (compositions (classes_by alike pool)) }
+{}
+
+/// The first members of each composition's classes have that composition.
+pub fn first_members_compose()
+    ensures { (pool : Pool) (alike : ℕ → ℕ → Bool) → MakesClasses pool alike →
+        AllByRecursion (λ counts. composition_of (classes_by alike pool) (first_panel (classes_by alike pool) counts) ≡ counts) (compositions (classes_by alike pool)) }
+{}
+
+/// The first members of any counts rise.
+pub fn first_members_rise()
+    ensures { (all : Classes) (counts : List ℕ) → IsTrue (is_increasing (first_panel all counts)) }
+{}
+
+/// The search for the first composition finds the first of all compositions, and nothing where there is none.
+pub fn first_search_is_first()
+    ensures { (all : Classes) → IsSearchable all → (first_search all).found ≡ first_composition all }
+{}
+
+/// The search over a pool's classes finds nothing exactly where the pool has no quota panel, and else a composition whose first
+/// members are a quota panel.
+pub fn first_search_decides()
+    ensures answer { (pool : Pool) (alike : ℕ → ℕ → Bool) → MakesClasses pool alike → MatchOption (first_search (classes_by alike pool)).found
+        (panels pool ≡ []) (λ counts. IsTrue (is_quota_panel pool (first_panel (classes_by alike pool) counts))) }
+    ensures none { (pool : Pool) (alike : ℕ → ℕ → Bool) → MakesClasses pool alike → (first_search (classes_by alike pool)).found ≡ None ↔ panels pool ≡ [] }
+{}
+
+/// The search for the best composition keeps the price: of the compositions that attain the closed rows, the first of greatest weight
+/// above the row's right side, and nothing where there is none.
+pub fn best_search_is_price()
+    ensures { (all : Classes) (closed : List Row) (priced : Row) → IsSearchable all → HaveEntries all (priced ∷ closed) →
+        (best_search all closed priced).kept ≡ price all closed priced }
+{}
+
+/// Where pricing finds nothing over the classes of a pool, with stages that weigh alike volunteers alike, no quota panel that attains
+/// the earlier caps weighs more than the cap.
+pub fn nothing_to_price()
+    ensures { (pool : Pool) (alike : ℕ → ℕ → Bool) (earlier : List Stage) (stage : Stage) → MakesClasses pool alike → WeighAlike alike (stage ∷ earlier) →
+        price (classes_by alike pool) (map (row_of alike pool) earlier) (row_of alike pool stage) ≡ None → IsTrue (is_capped pool earlier stage) }
+{}
+
+/// The first compositions of small pools, with the visits that find them.
+pub fn worked_first_searches()
+    ensures four { first_search (classes_of four) ≡ record { visits = 5; found = Some (1 ∷ 0 ∷ 1 ∷ 0 ∷ []) } }
+    ensures four_panel { first_panel (classes_of four) (1 ∷ 0 ∷ 1 ∷ 0 ∷ []) ≡ 0 ∷ 2 ∷ [] }
+    ensures either { first_search (classes_of either) ≡ record { visits = 3; found = Some (1 ∷ 0 ∷ []) } }
+    ensures crossed { first_search (classes_of crossed) ≡ record { visits = 2; found = None } }
+    ensures nobody { first_search (classes_of nobody) ≡ record { visits = 1; found = None } }
+{}
+
+/// The best compositions of small pools in a row, with the visits that find them.
+pub fn worked_best_searches()
+    ensures apart { best_search (classes_of apart) [] (row (pos 0) (pos 0 ∷ pos 0 ∷ pos 1 ∷ pos 0 ∷ []))
+        ≡ record { visits = 5; floor = pos 1; kept = Some (1 ∷ 0 ∷ 1 ∷ 0 ∷ []) } }
+    ensures apart_price { price (classes_of apart) [] (row (pos 0) (pos 0 ∷ pos 0 ∷ pos 1 ∷ pos 0 ∷ [])) ≡ Some (1 ∷ 0 ∷ 1 ∷ 0 ∷ []) }
+    ensures either { best_search (classes_of either) [] (row (pos 0) (pos 0 ∷ pos 1 ∷ []))
+        ≡ record { visits = 3; floor = pos 1; kept = Some (0 ∷ 1 ∷ []) } }
+    ensures either_again { best_search (classes_of either) [] (row (pos 1) (pos 1 ∷ pos 1 ∷ []))
+        ≡ record { visits = 1; floor = pos 1; kept = None } }
+{}
