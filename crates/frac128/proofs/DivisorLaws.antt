@@ -1,11 +1,13 @@
 -- Laws of the greatest common divisor.
-use Rattle.std.proofs.Common.{◌≡◌, ◌≢◌, ℕ, zero, suc, ◌+◌, ◌*◌, ◌/◌, ◌%◌, ◌<◌, ◌≤◌, max, ℤ, pos, unsigned_abs, Bool, true, false, List, [], ◌∷◌, refl, sym, ◌∙◌, ap, subst, inl, inr, ◌⊎◌, arith}
-use Rattle.std.specs.Prelude.{◌==◌, ◌&&◌, if◌then◌else◌}
+use Rattle.std.proofs.Common.{◌≡◌, ◌≢◌, ℕ, ℤ, zero, suc, pos, negsuc, neg_ℤ, unsigned_abs, ◌*◌, ◌/◌, ◌%◌, ◌<◌, ◌≤◌, max, Bool, true, false, List, [], ◌∷◌, map, refl, sym, ◌∙◌, ap, subst, inl, inr, ◌⊎◌, arith, zero-mul}
+use Rattle.std.specs.Prelude.{◌&&◌, if◌then◌else◌, int_div}
 use Rattle.std.specs.Int.{IsGcd, ◌∣◌}
-use Rattle.std.proofs.lemmas.Nat.Gcd.{IsGcd-from_zero, IsGcd-from_mod, same_from_IsGcd, dvd_refl, dvd_of_mod-eq-zero, mod-eq-zero_of_dvd, le_of_dvd}
+use Rattle.std.proofs.lemmas.Nat.Gcd.{IsGcd-from_zero, IsGcd-from_mod, IsGcd-swap, dvd_refl, dvd-zero, dvd_trans, dvd_of_mod-eq-zero, mod-eq-zero_of_dvd, le_of_dvd}
+use Rattle.std.proofs.lemmas.List.Elements.{All-nil, All-cons, All-head, All-tail, All-contains}
+use Rattle.std.specs.List.{fold, All, Contains}
 use Rattle.std.proofs.lemmas.Bool.Decides.{nat_tests}
-use Rattle.std.proofs.Math.Nat.{eq-zero_of_zero-dvd, pos_of_dvd_of_pos}
-use Rattle.frac128.specs.Divisors.{divides, common_divisor_up_to, gcd_of}
+use Rattle.std.proofs.Math.Nat.{eq-zero_of_zero-dvd, pos_of_dvd_of_pos, mul-div_cancel', mul-div_right, div_self, dvd-mul_right, dvd_of_mul-dvd-mul_left, mul-dvd-mul_left}
+use Rattle.frac128.specs.Divisors.{divides, common_divisor_up_to, gcd_of, gcd_of_list}
 
 zero_or_more : (n : ℕ) → (n ≡ 0) ⊎ (0 < n)
 zero_or_more zero = inl refl
@@ -88,3 +90,130 @@ gcd_of-le (suc x) y =
 gcd_of-le zero (suc y) =
     let low : gcd_of zero (suc y) ≤ suc y = le_of_dvd (omega arith) (IsGcd-gcd_of zero (suc y)).1 in
     omega arith
+
+pub gcd_of-zero : (x : ℕ) → gcd_of x 0 ≡ x
+gcd_of-zero x = gcd_of_is x 0 x (IsGcd-from_zero x 0 refl)
+
+pub gcd_of-swap : (x y : ℕ) → gcd_of x y ≡ gcd_of y x
+gcd_of-swap x y = gcd_of_is x y (gcd_of y x) (IsGcd-swap y x (gcd_of y x) (IsGcd-gcd_of y x))
+
+pub gcd_of-from_zero : (y : ℕ) → gcd_of 0 y ≡ y
+gcd_of-from_zero y = gcd_of-swap 0 y ∙ gcd_of-zero y
+
+-- it is above 0 where one of the numbers is
+pub gcd_of-positive : (x y : ℕ) → (0 < x) ⊎ (0 < y) → 0 < gcd_of x y
+gcd_of-positive x y (inl some) = pos_of_dvd_of_pos (IsGcd-gcd_of x y).0 some
+gcd_of-positive x y (inr some) = pos_of_dvd_of_pos (IsGcd-gcd_of x y).1 some
+
+-- a common factor comes out
+IsGcd-scale : (k x y g : ℕ) → 0 < k → IsGcd x y g → IsGcd (k * x) (k * y) (k * g)
+IsGcd-scale k x y g some h =
+    let whole = IsGcd-gcd_of (k * x) (k * y) in
+    let greatest : ℕ = gcd_of (k * x) (k * y) in
+    let rest : ℕ = greatest / k in
+    let holds : k * rest ≡ greatest =
+    mul-div_cancel' k (whole.2 k (dvd-mul_right k x) (dvd-mul_right k y)) in
+    let divides_x : rest ∣ x = dvd_of_mul-dvd-mul_left _ some (subst (λ n. n ∣ k * x) (sym holds) whole.0) in
+    let divides_y : rest ∣ y = dvd_of_mul-dvd-mul_left _ some (subst (λ n. n ∣ k * y) (sym holds) whole.1) in
+    let below : greatest ∣ k * g = subst (λ n. n ∣ k * g) holds (mul-dvd-mul_left _ k (h.2 rest divides_x divides_y)) in
+    (mul-dvd-mul_left _ k h.0, mul-dvd-mul_left _ k h.1, λ d p q. dvd_trans _ (whole.2 d p q) below)
+
+pub gcd_of-scale : (k x y : ℕ) → gcd_of (k * x) (k * y) ≡ k * gcd_of x y
+gcd_of-scale k x y =
+    elim (zero_or_more k) [
+      | inl e ↦
+          let Goal : ℕ → Type 0 = λ n. gcd_of (n * x) (n * y) ≡ n * gcd_of x y in
+          subst Goal (sym e) (simp zero-mul (gcd_of-zero 0))
+      | inr some ↦ gcd_of_is (k * x) (k * y) (k * gcd_of x y) (IsGcd-scale k x y (gcd_of x y) some (IsGcd-gcd_of x y))
+    ]
+
+-- what g is multiplied by to give g is 1
+one_times : (g n : ℕ) → 0 < g → g * n ≡ g → n ≡ 1
+one_times g n some e = sym (mul-div_right n some) ∙ ap (λ m. m / g) e ∙ div_self some
+
+gcd_of_parts : (g x y a b : ℕ) → 0 < g → gcd_of x y ≡ g → g * a ≡ x → g * b ≡ y → gcd_of a b ≡ 1
+gcd_of_parts g x y a b some is x_is y_is =
+    let whole : gcd_of (g * a) (g * b) ≡ g = ap (λ n. gcd_of n (g * b)) x_is ∙ ap (gcd_of x) y_is ∙ is in
+    one_times g (gcd_of a b) some (sym (gcd_of-scale g a b) ∙ whole)
+
+-- divided by it, two numbers have no common divisor but 1
+pub gcd_of-divided : (x y : ℕ) → 0 < gcd_of x y → gcd_of (x / gcd_of x y) (y / gcd_of x y) ≡ 1
+gcd_of-divided x y some =
+    let both = IsGcd-gcd_of x y in
+    gcd_of_parts (gcd_of x y) x y _ _ some refl (mul-div_cancel' (gcd_of x y) both.0) (mul-div_cancel' (gcd_of x y) both.1)
+
+-- ---- the greatest common divisor of a list
+
+fold_divides : (a : ℕ) (xs : List ℕ) → (fold gcd_of a xs ∣ a) × All (λ x. fold gcd_of a xs ∣ x) xs
+fold_divides a [] = (dvd_refl a, All-nil (λ n. a ∣ n))
+fold_divides a (x ∷ xs) =
+    let rest = fold_divides (gcd_of a x) xs in
+    let step = IsGcd-gcd_of a x in
+    (dvd_trans _ rest.0 step.0, All-cons (λ n. fold gcd_of (gcd_of a x) xs ∣ n) x xs (dvd_trans _ rest.0 step.1) rest.1)
+
+-- it divides each number of the list
+pub gcd_of_list-divides : (xs : List ℕ) → All (λ x. gcd_of_list xs ∣ x) xs
+gcd_of_list-divides xs = (fold_divides 0 xs).1
+
+fold_greatest : (d a : ℕ) (xs : List ℕ) → d ∣ a → All (λ x. d ∣ x) xs → d ∣ fold gcd_of a xs
+fold_greatest d a [] h each = h
+fold_greatest d a (x ∷ xs) h each =
+    fold_greatest d (gcd_of a x) xs ((IsGcd-gcd_of a x).2 d h (All-head (λ n. d ∣ n) x xs each)) (All-tail (λ n. d ∣ n) x xs each)
+
+-- and each number that divides all of the list divides it
+pub gcd_of_list-greatest : (d : ℕ) (xs : List ℕ) → All (λ x. d ∣ x) xs → d ∣ gcd_of_list xs
+gcd_of_list-greatest d xs each = fold_greatest d 0 xs (dvd-zero d) each
+
+-- it is above 0 where some number of the list is
+pub gcd_of_list-positive : (xs : List ℕ) (x : ℕ) → Contains xs x → 0 < x → 0 < gcd_of_list xs
+gcd_of_list-positive xs x h some =
+    pos_of_dvd_of_pos (All-contains (λ n. gcd_of_list xs ∣ n) xs x (gcd_of_list-divides xs) h) some
+
+fold_scale : (k a : ℕ) (xs : List ℕ) → fold gcd_of (k * a) (map (λ x. k * x) xs) ≡ k * fold gcd_of a xs
+fold_scale k a [] = refl
+fold_scale k a (x ∷ xs) =
+    ap (λ b. fold gcd_of b (map (λ x. k * x) xs)) (gcd_of-scale k a x) ∙ fold_scale k (gcd_of a x) xs
+
+-- a common factor comes out of the whole list
+pub gcd_of_list-scale : (k : ℕ) (xs : List ℕ) → gcd_of_list (map (λ x. k * x) xs) ≡ k * gcd_of_list xs
+gcd_of_list-scale k xs =
+    let zero_is : 0 ≡ k * 0 = omega arith in
+    ap (λ b. fold gcd_of b (map (λ x. k * x) xs)) zero_is ∙ fold_scale k 0 xs
+
+map_divided : (g : ℕ) (xs : List ℕ) → All (λ x. g ∣ x) xs → map (λ x. g * x) (map (λ x. x / g) xs) ≡ xs
+map_divided g [] each = refl
+map_divided g (x ∷ xs) each =
+    let first : g * (x / g) ≡ x = mul-div_cancel' g (All-head (λ n. g ∣ n) x xs each) in
+    let rest : map (λ x. g * x) (map (λ x. x / g) xs) ≡ xs = map_divided g xs (All-tail (λ n. g ∣ n) x xs each) in
+    cc
+
+-- divided by it, the numbers of the list have no common divisor but 1
+pub gcd_of_list-divided : (xs : List ℕ) → 0 < gcd_of_list xs → gcd_of_list (map (λ x. x / gcd_of_list xs) xs) ≡ 1
+gcd_of_list-divided xs some =
+    let g : ℕ = gcd_of_list xs in
+    one_times g _ some (sym (gcd_of_list-scale g (map (λ x. x / g) xs)) ∙ ap gcd_of_list (map_divided g xs (gcd_of_list-divides xs)))
+
+-- ---- lists of signed numbers, by their absolute values
+
+abs_of_negated : (n : ℕ) → unsigned_abs (neg_ℤ (pos n)) ≡ n
+abs_of_negated zero = refl
+abs_of_negated (suc n) = refl
+
+-- a quotient's absolute value
+pub unsigned_abs-int_div : (z : ℤ) (g : ℕ) → unsigned_abs (int_div z (pos g)) ≡ unsigned_abs z / g
+unsigned_abs-int_div (pos n) g = refl
+unsigned_abs-int_div (negsuc n) g = abs_of_negated (suc n / g)
+
+absolute_quotients : (g : ℕ) (zs : List ℤ) → map unsigned_abs (map (λ z. int_div z (pos g)) zs) ≡ map (λ n. n / g) (map unsigned_abs zs)
+absolute_quotients g [] = refl
+absolute_quotients g (z ∷ zs) =
+    let first : unsigned_abs (int_div z (pos g)) ≡ unsigned_abs z / g = unsigned_abs-int_div z g in
+    let rest : map unsigned_abs (map (λ y. int_div y (pos g)) zs) ≡ map (λ n. n / g) (map unsigned_abs zs) = absolute_quotients g zs in
+    cc
+
+-- divided by it, the numbers of the list have no common divisor but 1
+pub gcd_of_list-int_divided : (zs : List ℤ) (g : ℕ) → g ≡ gcd_of_list (map unsigned_abs zs) → 0 < g → gcd_of_list (map unsigned_abs (map (λ z. int_div z (pos g)) zs)) ≡ 1
+gcd_of_list-int_divided zs g is some =
+    let sizes : List ℕ = map unsigned_abs zs in
+    let Goal : ℕ → Type 0 = λ n. gcd_of_list (map (λ m. m / n) sizes) ≡ 1 in
+    ap gcd_of_list (absolute_quotients g zs) ∙ subst Goal (sym is) (gcd_of_list-divided sizes (subst (λ n. 0 < n) is some))

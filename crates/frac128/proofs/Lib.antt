@@ -1,1 +1,2 @@
 pub mod DivisorLaws
+pub mod ComparisonLaws

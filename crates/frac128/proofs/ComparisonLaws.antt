@@ -1,0 +1,56 @@
+-- Laws of the comparison of two fractions, `nat_cmp (an * bd) (bn * ad)` for an/ad and bn/bd.
+use Rattle.std.proofs.Common.{◌≡◌, ◌≢◌, ℕ, ◌+◌, ◌*◌, ◌/◌, ◌%◌, ◌<◌, ◌≤◌, ◌⊎◌, inl, inr, sym, ◌∙◌, ap, subst, arith}
+use Rattle.std.specs.Ordering.{nat_cmp}
+use Rattle.std.proofs.lemmas.Bool.Decides.{nat_tests}
+use Rattle.std.proofs.Math.Nat.{mul-le-mul_right, mul-pos, div-add-mod', lt-div-mul-add, div-mul-le_self}
+
+-- two comparisons answer alike where the orders carry over
+pub nat_cmp-same : (a b c d : ℕ) → (a < b → c < d) → (a ≡ b → c ≡ d) → (b < a → d < c) → nat_cmp a b ≡ nat_cmp c d
+nat_cmp-same a b c d less same more = grind (arith, nat_tests)
+
+less_from_quotients : (an ad bn bd q p : ℕ) → an < q * ad + ad → p * bd ≤ bn → q < p → 0 < bd → an * bd < bn * ad
+less_from_quotients an ad bn bd q p above below h some_bd =
+    let one : (an + 1) * bd ≤ (q * ad + ad) * bd = mul-le-mul_right bd (omega arith) in
+    let two : (q + 1) * (ad * bd) ≤ p * (ad * bd) = mul-le-mul_right (ad * bd) (omega arith) in
+    let three : p * bd * ad ≤ bn * ad = mul-le-mul_right ad below in
+    omega arith
+
+-- a smaller quotient is a smaller fraction
+less_by_quotients : (an ad bn bd : ℕ) → 0 < ad → 0 < bd → an / ad < bn / bd → an * bd < bn * ad
+less_by_quotients an ad bn bd some_ad some_bd h =
+    less_from_quotients an ad bn bd (an / ad) (bn / bd) (lt-div-mul-add some_ad) (div-mul-le_self bn bd) h some_bd
+
+-- fractions with other quotients compare as those do
+pub nat_cmp_by_quotients : (an ad bn bd : ℕ) → 0 < ad → 0 < bd → an / ad ≢ bn / bd → nat_cmp (an / ad) (bn / bd) ≡ nat_cmp (an * bd) (bn * ad)
+nat_cmp_by_quotients an ad bn bd some_ad some_bd other =
+    nat_cmp-same (an / ad) (bn / bd) (an * bd) (bn * ad)
+    (less_by_quotients an ad bn bd some_ad some_bd)
+    (λ e. absurd (other e))
+    (less_by_quotients bn bd an ad some_bd some_ad)
+
+nat_cmp_from_rests : (an ad bn bd q ar br : ℕ) → q * ad + ar ≡ an → q * bd + br ≡ bn → nat_cmp (bd * ar) (ad * br) ≡ nat_cmp (an * bd) (bn * ad)
+nat_cmp_from_rests an ad bn bd q ar br a_is b_is =
+    let a_product : (q * ad + ar) * bd ≡ an * bd = ap (λ n. n * bd) a_is in
+    let b_product : (q * bd + br) * ad ≡ bn * ad = ap (λ n. n * ad) b_is in
+    nat_cmp-same (bd * ar) (ad * br) (an * bd) (bn * ad) (λ h. omega arith) (λ h. omega arith) (λ h. omega arith)
+
+-- with one quotient, they compare as the divisors over the remainders do the other way round
+pub nat_cmp_by_rests : (an ad bn bd : ℕ) → an / ad ≡ bn / bd → nat_cmp (bd * (an % ad)) (ad * (bn % bd)) ≡ nat_cmp (an * bd) (bn * ad)
+nat_cmp_by_rests an ad bn bd e =
+    nat_cmp_from_rests an ad bn bd (an / ad) (an % ad) (bn % bd) (div-add-mod' an ad)
+    (subst (λ q. q * bd + bn % bd ≡ bn) (sym e) (div-add-mod' bn bd))
+
+-- a remainder of 0 is the lesser, whatever the divisors
+pub nat_cmp_at_zero : (ad bd ar br : ℕ) → 0 < ad → 0 < bd → (ar ≡ 0) ⊎ (br ≡ 0) → nat_cmp ar br ≡ nat_cmp (bd * ar) (ad * br)
+nat_cmp_at_zero ad bd ar br some_ad some_bd (inl e) =
+    let none : bd * ar ≡ 0 = ap (λ n. bd * n) e ∙ omega arith in
+    nat_cmp-same ar br (bd * ar) (ad * br)
+    (λ h. let some : 0 < ad * br = mul-pos some_ad (omega arith) in omega arith)
+    (λ h. none ∙ sym (ap (λ n. ad * n) (sym h ∙ e) ∙ omega arith))
+    (λ h. absurd (omega arith))
+nat_cmp_at_zero ad bd ar br some_ad some_bd (inr e) =
+    let none : ad * br ≡ 0 = ap (λ n. ad * n) e ∙ omega arith in
+    nat_cmp-same ar br (bd * ar) (ad * br)
+    (λ h. absurd (omega arith))
+    (λ h. ap (λ n. bd * n) (h ∙ e) ∙ omega arith ∙ sym none)
+    (λ h. let some : 0 < bd * ar = mul-pos some_bd (omega arith) in omega arith)
