@@ -2,7 +2,7 @@
 use Rattle.std.proofs.Common.{◌≡◌, ◌≢◌, ℕ, ◌+◌, ◌*◌, ◌/◌, ◌%◌, ◌<◌, ◌≤◌, ◌⊎◌, inl, inr, sym, ◌∙◌, ap, subst, arith}
 use Rattle.std.specs.Ordering.{nat_cmp}
 use Rattle.std.proofs.lemmas.Bool.Decides.{nat_tests}
-use Rattle.std.proofs.Math.Nat.{mul-le-mul_right, mul-pos, div-add-mod', lt-div-mul-add, div-mul-le_self}
+use Rattle.std.proofs.Math.Nat.{mul-le-mul_right, mul-pos, mul-lt-mul_of_pos_left, div-add-mod', lt-div-mul-add, div-mul-le_self}
 
 -- two comparisons answer alike where the orders carry over
 pub nat_cmp-same : (a b c d : ℕ) → (a < b → c < d) → (a ≡ b → c ≡ d) → (b < a → d < c) → nat_cmp a b ≡ nat_cmp c d
@@ -54,3 +54,15 @@ nat_cmp_at_zero ad bd ar br some_ad some_bd (inr e) =
     (λ h. absurd (omega arith))
     (λ h. ap (λ n. bd * n) (h ∙ e) ∙ omega arith ∙ sym none)
     (λ h. let some : 0 < bd * ar = mul-pos some_bd (omega arith) in omega arith)
+
+-- a common factor changes no comparison
+pub nat_cmp-scale : (k a b : ℕ) → 0 < k → nat_cmp (k * a) (k * b) ≡ nat_cmp a b
+nat_cmp-scale k a b some =
+    sym (nat_cmp-same a b (k * a) (k * b) (λ h. mul-lt-mul_of_pos_left h some) (λ h. ap (λ n. k * n) h) (λ h. mul-lt-mul_of_pos_left h some))
+
+-- so a fraction may be widened: (k * an)/(k * ad) compares with bn/bd as an/ad does
+pub nat_cmp_products-scale : (k an ad bn bd : ℕ) → 0 < k → nat_cmp (k * an * bd) (bn * (k * ad)) ≡ nat_cmp (an * bd) (bn * ad)
+nat_cmp_products-scale k an ad bn bd some =
+    let first : k * an * bd ≡ k * (an * bd) = omega arith in
+    let second : bn * (k * ad) ≡ k * (bn * ad) = omega arith in
+    ap (λ n. nat_cmp n (bn * (k * ad))) first ∙ ap (nat_cmp (k * (an * bd))) second ∙ nat_cmp-scale k (an * bd) (bn * ad) some

@@ -6,8 +6,8 @@ use Rattle.std.proofs.lemmas.Nat.Gcd.{IsGcd-from_zero, IsGcd-from_mod, IsGcd-swa
 use Rattle.std.proofs.lemmas.List.Elements.{All-nil, All-cons, All-head, All-tail, All-contains}
 use Rattle.std.specs.List.{fold, All, Contains}
 use Rattle.std.proofs.lemmas.Bool.Decides.{nat_tests}
-use Rattle.std.proofs.Math.Nat.{eq-zero_of_zero-dvd, pos_of_dvd_of_pos, mul-div_cancel', mul-div_right, div_self, dvd-mul_right, dvd_of_mul-dvd-mul_left, mul-dvd-mul_left}
-use Rattle.frac128.specs.Divisors.{divides, common_divisor_up_to, gcd_of, gcd_of_list}
+use Rattle.std.proofs.Math.Nat.{eq-zero_of_zero-dvd, pos_of_dvd_of_pos, mul-div_cancel', mul-div_right, div_self, dvd-mul_right, dvd-mul_left, dvd_of_mul-dvd-mul_left, mul-dvd-mul_left, mul-dvd-mul_right}
+use Rattle.frac128.specs.Divisors.{divides, common_divisor_up_to, gcd_of, gcd_of_list, lcm_of, IsLeastCommonMultiple}
 
 zero_or_more : (n : ℕ) → (n ≡ 0) ⊎ (0 < n)
 zero_or_more zero = inl refl
@@ -141,6 +141,50 @@ pub gcd_of-divided : (x y : ℕ) → 0 < gcd_of x y → gcd_of (x / gcd_of x y) 
 gcd_of-divided x y some =
     let both = IsGcd-gcd_of x y in
     gcd_of_parts (gcd_of x y) x y _ _ some refl (mul-div_cancel' (gcd_of x y) both.0) (mul-div_cancel' (gcd_of x y) both.1)
+
+-- what divides a product and has no common divisor with one factor divides the other
+pub dvd-from_coprime : (a b n : ℕ) → gcd_of a b ≡ 1 → a ∣ n * b → a ∣ n
+dvd-from_coprime a b n apart h =
+    let all : gcd_of (n * a) (n * b) ≡ n = gcd_of-scale n a b ∙ ap (λ m. n * m) apart ∙ omega arith in
+    subst (λ m. a ∣ m) all ((IsGcd-gcd_of (n * a) (n * b)).2 a (dvd-mul_left a n) h)
+
+-- ---- the least common multiple
+
+-- x = g * a and y = g * b, with no common divisor left in a and b: then a * y is the least
+least_from_parts : (g a b : ℕ) → 0 < g → gcd_of a b ≡ 1 → IsLeastCommonMultiple (g * a) (g * b) (a * (g * b))
+unfolding IsLeastCommonMultiple
+least_from_parts g a b some apart =
+    let of_x : (g * a) * b ≡ a * (g * b) = omega arith in (
+      subst (λ m. g * a ∣ m) of_x (dvd-mul_right (g * a) b),
+      dvd-mul_left (g * b) a,
+      λ n p q.
+          let k : ℕ = n / (g * b) in
+          let n_is : g * b * k ≡ n = mul-div_cancel' (g * b) q in
+          let regrouped : n ≡ g * (k * b) = sym n_is ∙ omega arith in
+          let a_divides : a ∣ k * b = dvd_of_mul-dvd-mul_left _ some (subst (λ m. g * a ∣ m) regrouped p) in
+          let a_divides_k : a ∣ k = dvd-from_coprime a b k apart a_divides in
+          let back : k * (g * b) ≡ n = omega arith in
+          subst (λ m. a * (g * b) ∣ m) back (mul-dvd-mul_right _ a_divides_k (g * b)),
+    )
+
+-- `lcm_of` is the least common multiple
+pub IsLeastCommonMultiple-lcm_of : (x y : ℕ) → 0 < x → IsLeastCommonMultiple x y (lcm_of x y)
+unfolding lcm_of
+IsLeastCommonMultiple-lcm_of x y some_x =
+    let g : ℕ = gcd_of x y in
+    let some : 0 < g = gcd_of-positive x y (inl some_x) in
+    let both = IsGcd-gcd_of x y in
+    let x_is : g * (x / g) ≡ x = mul-div_cancel' g both.0 in
+    let y_is : g * (y / g) ≡ y = mul-div_cancel' g both.1 in
+    let parts = least_from_parts g (x / g) (y / g) some (gcd_of-divided x y some) in
+    let Goal : ℕ → ℕ → Type 0 = λ u v. IsLeastCommonMultiple u v (x / g * v) in
+    subst (λ u. Goal u y) x_is (subst (Goal (g * (x / g))) y_is parts)
+
+-- what x has beyond the greatest common divisor is at least 1
+pub beyond-positive : (x y g : ℕ) → g ≡ gcd_of x y → 0 < x → 0 < x / g
+beyond-positive x y g is some_x =
+    let x_is : g * (x / g) ≡ x = mul-div_cancel' g (subst (λ d. d ∣ x) (sym is) (IsGcd-gcd_of x y).0) in
+    pos_of_dvd_of_pos (dvd-mul_left (x / g) g) (subst (λ n. 0 < n) (sym x_is) some_x)
 
 -- ---- the greatest common divisor of a list
 

@@ -1,2 +1,3 @@
 pub mod DivisorLaws
 pub mod ComparisonLaws
+pub mod FractionLaws

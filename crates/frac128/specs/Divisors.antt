@@ -1,6 +1,6 @@
 -- Common divisors and common multiples of whole numbers of any size.
 use Rattle.std.specs.Prelude.{ℕ, zero, suc, ◌*◌, ◌/◌, ◌%◌, max, ◌==◌, ◌&&◌, if◌then◌else◌, Bool, List}
-use Rattle.std.specs.Int.{◌∣◌}
+use Rattle.std.specs.Int.{IsGcd, ◌∣◌}
 use Rattle.std.specs.List.{fold}
 
 -- d divides n, as a test
@@ -17,12 +17,16 @@ common_divisor_up_to (suc d) x y =
 unfoldable pub gcd_of : ℕ → ℕ → ℕ
 gcd_of x y = common_divisor_up_to (max x y) x y
 
+-- g is the greatest common divisor of x and y: it divides both, and each number that divides both divides it
+unfoldable pub IsGreatestCommonDivisor : ℕ → ℕ → ℕ → Type 0
+IsGreatestCommonDivisor x y g = IsGcd x y g
+
 -- the greatest common divisor of all numbers of a list; 0 where each is 0
 abbrev pub gcd_of_list : List ℕ → ℕ
 gcd_of_list xs = fold gcd_of 0 xs
 
 -- m is the least common multiple of x and y: a multiple of both, and each number that is a multiple of both is a multiple of m
-abbrev pub IsLeastCommonMultiple : ℕ → ℕ → ℕ → Type 0
+unfoldable pub IsLeastCommonMultiple : ℕ → ℕ → ℕ → Type 0
 IsLeastCommonMultiple x y m = (x ∣ m) × (y ∣ m) × ((n : ℕ) → x ∣ n → y ∣ n → m ∣ n)
 
 -- the least common multiple of x and y

@@ -2,25 +2,28 @@
 //! and comparison. No call takes memory. Stands on nothing but `std`.
 #![tactic(auto)]
 
-ghost use Rattle.std.specs.Prelude.{◌≡◌, ◌≤ℤ◌, ◌<ℤ◌, pos, unsigned_abs, max, ◌*◌, ◌<◌, ◌≤◌};
-ghost use Rattle.std.specs.Int.{IsGcd};
+ghost use Rattle.std.specs.Prelude.{◌≡◌, ◌≤ℤ◌, ◌<ℤ◌, pos, unsigned_abs, Some, SomeIff, max, ◌*◌, ◌^◌, ◌<◌, ◌≤◌};
 ghost use Rattle.std.specs.Ordering.{nat_cmp};
-ghost use Rattle.frac128.specs.Divisors.{gcd_of};
+ghost use Rattle.frac128.specs.Divisors.{gcd_of, lcm_of, IsGreatestCommonDivisor, IsLeastCommonMultiple};
+ghost use Rattle.frac128.specs.Fractions.{Fraction, IsLowest, fraction_text};
 
 use std::cmp::Ordering;
+use std::fmt;
+use std::marker::Model;
 
 /// The greatest common divisor of `x` and `y`, both at least 0. That of 0 and 0 is 0.
 pub fn gcd(x: i128, y: i128) -> i128
     requires x { pos 0 ≤ℤ x }
     requires y { pos 0 ≤ℤ y }
     ensures value { result ≡ pos (gcd_of (unsigned_abs x) (unsigned_abs y)) }
-    ensures greatest { IsGcd (unsigned_abs x) (unsigned_abs y) (unsigned_abs result) }
+    ensures greatest { IsGreatestCommonDivisor (unsigned_abs x) (unsigned_abs y) (unsigned_abs result) }
 {
     common_divisor(x.unsigned_abs(), y.unsigned_abs()) as i128
 }
 
-// Euclid's algorithm: a remainder is below half of the number that is divided, so each two turns
-// at least halve the larger number, and numbers of 127 bits take at most 254 turns.
+// Euclid's algorithm. After the first turn `larger` is the larger one. Two turns later it is what
+// it left by a division by a smaller number, so below half of what it was: numbers below 2^127
+// take at most 255 turns.
 fn common_divisor(x: u128, y: u128) -> u128
     ensures value { result ≡ gcd_of x y }
     ensures small { result ≤ max x y }
@@ -32,6 +35,34 @@ fn common_divisor(x: u128, y: u128) -> u128
     larger
 }
 
+/// The least common multiple of `x` and `y` where it is at most `limit`, and `None` exactly where
+/// it is above `limit`, however large it is. All three are at least 1.
+pub fn lcm(x: i128, y: i128, limit: i128) -> Option<i128>
+    requires x { pos 0 <ℤ x }
+    requires y { pos 0 <ℤ y }
+    requires limit { pos 0 <ℤ limit }
+    ensures value { let least = lcm_of (unsigned_abs x) (unsigned_abs y) in
+        SomeIff result (least ≤ unsigned_abs limit) (pos least) }
+    ensures least { let least = lcm_of (unsigned_abs x) (unsigned_abs y) in
+        IsLeastCommonMultiple (unsigned_abs x) (unsigned_abs y) least }
+{
+    let multiple = common_multiple(x.unsigned_abs(), y.unsigned_abs(), limit.unsigned_abs())?;
+    Some(multiple as i128)
+}
+
+// `y` times what `x` has beyond the common divisor, tested by a division before it is formed.
+fn common_multiple(x: u128, y: u128, limit: u128) -> Option<u128>
+    requires { 0 < x }
+    ensures { SomeIff result (lcm_of x y ≤ limit) (lcm_of x y) }
+{
+    let factor = x / common_divisor(x, y);
+    if y <= limit / factor {
+        Some(factor * y)
+    } else {
+        None
+    }
+}
+
 /// Compares the fraction `an / ad` with `bn / bd`, exactly. The upper numbers are at least 0 and
 /// the lower ones at least 1. No product is formed, so any such numbers can be compared.
 pub fn compare(an: i128, ad: i128, bn: i128, bd: i128) -> Ordering
@@ -39,7 +70,8 @@ pub fn compare(an: i128, ad: i128, bn: i128, bd: i128) -> Ordering
     requires ad { pos 0 <ℤ ad }
     requires bn { pos 0 ≤ℤ bn }
     requires bd { pos 0 <ℤ bd }
-    ensures { result ≡ nat_cmp (unsigned_abs an * unsigned_abs bd) (unsigned_abs bn * unsigned_abs ad) }
+    ensures { result ≡
+        nat_cmp (unsigned_abs an * unsigned_abs bd) (unsigned_abs bn * unsigned_abs ad) }
 {
     compare_quotients(
         an.unsigned_abs(),
@@ -49,9 +81,10 @@ pub fn compare(an: i128, ad: i128, bn: i128, bd: i128) -> Ordering
     )
 }
 
-// Euclid's algorithm on both fractions side by side: the quotients decide, or else the remainders
-// over the divisors, turned over. In two turns each divisor becomes a remainder of itself, below
-// half of what it was, so divisors of 127 bits take at most 254 turns.
+// Euclid's algorithm on both fractions side by side: the quotients decide, or else the divisors
+// over the remainders, compared the other way round. Two turns later each divisor is what it left
+// by a division by a smaller number, so below half of what it was: divisors below 2^127 take at
+// most 255 turns.
 fn compare_quotients(mut an: u128, mut ad: u128, mut bn: u128, mut bd: u128) -> Ordering
     requires ad { 0 < ad }
     requires bd { 0 < bd }
@@ -69,3 +102,65 @@ fn compare_quotients(mut an: u128, mut ad: u128, mut bn: u128, mut bd: u128) -> 
         (an, ad, bn, bd) = (bd, b_rest, ad, a_rest);
     }
 }
+
+/// A fraction of whole numbers in lowest terms: the upper number is at least 0, the lower at least
+/// 1, and no number above 1 divides both. Prints as `num/den`.
+#[derive(Clone, Copy, Debug, PartialEq, Eq)]
+pub struct Frac {
+    num: u128,
+    den: u128,
+}
+
+impl Model for Frac {
+    ghost Value = { Fraction };
+
+    ghost view = { λ f. record { num = f.num; den = f.den } };
+
+    ghost invariant = { λ f. (f.num < 2 ^ 127) × (f.den < 2 ^ 127) × IsLowest f.num f.den };
+
+    ghost inverse = { λ f. record { num = f.num; den = f.den } };
+}
+
+impl Frac {
+    /// The upper number, at least 0.
+    pub fn num(&self) -> i128
+        ensures value { result ≡ pos self.now.num }
+        ensures lowest { IsLowest self.now.num self.now.den }
+    {
+        self.num as i128
+    }
+
+    /// The lower number, at least 1.
+    pub fn den(&self) -> i128
+        ensures value { result ≡ pos self.now.den }
+        ensures lowest { IsLowest self.now.num self.now.den }
+    {
+        self.den as i128
+    }
+}
+
+impl fmt::Display for Frac {
+    ghost output = { λ f. Some (fraction_text f) };
+
+    fn fmt<W: fmt::Write>(&self, f: &mut fmt::Formatter<W>) -> fmt::Result {
+        write!(f, "{}/{}", self.num, self.den)
+    }
+}
+
+/// The fraction `num / den` in lowest terms, for a `num` of at least 0 and a `den` of at least 1.
+pub fn lowest(num: i128, den: i128) -> Frac
+    requires num { pos 0 ≤ℤ num }
+    requires den { pos 0 <ℤ den }
+    ensures same { unsigned_abs num * result.den ≡ result.num * unsigned_abs den }
+    ensures lowest { IsLowest result.num result.den }
+{
+    let (num, den) = (num.unsigned_abs(), den.unsigned_abs());
+    let divisor = common_divisor(num, den);
+    Frac {
+        num: num / divisor,
+        den: den / divisor,
+    }
+}
+
+#[cfg(test)]
+mod tests;

@@ -1,0 +1,17 @@
+-- Fractions of whole numbers, in lowest terms.
+use Rattle.std.specs.Prelude.{◌≡◌, ℕ, ◌<◌, List, ◌∷◌, ◌++◌}
+use Rattle.std.specs.Fmt.{decimal}
+use Rattle.frac128.specs.Divisors.{gcd_of}
+
+-- the fraction num/den
+pub record Fraction : Type 0 where
+  pub num : ℕ
+  pub den : ℕ
+
+-- num/den is in lowest terms: den is at least 1, and no number above 1 divides both
+abbrev pub IsLowest : ℕ → ℕ → Type 0
+IsLowest num den = (0 < den) × (gcd_of num den ≡ 1)
+
+-- the text of a fraction: `num/den`, in decimal digits
+abbrev pub fraction_text : Fraction → List ℕ
+fraction_text f = decimal f.num ++ 47 ∷ decimal f.den
