@@ -78,7 +78,7 @@ impl Class {
     {
         match self.standing {
             Standing::Seated => self.members.len(),
-            Standing::Open | Standing::Gone => 0,
+            Standing::Gone | Standing::Open => 0,
         }
     }
 
@@ -87,7 +87,7 @@ impl Class {
         ensures { result ≡ self.now.most }
     {
         match self.standing {
-            Standing::Open | Standing::Seated => self.members.len(),
+            Standing::Seated | Standing::Open => self.members.len(),
             Standing::Gone => 0,
         }
     }

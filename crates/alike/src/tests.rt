@@ -77,7 +77,11 @@ fn check_classes(rt: &impl Abort, found: &Classes, values: &[&[usize]]) {
     assert_eq!(rt; found.volunteers(), values.len());
     for (i, (class, values)) in found.classes().iter().zip(values).enumerate() {
         assert_eq!(rt; class.members(), [i].as_slice());
-        assert_eq!(rt; (class.size(), class.least(), class.most()), (1, 0, 1), "at {i}");
+        assert_eq!(rt;
+            (class.size(), class.least(), class.most()),
+            (1, 0, 1),
+            "at {i}"
+        );
         assert_eq!(rt; class.values(), *values, "at {i}");
     }
 }

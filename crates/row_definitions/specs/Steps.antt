@@ -20,13 +20,17 @@ settled_by xs [] = []
 settled_by [] (was ∷ settled) = was ∷ settled
 settled_by (x ∷ xs) (was ∷ settled) = (was || int_lt (pos 0) x) ∷ settled_by xs settled
 
--- the stage closes: the open row is closed, and its classes of positive entry are settled
-unfoldable pub close_stage : Table → Table
-close_stage table = record table {
-  closed = table.closed ++ open_row table ∷ [];
-  settled = settled_by (row_at table (open_row table)).a table.settled;
+-- the stage closes with a row of these entries: the classes of positive entry are settled
+unfoldable pub closed_by : ℕ → List ℤ → Table → Table
+closed_by row entries table = record table {
+  closed = table.closed ++ row ∷ [];
+  settled = settled_by entries table.settled;
   in_stage = false;
 }
+
+-- the stage closes with the open row
+abbrev pub close_stage : Table → Table
+close_stage table = closed_by (open_row table) (row_at table (open_row table)).a table
 
 -- a column is added
 unfoldable pub add_column : Table → List ℕ → Table

@@ -1,0 +1,6 @@
+pub mod MarkLaws
+pub mod FrameLaws
+pub mod PartLaws
+pub mod BestLaws
+pub mod OrderLaws
+pub mod ValueLaws

@@ -1,0 +1,11 @@
+use Rattle.std.proofs.Common.{◌≡◌, ◌-◌, [], map, length}
+use Rattle.std.specs.List.{find, range_with_len}
+use Rattle.row_definitions.specs.declared.Var.TheVariants.{Column}
+use Rattle.exact_table.specs.Parts.{with_rows}
+use Rattle.exact_table.specs.Best.{may_enter}
+use Rattle.exact_table.proofs.choosing.first_column.Given as goal
+
+abbrev pub invariant-loop-c : goal.invariant-loop-c
+invariant-loop-c l =
+    find (may_enter (with_rows l.frame l.rows []) l.at) (map Column (range_with_len 0 (length l.frame.columns)))
+    ≡ find (may_enter (with_rows l.frame l.rows []) l.at) (map Column (range_with_len l.c (length l.frame.columns - l.c)))

@@ -1,0 +1,11 @@
+use Rattle.std.proofs.Common.{◌≡◌, ◌-◌, [], map, length}
+use Rattle.std.specs.List.{find, range_with_len}
+use Rattle.row_definitions.specs.declared.Var.TheVariants.{Slack}
+use Rattle.exact_table.specs.Parts.{with_rows}
+use Rattle.exact_table.specs.Best.{may_enter}
+use Rattle.exact_table.proofs.choosing.first_slack.Given as goal
+
+abbrev pub invariant-loop-t : goal.invariant-loop-t
+invariant-loop-t l =
+    find (may_enter (with_rows l.frame l.rows []) l.at) (map Slack (range_with_len 0 (length l.frame.sizes)))
+    ≡ find (may_enter (with_rows l.frame l.rows []) l.at) (map Slack (range_with_len l.t (length l.frame.sizes - l.t)))

@@ -1,0 +1,12 @@
+-- The variables are looked at in turn.
+use Rattle.std.proofs.Common.{[], length, sym, ◌∙◌, arith}
+use Rattle.row_definitions.specs.declared.Var.TheVariants.{Stage}
+use Rattle.exact_table.specs.Parts.{with_rows}
+use Rattle.exact_table.specs.Best.{may_enter}
+use Rattle.exact_table.proofs.BestLaws.{find_from-more}
+use Rattle.exact_table.proofs.choosing.first_stage.Goals as goal
+
+pub loop-r-preserved : goal.loop-r-preserved
+loop-r-preserved c =
+    c.loop-r.invariant
+    ∙ find_from-more (may_enter (with_rows c.args.frame.now c.args.rows.now []) c.args.at) Stage c.loop-r.r (length c.args.frame.now.stages) (omega (arith, c.stages-count.ensures)) (sym c.may_enter.ensures ∙ c.if-may_enter.false)

@@ -1,0 +1,23 @@
+-- What enters and what leaves, found as the variables and the rows are looked at in turn.
+use Rattle.std.specs.Prelude.{ℕ, zero, suc, if◌then◌else◌, Bool, ◌&&◌, Option, Some, None, pos, int_lt}
+use Rattle.row_definitions.specs.declared.Var.{Var}
+use Rattle.row_definitions.specs.Table.{Table, coefficient_at}
+use Rattle.row_definitions.specs.Choice.{is_eligible, may_leave, leaves_before}
+
+-- a variable is eligible, and its coefficient in the row is below 0
+abbrev pub may_enter : Table → ℕ → Var → Bool
+may_enter table i v = is_eligible table v && int_lt (coefficient_at table i v) (pos 0)
+
+-- the better of a row and the best one so far
+abbrev pub better : Table → Var → ℕ → Option ℕ → Option ℕ
+better table v i None = Some i
+better table v i (Some b) = if leaves_before table v i b then Some i else Some b
+
+-- the best row once row i was looked at
+abbrev pub next_best : Table → Var → ℕ → Option ℕ → Option ℕ
+next_best table v i best = if may_leave table v i then better table v i best else best
+
+-- the best of the first n rows, if any may be left
+abbrev pub best_of : Table → Var → ℕ → Option ℕ
+best_of table v zero = None
+best_of table v (suc n) = next_best table v n (best_of table v n)

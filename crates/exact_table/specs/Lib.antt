@@ -1,0 +1,5 @@
+pub mod Best
+pub mod Marks
+pub mod Parts
+pub mod Starting
+pub mod Values

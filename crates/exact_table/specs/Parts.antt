@@ -1,0 +1,61 @@
+-- The parts of the table that are no rows, and what they keep.
+use Rattle.std.specs.Prelude.{◌≡◌, ℕ, ◌-◌, ◌<◌, ◌≤◌, ◌^◌, ◌≤ℤ◌, pos, Bool, true, if◌then◌else◌, List, [], length, take, slice_index, slice_index_or}
+use Rattle.std.specs.List.{All}
+use Rattle.row_definitions.specs.declared.Var.{Var}
+use Rattle.row_definitions.specs.Row.{Row, reach}
+use Rattle.row_definitions.specs.Table.{Table}
+use Rattle.row_definitions.specs.InOrder.{count_in, IsInOrder}
+use Rattle.exact_table.specs.Marks.{marks_of, settled_of, AreMarks}
+
+-- how many stages are closed, of those entered
+abbrev pub closed_count : ℕ → Bool → ℕ
+closed_count stages in_stage = stages - (if in_stage then 1 else 0)
+
+-- the table that has these parts, and no row yet
+abbrev pub frame_of : List ℕ → List ℕ → ℕ → List (List ℕ) → List ℕ → Bool → ℕ → ℕ → Table
+frame_of sizes settled_at stages columns closed in_stage bits pivots = record {
+  sizes = sizes;
+  rows = [];
+  basic = [];
+  columns = columns;
+  stages = marks_of settled_at stages;
+  closed = take (closed_count stages in_stage) closed;
+  settled = settled_of settled_at;
+  in_stage = in_stage;
+  bits = bits;
+  pivots = pivots;
+}
+
+-- what the parts keep: there is a mark and room for a closed row for each class
+pub record IsFrame (sizes settled_at : List ℕ) (stages : ℕ) (columns : List (List ℕ)) (closed : List ℕ) (in_stage : Bool) (bits : ℕ) : Type 0 where
+  pub some_each : All (λ size. 1 ≤ size) sizes
+  pub marks_each : length settled_at ≡ length sizes
+  pub marks : AreMarks settled_at stages
+  pub few : stages ≤ 400
+  pub entered : in_stage ≡ true → 0 < stages
+  pub room : length closed ≡ length sizes
+  pub closed_few : closed_count stages in_stage ≤ length sizes
+  pub count_each : All (λ counts. length counts ≡ length sizes) columns
+  pub count_bound : (c t : ℕ) → c < length columns → t < length sizes → count_in columns c t ≤ slice_index sizes t
+  pub some_bits : 1 ≤ bits
+  pub few_bits : bits ≤ 127
+
+-- the parts with rows and their basic variables
+abbrev pub with_rows : Table → List Row → List Var → Table
+with_rows frame rows basic = record frame { rows = rows; basic = basic }
+
+-- what the coefficients of a table's rows need so that they fit 128 bits
+pub record AreRows (table : Table) : Type 0 where
+  pub entry_count : All (λ row. length row.a ≡ length table.sizes) table.rows
+  pub small : All (λ row. reach table.sizes row < 2 ^ 127) table.rows
+  pub sides : All (λ row. pos 0 ≤ℤ row.b) table.rows
+
+-- no variable stands twice
+abbrev pub AreDifferent : List Var → Type 0
+AreDifferent basic = (i j : ℕ) (d : Var) → i < length basic → j < length basic → slice_index_or basic i d ≡ slice_index_or basic j d → i ≡ j
+
+-- what the table keeps: it is in order, and there is a second room for its rows
+pub record IsTable (frame : Table) (rows room : List Row) (basic : List Var) : Type 0 where
+  pub order : IsInOrder (with_rows frame rows basic)
+  pub room_count : length room ≡ length rows
+  pub room_each : All (λ row. length row.a ≡ length frame.sizes) room

@@ -1,0 +1,287 @@
+// Bland's rule over the rows of a table.
+ghost use Rattle.std.specs.Prelude.{◌≡◌, ℕ, ◌<◌, ◌^◌, Bool, ◌&&◌, List, [], length, map, Option, Some, true, pos, ◌≤ℤ◌, ◌<ℤ◌, ◌*ℤ◌, int_lt, unsigned_abs, position, slice_index_or};
+ghost use Rattle.std.specs.List.{All, find, range_with_len};
+ghost use Rattle.std.specs.Ordering.{int_eq};
+ghost use Rattle.row_definitions.specs.Table.{variables, coefficient_at, is_same, comes_before};
+ghost use Rattle.row_definitions.specs.Choice.{is_eligible, goes_before, may_leave, leaves_before, leaving, entering, choice};
+ghost use Rattle.exact_table.specs.Best.{may_enter, next_best};
+ghost use Rattle.row_definitions.specs.InOrder.{IsKnown, IsInOrder};
+ghost use Rattle.exact_table.specs.Parts.{with_rows, AreRows, AreDifferent};
+
+use crate::frame::Frame;
+use crate::line::Line;
+use frac128::compare;
+use row_definitions::Var;
+use std::cmp::Ordering;
+
+fn is_same(x: Var, y: Var) -> bool
+    ensures { result ≡ is_same x y }
+{
+    match (x, y) {
+        (Var::Slack(t), Var::Slack(u)) => t == u,
+        (Var::Stage(r), Var::Stage(s)) => r == s,
+        (Var::Column(c), Var::Column(d)) => c == d,
+        _ => false,
+    }
+}
+
+fn comes_before(x: Var, y: Var) -> bool
+    ensures { result ≡ comes_before x y }
+{
+    match (x, y) {
+        (Var::Slack(t), Var::Slack(u)) => t < u,
+        (Var::Slack(_), Var::Stage(_)) => true,
+        (Var::Slack(_), Var::Column(_)) => true,
+        (Var::Stage(_), Var::Slack(_)) => false,
+        (Var::Stage(r), Var::Stage(s)) => r < s,
+        (Var::Stage(_), Var::Column(_)) => true,
+        (Var::Column(_), Var::Slack(_)) => false,
+        (Var::Column(_), Var::Stage(_)) => false,
+        (Var::Column(c), Var::Column(d)) => c < d,
+    }
+}
+
+// The row in which a variable is basic.
+pub(crate) fn row_of(basic: &[Var], variable: Var) -> Option<usize>
+    ensures { result ≡ position (λ x. is_same x variable) basic.now }
+{
+    basic.iter().position(|x| is_same(*x, variable))
+}
+
+// A variable's coefficient in row i.
+pub(crate) fn coefficient_in(frame: &Frame, rows: &[Line], i: usize, variable: Var) -> i128
+    requires known { IsKnown frame.now variable }
+    requires rows { AreRows (with_rows frame.now rows.now []) }
+    requires i { i < length rows.now }
+    ensures value { result ≡ coefficient_at (with_rows frame.now rows.now []) i variable }
+    ensures small { unsigned_abs result < 2 ^ 127 }
+{
+    frame.coefficient(&rows[i], variable)
+}
+
+// A variable's coefficient is 0 in each closed row.
+fn is_eligible(frame: &Frame, rows: &[Line], variable: Var) -> bool
+    requires known { IsKnown frame.now variable }
+    requires rows { AreRows (with_rows frame.now rows.now []) }
+    requires closed { All (λ i. i < length rows.now) frame.now.closed }
+    ensures { result ≡ is_eligible (with_rows frame.now rows.now []) variable }
+{
+    let closed = frame.closed();
+    for k in 0..closed.len() {
+        if coefficient_in(frame, rows, closed[k], variable) != 0 {
+            return false;
+        }
+    }
+    true
+}
+
+// A variable is eligible, and its coefficient in the open row is below 0.
+fn may_enter(frame: &Frame, rows: &[Line], at: usize, variable: Var) -> bool
+    requires known { IsKnown frame.now variable }
+    requires rows { AreRows (with_rows frame.now rows.now []) }
+    requires closed { All (λ i. i < length rows.now) frame.now.closed }
+    requires place { at < length rows.now }
+    ensures { result ≡ may_enter (with_rows frame.now rows.now []) at variable }
+{
+    if coefficient_in(frame, rows, at, variable) < 0 {
+        is_eligible(frame, rows, variable)
+    } else {
+        false
+    }
+}
+
+// The first slack that may enter.
+fn first_slack(frame: &Frame, rows: &[Line], at: usize) -> Option<Var>
+    requires rows { AreRows (with_rows frame.now rows.now []) }
+    requires closed { All (λ i. i < length rows.now) frame.now.closed }
+    requires place { at < length rows.now }
+    ensures { result ≡ find (may_enter (with_rows frame.now rows.now []) at) (map Var.Slack (range_with_len 0 (length frame.now.sizes))) }
+{
+    let count = frame.sizes().len();
+    for t in 0..count {
+        if may_enter(frame, rows, at, Var::Slack(t)) {
+            return Some(Var::Slack(t));
+        }
+    }
+    None
+}
+
+// The first stage variable that may enter.
+fn first_stage(frame: &Frame, rows: &[Line], at: usize) -> Option<Var>
+    requires rows { AreRows (with_rows frame.now rows.now []) }
+    requires closed { All (λ i. i < length rows.now) frame.now.closed }
+    requires place { at < length rows.now }
+    ensures { result ≡ find (may_enter (with_rows frame.now rows.now []) at) (map Var.Stage (range_with_len 0 (length frame.now.stages))) }
+{
+    let count = frame.stages();
+    for r in 0..count {
+        if may_enter(frame, rows, at, Var::Stage(r)) {
+            return Some(Var::Stage(r));
+        }
+    }
+    None
+}
+
+// The first column that may enter.
+fn first_column(frame: &Frame, rows: &[Line], at: usize) -> Option<Var>
+    requires rows { AreRows (with_rows frame.now rows.now []) }
+    requires closed { All (λ i. i < length rows.now) frame.now.closed }
+    requires place { at < length rows.now }
+    ensures { result ≡ find (may_enter (with_rows frame.now rows.now []) at) (map Var.Column (range_with_len 0 (length frame.now.columns))) }
+{
+    let count = frame.columns().len();
+    for c in 0..count {
+        if may_enter(frame, rows, at, Var::Column(c)) {
+            return Some(Var::Column(c));
+        }
+    }
+    None
+}
+
+// The variable of least number that may enter.
+fn first_to_enter(frame: &Frame, rows: &[Line], at: usize) -> Option<Var>
+    requires rows { AreRows (with_rows frame.now rows.now []) }
+    requires closed { All (λ i. i < length rows.now) frame.now.closed }
+    requires place { at < length rows.now }
+    ensures { result ≡ find (may_enter (with_rows frame.now rows.now []) at) (variables frame.now) }
+{
+    match first_slack(frame, rows, at) {
+        Some(slack) => Some(slack),
+        None => match first_stage(frame, rows, at) {
+            Some(stage) => Some(stage),
+            None => first_column(frame, rows, at),
+        },
+    }
+}
+
+// Of two rows with positive coefficients, the first leaves rather than the second.
+fn goes_before(b: i128, c: i128, x: Var, other_b: i128, other_c: i128, y: Var) -> bool
+    requires b { pos 0 ≤ℤ b }
+    requires c { pos 0 <ℤ c }
+    requires other_b { pos 0 ≤ℤ other_b }
+    requires other_c { pos 0 <ℤ other_c }
+    ensures { result ≡ goes_before b c x other_b other_c y }
+{
+    match compare(b, c, other_b, other_c) {
+        Ordering::Less => true,
+        Ordering::Equal => comes_before(x, y),
+        Ordering::Greater => false,
+    }
+}
+
+// Row i has a positive coefficient on a variable.
+fn may_leave(frame: &Frame, rows: &[Line], basic: &[Var], variable: Var, i: usize) -> bool
+    requires known { IsKnown frame.now variable }
+    requires rows { AreRows (with_rows frame.now rows.now []) }
+    requires i { i < length rows.now }
+    ensures { result ≡ may_leave (with_rows frame.now rows.now basic.now) variable i }
+{
+    coefficient_in(frame, rows, i, variable) > 0
+}
+
+// Row i leaves rather than row j.
+fn leaves_before(
+    frame: &Frame,
+    rows: &[Line],
+    basic: &[Var],
+    variable: Var,
+    i: usize,
+    j: usize,
+) -> bool
+    requires known { IsKnown frame.now variable }
+    requires rows { AreRows (with_rows frame.now rows.now []) }
+    requires basic { length basic.now ≡ length rows.now }
+    requires i { i < length rows.now }
+    requires j { j < length rows.now }
+    requires may { may_leave (with_rows frame.now rows.now basic.now) variable i ≡ true }
+    requires other { may_leave (with_rows frame.now rows.now basic.now) variable j ≡ true }
+    ensures { result ≡ leaves_before (with_rows frame.now rows.now basic.now) variable i j }
+{
+    let c = coefficient_in(frame, rows, i, variable);
+    let d = coefficient_in(frame, rows, j, variable);
+    let here = &rows[i];
+    let there = &rows[j];
+    goes_before(here.side(), c, basic[i], there.side(), d, basic[j])
+}
+
+// The best row once row i was looked at.
+fn next_best(
+    frame: &Frame,
+    rows: &[Line],
+    basic: &[Var],
+    variable: Var,
+    i: usize,
+    best: Option<usize>,
+) -> Option<usize>
+    requires known { IsKnown frame.now variable }
+    requires rows { AreRows (with_rows frame.now rows.now []) }
+    requires basic { length basic.now ≡ length rows.now }
+    requires i { i < length rows.now }
+    requires place { (b : ℕ) → best ≡ Some b → b < length rows.now }
+    requires may { (b : ℕ) → best ≡ Some b → may_leave (with_rows frame.now rows.now basic.now) variable b ≡ true }
+    ensures { result ≡ next_best (with_rows frame.now rows.now basic.now) variable i best }
+{
+    if !may_leave(frame, rows, basic, variable, i) {
+        return best;
+    }
+    match best {
+        None => Some(i),
+        Some(other) => {
+            if leaves_before(frame, rows, basic, variable, i, other) {
+                Some(i)
+            } else {
+                Some(other)
+            }
+        }
+    }
+}
+
+// The row that is left where a variable enters.
+fn row_to_leave(frame: &Frame, rows: &[Line], basic: &[Var], variable: Var) -> Option<usize>
+    requires known { IsKnown frame.now variable }
+    requires rows { AreRows (with_rows frame.now rows.now []) }
+    requires basic { length basic.now ≡ length rows.now }
+    requires different { AreDifferent basic.now }
+    ensures { result ≡ leaving (with_rows frame.now rows.now basic.now) variable }
+{
+    let mut best = None;
+    for i in 0..rows.len() {
+        best = next_best(frame, rows, basic, variable, i, best);
+    }
+    best
+}
+
+// The variable that enters.
+fn entering(frame: &Frame, rows: &[Line], basic: &[Var]) -> Option<Var>
+    requires rows { AreRows (with_rows frame.now rows.now []) }
+    requires closed { All (λ i. i < length rows.now) frame.now.closed }
+    requires basic { length basic.now ≡ length rows.now }
+    requires stages { 0 < length frame.now.stages }
+    ensures { result ≡ entering (with_rows frame.now rows.now basic.now) }
+{
+    let variable = Var::Stage(frame.stages() - 1);
+    match row_of(basic, variable) {
+        None => Some(variable),
+        Some(at) => first_to_enter(frame, rows, at),
+    }
+}
+
+// The row that is left and the variable that enters.
+pub(crate) fn choose(frame: &Frame, rows: &[Line], basic: &[Var]) -> Option<(usize, Var)>
+    requires rows { AreRows (with_rows frame.now rows.now []) }
+    requires closed { All (λ i. i < length rows.now) frame.now.closed }
+    requires basic { length basic.now ≡ length rows.now }
+    requires different { AreDifferent basic.now }
+    requires stages { 0 < length frame.now.stages }
+    requires order { IsInOrder (with_rows frame.now rows.now basic.now) }
+    requires open { frame.now.in_stage ≡ true }
+    ensures { result ≡ choice (with_rows frame.now rows.now basic.now) }
+{
+    match entering(frame, rows, basic) {
+        None => None,
+        Some(variable) => match row_to_leave(frame, rows, basic, variable) {
+            None => None,
+            Some(row) => Some((row, variable)),
+        },
+    }
+}

@@ -1,0 +1,26 @@
+// The exact simplex table of the leximin program, in whole numbers under a width: rows `(b; a_1 .. a_m)` whose greatest
+// common divisor is 1, Bland's rule, and a pivot that is made whole or passes the width at its first operation.
+// It stands on `frac128` and on the definitions of `row_definitions`.
+#![tactic(auto)]
+
+mod choosing;
+mod frame;
+mod line;
+mod marks;
+mod pivoting;
+mod starting;
+mod table;
+mod width;
+
+pub use frame::Counts;
+pub use row_definitions::{Op, Pass, Var};
+pub use table::Table;
+
+/// Why a table was not made.
+#[derive(Drop, Debug)]
+pub enum TableStop {
+    /// A row passes the width.
+    Pass(Pass),
+    /// Memory ran out.
+    OutOfMemory,
+}

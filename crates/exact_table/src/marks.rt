@@ -1,0 +1,32 @@
+// For each class the stage at whose close it was settled.
+ghost use Rattle.std.specs.Prelude.{◌≡◌, ◌==◌, ◌&&◌, if◌then◌else◌, length, replicate, IfOk, pos, int_lt};
+ghost use Rattle.exact_table.specs.Marks.{never, settled_marks};
+
+use std::alloc::{AllocError, Global};
+
+// The mark of a class that is not settled.
+pub(crate) const NEVER: usize = usize::MAX;
+
+// The marks of m classes of which none is settled.
+pub(crate) fn none_settled(alloc: Global, m: usize) -> Result<Vec<usize>, AllocError>
+    ensures { IfOk result (λ marks. marks.items ≡ replicate m never) }
+{
+    vec![in alloc; NEVER; m]
+}
+
+// A class's mark once a stage closes where the class has an entry.
+fn mark_after(stage: usize, entry: i128, at: usize) -> usize
+    ensures { result ≡ (if at == never && int_lt (pos 0) entry then stage else at) }
+{
+    if at == NEVER && entry > 0 { stage } else { at }
+}
+
+// Marks the unsettled classes of positive entry with a stage.
+pub(crate) fn settle(stage: usize, entries: &[i128], settled_at: &mut [usize])
+    requires { length entries.now ≡ length settled_at.old }
+    ensures { settled_at.new ≡ settled_marks stage entries.now settled_at.old }
+{
+    for t in 0..settled_at.len() {
+        settled_at[t] = mark_after(stage, entries[t], settled_at[t]);
+    }
+}

@@ -1,0 +1,57 @@
+// The calls of an object in memory: which are to fail, and how many were made and failed.
+ghost use Rattle.std.specs.Prelude.{◌≡◌, ◌≤◌, IfOk};
+ghost use Rattle.outside.specs.Memory.{no_calls, next_fails, after_call};
+
+use std::alloc::{AllocError, Global};
+use std::marker::Model;
+
+#[derive(Drop)]
+pub struct CallPlan {
+    failing: Vec<u64>,
+    made: u64,
+    faults: u64,
+}
+
+impl Model for CallPlan {
+    ghost use Rattle.outside.specs.Memory.{Calls};
+
+    ghost Value = { Calls };
+
+    ghost view = { λ p. record { failing = p.failing.items; made = p.made; faults = p.faults } };
+}
+
+impl CallPlan {
+    pub fn new(alloc: Global, failing: &[u64]) -> Result<CallPlan, AllocError>
+        ensures { IfOk result (λ plan. plan ≡ no_calls failing.now) }
+    {
+        Ok(CallPlan {
+            failing: Vec::from_slice(alloc, failing)?,
+            made: 0,
+            faults: 0,
+        })
+    }
+
+    // Whether the next call is to fail.
+    pub fn next_fails(&self) -> bool
+        ensures { result ≡ next_fails self.now }
+    {
+        self.failing.contains(&self.made.saturating_add(1))
+    }
+
+    // Counts a call, and a fault where it was one.
+    pub fn count(&mut self, is_fault: bool)
+        ensures state { self.new ≡ after_call self.old is_fault }
+        ensures never_falls { self.old.faults ≤ self.new.faults }
+    {
+        self.made = self.made.saturating_add(1);
+        if is_fault {
+            self.faults = self.faults.saturating_add(1);
+        }
+    }
+
+    pub fn faults(&self) -> u64
+        ensures { result ≡ self.now.faults }
+    {
+        self.faults
+    }
+}

@@ -1,0 +1,30 @@
+// A source of bytes.
+ghost use Rattle.std.specs.Prelude.{◌≤◌, List, ℕ, OnErr, Option};
+ghost use Rattle.std.specs.Io.{ReadsAtMost};
+ghost use Rattle.std.specs.Io.KnownBytes.{ReadConsumes};
+ghost use Rattle.outside.specs.Faults.{Rose};
+
+use thiserror::Error;
+
+/// A call on the outside failed, and its object counted the fault.
+#[derive(Clone, Copy, Debug, PartialEq, Eq, Error)]
+#[error("a call on the outside failed")]
+pub struct Failed;
+
+/// Where bytes come from.
+pub trait Source {
+    /// The bytes still to come, where the source tells them.
+    ghost left: { Self → Option (List ℕ) };
+
+    /// How many faults the source has counted.
+    ghost faults: { Self → ℕ };
+
+    /// Fills the front of `room` with bytes from the front of what is left, takes them from there
+    /// and answers how many. For a room that isn't empty the answer is 0 only at the end.
+    /// `Failed` gives and takes nothing.
+    fn read(&mut self, room: &mut [u8]) -> Result<usize, Failed>
+        ensures fits { ReadsAtMost result room.new }
+        ensures given { ReadConsumes (left self.old) (left self.new) result room.new }
+        ensures never_falls { faults self.old ≤ faults self.new }
+        ensures cause { OnErr result (Rose (faults self.old) (faults self.new)) };
+}

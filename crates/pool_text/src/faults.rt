@@ -1,0 +1,35 @@
+//! Faults of a pool text.
+
+use thiserror::Error;
+
+/// Where a text first goes wrong.
+#[derive(Clone, Copy, Debug, PartialEq, Eq)]
+pub struct PoolFault {
+    /// The first faulty line, counted from 1.
+    pub line: usize,
+    /// The lowest kind of fault in it:
+    /// - 1 the line is of no form that may stand there, or anything follows the end
+    /// - 2 the second line isn't a size from 1 to 200
+    /// - 3 the category's name stood before
+    /// - 4 the value's name stood before in its category
+    /// - 5 a bound isn't a number from 0 to 999, or the lower is above the upper
+    /// - 6 a field at the place of a category is none of its values
+    /// - 7 not one field for each category
+    /// - 8 the volunteer's id stood before
+    /// - 10 a new name isn't 1 to 200 bytes or has a byte below 32 or 127, or there is one more than 20 categories, 50 values
+    ///   of a category or 400 volunteers
+    /// - 11 the line isn't UTF-8
+    /// - 12 the lines run out before the end
+    pub kind: u8,
+}
+
+/// Why no pool was read.
+#[derive(Debug, Drop, Error)]
+pub enum ReadPool {
+    /// The bytes are not the text of a pool.
+    #[error("fault {0:?}")]
+    Fault(PoolFault),
+    /// No memory was left.
+    #[error("out of memory")]
+    OutOfMemory,
+}

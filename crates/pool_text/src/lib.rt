@@ -1,0 +1,14 @@
+//! The text of a pool: what a city writes, read into a pool or answered with its first fault. Below stand `pool_model`, whose
+//! builder and kinds of fault it uses, and the words of `text_definitions`.
+#![tactic(auto)]
+
+mod entries;
+mod faults;
+mod numbers;
+mod progress;
+mod reading;
+#[cfg(test)]
+mod tests;
+
+pub use faults::{PoolFault, ReadPool};
+pub use reading::read_pool;

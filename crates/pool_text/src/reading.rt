@@ -1,0 +1,93 @@
+//! Reading the text of a pool, line by line.
+
+ghost use Rattle.std.specs.Prelude.{◌≡◌, ◌<◌, [], ◌∷◌, ◌==◌, length, position, Ok, IfOk, IfSome, IfNone};
+ghost use Rattle.text_definitions.specs.Lines.{pieces_of};
+ghost use Rattle.pool_definitions.specs.Pool.{Pool as Words};
+ghost use Rattle.text_definitions.specs.PoolText.{HasText, spelling};
+ghost use Rattle.text_definitions.specs.PoolReading.{read, at_last};
+ghost use Rattle.pool_text.specs.Answers.{Reads, stopped};
+ghost use Rattle.pool_text.specs.Progress.{seen};
+
+use crate::entries::FORM;
+use crate::faults::{PoolFault, ReadPool};
+use crate::progress::{Progress, after};
+use pool_model::{BuildStop, Pool};
+use std::alloc::Global;
+
+const LINE_FEED: u8 = 10;
+
+/// The kind of a text whose lines run out before its end.
+const MISSING_END: u8 = 12;
+
+/// The pool that the bytes spell, all of them. A fault comes exactly where they are not the text of a pool in which everybody is
+/// open: the first line that has a fault, and the lowest kind in it.
+pub fn read_pool(alloc: Global, bytes: &[u8]) -> Result<Pool, ReadPool>
+    // What is read is spelled so, each byte of it.
+    ensures spelled { IfOk result (λ pool. HasText pool × (bytes.now ≡ spelling pool)) }
+    // What is spelled so is read, unless memory runs out.
+    ensures read { (pool : Words) → HasText pool → bytes.now ≡ spelling pool → Reads (Ok pool) result }
+    // Which fault it is.
+    ensures exact { Reads (read bytes.now) result }
+{
+    read_lines(alloc, bytes)
+}
+
+fn read_lines(alloc: Global, bytes: &[u8]) -> Result<Pool, ReadPool>
+    ensures { Reads (read bytes.now) result }
+{
+    let mut progress = Progress::Begun;
+    let mut number = 1;
+    let mut rest = bytes;
+    while let Some((line, later)) = next_line(rest) {
+        progress = match after(alloc, progress, line) {
+            Ok(next) => next,
+            Err(stop) => return Err(stop_at(number, stop)),
+        };
+        number += 1;
+        rest = later;
+    }
+    last(progress, number, rest)
+}
+
+/// The next line and what stands behind its LF.
+fn next_line(bytes: &[u8]) -> Option<(&[u8], &[u8])>
+    ensures some { IfSome result (λ (line, later). pieces_of bytes.now ≡ line.now ∷ pieces_of later.now) }
+    ensures shorter { IfSome result (λ (line, later). length later.now < length bytes.now) }
+    ensures none { IfNone result (pieces_of bytes.now ≡ bytes.now ∷ []) }
+{
+    match line_end(bytes) {
+        Some(end) => Some((&bytes[..end], &bytes[end + 1..])),
+        None => None,
+    }
+}
+
+/// The place of the first LF.
+fn line_end(bytes: &[u8]) -> Option<usize>
+    ensures { result ≡ position (λ byte. byte == 10) bytes.now }
+{
+    bytes.iter().position(|byte| *byte == LINE_FEED)
+}
+
+/// A stop of the builder at a line.
+fn stop_at(line: usize, stop: BuildStop) -> ReadPool
+    ensures { result ≡ stopped line stop }
+{
+    match stop {
+        BuildStop::Kind(kind) => ReadPool::Fault(PoolFault { line, kind }),
+        BuildStop::OutOfMemory => ReadPool::OutOfMemory,
+    }
+}
+
+/// What the text comes to, where `rest` stands behind its last LF.
+fn last(progress: Progress, line: usize, rest: &[u8]) -> Result<Pool, ReadPool>
+    ensures { Reads (at_last line (seen progress) rest.now) result }
+{
+    match progress {
+        Progress::Ended(pool) if rest.is_empty() => Ok(pool),
+        Progress::Ended(_) => Err(ReadPool::Fault(PoolFault { line, kind: FORM })),
+        _ => Err(ReadPool::Fault(PoolFault {
+            line,
+            kind: MISSING_END,
+        })),
+    }
+}
