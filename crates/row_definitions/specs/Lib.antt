@@ -6,3 +6,4 @@ pub mod Choice
 pub mod Steps
 pub mod InOrder
 pub mod WorkedRun
+pub mod Laws
