@@ -404,13 +404,18 @@ const LAST_CATEGORIES: [(usize, u8, &[u8]); 12] = [
     (1023, 7, b"volunteer a* v/end/"),
 ];
 
-const LAST_VOLUNTEERS: [(usize, u8, &[u8]); 13] = [
+const LAST_VOLUNTEERS: [(usize, u8, &[u8]); 14] = [
     (1422, 12, b"volunteer x*"),
     (1423, 12, b"volunteer x*/"),
     (0, 0, b"volunteer x*/end/"),
     (1424, 1, b"volunteer x*/end//"),
     (1424, 1, b"volunteer x*/end/end"),
     (1423, 1, b"volunteer x*/volunteer/"),
+    (
+        1423,
+        6,
+        b"volunteer x*/volunteer y v v v v v v v v v v v v v v v v v v v x/end/",
+    ),
     (1423, 7, b"volunteer x*/volunteer y* v/end/"),
     (1423, 8, b"volunteer x*/volunteer a0*/end/"),
     (1423, 8, b"volunteer x*/volunteer x*/end/"),
