@@ -73,3 +73,8 @@ StagesHold pool lottery earlier (stage ∷ later) =
 pub record Certifies (pool : Pool) (lottery : Lottery) (stages : List Stage) : Type 0 where
   pub is_lottery : IsLottery pool lottery
   pub stages_hold : StagesHold pool lottery [] stages
+
+-- a lottery, and the stages that are to certify it
+pub record Answer : Type 0 where
+  pub lottery : Lottery
+  pub stages : List Stage
