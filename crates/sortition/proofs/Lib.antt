@@ -1,3 +1,4 @@
-pub mod SearchLemmas
+pub mod NumberLemmas
+pub mod WordsLemmas
 pub mod LineLemmas
 pub mod CallLemmas

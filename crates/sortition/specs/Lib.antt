@@ -1,7 +1,7 @@
 pub mod Told
 pub mod Lines
-pub mod Search
-pub mod Panel
+pub mod Words
 pub mod Input
+pub mod Panel
 pub mod Outcome
 pub mod Office

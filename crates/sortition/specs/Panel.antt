@@ -1,73 +1,67 @@
--- What the command `panel` may tell: the first quota panel of the pool whose text the source holds.
-use Rattle.std.specs.Prelude.{◌≡◌, ◌≢◌, ◌⊎◌, ℕ, nat_lt, if◌then◌else◌, List, [], ◌∷◌, length, Option, Some, None, Result, Ok, Err, IfSome}
-use Rattle.pool_definitions.specs.Pool.{Pool, panels}
+-- What the command `panel` may tell: the first quota panel of the pool whose text the source holds, by a search of at most so
+-- many visits.
+use Rattle.std.specs.Prelude.{◌≡◌, ◌≢◌, ◌⊎◌, ◌<◌, ◌≤◌, ℕ, nat_lt, if◌then◌else◌, List, [], ◌∷◌, Some, Result, Ok, Err, IfSome, IsTrue}
+use Rattle.pool_definitions.specs.Pool.{Pool, is_quota_panel, panels}
 use Rattle.text_definitions.specs.Lines.{Fault}
-use Rattle.text_definitions.specs.PoolText.{HasText, spelling}
-use Rattle.text_definitions.specs.PoolReading.{read}
-use Rattle.sortition.specs.Told.{Told, HasFaulted, Gains, GainsPart, GainsUnlessFaulted, HeldAll}
-use Rattle.sortition.specs.Lines.{panel_line, no_panel_line, input_line, read_fault_line, write_fault_line, want_of_memory_line}
+use Rattle.search_definitions.specs.Classes.{classes_of}
+use Rattle.search_definitions.specs.Compositions.{first_composition, first_panel}
+use Rattle.search_definitions.specs.Visits.{first_search}
+use Rattle.sortition.specs.Told.{Told, HasFaulted, Gains, GainsPart, GainsUnlessFaulted}
+use Rattle.sortition.specs.Input.{HoldsPool, pool_in}
+use Rattle.sortition.specs.Lines.{panel_line, no_panel_line, input_line, spent_line, read_fault_line, write_fault_line, want_of_memory_line}
 
--- the most bytes that an input may have
-abbrev pub input_limit : ℕ
-input_limit = 16777216
-
--- an input that is too long has this in the place of a first fault
-abbrev pub too_long : Fault
-too_long = record { line = 0; kind = 10 }
-
-abbrev pub fault_in : Result Pool Fault → Option Fault
-fault_in (Ok pool) = None
-fault_in (Err fault) = Some fault
-
--- what is wrong with an input
-abbrev pub input_fault : List ℕ → Option Fault
-input_fault bytes = if nat_lt input_limit (length bytes) then Some too_long else fault_in (read bytes)
+-- how many visits the search for the first composition takes
+abbrev pub visits_of : Pool → ℕ
+visits_of pool = (first_search (classes_of pool)).visits
 
 -- 0 where there is a panel, and 1 where there is none
 abbrev pub status_of_panels : List (List ℕ) → ℕ
 status_of_panels [] = 1
 status_of_panels (panel ∷ others) = 0
 
-abbrev pub status_of_read : Result Pool Fault → ℕ
-status_of_read (Ok pool) = status_of_panels (panels pool)
-status_of_read (Err fault) = 3
+-- 5 where the search takes more visits than it may
+abbrev pub status_of_pool : ℕ → Pool → ℕ
+status_of_pool nodes pool = if nat_lt nodes (visits_of pool) then 5 else status_of_panels (panels pool)
 
 -- the status that an input asks for
-abbrev pub status_due : List ℕ → ℕ
-status_due bytes = if nat_lt input_limit (length bytes) then 3 else status_of_read (read bytes)
+abbrev pub status_due : ℕ → Result Pool Fault → ℕ
+status_due nodes (Ok pool) = status_of_pool nodes pool
+status_due nodes (Err fault) = 3
 
--- the source held the text of a pool whose first quota panel in lexicographic order this is
-pub record HasFirstPanel (told : Told) (pool : Pool) (panel : List ℕ) : Type 0 where
-  pub has_text : HasText pool
-  pub held : HeldAll told.source (spelling pool)
-  pub others : List (List ℕ)
-  pub first : panels pool ≡ panel ∷ others
+-- the first members of the first composition's classes are this quota panel, found within the visits
+pub record HasFirstPanel (nodes : ℕ) (pool : Pool) (panel : List ℕ) : Type 0 where
+  pub counts : List ℕ
+  pub first : first_composition (classes_of pool) ≡ Some counts
+  pub members : panel ≡ first_panel (classes_of pool) counts
+  pub fits : IsTrue (is_quota_panel pool panel)
+  pub within : visits_of pool ≤ nodes
 
--- the source held the text of a pool without a quota panel
-pub record HasNoPanel (told : Told) (pool : Pool) : Type 0 where
-  pub has_text : HasText pool
-  pub held : HeldAll told.source (spelling pool)
+-- there is no quota panel, which was found within the visits
+pub record HasNoPanel (nodes : ℕ) (pool : Pool) : Type 0 where
   pub none : panels pool ≡ []
+  pub within : visits_of pool ≤ nodes
 
 -- a prefix of the line that the input asks for went to out
-abbrev pub TellsPart : Told → Type 0
-TellsPart told =
-    ((pool : Pool) × (panel : List ℕ) × HasFirstPanel told pool panel × GainsPart told.out (panel_line pool panel))
-    ⊎ ((pool : Pool) × HasNoPanel told pool × GainsPart told.out no_panel_line)
+abbrev pub TellsPart : ℕ → Told → Type 0
+TellsPart nodes told =
+    ((pool : Pool) × (panel : List ℕ) × HoldsPool told.source pool × HasFirstPanel nodes pool panel × GainsPart told.out (panel_line pool panel))
+    ⊎ ((pool : Pool) × HoldsPool told.source pool × HasNoPanel nodes pool × GainsPart told.out no_panel_line)
 
-pub record PanelIsRight (told : Told) : Type 0 where
+pub record PanelIsRight (nodes : ℕ) (told : Told) : Type 0 where
   -- 0: the line of the first panel
-  pub done : told.status ≡ 0 → (pool : Pool) × (panel : List ℕ) × HasFirstPanel told pool panel × Gains told.out (panel_line pool panel) × Gains told.errs []
+  pub done : told.status ≡ 0 → (pool : Pool) × (panel : List ℕ) × HoldsPool told.source pool × HasFirstPanel nodes pool panel × Gains told.out (panel_line pool panel) × Gains told.errs []
   -- 1: there is none
-  pub no_panel : told.status ≡ 1 → (pool : Pool) × HasNoPanel told pool × Gains told.out no_panel_line × Gains told.errs []
+  pub no_panel : told.status ≡ 1 → (pool : Pool) × HoldsPool told.source pool × HasNoPanel nodes pool × Gains told.out no_panel_line × Gains told.errs []
   -- 3: the input is no text of a pool, or too long
-  pub text : told.status ≡ 3 → (fault : Fault) × IfSome told.source.before (λ bytes. input_fault bytes ≡ Some fault) × Gains told.out [] × GainsUnlessFaulted told.errs (input_line fault)
+  pub text : told.status ≡ 3 → (fault : Fault) × IfSome told.source.before (λ bytes. pool_in bytes ≡ Err fault) × Gains told.out [] × GainsUnlessFaulted told.errs (input_line fault)
+  -- 5: the search takes more visits
+  pub spent : told.status ≡ 5 → (pool : Pool) × HoldsPool told.source pool × (nodes < visits_of pool) × Gains told.out [] × GainsUnlessFaulted told.errs (spent_line nodes)
   -- 7 and 8: the source or out counted a fault
   pub read_fault : told.status ≡ 7 → HasFaulted told.source × Gains told.out [] × GainsUnlessFaulted told.errs read_fault_line
-  pub write_fault : told.status ≡ 8 → HasFaulted told.out × TellsPart told × GainsUnlessFaulted told.errs write_fault_line
+  pub write_fault : told.status ≡ 8 → HasFaulted told.out × TellsPart nodes told × GainsUnlessFaulted told.errs write_fault_line
   -- 12: want of memory, which may come at any time
   pub want_of_memory : told.status ≡ 12 → Gains told.out [] × GainsUnlessFaulted told.errs want_of_memory_line
   -- no other status
-  pub no_other : told.status ≢ 0 → told.status ≢ 1 → told.status ≢ 3 → told.status ≢ 7 → told.status ≢ 8 → told.status ≡ 12
-  -- where neither the source nor out counted a fault, the status is the one that the input asks for, or 12
-  pub complete : (HasFaulted told.source → ⊥) → (HasFaulted told.out → ⊥) → told.status ≢ 12 → IfSome told.source.before (λ bytes. told.status ≡ status_due bytes)
+  pub no_other : told.status ≢ 0 → told.status ≢ 1 → told.status ≢ 3 → told.status ≢ 5 → told.status ≢ 7 → told.status ≢ 8 → told.status ≡ 12
+  -- where the source counted no fault, the status is the one that the input asks for, but for 8 and 12
+  pub complete : (HasFaulted told.source → ⊥) → told.status ≢ 8 → told.status ≢ 12 → IfSome told.source.before (λ bytes. told.status ≡ status_due nodes (pool_in bytes))

@@ -41,7 +41,7 @@ impl From<AllocError> for Refusal {
     }
 }
 
-/// The pool whose text the source holds. The source is read to its end, or past the limit, before its text is judged.
+/// The pool that the source holds. The source is read to its end, or past the limit, before its text is judged.
 pub(crate) fn read_input<S: Source>(alloc: Global, source: &mut S) -> Result<Pool, Refusal>
     ensures says { InputSays (object (S.left source.old) (S.left source.new) (S.faults source.old) (S.faults source.new)) result }
     ensures later { S.faults source.old ≤ S.faults source.new }

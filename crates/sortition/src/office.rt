@@ -1,23 +1,14 @@
 //! The top call.
 
-ghost use Rattle.std.specs.Prelude.{◌≡◌, map, string_bytes};
-ghost use Rattle.sortition.specs.Told.{object, told, GainsUnlessFaulted};
-ghost use Rattle.sortition.specs.Lines.{usage_line};
-ghost use Rattle.sortition.specs.Office.{OfficeIsRight, asked};
+ghost use Rattle.std.specs.Prelude.{map, string_bytes};
+ghost use Rattle.sortition.specs.Told.{object, told};
+ghost use Rattle.sortition.specs.Office.{OfficeIsRight};
 
-use crate::answers::{USAGE, USAGE_LINE, complain};
+use crate::answers::{usage, want_memory};
 use crate::panel::panel;
+use crate::words::{Command, WordsStop, read_words};
 use outside::{Sink, Source};
 use std::alloc::Global;
-
-const PANEL: &str = "panel";
-
-/// The commands of the program.
-#[derive(Clone, Copy, Debug, PartialEq, Eq)]
-pub enum Command {
-    /// The first quota panel of a pool.
-    Panel,
-}
 
 /// One call of the program with its words, which do not include its name. The answer is the program's status.
 ///
@@ -34,26 +25,9 @@ pub fn office<S: Source, O: Sink, E: Sink>(
         (object (O.written out.old) (O.written out.new) (O.faults out.old) (O.faults out.new))
         (object (E.written errs.old) (E.written errs.new) (E.faults errs.old) (E.faults errs.new))) }
 {
-    match command_of(words) {
-        Some(Command::Panel) => panel(alloc, source, out, errs),
-        None => usage(errs),
+    match read_words(alloc, words) {
+        Ok(Command::Panel { nodes }) => panel(alloc, nodes, source, out, errs),
+        Err(WordsStop::Usage(text)) => usage(errs, text.as_bytes()),
+        Err(WordsStop::OutOfMemory) => want_memory(errs),
     }
-}
-
-/// The command that the words ask for.
-fn command_of(words: &[String]) -> Option<Command>
-    ensures { result ≡ asked (map string_bytes words.now) }
-{
-    match words {
-        [word] if word.as_str() == PANEL => Some(Command::Panel),
-        _ => None,
-    }
-}
-
-fn usage<E: Sink>(errs: &mut E) -> u8
-    ensures status { result ≡ 2 }
-    ensures line { GainsUnlessFaulted (object (E.written errs.old) (E.written errs.new) (E.faults errs.old) (E.faults errs.new)) usage_line }
-{
-    complain(errs, USAGE_LINE);
-    USAGE
 }

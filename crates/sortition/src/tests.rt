@@ -1,10 +1,12 @@
 //! Calls of `office` over the forms in memory: what it answers, and what `out` and `errs` gained.
 
+use crate::answers::no_words;
 use crate::office::office;
 use outside::{MemSink, MemSource};
 use std::alloc::{AllocError, Global};
+use std::io;
 
-/// Two women and two men, one of each to be chosen.
+/// Two women and two men, one of each to be chosen. The search makes 5 visits.
 const FOUR: &[u8] =
     b"pool\t1\nsize\t2\ncategory\tgender\nvalue\tfemale\t1\t1\nvalue\tmale\t1\t1\nvolunteer\ta\tfemale\nvolunteer\tb\tfemale\nvolunteer\tc\tmale\nvolunteer\td\tmale\nend\n";
 
@@ -12,15 +14,62 @@ const FOUR: &[u8] =
 const SHORT: &[u8] =
     b"pool\t1\nsize\t2\ncategory\tgender\nvalue\tfemale\t2\t2\nvalue\tmale\t0\t2\nvolunteer\ta\tfemale\nvolunteer\tb\tmale\nvolunteer\tc\tmale\nend\n";
 
-/// Each test of its own takes the first that it finds: of x is only a, who is of q, and of p is only b, who is of y.
+/// Of x is only a, who is of q, and of p is only b, who is of y. The search makes 2 visits.
 const CROSSED: &[u8] =
     b"pool\t1\nsize\t1\ncategory\tone\nvalue\tx\t1\t1\nvalue\ty\t0\t1\ncategory\ttwo\nvalue\tp\t1\t1\nvalue\tq\t0\t1\nvolunteer\ta\tx\tq\nvolunteer\tb\ty\tp\nend\n";
 
-/// The first two volunteers don't fit, so one who takes the first that fits a bound finds none.
+/// The first two volunteers don't fit, nor the first and the third.
 const LATER: &[u8] =
     b"pool\t1\nsize\t2\ncategory\tone\nvalue\tx\t0\t1\nvalue\ty\t0\t2\ncategory\ttwo\nvalue\tp\t2\t2\nvalue\tq\t0\t0\nvolunteer\ta\tx\tp\nvolunteer\tb\ty\tq\nvolunteer\tc\tx\tp\nvolunteer\td\ty\tp\nend\n";
 
 const NOBODY: &[u8] = b"pool\t1\nsize\t1\nend\n";
+
+/// Words, and the status of a call with them that reads `FOUR`.
+const WORDS: &[(&[&str], u8)] = &[
+    (&["panel"], 0),
+    (&["panel", "--nodes", "5"], 0),
+    (&["panel", "--nodes", "4"], 5),
+    (&["panel", "--nodes", "0"], 5),
+    (&["panel", "--nodes=5"], 0),
+    (&["panel", "--nodes", "+5"], 0),
+    (&["panel", "--nodes", "005"], 0),
+    (&["panel", "--nodes", "1000000000000"], 0),
+    (&["panel", "--"], 0),
+    (&["panel", "--nodes", "5", "--"], 0),
+    (&[], 2),
+    (&[""], 2),
+    (&["pane"], 2),
+    (&["Panel"], 2),
+    (&["lottery"], 2),
+    (&["sortition", "panel"], 2),
+    (&["--", "panel"], 2),
+    (&["--nodes", "5", "panel"], 2),
+    (&["panel", "x"], 2),
+    (&["panel", ""], 2),
+    (&["panel", "panel"], 2),
+    (&["panel", "--", "x"], 2),
+    (&["panel", "--nodes"], 2),
+    (&["panel", "--nodes="], 2),
+    (&["panel", "--nodes", ""], 2),
+    (&["panel", "--nodes", "x"], 2),
+    (&["panel", "--nodes", " 5"], 2),
+    (&["panel", "--nodes", "5.0"], 2),
+    (&["panel", "--nodes", "-0"], 2),
+    (&["panel", "--nodes=-1"], 2),
+    (&["panel", "--nodes", "1000000000001"], 2),
+    (&["panel", "--nodes", "18446744073709551616"], 2),
+    (&["panel", "--nodes", "5", "--nodes", "5"], 2),
+    (&["panel", "--nodes", "5", "6"], 2),
+    (&["panel", "--node", "5"], 2),
+    (&["panel", "-n", "5"], 2),
+    (&["panel", "--bits", "5"], 2),
+    (&["--help"], 2),
+    (&["-h"], 2),
+    (&["help"], 2),
+    (&["help", "panel"], 2),
+    (&["panel", "--help"], 2),
+    (&["panel", "--version"], 2),
+];
 
 /// One call: its words, what the source holds, and the calls of each object that fail.
 #[derive(Clone, Copy)]
@@ -33,7 +82,7 @@ struct Call<'a> {
     errs_fails: &'a [u64],
 }
 
-/// A call with one word and no failing object.
+/// A call with the one word `panel` and no failing object.
 fn reading(text: &[u8]) -> Call<'_> {
     Call {
         words: &["panel"],
@@ -45,6 +94,26 @@ fn reading(text: &[u8]) -> Call<'_> {
     }
 }
 
+/// What a call told: its status, and what `out` and `errs` gained.
+#[derive(Drop)]
+struct Answer {
+    status: u8,
+    out: MemSink,
+    errs: MemSink,
+}
+
+fn answer_of(alloc: Global, call: &Call<'_>) -> Result<Answer, AllocError> {
+    let mut words = Vec::new(alloc);
+    for word in call.words {
+        words.push(String::from_str(alloc, word)?)?;
+    }
+    let mut source = MemSource::new(alloc, call.text, call.source_fails)?;
+    let mut out = MemSink::new(alloc, call.out_room, call.out_fails)?;
+    let mut errs = MemSink::new(alloc, 1000, call.errs_fails)?;
+    let status = office(alloc, &words, &mut source, &mut out, &mut errs);
+    Ok(Answer { status, out, errs })
+}
+
 /// Whether the call answers this status, and `out` and `errs` gain these bytes.
 fn answers(
     alloc: Global,
@@ -53,45 +122,109 @@ fn answers(
     out: &[u8],
     errs: &[u8],
 ) -> Result<bool, AllocError> {
-    let mut words = Vec::new(alloc);
-    for word in call.words {
-        words.push(String::from_str(alloc, word)?)?;
-    }
-    let mut source = MemSource::new(alloc, call.text, call.source_fails)?;
-    let mut into = MemSink::new(alloc, call.out_room, call.out_fails)?;
-    let mut complaints = MemSink::new(alloc, 100, call.errs_fails)?;
-    let told = office(alloc, &words, &mut source, &mut into, &mut complaints);
-    Ok(told == status && into.written() == out && complaints.written() == errs)
+    let told = answer_of(alloc, call)?;
+    Ok(told.status == status && told.out.written() == out && told.errs.written() == errs)
 }
 
 #[test]
 fn pools_have_their_first_panel(rt: HostRuntime) -> Result<(), AllocError> {
     let alloc = rt.alloc();
+    let two_visits = Call {
+        words: &["panel", "--nodes", "2"],
+        ..reading(CROSSED)
+    };
+    let one_visit = Call {
+        words: &["panel", "--nodes", "1"],
+        ..reading(CROSSED)
+    };
     let right = [
         answers(alloc, &reading(FOUR), 0, b"panel\ta\tc\n", b"")?,
         answers(alloc, &reading(LATER), 0, b"panel\ta\td\n", b"")?,
         answers(alloc, &reading(SHORT), 1, b"no panel\n", b"")?,
         answers(alloc, &reading(CROSSED), 1, b"no panel\n", b"")?,
+        answers(alloc, &two_visits, 1, b"no panel\n", b"")?,
+        answers(alloc, &one_visit, 5, b"", b"spent\tnodes\t1\t0\t0\t0\n")?,
         answers(alloc, &reading(NOBODY), 1, b"no panel\n", b"")?,
     ];
-    assert_eq!(rt; right, [true; 5]);
+    assert_eq!(rt; right, [true; 7]);
     Ok(())
 }
 
 #[test]
-fn faults_are_told(rt: HostRuntime) -> Result<(), AllocError> {
+fn words_are_read_by_clap(rt: HostRuntime) -> Result<(), AllocError> {
     let alloc = rt.alloc();
-    let long = vec![in alloc; b'x'; 16_777_217]?;
+    for (words, status) in WORDS {
+        let call = Call {
+            words,
+            ..reading(FOUR)
+        };
+        let told = answer_of(alloc, &call)?;
+        assert_eq!(rt; told.status, *status, "{words:?}");
+        assert_eq!(rt; told.out.written().is_empty(), *status != 0, "{words:?}");
+        assert_eq!(rt; told.errs.written().is_empty(), *status == 0, "{words:?}");
+    }
+    Ok(())
+}
+
+#[test]
+fn clap_says_what_is_wrong(rt: HostRuntime) -> Result<(), AllocError> {
+    let alloc = rt.alloc();
     let no_word = Call {
         words: &[],
         ..reading(FOUR)
     };
-    let two_words = Call {
-        words: &["panel", "x"],
+    let letter = Call {
+        words: &["panel", "--nodes", "x"],
         ..reading(FOUR)
     };
-    let other_word = Call {
+    let help = Call {
+        words: &["panel", "--help"],
+        ..reading(FOUR)
+    };
+    let no_word_text =
+        b"error: 'sortition' requires a subcommand but one was not provided\n  [subcommands: panel, help]\n\nUsage: sortition <COMMAND>\n\nFor more information, try '--help'.\n";
+    let letter_text =
+        b"error: invalid value 'x' for '--nodes <nodes>': invalid digit found in string\n\nFor more information, try '--help'.\n";
+    let help_text =
+        b"Prints the first quota panel of the pool on standard input\n\nUsage: sortition panel [OPTIONS]\n\nOptions:\n      --nodes <nodes>  The most visits that a search may make [default: 50000000]\n  -h, --help           Print help\n";
+    let right = [
+        answers(alloc, &no_word, 2, b"", no_word_text)?,
+        answers(alloc, &letter, 2, b"", letter_text)?,
+        answers(alloc, &help, 2, b"", help_text)?,
+    ];
+    assert_eq!(rt; right, [true; 3]);
+    Ok(())
+}
+
+#[test]
+fn words_that_cannot_be_had(rt: HostRuntime) -> Result<(), AllocError> {
+    let alloc = rt.alloc();
+    for (kind, status, text) in [
+        (
+            io::ErrorKind::InvalidData,
+            2,
+            b"error: invalid UTF-8 was detected in one or more arguments\n".as_slice(),
+        ),
+        (
+            io::ErrorKind::OutOfMemory,
+            12,
+            b"want of memory\n".as_slice(),
+        ),
+    ] {
+        let mut errs = MemSink::new(alloc, 100, &[])?;
+        assert_eq!(rt; no_words(&mut errs, kind), status);
+        assert_eq!(rt; errs.written(), text);
+    }
+    Ok(())
+}
+
+#[test]
+fn each_failing_has_its_status(rt: HostRuntime) -> Result<(), AllocError> {
+    let alloc = rt.alloc();
+    let long = vec![in alloc; b'x'; 16_777_217]?;
+    let words_and_errs_fail = Call {
         words: &["lottery"],
+        errs_fails: &[1],
         ..reading(FOUR)
     };
     let source_fails = Call {
@@ -123,10 +256,12 @@ fn faults_are_told(rt: HostRuntime) -> Result<(), AllocError> {
         errs_fails: &[1],
         ..reading(FOUR)
     };
+    let spent_and_both_fail = Call {
+        words: &["panel", "--nodes", "4"],
+        ..both_fail
+    };
     let right = [
-        answers(alloc, &no_word, 2, b"", b"usage\n")?,
-        answers(alloc, &two_words, 2, b"", b"usage\n")?,
-        answers(alloc, &other_word, 2, b"", b"usage\n")?,
+        answers(alloc, &words_and_errs_fail, 2, b"", b"")?,
         answers(alloc, &reading(b""), 3, b"", b"input\t1\t12\n")?,
         answers(alloc, &reading(&FOUR[..134]), 3, b"", b"input\t10\t12\n")?,
         answers(
@@ -144,7 +279,8 @@ fn faults_are_told(rt: HostRuntime) -> Result<(), AllocError> {
         answers(alloc, &out_is_full, 8, b"panel\ta", b"write fault\n")?,
         answers(alloc, &errs_fails, 3, b"", b"")?,
         answers(alloc, &both_fail, 8, b"", b"")?,
+        answers(alloc, &spent_and_both_fail, 5, b"", b"")?,
     ];
-    assert_eq!(rt; right, [true; 14]);
+    assert_eq!(rt; right, [true; 13]);
     Ok(())
 }
