@@ -1,6 +1,6 @@
 //! The words of a call, read by `clap`: the command that they ask for, with its values.
 
-ghost use Rattle.std.specs.Prelude.{◌≡◌, false, map, IfOk, option_map, string_bytes};
+ghost use Rattle.std.specs.Prelude.{◌≡◌, false, map, IfOk, string_bytes};
 ghost use Rattle.clap.specs.Words.{app_of, found_of, rows_of, rule_of, subcommand_rows_of};
 ghost use Rattle.clap.specs.declared.builder.command.Command.TheViews.{out-Command};
 ghost use Rattle.sortition.specs.Words.{
@@ -45,7 +45,7 @@ pub(crate) enum WordsStop {
 
 const MOST_NODES: u64 = 1_000_000_000_000;
 
-/// The text for a number out of its range that `clap` took, if there were one.
+/// The text for a number that `clap` took out of its range: no words lead there.
 const OUT_OF_RANGE: &str = "error: a number is out of its range\n";
 
 /// The command that the words ask for. They don't include the program's name.
@@ -55,14 +55,10 @@ pub(crate) fn read_words(alloc: Global, words: &[String]) -> Result<Command, Wor
     let matches = matches_of(alloc, words)?;
     match command_of(&matches) {
         Some(command) => Ok(command),
-        None => Err(usage(alloc, OUT_OF_RANGE)),
-    }
-}
-
-fn usage(alloc: Global, text: &str) -> WordsStop {
-    match String::from_str(alloc, text) {
-        Ok(text) => WordsStop::Usage(text),
-        Err(_) => WordsStop::OutOfMemory,
+        None => match String::from_str(alloc, OUT_OF_RANGE) {
+            Ok(text) => Err(WordsStop::Usage(text)),
+            Err(_) => Err(WordsStop::OutOfMemory),
+        },
     }
 }
 
