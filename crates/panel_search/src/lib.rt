@@ -2,10 +2,14 @@
 //! `search_definitions` says what a visit is, and what a search finds.
 #![tactic(auto)]
 
+mod pricing;
+mod rows;
 mod searching;
 mod tallies;
 mod tally;
 #[cfg(test)]
 mod tests;
 
+pub use pricing::best;
+pub use rows::Row;
 pub use searching::{SearchStop, first};
