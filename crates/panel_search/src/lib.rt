@@ -2,6 +2,8 @@
 //! `search_definitions` says what a visit is, and what a search finds.
 #![tactic(auto)]
 
+#[cfg(test)]
+mod best_tests;
 mod greatest;
 mod pricing;
 mod rows;
