@@ -21,6 +21,9 @@ use std::alloc::{AllocError, Global};
 /// Of the compositions whose weight in each closed row is at least its right side, and whose weight in the row is above its right
 /// side: the one of greatest weight in the row, of equals the first in order, or None where there is none; with the visits of the
 /// search, if these are at most `nodes`.
+///
+/// Each of the rows has one entry per class and a reach below 2^127, which is its right side and each class's size times its entry, all
+/// without their signs: so no weight passes 128 bits. All memory is taken before the first visit.
 pub fn best(
     alloc: Global,
     classes: &Classes,
