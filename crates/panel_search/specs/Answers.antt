@@ -1,6 +1,6 @@
 -- What a search under a budget of visits answers.
 use Rattle.std.specs.Prelude.{◌≡◌, ◌≤◌, ◌<◌, ℕ, List, Option, Result, Ok, Err}
-use Rattle.search_definitions.specs.Visits.{Search}
+use Rattle.search_definitions.specs.Visits.{Search, Pricing}
 use Rattle.panel_search.specs.declared.searching.SearchStop.{SearchStop}
 use Rattle.panel_search.specs.declared.searching.SearchStop.TheVariants.{Spent, OutOfMemory}
 
@@ -9,3 +9,9 @@ abbrev pub Answers : Search → ℕ → Result (Option (List ℕ)) SearchStop �
 Answers search nodes (Ok found) = (search.visits ≤ nodes) × (found ≡ search.found)
 Answers search nodes (Err Spent) = nodes < search.visits
 Answers search nodes (Err OutOfMemory) = Unit {0}
+
+-- what the search for the best composition kept and its visits, where these stay within the budget, else that the budget is spent
+abbrev pub AnswersBest : Pricing → ℕ → Result (Option (List ℕ) × ℕ) SearchStop → Type 0
+AnswersBest pricing nodes (Ok (found, visits)) = (pricing.visits ≤ nodes) × (found ≡ pricing.kept) × (visits ≡ pricing.visits)
+AnswersBest pricing nodes (Err Spent) = nodes < pricing.visits
+AnswersBest pricing nodes (Err OutOfMemory) = Unit {0}

@@ -1,7 +1,7 @@
 -- Fronts: counts for the first classes. A front is live where it may still lead to a composition that is sought.
-use Rattle.std.specs.Prelude.{◌≡◌, ℕ, ◌+◌, ◌-◌, nat_le, if◌then◌else◌, Bool, true, ◌&&◌, List, [], ◌∷◌, ◌++◌, drop, length, replicate, take, fold, sum_by, ℤ, pos, ◌+ℤ◌, int_lt, int_le}
+use Rattle.std.specs.Prelude.{◌≡◌, ℕ, ◌+◌, ◌-◌, ◌^◌, ◌<◌, nat_le, if◌then◌else◌, Bool, true, ◌&&◌, List, [], ◌∷◌, ◌++◌, drop, length, map, replicate, take, fold, sum_by, ℤ, pos, ◌+ℤ◌, int_lt, int_le}
 use Rattle.std.specs.List.{list_all, enumerate_from, AllByRecursion}
-use Rattle.row_definitions.specs.Row.{Row}
+use Rattle.row_definitions.specs.Row.{Row, reach}
 use Rattle.search_definitions.specs.declared.Bounds.{Bounds}
 use Rattle.search_definitions.specs.Classes.{Class, Classes}
 use Rattle.search_definitions.specs.Compositions.{taken_of, has_value, weight_in}
@@ -13,6 +13,14 @@ later_than front classes = drop (length front) classes
 -- each of the rows has one entry per class
 abbrev pub HaveEntries : Classes → List Row → Type 0
 HaveEntries all rows = AllByRecursion (λ row. length row.a ≡ length all.classes) rows
+
+-- the size of each class
+abbrev pub sizes_of : Classes → List ℕ
+sizes_of all = map (λ class. length class.members) all.classes
+
+-- each of the rows has a reach below 2 ^ 127, so that no weight in it passes 128 bits
+abbrev pub HaveReach : Classes → List Row → Type 0
+HaveReach all rows = AllByRecursion (λ row. reach (sizes_of all) row < 2 ^ 127) rows
 
 -- the most that later classes can give, of those that pass
 abbrev pub most_of : (Class → Bool) → List Class → ℕ
