@@ -4,9 +4,10 @@
 //! The functions here have no body: their contracts are laws over the definitions, and the worked examples.
 #![tactic(auto)]
 
-ghost use Rattle.std.specs.Prelude.{◌≡◌, ◌↔◌, [], ◌∷◌, List, ℕ, Contains, IsTrue};
-ghost use Rattle.pool_definitions.specs.Pool.{is_quota_panel, Pool, IsPool, panels};
-ghost use Rattle.pool_definitions.specs.Lottery.{Lottery, IsLottery, LeximinGreatest, counts};
+ghost use Rattle.std.specs.Prelude.{◌≡◌, ◌↔◌, ◌*◌, [], ◌∷◌, List, ℕ, Contains, IsTrue, sum};
+ghost use Rattle.std.specs.List.{list_all};
+ghost use Rattle.pool_definitions.specs.Pool.{is_of_size, is_quota_panel, Pool, IsPool, panels};
+ghost use Rattle.pool_definitions.specs.Lottery.{Lottery, IsLottery, TotalAgrees, LeximinGreatest, counts};
 ghost use Rattle.pool_definitions.specs.Certificate.{Stage, Certifies};
 ghost use Rattle.pool_definitions.specs.WorkedExamples.{four, four_lottery, four_stages, four_single, barred, barred_lottery, barred_stages, short, crossed, nobody, pair, pair_lottery, pair_stages};
 
@@ -29,6 +30,12 @@ pub fn certified_is_greatest()
 /// A list is among the quota panels of a pool exactly where it is a quota panel.
 pub fn all_are_listed()
     ensures { (pool : Pool) (panel : List ℕ) → Contains (panels pool) panel ↔ IsTrue (is_quota_panel pool panel) }
+{}
+
+/// Where the weights sum to the total and each panel is of the pool's size, the counts sum to the size times the total.
+pub fn counts_sum()
+    ensures { (pool : Pool) (lottery : Lottery) → TotalAgrees lottery → IsTrue (list_all (λ row. is_of_size pool row.panel) lottery.rows) →
+        sum (counts pool lottery) ≡ pool.size * lottery.total }
 {}
 
 /// Two women and two men, one of each to be chosen. A lottery of one panel is not the greatest.
