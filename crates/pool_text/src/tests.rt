@@ -1,13 +1,14 @@
-//! A pool that is read, and where faulty texts go wrong.
+//! Pools that are read and written, and where faulty texts go wrong.
 
-use crate::{ReadPool, read_pool};
+use crate::{ReadPool, read_pool, write_pool};
+use pool_model::Pool;
 use std::alloc::{AllocError, Global};
 use std::process::Abort;
 use std::test::Fail;
 
-/// Two women and two men, one of each to be chosen.
+/// The lines of two women and two men, one of each to be chosen, before their standings.
 const FOUR: &[u8] =
-    b"pool 1/size 2/category gender/value female 1 1/value male 1 1/volunteer a female/volunteer b female/volunteer c male/volunteer d male/end/";
+    b"pool 1/size 2/category gender/value female 1 1/value male 1 1/volunteer a female/volunteer b female/volunteer c male/volunteer d male/";
 
 /// The lines of a pool of two before its first category.
 const SIZED: &[u8] = b"pool 1/size 2/";
@@ -66,12 +67,9 @@ fn tell(
     Ok(())
 }
 
-#[test]
-fn reads_a_pool(rt: HostRuntime) -> Result<(), Fail> {
-    let text = spelled(rt.alloc(), FOUR)?;
-    assert_eq!(rt; text.len(), 138);
-    let pool = read_pool(rt.alloc(), &text)?;
-    let mut read = String::new(rt.alloc());
+/// All that a pool holds.
+fn contents(alloc: Global, pool: &Pool) -> Result<String, Fail> {
+    let mut read = String::new(alloc);
     write!(read, "{}", pool.size())?;
     for category in pool.categories() {
         write!(read, " {}", category.name().as_str())?;
@@ -85,17 +83,59 @@ fn reads_a_pool(rt: HostRuntime) -> Result<(), Fail> {
         let standing = volunteer.standing();
         write!(read, " {id} {:?} {standing:?}", volunteer.values())?;
     }
-    assert_eq!(rt;
-        read.as_str(),
-        "2 gender female 1 1 male 1 1 a [0] Open b [0] Open c [1] Open d [1] Open"
-    );
+    Ok(read)
+}
+
+/// Reads the text, and writes it again. The answer is what was read.
+fn again(rt: &impl Abort, alloc: Global, text: &[u8]) -> Result<String, Fail> {
+    let pool = read_pool(alloc, text)?;
+    let written = write_pool(alloc, &pool)?;
+    assert!(rt; written.as_slice() == text, "at {}", text.escape_ascii());
+    contents(alloc, &pool)
+}
+
+#[test]
+fn reads_and_writes_pools(rt: HostRuntime) -> Result<(), Fail> {
+    let rows: [(&[u8], &[u8], usize, &str); 4] = [
+        (
+            FOUR,
+            b"end/",
+            138,
+            "2 gender female 1 1 male 1 1 a [0] Open b [0] Open c [1] Open d [1] Open",
+        ),
+        (
+            FOUR,
+            b"gone a/seated c/end/",
+            154,
+            "2 gender female 1 1 male 1 1 a [0] Gone b [0] Open c [1] Seated d [1] Open",
+        ),
+        (b"pool 1/size 200/", b"end/", 20, "200"),
+        (
+            b"pool 1/size 10/category \xc3\xa9/category b/value x_y 0 999/",
+            b"end/",
+            58,
+            "10 é b x y 0 999",
+        ),
+    ];
+    for (start, rest, len, want) in rows {
+        let mut text = spelled(rt.alloc(), start)?;
+        add(&mut text, rest)?;
+        assert_eq!(rt; text.len(), len);
+        assert_eq!(rt;
+            again(&rt, rt.alloc(), &text)?.as_str(),
+            want,
+            "at {}",
+            start.escape_ascii()
+        );
+    }
     Ok(())
 }
 
 /// Cut anywhere, the text of a pool misses its end in the line that is cut.
 #[test]
 fn misses_the_end(rt: HostRuntime) -> Result<(), Fail> {
-    let text = spelled(rt.alloc(), FOUR)?;
+    let mut text = spelled(rt.alloc(), FOUR)?;
+    add(&mut text, b"gone a/end/")?;
     let mut line = 1;
     for (n, byte) in text.iter().enumerate() {
         assert_eq!(rt; said(rt.alloc(), &text[..n]), (line, 12), "at {n}");
@@ -103,7 +143,7 @@ fn misses_the_end(rt: HostRuntime) -> Result<(), Fail> {
             line = usize::saturating_add(line, 1);
         }
     }
-    assert_eq!(rt; line, 11);
+    assert_eq!(rt; line, 12);
     Ok(())
 }
 
@@ -165,7 +205,7 @@ fn tests_the_first_lines(rt: HostRuntime) -> Result<(), Fail> {
     Ok(())
 }
 
-const CATEGORIES: [(usize, u8, &[u8]); 63] = [
+const CATEGORIES: [(usize, u8, &[u8]); 65] = [
     (0, 0, b"end/"),
     (0, 0, b"category a/end/"),
     (3, 1, b"/end/"),
@@ -182,8 +222,10 @@ const CATEGORIES: [(usize, u8, &[u8]); 63] = [
     (3, 1, b"value x 0 1/end/"),
     (3, 1, b"value x 1 0/end/"),
     (3, 1, b"value  0 1/end/"),
-    (3, 1, b"seated a/end/"),
-    (3, 1, b"gone a/end/"),
+    (3, 9, b"seated a/end/"),
+    (3, 9, b"gone a/end/"),
+    (4, 9, b"category a/seated a/end/"),
+    (3, 1, b"seated/category a/end/"),
     (3, 12, b"category"),
     (4, 12, b"category a/"),
     (4, 12, b"category a/category a"),
@@ -258,8 +300,8 @@ const VOLUNTEERS: [(usize, u8, &[u8]); 53] = [
     (7, 1, b"volunteer a female/category /end/"),
     (7, 1, b"volunteer a female/value other 0 1/end/"),
     (7, 1, b"volunteer a female/value male 1 0/end/"),
-    (7, 1, b"volunteer a female/seated a/end/"),
-    (7, 1, b"volunteer a female/gone a/end/"),
+    (0, 0, b"volunteer a female/seated a/end/"),
+    (0, 0, b"volunteer a female/gone a/end/"),
     (7, 1, b"volunteer a female/end a/"),
     (8, 1, b"volunteer a female/end/volunteer b male/"),
     (8, 1, b"volunteer a female/end/seated a/end/"),
@@ -318,6 +360,46 @@ const VOLUNTEERS: [(usize, u8, &[u8]); 53] = [
 fn tests_volunteers(rt: HostRuntime) -> Result<(), Fail> {
     let start = spelled(rt.alloc(), GENDERS)?;
     tell(&rt, rt.alloc(), &start, &VOLUNTEERS)?;
+    Ok(())
+}
+
+const STANDINGS: [(usize, u8, &[u8]); 30] = [
+    (0, 0, b"end/"),
+    (0, 0, b"gone d/end/"),
+    (0, 0, b"seated a/gone b/seated c/gone d/end/"),
+    (10, 12, b"seated a"),
+    (11, 12, b"seated a/"),
+    (11, 12, b"seated a/gone a"),
+    (10, 9, b"seated e/end/"),
+    (10, 9, b"seated A/end/"),
+    (10, 9, b"seated a_/end/"),
+    (10, 9, b"seated /end/"),
+    (10, 9, b"gone female/end/"),
+    (10, 9, b"gone \xff/end/"),
+    (11, 9, b"seated a/seated a/end/"),
+    (11, 9, b"gone c/seated c/end/"),
+    (11, 9, b"seated c/gone b/end/"),
+    (12, 9, b"gone a/seated d/gone b/end/"),
+    (10, 1, b"seated/end/"),
+    (10, 1, b"gone/end/"),
+    (10, 1, b"seated a b/end/"),
+    (10, 1, b"gone a /end/"),
+    (10, 1, b"gone e e/end/"),
+    (10, 1, b"Seated a/end/"),
+    (10, 1, b"open a/end/"),
+    (11, 1, b"seated a/volunteer e male/end/"),
+    (11, 1, b"seated a/volunteer a other/end/"),
+    (11, 1, b"gone d/category age/end/"),
+    (11, 1, b"gone d/value other 0 1/end/"),
+    (11, 1, b"gone d/end a/"),
+    (11, 1, b"end/seated a/"),
+    (12, 1, b"seated a/end/gone b"),
+];
+
+#[test]
+fn tests_standings(rt: HostRuntime) -> Result<(), Fail> {
+    let start = spelled(rt.alloc(), FOUR)?;
+    tell(&rt, rt.alloc(), &start, &STANDINGS)?;
     Ok(())
 }
 
@@ -431,5 +513,9 @@ fn tests_the_last_places(rt: HostRuntime) -> Result<(), Fail> {
     tell(&rt, rt.alloc(), &start, &LAST_CATEGORIES)?;
     add_lines(&mut start, 399, "volunteer a", b"*/")?;
     tell(&rt, rt.alloc(), &start, &LAST_VOLUNTEERS)?;
+    add(&mut start, b"volunteer x*/")?;
+    add_lines(&mut start, 399, "gone a", b"/")?;
+    add(&mut start, b"seated x/end/")?;
+    again(&rt, rt.alloc(), &start)?;
     Ok(())
 }
