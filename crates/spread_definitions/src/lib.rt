@@ -1,0 +1,21 @@
+//! The words of spreading: compositions with fractions become panels with weights, so that the members of a class have even
+//! chances. They stand in `specs/`, over the classes and compositions of `search_definitions` and the least common multiples of
+//! `frac128`.
+//!
+//! The functions here have no body: their contracts are a worked example.
+#![tactic(auto)]
+
+ghost use Rattle.std.specs.Prelude.{◌≡◌, [], ◌∷◌, Ok};
+ghost use Rattle.spread_definitions.specs.Spreading.{pieces, spread};
+ghost use Rattle.spread_definitions.specs.WorkedSpreads.{three_and_two, over};
+
+/// One of three and one of two: the dial has six places, cut at 0, 2, 3 and 4.
+pub fn worked_spread()
+    ensures pieces { pieces three_and_two (1 ∷ 1 ∷ []) ≡ (0, 2) ∷ (2, 1) ∷ (3, 1) ∷ (4, 2) ∷ [] }
+    ensures lottery { spread three_and_two ((1 ∷ 1 ∷ [], over 1 1) ∷ []) ≡ Ok (record {
+      total = 6;
+      rows =
+          record { panel = 0 ∷ 3 ∷ []; weight = 2 } ∷ record { panel = 1 ∷ 3 ∷ []; weight = 1 } ∷
+          record { panel = 1 ∷ 4 ∷ []; weight = 1 } ∷ record { panel = 2 ∷ 4 ∷ []; weight = 2 } ∷ [];
+    }) }
+{}
