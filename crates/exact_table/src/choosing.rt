@@ -1,4 +1,5 @@
-// Bland's rule over the rows of a table.
+//! Bland's rule over the rows of a table.
+
 ghost use Rattle.std.specs.Prelude.{◌≡◌, ℕ, ◌<◌, ◌^◌, Bool, ◌&&◌, List, [], length, map, Option, Some, true, pos, ◌≤ℤ◌, ◌<ℤ◌, ◌*ℤ◌, int_lt, unsigned_abs, position, slice_index_or};
 ghost use Rattle.std.specs.List.{All, find, range_with_len};
 ghost use Rattle.std.specs.Ordering.{int_eq};

@@ -1,4 +1,5 @@
-// For each class the stage at whose close it was settled.
+//! For each class the stage at whose close it was settled.
+
 ghost use Rattle.std.specs.Prelude.{◌≡◌, ◌==◌, ◌&&◌, if◌then◌else◌, length, replicate, IfOk, pos, int_lt};
 ghost use Rattle.exact_table.specs.Marks.{never, settled_marks};
 
