@@ -5,7 +5,7 @@
 ghost use Rattle.std.specs.Prelude.{◌≡◌, ◌≤ℤ◌, ◌<ℤ◌, pos, unsigned_abs, Some, SomeIff, max, ◌*◌, ◌^◌, ◌<◌, ◌≤◌};
 ghost use Rattle.std.specs.Ordering.{nat_cmp};
 ghost use Rattle.frac128.specs.Divisors.{gcd_of, lcm_of, IsGreatestCommonDivisor, IsLeastCommonMultiple};
-ghost use Rattle.frac128.specs.Fractions.{Fraction, IsLowest, fraction_text, lowest_of};
+ghost use Rattle.frac128.specs.Fractions.{Fraction, IsLowest, lowest_of, fraction_text};
 
 use std::cmp::Ordering;
 use std::fmt;
