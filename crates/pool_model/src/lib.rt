@@ -1,8 +1,11 @@
-//! Pools of volunteers with their quotas, and panels: values that contracts see as the records of `pool_definitions`, which
-//! stands below. A pool is built step by step and keeps its limits at each step. `fits` tests a panel against a pool.
+//! Pools of volunteers with their quotas, panels, lotteries and certificates: values that contracts see as the records of
+//! `pool_definitions`, which stands below. A pool is built step by step and keeps its limits at each step. `fits` tests a panel
+//! against a pool.
 #![tactic(auto)]
 
 mod building;
+mod certificates;
+mod lotteries;
 mod names;
 mod panels;
 mod parts;
@@ -12,6 +15,8 @@ mod quotas;
 mod tests;
 
 pub use building::BuildStop;
+pub use certificates::{Answer, Certificate, Stage};
+pub use lotteries::{Lottery, LotteryRow};
 pub use panels::Panel;
 pub use parts::{Bound, BoundedValue, Category, Name, Volunteer};
 pub use pool_definitions::Standing;

@@ -1,8 +1,9 @@
 //! Panels: increasing lists of the numbers of volunteers.
 
-ghost use Rattle.std.specs.Prelude.{◌≡◌, IsTrue, Some, None, if◌then◌else◌};
+ghost use Rattle.std.specs.Prelude.{◌≡◌, IsTrue, Some, None, if◌then◌else◌, IfOk};
 ghost use Rattle.pool_definitions.specs.Lists.{is_increasing};
 
+use std::alloc::AllocError;
 use std::marker::Model;
 
 /// An increasing list of numbers of volunteers, which are counted from 0.
@@ -40,6 +41,15 @@ impl Panel {
         ensures increasing { IsTrue (is_increasing self.now) }
     {
         &self.members
+    }
+
+    /// An equal panel.
+    pub fn copy(&self) -> Result<Panel, AllocError>
+        ensures { IfOk result (λ copied. copied ≡ self.now) }
+    {
+        Ok(Panel {
+            members: self.members.clone()?,
+        })
     }
 }
 

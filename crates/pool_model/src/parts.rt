@@ -50,6 +50,15 @@ impl Name {
     {
         self.text.as_bytes()
     }
+
+    /// An equal name.
+    pub fn copy(&self) -> Result<Name, AllocError>
+        ensures { IfOk result (λ copied. copied ≡ self.now) }
+    {
+        Ok(Name {
+            text: self.text.clone()?,
+        })
+    }
 }
 
 /// A value of a category, and how many members of a panel may have it.
@@ -102,6 +111,16 @@ impl BoundedValue {
     {
         self.bound.upper
     }
+
+    /// An equal value.
+    pub fn copy(&self) -> Result<BoundedValue, AllocError>
+        ensures { IfOk result (λ copied. copied ≡ self.now) }
+    {
+        Ok(BoundedValue {
+            name: self.name.copy()?,
+            bound: self.bound,
+        })
+    }
 }
 
 /// A category and its values, in the order in which they were added.
@@ -151,6 +170,26 @@ impl Category {
     {
         &self.values
     }
+
+    /// An equal category.
+    pub fn copy(&self) -> Result<Category, AllocError>
+        ensures { IfOk result (λ copied. copied ≡ self.now) }
+    {
+        Ok(Category {
+            name: self.name.copy()?,
+            values: copied_values(*self.values.allocator(), &self.values)?,
+        })
+    }
+}
+
+fn copied_values(alloc: Global, values: &[BoundedValue]) -> Result<Vec<BoundedValue>, AllocError>
+    ensures { IfOk result (λ copies. copies.items ≡ values.now) }
+{
+    let mut copies = Vec::new(alloc);
+    for value in values {
+        copies.push(value.copy()?)?;
+    }
+    Ok(copies)
 }
 
 /// A volunteer: for each category the place of a value among the category's values, counted from 0.
@@ -200,5 +239,16 @@ impl Volunteer {
         ensures { result ≡ self.now.standing }
     {
         self.standing
+    }
+
+    /// An equal volunteer.
+    pub fn copy(&self) -> Result<Volunteer, AllocError>
+        ensures { IfOk result (λ copied. copied ≡ self.now) }
+    {
+        Ok(Volunteer {
+            id: self.id.copy()?,
+            values: self.values.clone()?,
+            standing: self.standing,
+        })
     }
 }

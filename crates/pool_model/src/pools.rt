@@ -71,6 +71,19 @@ impl Pool {
     {
         let _ = &self.size;
     }
+
+    /// An equal pool.
+    pub fn copy(&self) -> Result<Pool, AllocError>
+        ensures { IfOk result (λ copied. copied ≡ self.now) }
+    {
+        let categories = copied_categories(*self.categories.allocator(), &self.categories)?;
+        let volunteers = copied_volunteers(*self.volunteers.allocator(), &self.volunteers)?;
+        Ok(Pool {
+            size: self.size,
+            categories,
+            volunteers,
+        })
+    }
 }
 
 impl Pool {
@@ -226,4 +239,24 @@ fn add_to_last(categories: &mut Vec<Category>, value: BoundedValue) -> Result<()
     let last = categories.len() - 1;
     let category = &mut categories[last];
     category.add(value)
+}
+
+fn copied_categories(alloc: Global, categories: &[Category]) -> Result<Vec<Category>, AllocError>
+    ensures { IfOk result (λ copies. copies.items ≡ categories.now) }
+{
+    let mut copies = Vec::new(alloc);
+    for category in categories {
+        copies.push(category.copy()?)?;
+    }
+    Ok(copies)
+}
+
+fn copied_volunteers(alloc: Global, volunteers: &[Volunteer]) -> Result<Vec<Volunteer>, AllocError>
+    ensures { IfOk result (λ copies. copies.items ≡ volunteers.now) }
+{
+    let mut copies = Vec::new(alloc);
+    for volunteer in volunteers {
+        copies.push(volunteer.copy()?)?;
+    }
+    Ok(copies)
 }

@@ -1,0 +1,155 @@
+//! Certificates: stages, which give each volunteer a weight and cap a panel's; and answers, which are lotteries with their certificates.
+
+ghost use Rattle.std.specs.Prelude.{◌≡◌, IfOk};
+
+use crate::lotteries::Lottery;
+use std::alloc::{AllocError, Global};
+use std::marker::Model;
+
+/// A weight for each volunteer, which may be negative, and a cap on a panel's weight.
+#[derive(Debug, Drop)]
+pub struct Stage {
+    weights: Vec<i128>,
+    cap: i128,
+}
+
+impl Model for Stage {
+    ghost use Rattle.pool_definitions.specs.Certificate.{Stage as Seen};
+
+    ghost Value = { Seen };
+
+    ghost view = { λ s. record { weights = s.weights.items; cap = s.cap } };
+}
+
+impl Stage {
+    /// A stage of these weights, one for each volunteer, and this cap.
+    pub fn new(weights: Vec<i128>, cap: i128) -> Stage
+        ensures { result ≡ record { weights = weights.items; cap = cap } }
+    {
+        Stage { weights, cap }
+    }
+
+    /// Each volunteer's weight.
+    pub fn weights(&self) -> &[i128]
+        ensures { result.now ≡ self.now.weights }
+    {
+        &self.weights
+    }
+
+    /// The cap on a panel's weight.
+    pub fn cap(&self) -> i128
+        ensures { result ≡ self.now.cap }
+    {
+        self.cap
+    }
+
+    /// An equal stage.
+    pub fn copy(&self) -> Result<Stage, AllocError>
+        ensures { IfOk result (λ copied. copied ≡ self.now) }
+    {
+        Ok(Stage {
+            weights: self.weights.clone()?,
+            cap: self.cap,
+        })
+    }
+}
+
+/// Stages, in order.
+#[derive(Debug, Drop)]
+pub struct Certificate {
+    stages: Vec<Stage>,
+}
+
+impl Model for Certificate {
+    ghost use Rattle.std.specs.Prelude.{List};
+    ghost use Rattle.pool_definitions.specs.Certificate.{Stage as Seen};
+
+    ghost Value = { List Seen };
+
+    ghost view = { λ c. c.stages.items };
+}
+
+impl Certificate {
+    /// The certificate of these stages.
+    pub fn new(stages: Vec<Stage>) -> Certificate
+        ensures { result ≡ stages.items }
+    {
+        Certificate { stages }
+    }
+
+    /// The stages, in order.
+    pub fn stages(&self) -> &[Stage]
+        ensures { result.now ≡ self.now }
+    {
+        &self.stages
+    }
+
+    /// An equal certificate.
+    pub fn copy(&self) -> Result<Certificate, AllocError>
+        ensures { IfOk result (λ copied. copied ≡ self.now) }
+    {
+        let stages = copied_stages(*self.stages.allocator(), &self.stages)?;
+        Ok(Certificate { stages })
+    }
+}
+
+fn copied_stages(alloc: Global, stages: &[Stage]) -> Result<Vec<Stage>, AllocError>
+    ensures { IfOk result (λ copies. copies.items ≡ stages.now) }
+{
+    let mut copies = Vec::new(alloc);
+    for stage in stages {
+        copies.push(stage.copy()?)?;
+    }
+    Ok(copies)
+}
+
+/// A lottery, and the certificate that is to show that it is leximin greatest.
+#[derive(Debug, Drop)]
+pub struct Answer {
+    lottery: Lottery,
+    certificate: Certificate,
+}
+
+impl Model for Answer {
+    ghost use Rattle.pool_definitions.specs.Certificate.{Answer as Seen};
+
+    ghost Value = { Seen };
+
+    ghost view = { λ a. record { lottery = a.lottery; stages = a.certificate } };
+}
+
+impl Answer {
+    /// A lottery with its certificate.
+    pub fn new(lottery: Lottery, certificate: Certificate) -> Answer
+        ensures { result ≡ record { lottery = lottery; stages = certificate } }
+    {
+        Answer {
+            lottery,
+            certificate,
+        }
+    }
+
+    /// The lottery.
+    pub fn lottery(&self) -> &Lottery
+        ensures { result.now ≡ self.now.lottery }
+    {
+        &self.lottery
+    }
+
+    /// The certificate.
+    pub fn certificate(&self) -> &Certificate
+        ensures { result.now ≡ self.now.stages }
+    {
+        &self.certificate
+    }
+
+    /// An equal answer.
+    pub fn copy(&self) -> Result<Answer, AllocError>
+        ensures { IfOk result (λ copied. copied ≡ self.now) }
+    {
+        Ok(Answer {
+            lottery: self.lottery.copy()?,
+            certificate: self.certificate.copy()?,
+        })
+    }
+}

@@ -1,0 +1,122 @@
+//! Lotteries: panels with their weights, and the weights' total.
+
+ghost use Rattle.std.specs.Prelude.{◌≡◌, ◌≤ℤ◌, pos, unsigned_abs, IfOk};
+
+use crate::panels::Panel;
+use std::alloc::{AllocError, Global};
+use std::marker::Model;
+
+/// A panel and its weight in a lottery, which is at least 0.
+#[derive(Debug, Drop)]
+pub struct LotteryRow {
+    panel: Panel,
+    weight: i128,
+}
+
+impl Model for LotteryRow {
+    ghost use Rattle.std.specs.Prelude.{◌≤ℤ◌, pos, unsigned_abs};
+    ghost use Rattle.pool_definitions.specs.Lottery.{Row as Seen};
+
+    ghost Value = { Seen };
+
+    ghost view = { λ r. record { panel = r.panel; weight = unsigned_abs r.weight } };
+
+    ghost invariant = { λ r. pos 0 ≤ℤ r.weight };
+}
+
+impl LotteryRow {
+    /// A panel with this weight, which is at least 0.
+    pub fn new(panel: Panel, weight: i128) -> LotteryRow
+        requires { pos 0 ≤ℤ weight }
+        ensures { result ≡ record { panel = panel; weight = unsigned_abs weight } }
+    {
+        LotteryRow { panel, weight }
+    }
+
+    /// The panel.
+    pub fn panel(&self) -> &Panel
+        ensures { result.now ≡ self.now.panel }
+    {
+        &self.panel
+    }
+
+    /// The panel's weight, at least 0.
+    pub fn weight(&self) -> i128
+        ensures { result ≡ pos self.now.weight }
+    {
+        self.weight
+    }
+
+    /// An equal row.
+    pub fn copy(&self) -> Result<LotteryRow, AllocError>
+        ensures { IfOk result (λ copied. copied ≡ self.now) }
+    {
+        Ok(LotteryRow {
+            panel: self.panel.copy()?,
+            weight: self.weight,
+        })
+    }
+}
+
+/// Panels with their weights, in order, and a total of at least 0, which in a lottery over a pool is the weights' sum.
+#[derive(Debug, Drop)]
+pub struct Lottery {
+    total: i128,
+    rows: Vec<LotteryRow>,
+}
+
+impl Model for Lottery {
+    ghost use Rattle.std.specs.Prelude.{◌≤ℤ◌, pos, unsigned_abs};
+    ghost use Rattle.pool_definitions.specs.Lottery.{Lottery as Seen};
+
+    ghost Value = { Seen };
+
+    ghost view = { λ l. record { total = unsigned_abs l.total; rows = l.rows.items } };
+
+    ghost invariant = { λ l. pos 0 ≤ℤ l.total };
+}
+
+impl Lottery {
+    /// A lottery of these rows. Its total is at least 0.
+    pub fn new(total: i128, rows: Vec<LotteryRow>) -> Lottery
+        requires { pos 0 ≤ℤ total }
+        ensures { result ≡ record { total = unsigned_abs total; rows = rows.items } }
+    {
+        Lottery { total, rows }
+    }
+
+    /// The total, at least 0.
+    pub fn total(&self) -> i128
+        ensures { result ≡ pos self.now.total }
+    {
+        self.total
+    }
+
+    /// The panels with their weights.
+    pub fn rows(&self) -> &[LotteryRow]
+        ensures { result.now ≡ self.now.rows }
+    {
+        &self.rows
+    }
+
+    /// An equal lottery.
+    pub fn copy(&self) -> Result<Lottery, AllocError>
+        ensures { IfOk result (λ copied. copied ≡ self.now) }
+    {
+        let rows = copied_rows(*self.rows.allocator(), &self.rows)?;
+        Ok(Lottery {
+            total: self.total,
+            rows,
+        })
+    }
+}
+
+fn copied_rows(alloc: Global, rows: &[LotteryRow]) -> Result<Vec<LotteryRow>, AllocError>
+    ensures { IfOk result (λ copies. copies.items ≡ rows.now) }
+{
+    let mut copies = Vec::new(alloc);
+    for row in rows {
+        copies.push(row.copy()?)?;
+    }
+    Ok(copies)
+}
