@@ -1,7 +1,7 @@
 -- The run: from a pool and limits to a lottery with its stages, or to the first refusal.
 use Rattle.std.specs.Prelude.{◌≡◌, ℕ, zero, suc, nat_lt, nat_le, if◌then◌else◌, List, [], map, length, slice_index_or, sum_by, Option, Some, None, Result, Ok, Err, unwrap_or}
 use Rattle.std.specs.List.{position, range_with_len}
-use Rattle.frac128.specs.Fractions.{Fraction, lowest_of}
+use Rattle.frac128.specs.Fractions.{Fraction}
 use Rattle.pool_definitions.specs.Certificate.{Answer, Stage}
 use Rattle.pool_definitions.specs.Lists.{holds}
 use Rattle.pool_definitions.specs.Lottery.{Lottery}
@@ -13,7 +13,7 @@ use Rattle.row_definitions.specs.Table.{Table, row_at}
 use Rattle.row_definitions.specs.InOrder.{settled_count}
 use Rattle.row_definitions.specs.Pivot.{start, pivot}
 use Rattle.row_definitions.specs.Choice.{choice}
-use Rattle.row_definitions.specs.Steps.{enter_stage, close_stage, add_column, open_row, solution}
+use Rattle.row_definitions.specs.Steps.{enter_stage, close_stage, add_column, open_row, fraction_of, solution}
 use Rattle.search_definitions.specs.Classes.{Class, Classes, classes_of}
 use Rattle.search_definitions.specs.Compositions.{first_composition, price}
 use Rattle.search_definitions.specs.Fronts.{sizes_of}
@@ -63,7 +63,7 @@ stage_of all row = record {
 
 -- the columns of positive value, each a composition with its fraction
 abbrev pub parts_of : Table → List (List ℕ × Fraction)
-parts_of table = map (λ there. (slice_index_or table.columns there.column [], lowest_of there.side there.coefficient)) (solution table)
+parts_of table = map (λ (c, value). (slice_index_or table.columns c [], value)) (map fraction_of (solution table))
 
 -- everybody is settled: the columns are spread, and the closed rows are the stages
 abbrev pub answered : Classes → Table → Result Lottery TotalPass → Ending

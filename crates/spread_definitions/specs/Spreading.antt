@@ -1,11 +1,11 @@
 -- Compositions with fractions, spread over panels so that the members of a class have even chances.
-use Rattle.std.specs.Prelude.{◌≡◌, ℕ, ◌+◌, ◌-◌, ◌*◌, ◌/◌, ◌^◌, ◌<◌, ◌==◌, nat_lt, nat_le, if◌then◌else◌, Bool, false, ◌&&◌, ◌||◌, IsTrue, List, [], ◌∷◌, ◌++◌, drop, filter, fold, length, map, sum_by, take, Contains, Result, Ok, Err}
+use Rattle.std.specs.Prelude.{◌≡◌, ℕ, ◌+◌, ◌-◌, ◌*◌, ◌/◌, ◌^◌, ◌<◌, ◌==◌, nat_lt, nat_le, if◌then◌else◌, Bool, false, ◌&&◌, ◌||◌, IsTrue, List, [], ◌∷◌, ◌++◌, drop, filter, fold, length, map, slice_get, slice_index, sum_by, take, Contains, Some, Result, Ok, Err}
 use Rattle.std.specs.Int.{◌∣◌}
 use Rattle.std.specs.List.{All, flat_map, range_with_len}
 use Rattle.frac128.specs.Divisors.{lcm_of}
 use Rattle.frac128.specs.Fractions.{Fraction}
 use Rattle.pool_definitions.specs.Lists.{all_different, holds, rising}
-use Rattle.pool_definitions.specs.Lottery.{Row, Lottery}
+use Rattle.pool_definitions.specs.Lottery.{Row, Lottery, count}
 use Rattle.search_definitions.specs.Classes.{Class, Classes}
 use Rattle.search_definitions.specs.Compositions.{compositions}
 
@@ -104,3 +104,12 @@ pub record AreParts (all : Classes) (parts : List (List ℕ × Fraction)) : Type
   pub over : All (λ part. 0 < part.1.den) parts
   -- over each common denominator the upper numbers sum to it
   pub one : (common : ℕ) → All (λ part. part.1.den ∣ common) parts → sum_by (λ part. part.1.num * (common / part.1.den)) parts ≡ common
+
+-- how many members of a class are expected, times the total: the sum of each composition's count times its fraction of the total
+abbrev pub expected : ℕ → List (List ℕ × Fraction) → ℕ → ℕ
+expected total parts t = sum_by (λ part. slice_index part.0 t * (part.1.num * (total / part.1.den))) parts
+
+-- the members of each class have even chances: each one's count times the class's size is the class's expected number times the total
+abbrev pub HasEvenChances : Classes → List (List ℕ × Fraction) → Lottery → Type 0
+HasEvenChances all parts lottery = (t i : ℕ) (class : Class) → slice_get all.classes t ≡ Some class → IsTrue (holds class.members i) →
+    count lottery i * length class.members ≡ expected lottery.total parts t
