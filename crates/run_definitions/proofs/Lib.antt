@@ -1,1 +1,4 @@
 mod Ends
+pub mod Found
+pub mod Priced
+pub mod Kept

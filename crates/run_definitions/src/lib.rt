@@ -11,12 +11,28 @@ ghost use Rattle.pool_definitions.specs.WorkedExamples.{four};
 ghost use Rattle.row_definitions.specs.declared.Op.TheVariants.{Add};
 ghost use Rattle.row_definitions.specs.WorkedRun.{entered, widened};
 ghost use Rattle.run_definitions.specs.Run.{Ending, Limits, NoPanel, Found, TooWide, PivotsSpent, NodesSpent, RunEnds};
+ghost use Rattle.run_definitions.specs.Keeps.{ReachedIsKept, PricedMayBeAdded, PricedIsChosen};
 ghost use Rattle.run_definitions.specs.WorkedRuns.{limits, halves, pairs};
 ghost use Rattle.search_definitions.specs.WorkedSearches.{either};
 
 /// A run ends in one way.
 pub fn one_ending()
     ensures { (pool : Pool) (limits : Limits) (first second : Ending) → RunEnds pool limits first → RunEnds pool limits second → first ≡ second }
+{}
+
+/// Each table of a run is in order and has compositions as its columns, and its closed rows were priced out.
+pub fn reached_is_kept()
+    ensures { ReachedIsKept }
+{}
+
+/// A composition that pricing finds is none of the table's columns, and may become one.
+pub fn priced_may_be_added()
+    ensures { PricedMayBeAdded }
+{}
+
+/// Once it is a column, a pivot is chosen.
+pub fn priced_is_chosen()
+    ensures { PricedIsChosen }
 {}
 
 /// One seat for one of two volunteers: two pivots, and a search of 3 visits at most.
