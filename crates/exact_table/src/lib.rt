@@ -10,6 +10,8 @@ mod marks;
 mod pivoting;
 mod starting;
 mod table;
+#[cfg(test)]
+mod tests;
 mod width;
 
 pub use frame::Counts;
