@@ -9,7 +9,7 @@ use Rattle.std.proofs.lemmas.List.Sums.{sum-map}
 use Rattle.row_definitions.specs.declared.Pass.{Pass}
 use Rattle.row_definitions.specs.declared.Var.{Var}
 use Rattle.row_definitions.specs.Choice.{choice}
-use Rattle.row_definitions.specs.InOrder.{settled_count}
+use Rattle.row_definitions.specs.InOrder.{IsInOrder, settled_count}
 use Rattle.row_definitions.specs.Laws.{HasClosedRowsOf}
 use Rattle.row_definitions.specs.Pivot.{start, pivot, rows_after, one_more, first_table, first_rows}
 use Rattle.row_definitions.specs.Row.{Row}
@@ -40,6 +40,12 @@ all_taken zero [] l = refl
 all_taken zero (x ∷ xs) l = absurd (omega arith)
 all_taken (suc k) [] l = refl
 all_taken (suc k) (x ∷ xs) l = ap (λ ys. x ∷ ys) (all_taken k xs (omega arith))
+
+-- the chosen pivot leaves the closed rows as they are
+pub closed_rows_stay : (table : Table) → IsInOrder table → table.in_stage ≡ true → (r : ℕ) (v : Var) → choice table ≡ Some (r, v) → (made : Table) → pivot table r v ≡ Ok made → closed_rows made ≡ closed_rows table
+closed_rows_stay table h open_now r v chosen made e =
+    let stays = pivot-keeps_closed table h open_now r v chosen made e in
+    ap (map (row_at made)) stays.closed ∙ map_same (row_at made) (row_at table) table.closed (recursion_from_All (λ i. row_at made i ≡ row_at table i) table.closed stays.numbers)
 
 -- ---- one step
 
@@ -123,7 +129,7 @@ module _ (all : Classes) (limits : Limits) (table : Table) (keeps : KeepsRun all
       stays = pivot-keeps_closed table keeps.in_order open_now r v chosen made e
 
       rows_stay : closed_rows made ≡ closed_rows table
-      rows_stay = ap (map (row_at made)) stays.closed ∙ map_same (row_at made) (row_at table) table.closed (recursion_from_All (λ i. row_at made i ≡ row_at table i) table.closed stays.numbers)
+      rows_stay = closed_rows_stay table keeps.in_order open_now r v chosen made e
 
       more : (n : ℕ) → n < limits.pivots → one_more n ≤ limits.pivots
       more n l = by (ltb n (2 ^ 64 - 1))
