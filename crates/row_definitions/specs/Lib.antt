@@ -7,3 +7,4 @@ pub mod Steps
 pub mod InOrder
 pub mod WorkedRun
 pub mod Laws
+pub mod Solutions
