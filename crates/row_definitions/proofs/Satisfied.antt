@@ -2,9 +2,11 @@
 use Rattle.std.proofs.Common.{◌≡◌, ◌≢◌, ℕ, zero, suc, ◌*◌, ◌/◌, ◌<◌, ◌≤◌, Bool, true, false, cond, [], length, get_or, Option, Some, None, ℤ, pos, negsuc, ◌*ℤ◌, ◌≤ℤ◌, ◌<ℤ◌, refl, sym, ap, ap₂, ◌∙◌, subst, arith}
 use Rattle.std.specs.Prelude.{int_lt, unsigned_abs, sum_by}
 use Rattle.std.specs.Int.{◌∣◌}
+use Rattle.std.specs.List.{All}
 use Rattle.std.specs.Option.{option_and_then}
 use Rattle.std.proofs.Math.Nat.{mul-div_cancel'}
 use Rattle.std.proofs.lemmas.Int.{ints}
+use Rattle.std.proofs.lemmas.List.Elements.{All-from_get_or}
 use Rattle.frac128.specs.Divisors.{gcd_of}
 use Rattle.frac128.specs.Fractions.{lowest_of}
 use Rattle.frac128.proofs.DivisorLaws.{IsGcd-gcd_of}
@@ -14,12 +16,13 @@ use Rattle.row_definitions.specs.Table.{Table, coefficient_at, row_at, basic_at,
 use Rattle.row_definitions.specs.Choice.{row_of}
 use Rattle.row_definitions.specs.Steps.{ColumnValue, value_in, value_of, solution}
 use Rattle.row_definitions.specs.InOrder.{IsInOrder, IsKnown, IsSpanned, combination, unit}
-use Rattle.row_definitions.specs.Solutions.{numerator_over, SolutionStands}
+use Rattle.row_definitions.specs.Solutions.{numerator_over, SolutionStands, IsTight}
 use Rattle.row_definitions.proofs.Integers.{mul_comm, mul_assoc, mul-left_comm, mul-zero, one-mul, same-unscaled}
 use Rattle.row_definitions.proofs.Linear.{value, value-combination, value-same, value-scaled, unit-same, unit-other, dot-none}
+use Rattle.row_definitions.proofs.CoefficientLaws.{coefficient-Column}
 use Rattle.row_definitions.proofs.Entered.{place_of, is_same-true}
 use Rattle.row_definitions.proofs.Totals.{total, total-none, total-same, total-scaled, total-swap, total-picks, combination-total, coefficients-total, amount, filtered-total}
-use Rattle.row_definitions.proofs.Solutions.{is_same_refl, position-None, solution-each, each-solution, solution-rises, stands-positive, found-basic}
+use Rattle.row_definitions.proofs.Solutions.{StandsAt, is_same_refl, position-None, solution-each, each-solution, solution-rises, stands-positive, found-basic}
 
 -- a positive factor is cancelled
 cancel : (a b c : ℤ) → pos 0 <ℤ c → c *ℤ a ≡ c *ℤ b → a ≡ b
@@ -222,3 +225,16 @@ solution-stands table h = record {
   positive = solution-each table h (λ there. (0 < there.side) × (0 < there.coefficient)) (λ c there l s. stands-positive table h c there s);
   one = λ common all. solution-whole table h (numerator_over common) common (λ c there l e. numerator-over common there (each-solution table h (λ there. (lowest_of there.side there.coefficient).den ∣ common) c there all l e));
 }
+
+-- a column of the solution is basic in another row than a closed one, so its coefficient there is 0
+pub solution-tight : (table : Table) → IsInOrder table → All (λ there. All (IsTight table there.column) table.closed) (solution table)
+solution-tight table h =
+    solution-each table h (λ there. All (IsTight table there.column) table.closed) (λ c there l s. subst (λ k. All (IsTight table k) table.closed) (sym s.column_is) (All-from_get_or (IsTight table c) table.closed 0 (tight c there s)))
+  where
+    tight : (c : ℕ) (there : ColumnValue) → StandsAt table c there → (k : ℕ) → k < length table.closed → IsTight table c (get_or table.closed k 0)
+    tight c there s k l =
+        let i = get_or table.closed k 0 in
+        let known : i < length table.rows = h.closed_known k 0 l in
+        let apart : i ≢ s.row = λ e. let same : Column c ≡ Stage k = sym s.basic ∙ ap (basic_at table) (sym e) ∙ h.closed_basic k l in absurd cc in
+        let zero : coefficient_at table i (Column c) ≡ pos 0 = ap (coefficient_at table i) (sym s.basic) ∙ h.basic_others i s.row known s.in_rows apart in
+        omega (arith, ints, coefficient-Column table (row_at table i) c, zero)

@@ -1,9 +1,10 @@
 -- What the solution of a table in order is: columns of positive value, rising, whose values sum to one.
-use Rattle.std.specs.Prelude.{◌≡◌, ℕ, ◌*◌, ◌/◌, ◌<◌, length, sum_by}
+use Rattle.std.specs.Prelude.{◌≡◌, ℕ, ◌*◌, ◌/◌, ◌<◌, [], length, sum_by, slice_index_or}
 use Rattle.std.specs.Int.{◌∣◌}
 use Rattle.std.specs.List.{All, AllPairs}
 use Rattle.frac128.specs.Fractions.{lowest_of}
-use Rattle.row_definitions.specs.Table.{Table}
+use Rattle.row_definitions.specs.Row.{sum_of_products}
+use Rattle.row_definitions.specs.Table.{Table, row_at}
 use Rattle.row_definitions.specs.Steps.{ColumnValue, solution}
 use Rattle.row_definitions.specs.InOrder.{IsInOrder}
 
@@ -24,3 +25,11 @@ pub record SolutionStands (table : Table) : Type 0 where
 -- the solution of each table in order stands
 abbrev pub SolutionsStand : Type 0
 SolutionsStand = (table : Table) → IsInOrder table → SolutionStands table
+
+-- a column is tight at a row: its counts times the row's entries sum to the right side
+abbrev pub IsTight : Table → ℕ → ℕ → Type 0
+IsTight table c i = sum_of_products (slice_index_or table.columns c []) (row_at table i).a ≡ (row_at table i).b
+
+-- in each table in order the columns of the solution are tight at the closed rows
+abbrev pub BasicColumnsAreTight : Type 0
+BasicColumnsAreTight = (table : Table) → IsInOrder table → All (λ there. All (IsTight table there.column) table.closed) (solution table)
