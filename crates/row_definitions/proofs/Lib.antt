@@ -19,3 +19,4 @@ pub mod Starts
 pub mod Totals
 pub mod Solutions
 pub mod Satisfied
+pub mod SettledKeep

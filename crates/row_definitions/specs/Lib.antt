@@ -8,3 +8,4 @@ pub mod InOrder
 pub mod WorkedRun
 pub mod Laws
 pub mod Solutions
+pub mod Settled
