@@ -7,3 +7,5 @@ pub mod Steps
 pub mod InOrder
 pub mod WorkedRun
 pub mod Laws
+pub mod Solutions
+pub mod Settled
