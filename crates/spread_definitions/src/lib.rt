@@ -5,9 +5,17 @@
 //! The functions here have no body: their contracts are a worked example.
 #![tactic(auto)]
 
-ghost use Rattle.std.specs.Prelude.{◌≡◌, [], ◌∷◌, Ok};
-ghost use Rattle.spread_definitions.specs.Spreading.{pieces, spread};
+ghost use Rattle.std.specs.Prelude.{◌≡◌, ℕ, List, [], ◌∷◌, Ok};
+ghost use Rattle.frac128.specs.Fractions.{Fraction};
+ghost use Rattle.search_definitions.specs.Classes.{Classes};
+ghost use Rattle.spread_definitions.specs.Spreading.{AreParts, IsCommonTotal, pieces, spread, total_from};
 ghost use Rattle.spread_definitions.specs.WorkedSpreads.{three_and_two, over};
+
+/// The total of parts, where it passes at none of them, is a multiple of each denominator times the length of its dial.
+pub fn total_is_common()
+    ensures { (all : Classes) (parts : List (List ℕ × Fraction)) (total : ℕ) → AreParts all parts → total_from all 0 1 parts ≡ Ok total →
+        IsCommonTotal all parts total }
+{}
 
 /// One of three and one of two: the dial has six places, cut at 0, 2, 3 and 4.
 pub fn worked_spread()
