@@ -1,5 +1,5 @@
 -- The common total of parts: a multiple of each denominator times the length of its composition's dial.
-use Rattle.std.proofs.Common.{◌≡◌, ℕ, ◌+◌, ◌*◌, ◌/◌, ◌≤◌, ◌<◌, true, false, cond, leb, ltb, sum_by, List, [], ◌∷◌, ◌++◌, length, Ok, Err, refl, subst, arith}
+use Rattle.std.proofs.Common.{◌≡◌, ℕ, ◌+◌, ◌*◌, ◌≤◌, ◌<◌, true, false, cond, leb, ltb, List, [], ◌∷◌, ◌++◌, length, Ok, Err, refl, subst, arith}
 use Rattle.std.specs.Int.{◌∣◌}
 use Rattle.std.specs.List.{fold, AllByRecursion}
 use Rattle.std.proofs.lemmas.Bool.{and_parts, leb-true, ltb-true}
@@ -91,13 +91,3 @@ pub each_den : (all : Classes) (parts : List (List ℕ × Fraction)) (total : �
 each_den all parts total common =
     each_map (λ part. part.1.den * dial all part.0 ∣ total) (λ part. part.1.den ∣ total) (λ part h. dvd_trans _ (dvd-mul_right part.1.den (dial all part.0)) h)
     parts (recursion_from_All (λ part. part.1.den * dial all part.0 ∣ total) parts common.multiple)
-
--- and the parts of it sum to it
-pub sum_is_total : (all : Classes) (parts : List (List ℕ × Fraction)) (total : ℕ) → AreParts all parts → IsCommonTotal all parts total →
-    sum_by (λ part. part.1.num * (total / part.1.den)) parts ≡ total
-sum_is_total all parts total are common = are.one total (All-from_recursion (λ part. part.1.den ∣ total) parts (each_den all parts total common))
-
--- there is a part, since nothing does not sum to one
-pub some_parts : (all : Classes) (parts : List (List ℕ × Fraction)) → AreParts all parts → 0 < length parts
-some_parts all [] are = let sum : ℕ = 0 in let none : sum ≡ 1 = are.one 1 (λ k d h. absurd (omega arith)) in absurd (omega arith)
-some_parts all (part ∷ parts) are = omega arith

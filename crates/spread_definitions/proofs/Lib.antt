@@ -1,1 +1,2 @@
 pub mod CommonTotals
+pub mod Parts
