@@ -1,2 +1,3 @@
 pub mod CommonTotals
 pub mod Parts
+pub mod Shares
