@@ -1,9 +1,9 @@
 -- Compositions with fractions, spread over panels so that the members of a class have even chances.
-use Rattle.std.specs.Prelude.{◌≡◌, ℕ, ◌+◌, ◌-◌, ◌*◌, ◌/◌, ◌^◌, ◌<◌, ◌==◌, nat_lt, nat_le, if◌then◌else◌, Bool, false, ◌&&◌, ◌||◌, IsTrue, List, [], ◌∷◌, ◌++◌, drop, filter, fold, length, map, slice_get, slice_index, sum_by, take, Contains, Some, Result, Ok, Err}
+use Rattle.std.specs.Prelude.{◌≡◌, ℕ, ◌+◌, ◌-◌, ◌*◌, ◌/◌, ◌^◌, ◌<◌, ◌≤◌, ◌==◌, nat_lt, nat_le, if◌then◌else◌, Bool, false, ◌&&◌, ◌||◌, IsTrue, List, [], ◌∷◌, ◌++◌, drop, filter, fold, length, map, slice_get, slice_index, sum_by, take, Contains, Some, Result, Ok, Err}
 use Rattle.std.specs.Int.{◌∣◌}
-use Rattle.std.specs.List.{All, flat_map, range_with_len}
+use Rattle.std.specs.List.{All, AllByRecursion, flat_map, range_with_len}
 use Rattle.frac128.specs.Divisors.{lcm_of}
-use Rattle.frac128.specs.Fractions.{Fraction}
+use Rattle.frac128.specs.Fractions.{Fraction, lowest_of}
 use Rattle.pool_definitions.specs.Lists.{all_different, holds, rising}
 use Rattle.pool_definitions.specs.Lottery.{Row, Lottery, count}
 use Rattle.search_definitions.specs.Classes.{Class, Classes}
@@ -104,6 +104,24 @@ pub record AreParts (all : Classes) (parts : List (List ℕ × Fraction)) : Type
   pub over : All (λ part. 0 < part.1.den) parts
   -- over each common denominator the upper numbers sum to it
   pub one : (common : ℕ) → All (λ part. part.1.den ∣ common) parts → sum_by (λ part. part.1.num * (common / part.1.den)) parts ≡ common
+
+-- different compositions of the classes, each with a share of a whole
+pub record AreShares (all : Classes) (whole : ℕ) (shares : List (List ℕ × ℕ)) : Type 0 where
+  pub compositions : AllByRecursion (λ part. Contains (compositions all) part.0) shares
+  pub different : IsTrue (all_different (map (λ part. part.0) shares))
+  pub positive : AllByRecursion (λ part. 0 < part.1) shares
+  pub some : 0 < whole
+  pub sum : sum_by (λ part. part.1) shares ≡ whole
+
+-- the share as a fraction of the whole, in lowest terms
+abbrev pub with_fraction : ℕ → List ℕ × ℕ → List ℕ × Fraction
+with_fraction whole (counts, share) = (counts, lowest_of share whole)
+
+-- a total of at most 10 ^ 38 that is a multiple of each denominator times its dial's length
+pub record IsCommonTotal (all : Classes) (parts : List (List ℕ × Fraction)) (total : ℕ) : Type 0 where
+  pub positive : 0 < total
+  pub within : total ≤ greatest_total
+  pub multiple : All (λ part. part.1.den * dial all part.0 ∣ total) parts
 
 -- how many members of a class are expected, times the total: the sum of each composition's count times its fraction of the total
 abbrev pub expected : ℕ → List (List ℕ × Fraction) → ℕ → ℕ
