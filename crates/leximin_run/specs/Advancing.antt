@@ -5,7 +5,7 @@ use Rattle.row_definitions.specs.Choice.{choice}
 use Rattle.row_definitions.specs.InOrder.{settled_count}
 use Rattle.row_definitions.specs.Row.{Row}
 use Rattle.row_definitions.specs.Table.{Table}
-use Rattle.run_definitions.specs.Keeps.{KeepsRun}
+use Rattle.run_definitions.specs.Keeps.{IsReached, KeepsRun}
 use Rattle.run_definitions.specs.Run.{Ending, Limits, GoOn, Ended, TooWide, PivotsSpent, NodesSpent, closed_rows, step}
 use Rattle.search_definitions.specs.Classes.{Classes}
 use Rattle.leximin_run.specs.declared.running.Refusal.{Refusal}
@@ -45,3 +45,8 @@ Advances all limits before (Err refusal) after = Refuses all limits before refus
 pub record Stands (all : Classes) (limits : Limits) (table : Table) (closed : List Row) : Type 0 where
   pub keeps : KeepsRun all limits table
   pub closed_are : closed ≡ closed_rows table
+
+-- the run comes to the table, and the rows that were kept are its closed ones
+pub record Reaches (all : Classes) (limits : Limits) (table : Table) (closed : List Row) : Type 0 where
+  pub reached : IsReached all limits table
+  pub stands : Stands all limits table closed

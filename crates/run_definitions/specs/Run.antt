@@ -115,7 +115,11 @@ follow all limits next zero = next
 follow all limits (GoOn table) (suc more) = follow all limits (step all limits table) more
 follow all limits (Ended ending) (suc more) = Ended ending
 
--- the run over a pool under limits ends so
-pub record RunEnds (pool : Pool) (limits : Limits) (ending : Ending) : Type 0 where
+-- the run over classes under limits ends so
+pub record Ends (all : Classes) (limits : Limits) (ending : Ending) : Type 0 where
   pub steps : ℕ
-  pub ends : follow (classes_of pool) limits (opening (classes_of pool) limits) steps ≡ Ended ending
+  pub there : follow all limits (opening all limits) steps ≡ Ended ending
+
+-- the run over a pool under limits ends so
+abbrev pub RunEnds : Pool → Limits → Ending → Type 0
+RunEnds pool limits ending = Ends (classes_of pool) limits ending

@@ -11,7 +11,7 @@ ghost use Rattle.pool_definitions.specs.WorkedExamples.{four};
 ghost use Rattle.row_definitions.specs.declared.Op.TheVariants.{Add};
 ghost use Rattle.row_definitions.specs.WorkedRun.{entered, widened};
 ghost use Rattle.run_definitions.specs.Run.{Ending, Limits, NoPanel, Found, TooWide, PivotsSpent, NodesSpent, RunEnds};
-ghost use Rattle.run_definitions.specs.Keeps.{ReachedIsKept, PricedMayBeAdded, PricedIsChosen};
+ghost use Rattle.run_definitions.specs.Keeps.{ReachedIsKept, PricedMayBeAdded, PricedIsChosen, PartsSpread};
 ghost use Rattle.run_definitions.specs.WorkedRuns.{limits, halves, pairs};
 ghost use Rattle.search_definitions.specs.WorkedSearches.{either};
 
@@ -33,6 +33,11 @@ pub fn priced_may_be_added()
 /// Once it is a column, a pivot is chosen.
 pub fn priced_is_chosen()
     ensures { PricedIsChosen }
+{}
+
+/// The columns of positive value are different compositions, whose values are positive fractions that sum to one.
+pub fn parts_can_be_spread()
+    ensures { PartsSpread }
 {}
 
 /// One seat for one of two volunteers: two pivots, and a search of 3 visits at most.

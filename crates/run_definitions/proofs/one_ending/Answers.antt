@@ -5,4 +5,4 @@ use Rattle.run_definitions.proofs.one_ending.Goals as goal
 
 pub returns : goal.returns
 returns c = λ pool limits first second a b.
-    same_ending (classes_of pool) limits (opening (classes_of pool) limits) a.steps b.steps first second a.ends b.ends
+    same_ending (classes_of pool) limits (opening (classes_of pool) limits) a.steps b.steps first second a.there b.there
