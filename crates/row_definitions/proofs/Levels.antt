@@ -2,27 +2,30 @@
 use Rattle.std.proofs.Common.{◌≡◌, ◌≢◌, ℕ, zero, suc, ◌+◌, ◌*◌, ◌/◌, ◌<◌, Bool, true, false, cond, List, [], ◌∷◌, length, get_or, Option, Some, None, ℤ, pos, ◌+ℤ◌, ◌-ℤ◌, ◌*ℤ◌, neg_ℤ, ◌≤ℤ◌, refl, sym, ap, ap₂, ◌∙◌, subst, arith}
 use Rattle.std.specs.Prelude.{int_lt, unsigned_abs, slice_index, sum_by, count_by}
 use Rattle.std.specs.Int.{◌∣◌}
-use Rattle.std.specs.List.{All, range_with_len}
+use Rattle.std.specs.List.{All, AllByRecursion, range_with_len}
 use Rattle.std.specs.Option.{option_and_then}
-use Rattle.std.proofs.Math.Nat.{mul-div_cancel', dvd_trans, dvd-mul_right, dvd-mul_left}
+use Rattle.std.proofs.Math.Nat.{eq_of_mul-eq-mul_right, mul-div_cancel', dvd_trans, dvd-mul_right, dvd-mul_left}
 use Rattle.std.proofs.lemmas.Int.{ints}
 use Rattle.std.proofs.lemmas.List.Sums.{sum_by-cons, count_by-le-length}
+use Rattle.std.proofs.lemmas.List.Elements.{recursion_from_All}
+use Rattle.frac128.specs.Fractions.{lowest_of}
 use Rattle.row_definitions.specs.declared.Var.{Var}
 use Rattle.row_definitions.specs.declared.Var.TheVariants.{Slack, Stage, Column}
 use Rattle.row_definitions.specs.Table.{Table, coefficient_at, row_at, basic_at, is_same, sizes_where}
 use Rattle.row_definitions.specs.Choice.{row_of}
 use Rattle.row_definitions.specs.Steps.{ColumnValue, value_in, value_of, solution}
 use Rattle.row_definitions.specs.InOrder.{IsKnown, count_in, unit}
+use Rattle.row_definitions.specs.Solutions.{numerator_over}
 use Rattle.row_definitions.specs.Settled.{was_unsettled, is_settled}
-use Rattle.row_definitions.specs.Levels.{count_of, levels_of, AllSettled, HasLevels}
+use Rattle.row_definitions.specs.Levels.{count_of, count_over, levels_of, AllSettled, HasLevels}
 use Rattle.row_definitions.proofs.Integers.{mul_comm, mul-zero, neg-mul}
 use Rattle.row_definitions.proofs.CoefficientLaws.{coefficient-Slack}
 use Rattle.row_definitions.proofs.Linear.{value, unit-same, unit-other, dot-picks}
 use Rattle.row_definitions.proofs.SumLaws.{get_or-sizes_where}
 use Rattle.row_definitions.proofs.Entered.{place_of, is_same-true}
 use Rattle.row_definitions.proofs.Totals.{total, total-same, total-scaled, amount}
-use Rattle.row_definitions.proofs.Solutions.{StandsAt, is_same_refl, stands-at, solution-each, each-solution, found-basic}
-use Rattle.row_definitions.proofs.Satisfied.{only, only-none, only-picks, in_row, satisfied, by-variable, solution-total, known-basic, solution-whole}
+use Rattle.row_definitions.proofs.Solutions.{StandsAt, is_same_refl, stands-at, stands-value, stands-positive, solution-each, each-solution, found-basic}
+use Rattle.row_definitions.proofs.Satisfied.{numerator-over, only, only-none, only-picks, in_row, satisfied, by-variable, solution-total, known-basic, solution-whole}
 
 -- a product that each of its factors divides
 product_to : ℕ → (ℕ → ℕ) → ℕ
@@ -72,6 +75,15 @@ only-same x kind n f g h = total-same n (λ c. cond (is_same x (kind c)) (f c) (
     by : (c : ℕ) → c < n → (b : Bool) → is_same x (kind c) ≡ b → cond b (f c) (pos 0) ≡ cond b (g c) (pos 0)
     by c l true e = h c l (is_same-true x (kind c) e)
     by c l false e = refl
+
+-- sums whose terms are the same but for two factors
+sums-same : {X : Type 0} (x y : ℕ) (f g : X → ℕ) (xs : List X) → AllByRecursion (λ z. x * f z ≡ y * g z) xs → x * sum_by f xs ≡ y * sum_by g xs
+sums-same x y f g [] h = omega arith
+sums-same x y f g (z ∷ zs) h =
+    ap (λ n. x * n) (sum_by-cons f z zs) ∙ distributed x (f z) (sum_by f zs) ∙ ap₂ (λ m n. m + n) h.0 (sums-same x y f g zs h.1) ∙ sym (distributed y (g z) (sum_by g zs)) ∙ ap (λ n. y * n) (sym (sum_by-cons g z zs))
+  where
+    distributed : (k m n : ℕ) → k * (m + n) ≡ k * m + k * n
+    distributed k m n = omega arith
 
 stage_number : Var → ℕ
 stage_number (Slack t) = t
@@ -304,6 +316,36 @@ module _ (table : Table) (a : AllSettled table) where
         same_pos : (m n : ℕ) → pos m ≡ pos n → m ≡ n
         same_pos m n e = omega (arith, ints)
 
+  -- over a common multiple each value is the same but for the scales
+  numerator-same : (common c t : ℕ) (there : ColumnValue) → StandsAt table c there → (lowest_of there.side there.coefficient).den ∣ common →
+      the_scale * (numerator_over common there * count_in table.columns there.column t) ≡ common * (value_of_column there.column * count_in table.columns there.column t)
+  numerator-same common c t there s d =
+      joined the_scale common (numerator_over common there) (value_of_column there.column) (count_in table.columns there.column t)
+      (eq_of_mul-eq-mul_right there.coefficient (stands-positive table a.in_order c there s).1 (the_scale * numerator_over common there) (common * value_of_column there.column) scaled)
+    where
+      apart : (x y z : ℕ) → x * y * z ≡ x * (y * z)
+      apart x y z = omega arith
+
+      swapped : (x y z : ℕ) → x * (y * z) ≡ y * (x * z)
+      swapped x y z = omega arith
+
+      scaled : the_scale * numerator_over common there * there.coefficient ≡ common * value_of_column there.column * there.coefficient
+      scaled =
+          apart the_scale (numerator_over common there) there.coefficient ∙ ap (λ n. the_scale * n) (numerator-over common there d) ∙ swapped the_scale common there.side
+          ∙ ap (λ n. common * n) (sym (ap (λ n. value_of_column n * there.coefficient) s.column_is ∙ value-stands c there s)) ∙ sym (apart common (value_of_column there.column) there.coefficient)
+
+      joined : (x y m n k : ℕ) → x * m ≡ y * n → x * (m * k) ≡ y * (n * k)
+      joined x y m n k e = sym (apart x m k) ∙ ap (λ z. z * k) e ∙ apart y n k
+
+  counts-over : (common t : ℕ) → All (λ there. (lowest_of there.side there.coefficient).den ∣ common) (solution table) → t < length table.sizes →
+      the_scale * count_over table common t ≡ common * (slice_index table.sizes t * levels_of table level_of t)
+  counts-over common t all l =
+      sums-same the_scale common (λ there. numerator_over common there * count_in table.columns there.column t) (λ there. value_of_column there.column * count_in table.columns there.column t) (solution table)
+      (recursion_from_All (λ there. the_scale * (numerator_over common there * count_in table.columns there.column t) ≡ common * (value_of_column there.column * count_in table.columns there.column t)) (solution table)
+      (solution-each table a.in_order (λ there. the_scale * (numerator_over common there * count_in table.columns there.column t) ≡ common * (value_of_column there.column * count_in table.columns there.column t))
+      (λ c there m s. numerator-same common c t there s (each-solution table a.in_order (λ there. (lowest_of there.side there.coefficient).den ∣ common) c there all m (stands-value table a.in_order c there s)))))
+      ∙ ap (λ n. common * n) (class-counts t l)
+
   pub settled-levels : HasLevels table
   settled-levels = record {
     scale = the_scale;
@@ -317,4 +359,5 @@ module _ (table : Table) (a : AllSettled table) where
     whole = solution-whole table a.in_order (λ there. value_of_column there.column) the_scale
         (λ c there l e. let s = stands-at table a.in_order c there e in ap (λ n. value_of_column n * there.coefficient) s.column_is ∙ value-stands c there s);
     counts = class-counts;
+    counts_over = counts-over;
   }
