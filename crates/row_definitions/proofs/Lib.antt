@@ -20,3 +20,4 @@ pub mod Totals
 pub mod Solutions
 pub mod Satisfied
 pub mod SettledKeep
+pub mod Levels

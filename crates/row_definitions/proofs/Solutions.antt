@@ -99,6 +99,22 @@ module _ (table : Table) (h : IsInOrder table) where
                 coefficient_is = sym (ap (λ v. v.coefficient) same);
               }
 
+  -- and the other way round
+  pub stands-value : (c : ℕ) (there : ColumnValue) → StandsAt table c there → value_of table c ≡ Some there
+  stands-value c there s =
+      ap (option_and_then (value_in table c)) s.found ∙ ap (λ b. cond b (Some (record { column = c; side = unsigned_abs (row_at table s.row).b; coefficient = unsigned_abs (coefficient_at table s.row (Column c)) })) None) (tested (row_at table s.row).b s.above)
+      ∙ ap Some (same c (unsigned_abs (row_at table s.row).b) (unsigned_abs (coefficient_at table s.row (Column c))) there s.column_is s.side_is s.coefficient_is)
+    where
+      tested : (z : ℤ) → pos 0 <ℤ z → int_lt (pos 0) z ≡ true
+      tested z l = by (int_lt (pos 0) z) refl
+        where
+          by : (b : Bool) → int_lt (pos 0) z ≡ b → int_lt (pos 0) z ≡ true
+          by true e = e
+          by false e = absurd (omega (arith, ints))
+
+      same : (c s k : ℕ) (there : ColumnValue) → there.column ≡ c → there.side ≡ s → there.coefficient ≡ k → record { column = c; side = s; coefficient = k } ≡ there
+      same c s k there e f g = λ i. record { column = sym e i; side = sym f i; coefficient = sym g i }
+
   -- what holds of each value that stands holds of the whole solution, and the other way round
   pub solution-each : (Q : ColumnValue → Type 0) → ((c : ℕ) (there : ColumnValue) → c < length table.columns → StandsAt table c there → Q there) → All Q (solution table)
   unfolding solution

@@ -9,3 +9,4 @@ pub mod WorkedRun
 pub mod Laws
 pub mod Solutions
 pub mod Settled
+pub mod Levels
