@@ -1,1 +1,3 @@
 mod Turns
+mod Beginning
+mod Ending

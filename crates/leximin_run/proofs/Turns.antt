@@ -1,7 +1,7 @@
 -- What a step of the run needs, and what it makes.
-use Rattle.std.proofs.Common.{◌≡◌, ◌≢◌, ℕ, zero, suc, ◌+◌, ◌-◌, ◌*◌, ◌^◌, ◌<◌, ◌≤◌, Bool, true, false, cond, leb, ltb, List, [], ◌∷◌, ◌++◌, length, map, Option, Some, None, Result, Ok, Err, pos, refl, sym, ap, ap₂, ◌∙◌, subst, arith}
+use Rattle.std.proofs.Common.{◌≡◌, ◌≢◌, ℕ, ◌+◌, ◌-◌, ◌*◌, ◌^◌, ◌<◌, ◌≤◌, Bool, true, false, cond, leb, ltb, List, [], ◌∷◌, ◌++◌, length, Option, Some, None, Result, Ok, pos, refl, sym, ap, ap₂, ◌∙◌, subst, arith}
 use Rattle.std.specs.Prelude.{slice_set}
-use Rattle.std.specs.List.{All, AllByRecursion}
+use Rattle.std.specs.List.{AllByRecursion}
 use Rattle.std.proofs.Math.Nat.{pow-le-pow_right}
 use Rattle.std.proofs.lemmas.Bool.{le-ltb, lt-ltb}
 use Rattle.std.proofs.lemmas.Nat.{pow_pos}
@@ -16,9 +16,8 @@ use Rattle.row_definitions.specs.Pivot.{one_more, pivot, rows_after}
 use Rattle.row_definitions.specs.Row.{Row, reach}
 use Rattle.row_definitions.specs.Steps.{add_column, close_stage, closed_by, enter_stage, open_row}
 use Rattle.row_definitions.specs.Table.{Table, row_at}
-use Rattle.row_definitions.specs.Width.{most_of}
 use Rattle.row_definitions.proofs.PivotLaws.{after-Ok_parts}
-use Rattle.search_definitions.specs.Classes.{Class, Classes, KeepsLimits}
+use Rattle.search_definitions.specs.Classes.{Classes, KeepsLimits}
 use Rattle.search_definitions.specs.Compositions.{price}
 use Rattle.search_definitions.specs.Fronts.{HaveEntries, HaveReach, sizes_of}
 use Rattle.search_definitions.specs.Visits.{best_search}

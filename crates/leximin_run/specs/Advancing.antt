@@ -6,7 +6,7 @@ use Rattle.row_definitions.specs.InOrder.{settled_count}
 use Rattle.row_definitions.specs.Row.{Row}
 use Rattle.row_definitions.specs.Table.{Table}
 use Rattle.run_definitions.specs.Keeps.{IsReached, KeepsRun}
-use Rattle.run_definitions.specs.Run.{Ending, Limits, GoOn, Ended, TooWide, PivotsSpent, NodesSpent, closed_rows, step}
+use Rattle.run_definitions.specs.Run.{Limits, GoOn, Ended, TooWide, PivotsSpent, NodesSpent, closed_rows, step}
 use Rattle.search_definitions.specs.Classes.{Classes}
 use Rattle.leximin_run.specs.declared.running.Refusal.{Refusal}
 use Rattle.leximin_run.specs.declared.running.Refusal.TheVariants.{Wide, NoPivot, NoVisit, NoMemory}

@@ -52,10 +52,8 @@ fn weight(classes: &[Class], row: &Row, volunteer: usize) -> i128
 fn number_of(classes: &[Class], volunteer: usize) -> usize
     ensures { result ≡ class_number classes.now volunteer }
 {
-    for (number, class) in classes.iter().enumerate() {
-        if class.members().contains(&volunteer) {
-            return number;
-        }
-    }
-    0
+    let number = classes
+        .iter()
+        .position(|class| class.members().contains(&volunteer));
+    number.unwrap_or(0)
 }

@@ -71,7 +71,11 @@ fn begin(
 fn sizes(alloc: Global, classes: &Classes) -> Result<Vec<usize>, AllocError>
     ensures { IfOk result (λ sizes. sizes.items ≡ sizes_of classes.now) }
 {
-    classes.classes().iter().map(|class| class.size()).collect(alloc)
+    classes
+        .classes()
+        .iter()
+        .map(|class| class.size())
+        .collect(alloc)
 }
 
 // The run from a table on.

@@ -1,6 +1,6 @@
 -- Each step of a run keeps what its tables keep.
 use Rattle.std.proofs.Common.{◌≡◌, ℕ, zero, suc, ◌+◌, ◌-◌, ◌^◌, ◌<◌, ◌≤◌, Bool, true, false, cond, leb, ltb, List, [], ◌∷◌, ◌++◌, length, length-append, map, take, Option, Some, None, Result, Ok, Err, refl, sym, ap, ap₂, ◌∙◌, subst, arith, inl, inr, ◌⊎◌}
-use Rattle.std.specs.Prelude.{◌==◌, ℤ, slice_index, slice_get, slice_set, sum, Contains}
+use Rattle.std.specs.Prelude.{◌==◌, slice_index, slice_get, slice_set, sum, Contains}
 use Rattle.std.specs.List.{All, AllByRecursion}
 use Rattle.std.proofs.lemmas.Bool.{cases_lt, eqb-true, and_parts, leb-false, ltb-true}
 use Rattle.std.proofs.lemmas.List.{get_or_append_left, get_or_push, map-append, take-append-le, length-map}
@@ -185,46 +185,52 @@ some_taken : (p : Class → Bool) (classes : List Class) (counts : List ℕ) →
 some_taken p [] counts l = absurd (omega arith)
 some_taken p (class ∷ classes) counts l = omega arith
 
-first_there : (xs : List (List ℕ)) (first : List ℕ) → slice_get xs 0 ≡ Some first → Contains xs first
+pub first_there : (xs : List (List ℕ)) (first : List ℕ) → slice_get xs 0 ≡ Some first → Contains xs first
 first_there [] first e = absurd cc
 first_there (x ∷ xs) first e = let same : x ≡ first = cc in subst (Contains (x ∷ xs)) same (contains_first x xs)
 
+-- what the first table needs
+pub record MayBegin (all : Classes) (first : List ℕ) : Type 0 where
+  pub some : 0 < length (sizes_of all)
+  pub each : All (λ size. 1 ≤ size) (sizes_of all)
+  pub few : sum (sizes_of all) ≤ 400
+  pub fits : FitsSizes all first
+
+pub may_begin : (all : Classes) → KeepsLimits all → (first : List ℕ) → Contains (compositions all) first → MayBegin all first
+may_begin all limited first there = record {
+  some =
+      let takes = eqb-true (taken_of (λ class. true) all.classes first) all.size (and_parts (taken_of (λ class. true) all.classes first == all.size) (meets_bounds all.bounds all.classes first) composes).0 in
+      some_taken (λ class. true) all.classes first (omega (arith, takes, limited.size.0));
+  each = All-from_recursion (λ size. 1 ≤ size) (sizes_of all) (each_mapped (λ size. 1 ≤ size) (λ class. length class.members) all.classes
+      (recursion_from_All (λ class. 1 ≤ length class.members) all.classes limited.members));
+  few = omega (arith, sum-map (λ (class : Class). length class.members) all.classes, limited.few_members);
+  fits = composition_fits all limited first there;
+}
+  where
+    composes : is_composition all first ≡ true
+    composes = (each_contains (λ counts. Contains (all_counts all.classes) counts × (is_composition all counts ≡ true)) (compositions all) first
+        (filtered (Contains (all_counts all.classes)) (is_composition all) (all_counts all.classes) (each_itself (all_counts all.classes))) there).1
+
+-- the first table is the definition's
+pub first_table_is : (sizes first : List ℕ) (bits : ℕ) (made : Table) → start sizes first bits ≡ Ok made → ◌≡◌ {A = Table} (first_table sizes first bits) made
+unfolding start
+first_table_is sizes first bits made e =
+    let parts = after-Ok_parts (in_turn (reach_operations (most_of bits) sizes) 0 (first_rows first)) (λ reaches. Ok (first_table sizes first bits)) made e in
+    let last : ◌≡◌ {A = Result Table Pass} (Ok (first_table sizes first bits)) (Ok made) = parts.2 in cc
+
 module _ (all : Classes) (limits : Limits) (limited : KeepsLimits all) (ranges : AreLimits limits) where
   started_kept : (first : List ℕ) → Contains (compositions all) first → (made : Table) → start (sizes_of all) first limits.bits ≡ Ok made → KeepsRun all limits made
-  unfolding start
-  started_kept first there made e = record {
-    in_order = start-keeps (sizes_of all) first limits.bits some each few fits.each (λ t l. fits.bounds t) ranges.some_bits ranges.few_bits made e;
-    sizes = sym (ap (λ t. t.sizes) same);
-    width = sym (ap (λ t. t.bits) same);
-    pivots = subst (λ n. n ≤ limits.pivots) (ap (λ t. t.pivots) same) (omega arith);
-    columns = subst (All (Contains (compositions all))) (ap (λ t. t.columns) same) (All-cons (Contains (compositions all)) first [] there (All-nil (Contains (compositions all))));
-    priced_out = λ k l. absurd (omega (arith, l, ap (λ t. length t.closed) same));
-  }
-    where
-      parts : (reaches : List ℤ) × (in_turn (reach_operations (most_of limits.bits) (sizes_of all)) 0 (first_rows first) ≡ Ok reaches) × (◌≡◌ {A = Result Table Pass} (Ok (first_table (sizes_of all) first limits.bits)) (Ok made))
-      parts = after-Ok_parts (in_turn (reach_operations (most_of limits.bits) (sizes_of all)) 0 (first_rows first)) (λ reaches. Ok (first_table (sizes_of all) first limits.bits)) made e
-
-      same : ◌≡◌ {A = Table} (first_table (sizes_of all) first limits.bits) made
-      same = let p = parts.2 in cc
-
-      fits : FitsSizes all first
-      fits = composition_fits all limited first there
-
-      composes : is_composition all first ≡ true
-      composes = (each_contains (λ counts. Contains (all_counts all.classes) counts × (is_composition all counts ≡ true)) (compositions all) first
-          (filtered (Contains (all_counts all.classes)) (is_composition all) (all_counts all.classes) (each_itself (all_counts all.classes))) there).1
-
-      some : 0 < length (sizes_of all)
-      some =
-          let takes = eqb-true (taken_of (λ class. true) all.classes first) all.size (and_parts (taken_of (λ class. true) all.classes first == all.size) (meets_bounds all.bounds all.classes first) composes).0 in
-          some_taken (λ class. true) all.classes first (omega (arith, takes, limited.size.0))
-
-      each : All (λ size. 1 ≤ size) (sizes_of all)
-      each = All-from_recursion (λ size. 1 ≤ size) (sizes_of all) (each_mapped (λ size. 1 ≤ size) (λ class. length class.members) all.classes
-          (recursion_from_All (λ class. 1 ≤ length class.members) all.classes limited.members))
-
-      few : sum (sizes_of all) ≤ 400
-      few = omega (arith, sum-map (λ (class : Class). length class.members) all.classes, limited.few_members)
+  started_kept first there made e =
+      let may = may_begin all limited first there in
+      let same = first_table_is (sizes_of all) first limits.bits made e in
+      record {
+        in_order = start-keeps (sizes_of all) first limits.bits may.some may.each may.few may.fits.each (λ t l. may.fits.bounds t) ranges.some_bits ranges.few_bits made e;
+        sizes = sym (ap (λ t. t.sizes) same);
+        width = sym (ap (λ t. t.bits) same);
+        pivots = subst (λ n. n ≤ limits.pivots) (ap (λ t. t.pivots) same) (omega arith);
+        columns = subst (All (Contains (compositions all))) (ap (λ t. t.columns) same) (All-cons (Contains (compositions all)) first [] there (All-nil (Contains (compositions all))));
+        priced_out = λ k l. absurd (omega (arith, l, ap (λ t. length t.closed) same));
+      }
 
   opening_kept : (made : Table) → opening all limits ≡ GoOn made → KeepsRun all limits made
   unfolding opening

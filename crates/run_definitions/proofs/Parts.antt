@@ -1,9 +1,8 @@
 -- The columns of positive value are parts that can be spread.
-use Rattle.std.proofs.Common.{◌≡◌, ◌≢◌, ℕ, zero, suc, ◌+◌, ◌*◌, ◌/◌, ◌<◌, ◌≤◌, Bool, true, false, not, ◌&&◌, ◌||◌, List, [], ◌∷◌, length, map, get_or, sum_by, refl, sym, ap, ap₂, ◌∙◌, subst, arith}
+use Rattle.std.proofs.Common.{◌≡◌, ◌≢◌, ℕ, suc, ◌+◌, ◌*◌, ◌/◌, ◌<◌, Bool, true, false, not, ◌&&◌, ◌||◌, List, [], ◌∷◌, length, map, get_or, refl, sym, ap, ap₂, ◌∙◌, subst, arith}
 use Rattle.std.specs.Prelude.{Contains, bytes_eq}
 use Rattle.std.specs.Int.{◌∣◌}
-use Rattle.std.specs.List.{All, AllByRecursion, AllPairs}
-use Rattle.std.proofs.lemmas.Bool.{and_from}
+use Rattle.std.specs.List.{AllByRecursion, AllPairs}
 use Rattle.std.proofs.lemmas.List.Elements.{All-from_recursion, recursion_from_All}
 use Rattle.std.proofs.lemmas.Slice.Eq.{bytes_eq-Decides}
 use Rattle.frac128.specs.Divisors.{gcd_of}
@@ -68,8 +67,8 @@ module _ (all : Classes) (limits : Limits) (table : Table) (keeps : KeepsRun all
   stands_apart there (next ∷ theres) above within =
       let differ : get_or table.columns there.column [] ≢ get_or table.columns next.column [] = keeps.in_order.columns_different there.column next.column above.0 within.0 in
       let here : bytes_eq (get_or table.columns there.column []) (get_or table.columns next.column []) ≡ false =
-          not_true (bytes_eq (get_or table.columns there.column []) (get_or table.columns next.column []))
-          (λ e. differ ((bytes_eq-Decides (get_or table.columns there.column []) (get_or table.columns next.column [])).0 e)) in
+      not_true (bytes_eq (get_or table.columns there.column []) (get_or table.columns next.column []))
+      (λ e. differ ((bytes_eq-Decides (get_or table.columns there.column []) (get_or table.columns next.column [])).0 e)) in
       ap₂ (λ a b. a || b) here (stands_apart there theres above.1 within.1)
 
   all_apart : (theres : List ColumnValue) → AllPairs (λ a b. a.column < b.column) theres → AllByRecursion (λ b. b.column < length table.columns) theres → all_different (columns_of theres) ≡ true

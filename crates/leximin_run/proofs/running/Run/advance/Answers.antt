@@ -1,6 +1,5 @@
-use Rattle.std.proofs.Common.{◌≡◌, ◌<◌, ltb, true, false, length, sym, ap, ◌∙◌, subst}
+use Rattle.std.proofs.Common.{◌≡◌, ◌<◌, length, sym, ◌∙◌, subst}
 use Rattle.row_definitions.specs.InOrder.{settled_count}
-use Rattle.row_definitions.specs.Steps.{enter_stage}
 use Rattle.std.proofs.lemmas.Bool.{ltb-true}
 use Rattle.run_definitions.specs.Run.{GoOn, step}
 use Rattle.leximin_run.specs.Advancing.{Stands, work_left}
