@@ -3,6 +3,7 @@
 //! It stands on `frac128` and on the definitions of `row_definitions`.
 #![tactic(auto)]
 
+mod bounds;
 mod choosing;
 mod frame;
 mod line;
