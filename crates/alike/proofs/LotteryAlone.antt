@@ -1,5 +1,5 @@
 -- Where each class is one volunteer alone, the rows of first panels are a lottery over the pool, and the one that spreading gives.
-use Rattle.std.proofs.Common.{◌≡◌, ℕ, ◌+◌, ◌*◌, ◌/◌, ◌<◌, true, leb, List, [], ◌∷◌, map, length, Ok, Err, refl, sym, ap, subst, ◌∙◌, arith}
+use Rattle.std.proofs.Common.{◌≡◌, ℕ, ◌+◌, ◌*◌, ◌/◌, ◌<◌, true, leb, List, [], ◌∷◌, map, length, Ok, refl, sym, ap, subst, ◌∙◌, arith}
 use Rattle.std.specs.List.{AllByRecursion}
 use Rattle.std.proofs.lemmas.Bool.{lt-ltb, le-leb}
 use Rattle.frac128.specs.Fractions.{Fraction}
@@ -17,7 +17,7 @@ use Rattle.spread_definitions.proofs.Parts.{all_different-map, each_composition,
 use Rattle.alike.specs.declared.spreading.SpreadStop.{SpreadStop}
 use Rattle.alike.specs.declared.spreading.SpreadStop.TheVariants.{TotalPasses, OutOfMemory}
 use Rattle.alike.specs.Singles.{AreAlone}
-use Rattle.alike.specs.Spreads.{IsSpread, IsTotal, row_alone}
+use Rattle.alike.specs.Spreads.{IsStop, row_alone}
 use Rattle.alike.proofs.SpreadAlone.{all_rows_alone}
 
 panels_are : (all : Classes) (sum : ℕ) (parts : List (List ℕ × Fraction)) → map (λ row. row.panel) (map (row_alone all sum) parts) ≡ map (first_panel all) (map (λ part. part.0) parts)
@@ -60,7 +60,7 @@ spread_alone all parts sum alone are e =
     ap (lottery_of all parts) e
     ∙ ap (λ rows. Ok (record { total = sum; rows = rows })) (all_rows_alone all sum parts alone (each_den all parts sum (common_total all parts sum are e)))
 
-pub stop_alone : (all : Classes) (parts : List (List ℕ × Fraction)) (stop : SpreadStop) → IsTotal (Err stop) (total_from all 0 1 parts) → IsSpread (Err stop) (spread all parts)
+pub stop_alone : (all : Classes) (parts : List (List ℕ × Fraction)) (stop : SpreadStop) → IsStop stop (total_from all 0 1 parts) → IsStop stop (spread all parts)
 unfolding spread
 stop_alone all parts (TotalPasses place before den) (pass, e, f, g, h) = (pass, ap (lottery_of all parts) e, f, g, h)
 stop_alone all parts OutOfMemory told = tt

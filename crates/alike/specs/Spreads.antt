@@ -8,19 +8,21 @@ use Rattle.spread_definitions.specs.Spreading.{TotalPass}
 use Rattle.alike.specs.declared.spreading.SpreadStop.{SpreadStop}
 use Rattle.alike.specs.declared.spreading.SpreadStop.TheVariants.{TotalPasses, OutOfMemory}
 
--- the lottery, or the place at which its total passes first; want of memory may come at any time
-abbrev pub IsSpread : Result Lottery SpreadStop → Result Lottery TotalPass → Type 0
-IsSpread (Ok lottery) spread = spread ≡ Ok lottery
-IsSpread (Err (TotalPasses place total den)) spread =
-    (pass : TotalPass) × (spread ≡ Err pass) × (place ≡ pass.place) × (total ≡ pos pass.total) × (den ≡ pos pass.den)
-IsSpread (Err OutOfMemory) spread = Unit {0}
+-- the place at which the total passes first; want of memory may come at any time
+abbrev pub IsStop : {X : Type 0} → SpreadStop → Result X TotalPass → Type 0
+IsStop (TotalPasses place total den) sought =
+    (pass : TotalPass) × (sought ≡ Err pass) × (place ≡ pass.place) × (total ≡ pos pass.total) × (den ≡ pos pass.den)
+IsStop OutOfMemory sought = Unit {0}
 
--- the common total, or the place at which it passes first
+-- the lottery, or why there is none
+abbrev pub IsSpread : Result Lottery SpreadStop → Result Lottery TotalPass → Type 0
+IsSpread (Ok lottery) sought = sought ≡ Ok lottery
+IsSpread (Err stop) sought = IsStop stop sought
+
+-- the common total, or why there is none
 abbrev pub IsTotal : Result ℤ SpreadStop → Result ℕ TotalPass → Type 0
 IsTotal (Ok total) sought = (sum : ℕ) × (sought ≡ Ok sum) × (total ≡ pos sum)
-IsTotal (Err (TotalPasses place total den)) sought =
-    (pass : TotalPass) × (sought ≡ Err pass) × (place ≡ pass.place) × (total ≡ pos pass.total) × (den ≡ pos pass.den)
-IsTotal (Err OutOfMemory) sought = Unit {0}
+IsTotal (Err stop) sought = IsStop stop sought
 
 -- where each class is one volunteer alone: the one panel of a composition, with its fraction of the total
 abbrev pub row_alone : Classes → ℕ → List ℕ × Fraction → Row

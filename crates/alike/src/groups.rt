@@ -127,6 +127,7 @@ impl ValueBounds {
 /// The classes of a pool, in the order of their first members, with the size of a panel and the bounds of each category's values.
 /// They keep the limits of a pool: a size from 1 to 200; at most 20 categories of at most 50 values, with bounds in order and at
 /// most 999; at most 400 classes with at most 400 members in all, each class with a member and with a value of each category.
+/// Each class is one volunteer alone, in the order of their numbers.
 #[derive(Debug, Drop)]
 pub struct Classes {
     size: usize,

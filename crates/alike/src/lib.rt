@@ -8,6 +8,8 @@ mod grouping;
 mod groups;
 mod spreading;
 #[cfg(test)]
+mod spreading_tests;
+#[cfg(test)]
 mod tests;
 
 pub use composing::{Composition, first_panel};

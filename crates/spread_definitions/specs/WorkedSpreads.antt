@@ -1,6 +1,8 @@
 -- Small classes on which spreading computes.
-use Rattle.std.specs.Prelude.{ℕ, List, [], ◌∷◌, length}
+use Rattle.std.specs.Prelude.{ℕ, List, [], ◌∷◌, codes, length}
 use Rattle.frac128.specs.Fractions.{Fraction}
+use Rattle.pool_definitions.specs.Pool.{Pool}
+use Rattle.pool_definitions.specs.WorkedExamples.{person}
 use Rattle.search_definitions.specs.Classes.{Class, Classes}
 
 -- a class of these members, each of whom may be taken
@@ -13,3 +15,7 @@ three_and_two = record { size = 2; bounds = []; classes = class (0 ∷ 1 ∷ 2 �
 
 abbrev pub over : ℕ → ℕ → Fraction
 over num den = record { num = num; den = den }
+
+-- one seat, for one of three volunteers
+abbrev pub one_of_three : Pool
+one_of_three = record { size = 1; categories = []; volunteers = person (codes "a") [] ∷ person (codes "b") [] ∷ person (codes "c") [] ∷ [] }

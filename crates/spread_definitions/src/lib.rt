@@ -7,9 +7,10 @@
 
 ghost use Rattle.std.specs.Prelude.{◌≡◌, ℕ, List, [], ◌∷◌, map, Ok};
 ghost use Rattle.frac128.specs.Fractions.{Fraction};
-ghost use Rattle.search_definitions.specs.Classes.{Classes};
+ghost use Rattle.search_definitions.specs.Classes.{Classes, classes_of};
+ghost use Rattle.search_definitions.specs.Compositions.{compositions};
 ghost use Rattle.spread_definitions.specs.Spreading.{AreParts, AreShares, IsCommonTotal, with_fraction, pieces, spread, total_from};
-ghost use Rattle.spread_definitions.specs.WorkedSpreads.{three_and_two, over};
+ghost use Rattle.spread_definitions.specs.WorkedSpreads.{one_of_three, three_and_two, over};
 
 /// Shares of a whole, as fractions in lowest terms, are positive fractions that sum to one.
 pub fn shares_are_parts()
@@ -31,4 +32,9 @@ pub fn worked_spread()
           record { panel = 0 ∷ 3 ∷ []; weight = 2 } ∷ record { panel = 1 ∷ 3 ∷ []; weight = 1 } ∷
           record { panel = 1 ∷ 4 ∷ []; weight = 1 } ∷ record { panel = 2 ∷ 4 ∷ []; weight = 2 } ∷ [];
     }) }
+{}
+
+/// One seat for three volunteers: each alone is a composition.
+pub fn worked_compositions()
+    ensures { compositions (classes_of one_of_three) ≡ (1 ∷ 0 ∷ 0 ∷ []) ∷ (0 ∷ 1 ∷ 0 ∷ []) ∷ (0 ∷ 0 ∷ 1 ∷ []) ∷ [] }
 {}
