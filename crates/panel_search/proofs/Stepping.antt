@@ -32,7 +32,7 @@ children_more all later front c counts =
       | false ↦ after_nothing (children_first all later front counts)
     ]
 
-counts_here : (all : Classes) (depth : ℕ) (class : Class) (above : ℕ) → Stands all depth class → counts_at all depth above ≡ counts_down class.least above
+pub counts_here : (all : Classes) (depth : ℕ) (class : Class) (above : ℕ) → Stands all depth class → counts_at all depth above ≡ counts_down class.least above
 counts_here all depth class above stands = ap (λ classes. counts_among classes above) (comes_next all depth class stands)
 
 -- the last count

@@ -2,6 +2,9 @@
 //! `search_definitions` says what a visit is, and what a search finds.
 #![tactic(auto)]
 
+#[cfg(test)]
+mod best_tests;
+mod greatest;
 mod pricing;
 mod rows;
 mod searching;
@@ -9,6 +12,7 @@ mod tallies;
 mod tally;
 #[cfg(test)]
 mod tests;
+mod weighing;
 
 pub use pricing::best;
 pub use rows::Row;

@@ -46,7 +46,7 @@ pub fn first(
 
 // No visit is left.
 #[derive(Debug, Clone, Copy)]
-struct BudgetSpent;
+pub(crate) struct BudgetSpent;
 
 // Where a search stands: the counts of the front's classes, of which there is a place for each class; what the front takes; and how
 // many visits are left.

@@ -1,9 +1,9 @@
 //! What a front takes of everybody and of each value, and the most that the classes after it give.
 
-ghost use Rattle.std.specs.Prelude.{◌≡◌, ◌+◌, ◌*◌, ◌≤◌, ◌<◌, ◌++◌, ◌^◌, [], ◌∷◌, IfOk, true, nat_le, ◌&&◌, drop, length};
+ghost use Rattle.std.specs.Prelude.{◌≡◌, ◌+◌, ◌-◌, ◌*◌, ◌≤◌, ◌<◌, ◌++◌, ◌^◌, [], ◌∷◌, IfOk, true, nat_le, ◌&&◌, drop, length};
 ghost use Rattle.panel_search.specs.Front.{Gives, Tracks};
 ghost use Rattle.panel_search.specs.Tallies.{AreAtMost};
-ghost use Rattle.search_definitions.specs.Fronts.{is_live};
+ghost use Rattle.search_definitions.specs.Fronts.{is_live, taken_by};
 
 use crate::tallies::{PLACES, add_to, all_within_reach, take_from, values_allow};
 use alike::Classes;
@@ -114,6 +114,17 @@ impl Tally {
         classes.facts();
         self.size_allows(classes.size(), 0)
             && all_within_reach(classes.bounds(), &self.held, &self.later)
+    }
+
+    // How many the size lacks where the front goes on with so many of the next class.
+    pub(crate) fn lack(&self, classes: &Classes, front: &[usize], count: usize) -> usize
+        requires below { length front.now < length classes.now.classes }
+        requires live { is_live classes.now (front.now ++ count ∷ []) ≡ true }
+        requires stands { Tracks classes.now front.now (drop (length front.now + 1) classes.now.classes) self.now }
+        ensures { result ≡ classes.now.size - taken_by classes.now (front.now ++ count ∷ []) }
+    {
+        classes.facts();
+        classes.size() - (self.taken + count)
     }
 
     // With so many more: is at most the size taken, and can it be reached?

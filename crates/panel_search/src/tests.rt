@@ -9,16 +9,16 @@ use std::test::Fail;
 
 /// A pool, by the bounds of its categories' values and its volunteers' values, and what the search finds in it.
 #[derive(Clone, Copy, Debug)]
-struct Given<'a> {
-    name: &'a str,
-    size: usize,
-    bounds: &'a [&'a [(usize, usize)]],
-    volunteers: &'a [&'a [usize]],
-    visits: u64,
-    found: Option<&'a [usize]>,
+pub(crate) struct Given<'a> {
+    pub(crate) name: &'a str,
+    pub(crate) size: usize,
+    pub(crate) bounds: &'a [&'a [(usize, usize)]],
+    pub(crate) volunteers: &'a [&'a [usize]],
+    pub(crate) visits: u64,
+    pub(crate) found: Option<&'a [usize]>,
 }
 
-const SMALL: &[Given<'static>] = &[
+pub(crate) const SMALL: &[Given<'static>] = &[
     Given {
         name: "one woman and one man of two each",
         size: 2,
@@ -117,7 +117,7 @@ const SMALL: &[Given<'static>] = &[
     },
 ];
 
-fn built(alloc: Global, given: &Given<'_>) -> Result<Pool, BuildStop> {
+pub(crate) fn built(alloc: Global, given: &Given<'_>) -> Result<Pool, BuildStop> {
     let mut pool = Pool::new(alloc, given.size)?;
     for (c, values) in given.bounds.iter().enumerate() {
         pool.add_category(&format!(in alloc; "{c}")?)?;

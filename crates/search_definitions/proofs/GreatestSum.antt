@@ -33,7 +33,7 @@ product_parts c (negsuc n) = neg_parts (c * suc n)
 
 -- ---- a falling list
 
-abbrev Falls : List ℤ → Type 0
+abbrev pub Falls : List ℤ → Type 0
 Falls [] = Unit {0}
 Falls (x ∷ xs) = AllByRecursion (λ y. AtMost y x) xs × Falls xs
 
@@ -55,7 +55,7 @@ put_falls x (y ∷ ys) h =
       | false ↦ λ e. let l = le-false y x e in (put_each y x ys (omega arith) h.0, rest)
     ]) refl
 
-falling_falls : (xs : List ℤ) → Falls (falling xs)
+pub falling_falls : (xs : List ℤ) → Falls (falling xs)
 falling_falls [] = tt
 falling_falls (x ∷ xs) = put_falls x (falling xs) (falling_falls xs)
 
@@ -68,7 +68,7 @@ length-put x (y ∷ ys) =
       | false ↦ omega arith
     ]
 
-length-falling : (xs : List ℤ) → length (falling xs) ≡ length xs
+pub length-falling : (xs : List ℤ) → length (falling xs) ≡ length xs
 length-falling [] = refl
 length-falling (x ∷ xs) = omega (arith, length-put x (falling xs), length-falling xs)
 
@@ -115,7 +115,7 @@ high k xs = total up (take k (falling xs))
 abbrev low : ℕ → List ℤ → ℕ
 low k xs = total down (take k (falling xs))
 
-length-replicate : (m : ℕ) (x : ℤ) (ys : List ℤ) → length (replicate m x ++ ys) ≡ m + length ys
+pub length-replicate : (m : ℕ) (x : ℤ) (ys : List ℤ) → length (replicate m x ++ ys) ≡ m + length ys
 length-replicate zero x ys = omega arith
 length-replicate (suc m) x ys = omega (arith, length-replicate m x ys)
 

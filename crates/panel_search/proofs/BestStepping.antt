@@ -1,0 +1,230 @@
+-- The children of a front one after the other, in the search for the best composition.
+use Rattle.std.proofs.Common.{◌≡◌, ℕ, zero, suc, ◌+◌, ◌-◌, ◌≤◌, ◌<◌, true, false, cond, ltb, ◌&&◌, List, [], ◌∷◌, ◌++◌, length, take, drop, set, map, get_or, Some, Result, Ok, Err, refl, sym, ap, ◌∙◌, arith, subst, length-append}
+use Rattle.std.specs.Prelude.{IsErr, int_le, int_lt, slice_get, slice_index}
+use Rattle.std.specs.List.{list_all}
+use Rattle.std.proofs.lemmas.Bool.{false≢true, and_parts, and_from, ltb-true, ltb-false}
+use Rattle.std.proofs.lemmas.Option.{slice_get-get_or}
+use Rattle.std.proofs.lemmas.List.{length-set, get_or-append-add}
+use Rattle.std.proofs.lemmas.List.Elements.{All-get_or}
+use Rattle.std.proofs.lemmas.List.Sums.{get_or-le-sum_by}
+use Rattle.std.proofs.Math.ListN.{get_or-append}
+use Rattle.row_definitions.specs.Row.{Row}
+use Rattle.search_definitions.specs.Classes.{Class, Classes, KeepsLimits}
+use Rattle.search_definitions.specs.Compositions.{counts_of, counts_down}
+use Rattle.search_definitions.specs.Fronts.{is_live, is_live_above, optimistic, sizes_of, HaveEntries, HaveReach}
+use Rattle.search_definitions.specs.Visits.{Pricing, enter_best}
+use Rattle.search_definitions.proofs.Limits.{all_from_each}
+use Rattle.panel_search.specs.Front.{Tracks}
+use Rattle.panel_search.specs.Pricing.{StandsAt, Moves, CanTake, child_best, children_best}
+use Rattle.panel_search.specs.Steps.{counts_at}
+use Rattle.panel_search.specs.Weights.{AreNarrow, AreWithin, EachNarrow, Weighs, WeighEach}
+use Rattle.panel_search.specs.declared.searching.BudgetSpent.{BudgetSpent}
+use Rattle.panel_search.specs.declared.pricing.BestSearch.{BestSearch}
+use Rattle.panel_search.specs.declared.tally.Tally.{Tally}
+use Rattle.panel_search.specs.declared.weighing.Weighing.{Weighing}
+use Rattle.panel_search.proofs.Tracking.{Stands, comes_next}
+use Rattle.panel_search.proofs.Stepping.{counts_here, placed, front_length}
+use Rattle.panel_search.proofs.WeightLaws.{weighs_front, element_at}
+
+-- ---- visits only grow
+
+child_more : (all : Classes) (closed : List Row) (row : Row) (later : List Class) (child : List ℕ) (now : Pricing) → ((front : List ℕ) (now : Pricing) → now.visits ≤ (enter_best all closed row later front now).visits) →
+    now.visits ≤ (child_best all closed row later child now).visits
+child_more all closed row later child now h =
+    let enters = h child now in
+    elim (is_live_above all closed row now.floor child) as (λ b. now.visits ≤ (cond b (enter_best all closed row later child now) now).visits) [
+      | true ↦ enters
+      | false ↦ omega arith
+    ]
+
+children_more : (all : Classes) (closed : List Row) (row : Row) (later : List Class) (front counts : List ℕ) (now : Pricing) → ((front : List ℕ) (now : Pricing) → now.visits ≤ (enter_best all closed row later front now).visits) →
+    now.visits ≤ (children_best all closed row later front counts now).visits
+children_more all closed row later front [] now h = omega arith
+children_more all closed row later front (c ∷ counts) now h =
+    let one = child_more all closed row later (front ++ c ∷ []) now h in
+    let rest = children_more all closed row later front counts (child_best all closed row later (front ++ c ∷ []) now) h in omega arith
+
+pub enter_more : (all : Classes) (closed : List Row) (row : Row) (later : List Class) (front : List ℕ) (now : Pricing) → now.visits + 1 ≤ (enter_best all closed row later front now).visits
+enter_more all closed row [] front now = omega arith
+enter_more all closed row (class ∷ later) front now =
+    children_more all closed row later front (counts_of class) (record now { visits = now.visits + 1 }) (λ f n. let more = enter_more all closed row later f n in omega arith)
+
+enter_no_less : (all : Classes) (closed : List Row) (row : Row) (later : List Class) (front : List ℕ) (now : Pricing) → now.visits ≤ (enter_best all closed row later front now).visits
+enter_no_less all closed row later front now = let more = enter_more all closed row later front now in omega arith
+
+-- ---- the children of a front
+
+abbrev pub child_at : Classes → List Row → Row → ℕ → List ℕ → ℕ → Pricing → Pricing
+child_at all closed row depth front count now = child_best all closed row (drop (depth + 1) all.classes) (front ++ count ∷ []) now
+
+abbrev pub children_at : Classes → List Row → Row → ℕ → List ℕ → ℕ → Pricing → Pricing
+children_at all closed row depth front above now = children_best all closed row (drop (depth + 1) all.classes) front (counts_at all depth above) now
+
+-- the last count
+pub children_last : (all : Classes) (closed : List Row) (row : Row) (depth : ℕ) (class : Class) (front : List ℕ) (above count : ℕ) (now : Pricing) → Stands all depth class → count ≡ class.least + above → above ≡ 0 →
+    children_at all closed row depth front above now ≡ child_at all closed row depth front count now
+children_last all closed row depth class front above count now stands e z =
+    let least : class.least ≡ count = omega arith in
+    ap (λ counts. children_best all closed row (drop (depth + 1) all.classes) front counts now) (counts_here all depth class above stands ∙ ap (counts_down class.least) z)
+    ∙ ap (λ n. child_at all closed row depth front n now) least
+
+-- a count with others below it
+pub children_next : (all : Classes) (closed : List Row) (row : Row) (depth : ℕ) (class : Class) (front : List ℕ) (above count : ℕ) (now : Pricing) → Stands all depth class → count ≡ class.least + above → (above ≡ 0 → ⊥) →
+    children_at all closed row depth front above now ≡ children_at all closed row depth front (above - 1) (child_at all closed row depth front count now)
+children_next all closed row depth class front zero count now stands e some = absurd (some refl)
+children_next all closed row depth class front (suc more) count now stands e some =
+    let less : suc more - 1 ≡ more = omega arith in
+    ap (λ counts. children_best all closed row (drop (depth + 1) all.classes) front counts now) (counts_here all depth class (suc more) stands)
+    ∙ ap (λ n. children_best all closed row (drop (depth + 1) all.classes) front (counts_down class.least more) (child_at all closed row depth front n now)) (sym e)
+    ∙ ap (λ counts. children_best all closed row (drop (depth + 1) all.classes) front counts (child_at all closed row depth front count now))
+    (sym (counts_here all depth class more stands) ∙ ap (counts_at all depth) (sym less))
+
+pub child_within : (all : Classes) (closed : List Row) (row : Row) (depth : ℕ) (class : Class) (front : List ℕ) (above count : ℕ) (now : Pricing) → Stands all depth class → count ≡ class.least + above →
+    (child_at all closed row depth front count now).visits ≤ (children_at all closed row depth front above now).visits
+child_within all closed row depth class front zero count now stands e = let same = children_last all closed row depth class front zero count now stands e refl in rw same (omega arith)
+child_within all closed row depth class front (suc more) count now stands e =
+    let same = children_next all closed row depth class front (suc more) count now stands e (λ z. absurd (omega arith)) in
+    rw same (children_more all closed row (drop (depth + 1) all.classes) front (counts_at all depth (suc more - 1)) (child_at all closed row depth front count now) (enter_no_less all closed row (drop (depth + 1) all.classes)))
+
+-- a front with classes after it
+pub enter_children : (all : Classes) (closed : List Row) (row : Row) (depth : ℕ) (class : Class) (front : List ℕ) (above : ℕ) (now : Pricing) → Stands all depth class → above ≡ class.most - class.least →
+    enter_best all closed row (drop depth all.classes) front now ≡ children_at all closed row depth front above (record now { visits = now.visits + 1 })
+enter_children all closed row depth class front above now stands e =
+    ap (λ later. enter_best all closed row later front now) (comes_next all depth class stands)
+    ∙ ap (λ counts. children_best all closed row (drop (depth + 1) all.classes) front counts (record now { visits = now.visits + 1 })) (sym (counts_here all depth class above stands ∙ ap (counts_down class.least) e))
+
+-- ---- in the words of the code
+
+pub moves_err : (all : Classes) (closed : List Row) (row : Row) (depth : ℕ) (rest : List Class) (due : Pricing) (front : List ℕ) (nodes : ℕ) (result : Result (Unit {0}) BudgetSpent) (after : BestSearch) →
+    IsErr result → nodes < due.visits → Moves all closed row depth rest due front nodes result after
+moves_err all closed row depth rest due front nodes (Ok done) after e lt = absurd (false≢true e)
+moves_err all closed row depth rest due front nodes (Err spent) after e lt = lt
+
+pub moves_same : (all : Classes) (closed : List Row) (row : Row) (depth : ℕ) (rest : List Class) (due due' : Pricing) (front front' : List ℕ) (nodes nodes' : ℕ) (result : Result (Unit {0}) BudgetSpent) (after : BestSearch) →
+    due ≡ due' → front ≡ front' → nodes ≡ nodes' → Moves all closed row depth rest due front nodes result after → Moves all closed row depth rest due' front' nodes' result after
+moves_same all closed row depth rest due due' front front' nodes nodes' result after e f g moves =
+    subst (λ d. Moves all closed row depth rest d front' nodes' result after) e
+    (subst (λ x. Moves all closed row depth rest due x nodes' result after) f
+    (subst (λ n. Moves all closed row depth rest due front n result after) g moves))
+
+-- ---- where a search stands
+
+pub place_is : (all : Classes) (depth : ℕ) (class : Class) → Stands all depth class → slice_get all.classes depth ≡ Some class
+place_is all depth class stands = slice_get-get_or all.classes depth class stands.below ∙ ap Some (sym stands.is)
+
+pub same_class : (all : Classes) (depth : ℕ) (class other : Class) → Stands all depth class → slice_get all.classes depth ≡ Some other → other ≡ class
+same_class all depth class other stands e = let here = place_is all depth class stands in cc
+
+pub class_limits : (all : Classes) (depth : ℕ) (class : Class) → KeepsLimits all → Stands all depth class → (class.least ≤ class.most) × (class.most ≤ length class.members) × (length class.members ≤ 400)
+class_limits all depth class limits stands =
+    let here = stands.is in let sum = limits.few_members in
+    let low = All-get_or (λ (class : Class). class.least ≤ class.most) all.classes depth class stands.below (all_from_each (λ (class : Class). class.least ≤ class.most) all.classes limits.searchable.in_order) in
+    let most = All-get_or (λ (class : Class). class.most ≤ length class.members) all.classes depth class stands.below limits.most in
+    let one = get_or-le-sum_by (λ (class : Class). length class.members) all.classes depth class stands.below in
+    (rw here (omega arith), rw here (omega arith), rw here (omega arith))
+
+-- the same place with another tally
+pub stands_with : (all : Classes) (closed : List Row) (row : Row) (depth : ℕ) (rest rest' : List Class) (before after : BestSearch) → StandsAt all closed row depth rest before → after.counts.items ≡ before.counts.items → after.kept.items ≡ before.kept.items →
+    after.priced ≡ before.priced → after.closed.items ≡ before.closed.items → Tracks all (take depth before.counts.items) rest' after.tally → StandsAt all closed row depth rest' after
+stands_with all closed row depth rest rest' before after stands e f g h tracks = record {
+  places = ap length e ∙ stands.places;
+  kept_places = ap length f ∙ stands.kept_places;
+  within = stands.within;
+  live = ap (λ xs. is_live all (take depth xs)) e ∙ stands.live;
+  counts = subst (λ xs. AreWithin all (take depth xs)) (sym e) stands.counts;
+  tally = subst (λ xs. Tracks all (take depth xs) rest' after.tally) (sym e) tracks;
+  priced = subst (λ xs. Weighs all row (take depth xs) after.priced) (sym e) (subst (Weighs all row (take depth before.counts.items)) (sym g) stands.priced);
+  closed_rows = subst (λ xs. WeighEach all closed (take depth xs) after.closed.items) (sym e) (subst (WeighEach all closed (take depth before.counts.items)) (sym h) stands.closed_rows);
+}
+
+within_more : (all : Classes) (front : List ℕ) (depth count : ℕ) → length front ≡ depth → depth < length all.classes → CanTake all depth count → AreWithin all front → AreWithin all (front ++ count ∷ [])
+within_more all front depth count long below can within t l =
+    (elim (ltb t (length front)) as (λ b. ltb t (length front) ≡ b → slice_index (front ++ count ∷ []) t ≤ slice_index (sizes_of all) t) [
+      | true ↦ λ e. let lt = ltb-true t (length front) e in earlier lt
+      | false ↦ λ e. let ge = ltb-false t (length front) e in last (omega (arith, length-append front (count ∷ [])))
+    ]) refl
+  where
+    nothing_more : t ≡ length front → length front + 0 ≡ t
+    nothing_more e = omega arith
+
+    earlier : t < length front → slice_index (front ++ count ∷ []) t ≤ slice_index (sizes_of all) t
+    earlier lt = omega (arith, get_or-append front (count ∷ []) 0 t lt, within t lt)
+
+    size_at : (classes : List Class) (i : ℕ) (class : Class) → slice_get classes i ≡ Some class → slice_index (map (λ class. length class.members) classes) i ≡ length class.members
+    size_at [] i class e = cc
+    size_at (c ∷ classes) zero class e = let is : c ≡ class = cc in ap (λ (c : Class). length c.members) is
+    size_at (c ∷ classes) (suc i) class e = size_at classes i class e
+
+    last : t ≡ length front → slice_index (front ++ count ∷ []) t ≤ slice_index (sizes_of all) t
+    last e =
+        let class = element_at all.classes depth below in
+        let place = place_is all depth class.0 (record { below = below; is = class.1 }) in
+        let most = can class.0 place in
+        let here : slice_index (front ++ count ∷ []) t ≡ count = ap (λ i. get_or (front ++ count ∷ []) i 0) (sym (nothing_more e)) ∙ get_or-append-add front (count ∷ []) 0 0 in
+        let size = ap (slice_index (sizes_of all)) (e ∙ long) ∙ size_at all.classes depth class.0 place in
+        omega arith
+
+-- a live child
+pub child_stands : (all : Classes) (closed : List Row) (row : Row) (depth count : ℕ) (rest : List Class) (before after : BestSearch) → StandsAt all closed row depth rest before → depth < length all.classes → CanTake all depth count →
+    is_live all (take depth before.counts.items ++ count ∷ []) ≡ true → after.counts.items ≡ set before.counts.items depth count → length after.kept.items ≡ length all.classes →
+    Tracks all (take depth before.counts.items ++ count ∷ []) rest after.tally → Weighs all row (take depth before.counts.items ++ count ∷ []) after.priced →
+    WeighEach all closed (take depth before.counts.items ++ count ∷ []) after.closed.items → StandsAt all closed row (depth + 1) rest after
+child_stands all closed row depth count rest before after stands below can live e kept tracks priced closed_rows =
+    let child : take (depth + 1) after.counts.items ≡ take depth before.counts.items ++ count ∷ [] = ap (take (depth + 1)) e ∙ placed depth count before.counts.items (omega (arith, stands.places)) in
+    record {
+      places = ap length e ∙ length-set before.counts.items depth count ∙ stands.places;
+      kept_places = kept;
+      within = omega arith;
+      live = ap (is_live all) child ∙ live;
+      counts = subst (AreWithin all) (sym child) (within_more all (take depth before.counts.items) depth count (front_length depth before.counts.items (length all.classes) stands.places stands.within) below can stands.counts);
+      tally = subst (λ f. Tracks all f rest after.tally) (sym child) tracks;
+      priced = subst (λ f. Weighs all row f after.priced) (sym child) priced;
+      closed_rows = subst (λ f. WeighEach all closed f after.closed.items) (sym child) closed_rows;
+    }
+
+each_front : (all : Classes) (rows : List Row) (front : List ℕ) (count : ℕ) (weighings : List Weighing) → WeighEach all rows (front ++ count ∷ []) weighings → WeighEach all rows front weighings
+each_front all rows front count weighings weighs = record { one_each = weighs.one_each; each = λ i r w e f. weighs_front all r front count w (weighs.each i r w e f) }
+
+-- back at the front that a child went on from
+pub parent_stands : (all : Classes) (closed : List Row) (row : Row) (depth count : ℕ) (rest : List Class) (before child after : BestSearch) → StandsAt all closed row depth rest before → StandsAt all closed row (depth + 1) rest child →
+    take (depth + 1) child.counts.items ≡ take depth before.counts.items ++ count ∷ [] → take depth child.counts.items ≡ take depth before.counts.items →
+    after.counts.items ≡ child.counts.items → after.kept.items ≡ child.kept.items → after.priced ≡ child.priced → after.closed.items ≡ child.closed.items →
+    Tracks all (take depth child.counts.items) rest after.tally → StandsAt all closed row depth rest after
+parent_stands all closed row depth count rest before child after stands below e same f g h i tracks =
+    let front : take depth after.counts.items ≡ take depth before.counts.items = ap (take depth) f ∙ same in
+    let front_before = take depth before.counts.items in
+    record {
+      places = ap length f ∙ below.places;
+      kept_places = ap length g ∙ below.kept_places;
+      within = stands.within;
+      live = ap (is_live all) front ∙ stands.live;
+      counts = subst (AreWithin all) (sym front) stands.counts;
+      tally = subst (λ xs. Tracks all (take depth xs) rest after.tally) (sym f) tracks;
+      priced = subst (λ x. Weighs all row x after.priced) (sym front) (subst (Weighs all row front_before) (sym h) (weighs_front all row front_before count child.priced (subst (λ x. Weighs all row x child.priced) e below.priced)));
+      closed_rows = subst (λ x. WeighEach all closed x after.closed.items) (sym front)
+          (subst (WeighEach all closed front_before) (sym i) (each_front all closed front_before count child.closed.items (subst (λ x. WeighEach all closed x child.closed.items) e below.closed_rows)));
+    }
+
+-- a live child's search is entered
+pub child_due : (all : Classes) (closed : List Row) (row : Row) (later : List Class) (child : List ℕ) (now : Pricing) → is_live all child ≡ true →
+    (list_all (λ r. int_le r.b (optimistic all r child)) closed && int_lt now.floor (optimistic all row child)) ≡ true → child_best all closed row later child now ≡ enter_best all closed row later child now
+child_due all closed row later child now live weighs =
+    let parts = and_parts (list_all (λ r. int_le r.b (optimistic all r child)) closed) (int_lt now.floor (optimistic all row child)) weighs in
+    let above = and_from (is_live all child && list_all (λ r. int_le r.b (optimistic all r child)) closed) (int_lt now.floor (optimistic all row child))
+    (and_from (is_live all child) (list_all (λ r. int_le r.b (optimistic all r child)) closed) live parts.0) parts.1 in
+    ap (λ b. cond b (enter_best all closed row later child now) now) above
+
+pub child_tracks : (all : Classes) (depth count : ℕ) (items counts : List ℕ) (tally : Tally) → items ≡ counts → length counts ≡ length all.classes → depth ≤ length all.classes →
+    Tracks all (take depth items ++ count ∷ []) (drop (length (take depth items) + 1) all.classes) tally → Tracks all (take depth counts ++ count ∷ []) (drop (depth + 1) all.classes) tally
+child_tracks all depth count items counts tally e f le tracks =
+    let size = front_length depth counts (length all.classes) f le in
+    subst (λ n. Tracks all (take depth counts ++ count ∷ []) (drop (n + 1) all.classes) tally) size
+    (subst (λ xs. Tracks all (take depth xs ++ count ∷ []) (drop (length (take depth xs) + 1) all.classes) tally) e tracks)
+
+-- ---- the rows
+
+pub each_narrow : (all : Classes) (rows : List Row) → HaveEntries all rows → HaveReach all rows → EachNarrow all rows
+each_narrow all [] h k i row e = cc
+each_narrow all (r ∷ rows) h k zero row e =
+    let is : r ≡ row = cc in subst (λ (r : Row). AreNarrow all r.a) is (record { one_each = h.0; narrow = let reach = k.0 in omega arith })
+each_narrow all (r ∷ rows) h k (suc i) row e = each_narrow all rows h.1 k.1 i row e

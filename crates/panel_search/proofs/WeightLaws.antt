@@ -1,0 +1,165 @@
+-- What fronts weigh, and how wide it is.
+use Rattle.std.proofs.Common.{◌≡◌, ℕ, zero, suc, ◌+◌, ◌-◌, ◌*◌, ◌^◌, ◌≤◌, ◌<◌, true, false, eqb, leb, List, [], ◌∷◌, ◌++◌, length, take, drop, set, map, get_or, ℤ, pos, ◌+ℤ◌, ◌*ℤ◌, refl, sym, ap, ◌∙◌, arith, mul-le-mul_right, subst, length-append}
+use Rattle.std.specs.Prelude.{unsigned_abs, slice_index}
+use Rattle.std.specs.List.{AllByRecursion}
+use Rattle.std.proofs.lemmas.Bool.{eqb-true, eqb-false, leb-true, and_parts}
+use Rattle.std.proofs.lemmas.Int.{ints, unsigned_abs-mul}
+use Rattle.std.proofs.lemmas.List.{take-append-le, length-set, get_or-set_other}
+use Rattle.std.proofs.lemmas.Grind.{get_or-set_at}
+use Rattle.std.proofs.lemmas.Nat.{mul-add-lt}
+use Rattle.row_definitions.specs.Row.{Row, sum_of_sizes}
+use Rattle.row_definitions.proofs.SumLaws.{abs_sum_le}
+use Rattle.search_definitions.specs.Classes.{Class, Classes, KeepsLimits}
+use Rattle.search_definitions.specs.Compositions.{weight_in}
+use Rattle.search_definitions.specs.Fronts.{sizes_of, is_live, size_reachable, values_reachable, taken_by, units, greatest_sum, optimistic}
+use Rattle.panel_search.specs.Weights.{at, cell_of, AreNarrow, AreWithin, HoldsSums, Weighs}
+use Rattle.panel_search.specs.declared.weighing.Weighing.{Weighing}
+use Rattle.panel_search.proofs.UnitSums.{width, greatest_width, units_width, each_of}
+use Rattle.panel_search.proofs.Tracking.{nothing_taken, taken_more}
+
+pub take_whole : (xs : List ℕ) → take (length xs) xs ≡ xs
+take_whole [] = refl
+take_whole (x ∷ xs) = ap (λ (l : List ℕ). x ∷ l) (take_whole xs)
+
+-- a front's weight with so many of the next class
+pub weight_more : (entries : List ℤ) (front : List ℕ) (count : ℕ) → length front < length entries → weight_in entries (front ++ count ∷ []) ≡ weight_in entries front +ℤ pos count *ℤ at entries (length front)
+weight_more [] front count l = absurd (omega arith)
+weight_more (x ∷ []) [] count l = omega (arith, ints)
+weight_more (x ∷ y ∷ entries) [] count l = omega (arith, ints)
+weight_more (x ∷ entries) (c ∷ front) count l = omega (arith, ints, weight_more entries front count (omega arith))
+
+no_weight : (entries : List ℤ) → weight_in entries [] ≡ pos 0
+no_weight [] = refl
+no_weight (x ∷ entries) = refl
+
+-- a front's weight, so many more of the next class's entry, and the units of the classes after it are no larger, without their
+-- signs, than the products of sizes and entries
+front_width : (classes : List Class) (entries : List ℤ) (front : List ℕ) (count : ℕ) → AllByRecursion (λ class. class.most ≤ length class.members) classes → length entries ≡ length classes → length front < length classes →
+    ((t : ℕ) → t < length (front ++ count ∷ []) → slice_index (front ++ count ∷ []) t ≤ slice_index (map (λ class. length class.members) classes) t) →
+    unsigned_abs (weight_in entries front) + count * unsigned_abs (at entries (length front)) + width (units (drop (suc (length front)) classes) (drop (suc (length front)) entries))
+    ≤ sum_of_sizes (map (λ class. length class.members) classes) entries
+front_width [] entries front count most e l within = absurd (omega arith)
+front_width (class ∷ classes) [] front count most e l within = absurd (omega arith)
+front_width (class ∷ classes) (x ∷ entries) [] count most e l within =
+    let here = mul-le-mul_right (unsigned_abs x) (within 0 (omega arith)) in omega (arith, here, units_width classes entries most.1)
+front_width (class ∷ classes) (x ∷ entries) (c ∷ front) count most e l within =
+    let here = mul-le-mul_right (unsigned_abs x) (within 0 (omega arith)) in
+    let rest = front_width classes entries front count most.1 (omega arith) (omega arith) (λ t m. within (suc t) (omega arith)) in
+    let sum = abs_sum_le (pos c *ℤ x) (weight_in entries front) (c * unsigned_abs x) (unsigned_abs (weight_in entries front)) (omega (arith, unsigned_abs-mul (pos c) x)) (omega arith) in
+    omega (arith, here, rest, sum)
+
+-- no weight passes 128 bits
+pub child_narrow : (all : Classes) (entries : List ℤ) (front : List ℕ) (count n : ℕ) → KeepsLimits all → AreNarrow all entries → length front < length all.classes → AreWithin all (front ++ count ∷ []) →
+    unsigned_abs (weight_in entries front) + count * unsigned_abs (at entries (length front)) + unsigned_abs (greatest_sum n (drop (length front + 1) all.classes) (drop (length front + 1) entries)) < 2 ^ 127
+child_narrow all entries front count n limits narrow below within =
+    let e : suc (length front) ≡ length front + 1 = omega arith in
+    let most = each_of (λ (class : Class). class.most ≤ length class.members) all.classes limits.most in
+    let front_fits = subst (λ k. unsigned_abs (weight_in entries front) + count * unsigned_abs (at entries (length front)) + width (units (drop k all.classes) (drop k entries)) ≤ sum_of_sizes (sizes_of all) entries) e
+    (front_width all.classes entries front count most narrow.one_each below within) in
+    omega (arith, front_fits, greatest_width n (units (drop (length front + 1) all.classes) (drop (length front + 1) entries)), narrow.narrow)
+
+-- the cell of a child
+pub cell_within : (all : Classes) (later count : ℕ) (entries table : List ℤ) → HoldsSums all entries (length all.classes + 1) table → later ≤ length all.classes → count ≤ all.size → cell_of all later count < length table
+cell_within all later count entries table holds l m = omega (arith, holds.room, mul-add-lt later (all.size + 1) count (length all.classes + 1) (omega arith) (omega arith))
+
+pub optimistic_child : (all : Classes) (row : Row) (front : List ℕ) (count later lack : ℕ) (weighing : Weighing) → AreNarrow all row.a → length front < length all.classes → later + (length front + 1) ≡ length all.classes →
+    lack ≡ all.size - taken_by all (front ++ count ∷ []) → Weighs all row front weighing →
+    optimistic all row (front ++ count ∷ []) ≡ at weighing.weights.items (length front) +ℤ pos count *ℤ at row.a (length front) +ℤ at weighing.greatest.items (cell_of all later lack)
+optimistic_child all row front count later lack weighing narrow below e f weighs =
+    let size = length-append front (count ∷ []) in
+    let table = weighs.sums.each later (length front + 1) lack (omega arith) e (omega arith) in
+    let weight = weight_more row.a front count (omega (arith, narrow.one_each)) in
+    let here = weighs.weights (length front) (omega arith) ∙ ap (weight_in row.a) (take_whole front) in
+    let greatest : greatest_sum (all.size - taken_by all (front ++ count ∷ [])) (drop (length (front ++ count ∷ [])) all.classes) (drop (length (front ++ count ∷ [])) row.a) ≡ at weighing.greatest.items (cell_of all later lack) =
+    ap (λ n. greatest_sum (all.size - taken_by all (front ++ count ∷ [])) (drop n all.classes) (drop n row.a)) size
+    ∙ ap (λ n. greatest_sum n (drop (length front + 1) all.classes) (drop (length front + 1) row.a)) (sym f) ∙ sym table in
+    ap (λ z. z +ℤ greatest_sum (all.size - taken_by all (front ++ count ∷ [])) (drop (length (front ++ count ∷ [])) all.classes) (drop (length (front ++ count ∷ [])) row.a)) weight
+    ∙ ap (λ z. weight_in row.a front +ℤ pos count *ℤ at row.a (length front) +ℤ z) greatest
+    ∙ ap (λ z. z +ℤ pos count *ℤ at row.a (length front) +ℤ at weighing.greatest.items (cell_of all later lack)) (sym here)
+
+-- a child's weight and optimistic weight, as they are computed, fit 128 bits
+pub child_fits : (all : Classes) (row : Row) (front : List ℕ) (count later lack : ℕ) (weighing : Weighing) → KeepsLimits all → AreNarrow all row.a → length front < length all.classes → AreWithin all (front ++ count ∷ []) →
+    later + (length front + 1) ≡ length all.classes → lack ≤ all.size → Weighs all row front weighing →
+    unsigned_abs (at weighing.weights.items (length front)) + count * unsigned_abs (at row.a (length front)) + unsigned_abs (at weighing.greatest.items (cell_of all later lack)) < 2 ^ 127
+child_fits all row front count later lack weighing limits narrow below within e few weighs =
+    let table = weighs.sums.each later (length front + 1) lack (omega arith) e few in
+    let here = weighs.weights (length front) (omega arith) ∙ ap (weight_in row.a) (take_whole front) in
+    omega (arith, ap unsigned_abs table, ap unsigned_abs here, child_narrow all row.a front count lack limits narrow below within)
+
+pub weight_fits : (x : ℤ) (count : ℕ) (a : ℤ) → unsigned_abs (x +ℤ pos count *ℤ a) ≤ unsigned_abs x + count * unsigned_abs a
+weight_fits x count a = abs_sum_le x (pos count *ℤ a) (unsigned_abs x) (count * unsigned_abs a) (omega arith) (omega (arith, unsigned_abs-mul (pos count) a))
+
+pub weighs_child : (all : Classes) (row : Row) (front : List ℕ) (count : ℕ) (before after : Weighing) → AreNarrow all row.a → length front < length all.classes → Weighs all row front before →
+    after.weights.items ≡ set before.weights.items (length front + 1) (at before.weights.items (length front) +ℤ pos count *ℤ at row.a (length front)) → after.greatest.items ≡ before.greatest.items →
+    Weighs all row (front ++ count ∷ []) after
+weighs_child all row front count before after narrow below weighs e f = record {
+  room = ap length e ∙ length-set before.weights.items (length front + 1) _ ∙ weighs.room;
+  weights = λ depth l.
+      (elim (eqb depth (length front + 1)) as (λ b. eqb depth (length front + 1) ≡ b → at after.weights.items depth ≡ weight_in row.a (take depth (front ++ count ∷ []))) [
+        | true ↦ λ t. let same = eqb-true depth (length front + 1) t in whole depth same
+        | false ↦ λ t. let other = eqb-false depth (length front + 1) t in part depth other (shorter depth other l)
+      ]) refl;
+  sums = subst (HoldsSums all row.a (length all.classes + 1)) (sym f) weighs.sums;
+}
+  where
+    shorter : (depth : ℕ) → (depth ≡ length front + 1 → ⊥) → depth ≤ length (front ++ count ∷ []) → depth ≤ length front
+    shorter depth other l = omega (arith, length-append front (count ∷ []))
+
+    part : (depth : ℕ) → (depth ≡ length front + 1 → ⊥) → depth ≤ length front → at after.weights.items depth ≡ weight_in row.a (take depth (front ++ count ∷ []))
+    part depth other l =
+        ap (λ xs. at xs depth) e ∙ get_or-set_other before.weights.items (length front + 1) depth _ (pos 0) other ∙ weighs.weights depth l ∙ ap (weight_in row.a) (sym (take-append-le depth front (count ∷ []) l))
+
+    whole : (depth : ℕ) → depth ≡ length front + 1 → at after.weights.items depth ≡ weight_in row.a (take depth (front ++ count ∷ []))
+    whole depth same =
+        let size : depth ≡ length (front ++ count ∷ []) = omega (arith, length-append front (count ∷ [])) in
+        let here = weighs.weights (length front) (omega arith) ∙ ap (weight_in row.a) (take_whole front) in
+        ap (λ xs. at xs depth) e ∙ get_or-set_at before.weights.items (length front + 1) depth _ (pos 0) same (omega (arith, weighs.room))
+        ∙ ap (λ z. z +ℤ pos count *ℤ at row.a (length front)) here ∙ sym (weight_more row.a front count (omega (arith, narrow.one_each)))
+        ∙ ap (weight_in row.a) (sym (ap (λ n. take n (front ++ count ∷ [])) size ∙ take_whole (front ++ count ∷ [])))
+
+-- what weighs a child weighs the front that it goes on from
+pub weighs_front : (all : Classes) (row : Row) (front : List ℕ) (count : ℕ) (weighing : Weighing) → Weighs all row (front ++ count ∷ []) weighing → Weighs all row front weighing
+weighs_front all row front count weighing weighs = record {
+  room = weighs.room;
+  weights = λ depth l. weighs.weights depth (omega (arith, length-append front (count ∷ []))) ∙ ap (weight_in row.a) (take-append-le depth front (count ∷ []) l);
+  sums = weighs.sums;
+}
+
+-- the empty front
+pub weighs_none : (all : Classes) (row : Row) (weighing : Weighing) → length weighing.weights.items ≡ length all.classes + 1 → at weighing.weights.items 0 ≡ pos 0 → HoldsSums all row.a (length all.classes + 1) weighing.greatest.items → Weighs all row [] weighing
+weighs_none all row weighing room none sums = record {
+  room = room;
+  weights = λ depth l. let e : depth ≡ 0 = omega arith in ap (at weighing.weights.items) e ∙ none ∙ sym (no_weight row.a) ∙ ap (λ n. weight_in row.a (take n [])) (sym e);
+  sums = sums;
+}
+
+taken_of_none : (all : Classes) → taken_by all [] ≡ 0
+taken_of_none all = nothing_taken (λ class. true) all.classes
+
+pub optimistic_none : (all : Classes) (row : Row) (weighing : Weighing) → Weighs all row [] weighing → optimistic all row [] ≡ at weighing.greatest.items (cell_of all (length all.classes) all.size)
+optimistic_none all row weighing weighs =
+    let table = weighs.sums.each (length all.classes) 0 all.size (omega arith) (omega arith) (omega arith) in
+    let size : all.size - taken_by all [] ≡ all.size = omega (arith, taken_of_none all) in
+    ap (λ z. z +ℤ greatest_sum (all.size - taken_by all []) all.classes row.a) (no_weight row.a)
+    ∙ ap (λ n. pos 0 +ℤ greatest_sum n all.classes row.a) size ∙ zero_first (greatest_sum all.size all.classes row.a) ∙ sym table
+  where
+    zero_first : (z : ℤ) → pos 0 +ℤ z ≡ z
+    zero_first z = omega (arith, ints)
+
+-- ---- live fronts
+
+pub taken_few : (all : Classes) (front : List ℕ) → is_live all front ≡ true → taken_by all front ≤ all.size
+taken_few all front live =
+    let parts = and_parts (size_reachable all front) (values_reachable all front) live in
+    leb-true (taken_by all front) all.size (and_parts (leb (taken_by all front) all.size) _ parts.0).0
+
+pub element_at : {X : Type 0} (xs : List X) (i : ℕ) → i < length xs → (x : X) × (x ≡ get_or xs i x)
+element_at [] i l = absurd (omega arith)
+element_at (x ∷ xs) zero l = (x, refl)
+element_at (x ∷ xs) (suc i) l = element_at xs i (omega arith)
+
+-- what a front takes with so many more of the next class
+pub taken_next : (all : Classes) (front : List ℕ) (count : ℕ) → length front < length all.classes → taken_by all (front ++ count ∷ []) ≡ taken_by all front + count
+taken_next all front count below =
+    let class = element_at all.classes (length front) below in
+    taken_more all front class.0 count (record { below = below; is = class.1 }) (λ class. true)

@@ -1,0 +1,161 @@
+use Rattle.std.proofs.Common.{rules, ◌≡◌, ◌+◌, ◌-◌, ◌<◌, [], ◌∷◌, ◌++◌, true, length, take, drop, set, refl, sym, ap, ◌∙◌, arith, subst}
+use Rattle.search_definitions.specs.Fronts.{is_live}
+use Rattle.search_definitions.specs.Visits.{enter_best}
+use Rattle.panel_search.specs.Front.{Tracks}
+use Rattle.panel_search.specs.Pricing.{told, CanTake, CanTakeAbove}
+use Rattle.panel_search.proofs.Tracking.{stands_there}
+use Rattle.panel_search.proofs.Stepping.{front_length, from_front, from_front_more, placed, front_of, at_child}
+use Rattle.panel_search.proofs.BestStepping.{moves_err, moves_same, children_at, child_within, children_last, children_next, enter_more, enter_children, same_class, class_limits, stands_with, child_stands, parent_stands, child_due, child_tracks}
+use Rattle.panel_search.proofs.pricing.BestSearch.+search.Goals as goal
+
+pub children-try_child-requires : goal.children-try_child-requires
+children-try_child-requires t c =
+    let all = c.args.classes.now in let class = c.index-classes-depth.result in let depth = c.args.depth in
+    let stands = stands_there all depth _ class c.requires.below c.classes.ensures c.index-classes-depth.is in
+    let can : CanTake all depth (c.least.result + c.args.above) = λ other e.
+    let same = ap (λ class. class.least) (same_class all depth class other stands e) in omega (arith, c.requires.can_take other e, c.least.ensures, same) in
+    let limits = class_limits all depth class c.facts.ensures stands in
+    (search rules, (c.requires.narrow, (c.requires.closed_narrow, (c.requires.few, (c.requires.below, (can, (omega (arith, c.requires.above, c.least.ensures, limits.0, limits.1, limits.2), c.requires.stands)))))))
+
+pub children-returns-in_err-try_child : goal.children-returns-in_err-try_child
+children-returns-in_err-try_child t c =
+    let all = c.args.classes.now in let class = c.index-classes-depth.result in let self = c.args.self.now in let depth = c.args.depth in
+    let stands = stands_there all depth _ class c.requires.below c.classes.ensures c.index-classes-depth.is in
+    let count : c.least.result + c.args.above ≡ class.least + c.args.above = ap (λ n. n + c.args.above) c.least.ensures in
+    moves_err all c.args.closed.now c.args.row.now depth _ _ _ self.nodes _ c.try_child.new.self c.from_residual.ensures.0
+    (omega (arith, c.in_err-try_child.ensures, child_within all c.args.closed.now c.args.row.now depth class (take depth self.counts.items) c.args.above (c.least.result + c.args.above) (told self) stands count))
+
+pub children-returns-then-above-eq0 : goal.children-returns-then-above-eq0
+children-returns-then-above-eq0 t c =
+    let all = c.args.classes.now in let class = c.index-classes-depth.result in let self = c.args.self.now in let depth = c.args.depth in
+    let stands = stands_there all depth _ class c.requires.below c.classes.ensures c.index-classes-depth.is in
+    let count : c.least.result + c.args.above ≡ class.least + c.args.above = ap (λ n. n + c.args.above) c.least.ensures in
+    let due = children_last all c.args.closed.now c.args.row.now depth class (take depth self.counts.items) c.args.above (c.least.result + c.args.above) (told self) stands count c.if-above-eq0.true in
+    let steps = c.in_ok-try_child.ensures in
+    (steps.0 ∙ sym due, steps.1, steps.2, omega (arith, steps.3, ap (λ now. now.visits) due), steps.4)
+
+pub children-returns : goal.children-returns
+children-returns t c =
+    let all = c.args.classes.now in let class = c.index-classes-depth.result in let self = c.args.self.now in let depth = c.args.depth in let closed = c.args.closed.now in let row = c.args.row.now in
+    let stands = stands_there all depth _ class c.requires.below c.classes.ensures c.index-classes-depth.is in
+    let count : c.least.result + c.args.above ≡ class.least + c.args.above = ap (λ n. n + c.args.above) c.least.ensures in
+    let next = children_next all closed row depth class (take depth self.counts.items) c.args.above (c.least.result + c.args.above) (told self) stands count c.if-above-eq0.false in
+    let steps = c.in_ok-try_child.ensures in
+    moves_same all closed row depth _ _ _ _ _ _ _ c.children.result c.children.new.self
+    (ap (λ front. children_at all closed row depth front (c.args.above - 1) (told c.try_child.new.self)) steps.1 ∙ ap (children_at all closed row depth (take depth self.counts.items) (c.args.above - 1)) steps.0 ∙ sym next)
+    steps.1 steps.2 c.children.ensures
+
+pub enter-returns-in_err-spend : goal.enter-returns-in_err-spend
+enter-returns-in_err-spend t c =
+    let all = c.args.classes.now in let self = c.args.self.now in let depth = c.args.depth in
+    moves_err all c.args.closed.now c.args.row.now depth _ _ _ self.nodes _ c.spend.new.self c.from_residual.ensures.0
+    (omega (arith, c.in_err-spend.ensures.err, enter_more all c.args.closed.now c.args.row.now (drop depth all.classes) (take depth self.counts.items) (told self)))
+
+pub enter-children-requires : goal.enter-children-requires
+enter-children-requires t c =
+    let all = c.args.classes.now in let class = c.index-classes-depth.result in let self = c.args.self.now in let depth = c.args.depth in
+    let below : depth < length all.classes = omega (arith, c.requires.stands.within, c.if-depth-classes.false, ap length c.classes.ensures) in
+    let stands = stands_there all depth _ class below c.classes-2.ensures c.index-classes-depth.is in
+    let limits = class_limits all depth class c.facts.ensures stands in
+    let can : CanTakeAbove all depth (c.most.result - c.least.result) = λ other e.
+    let same = same_class all depth class other stands e in
+    let least = ap (λ class. class.least) same in let members = ap (λ class. length class.members) same in
+    omega (arith, c.most.ensures, c.least.ensures, limits.0, limits.1, least, members) in
+    let spent = c.in_ok-spend.ensures.visits in
+    let counts = ap (λ search. search.counts.items) spent in (
+      search rules,
+      (
+        c.requires.narrow,
+        (
+          c.requires.closed_narrow,
+          (
+            omega (arith, c.in_ok-spend.ensures.ok, ap (λ search. search.visits) spent, ap (λ search. search.nodes) spent),
+            (
+              below,
+              (
+                can,
+                (
+                  omega (arith, c.most.ensures, limits.1, limits.2),
+                  stands_with all c.args.closed.now c.args.row.now depth _ _ self _ c.requires.stands counts (ap (λ search. search.kept.items) spent) (ap (λ search. search.priced) spent) (ap (λ search. search.closed.items) spent)
+                      (from_front_more all depth _ self.counts.items _ (c.deref.ensures.value ∙ counts) c.requires.stands.places c.requires.stands.within c.begin_class.ensures),
+                ),
+              ),
+            ),
+          ),
+        ),
+      ),
+    )
+
+pub enter-returns : goal.enter-returns
+enter-returns t c =
+    let all = c.args.classes.now in let class = c.index-classes-depth.result in let self = c.args.self.now in let depth = c.args.depth in let closed = c.args.closed.now in let row = c.args.row.now in
+    let below : depth < length all.classes = omega (arith, c.requires.stands.within, c.if-depth-classes.false, ap length c.classes.ensures) in
+    let stands = stands_there all depth _ class below c.classes-2.ensures c.index-classes-depth.is in
+    let above : c.most.result - c.least.result ≡ class.most - class.least = omega (arith, c.most.ensures, c.least.ensures) in
+    let spent = c.in_ok-spend.ensures.visits in
+    let counts : take depth c.spend.new.self.counts.items ≡ take depth self.counts.items = ap (λ search. take depth search.counts.items) spent in
+    let due = enter_children all closed row depth class (take depth self.counts.items) (c.most.result - c.least.result) (told self) stands above in
+    let steps = c.in_ok-children.ensures in
+    let here = ap (λ front. children_at all closed row depth front (c.most.result - c.least.result) (told c.spend.new.self)) counts
+    ∙ ap (λ search. children_at all closed row depth (take depth self.counts.items) (c.most.result - c.least.result) (told search)) spent ∙ sym due in (
+      steps.0 ∙ here,
+      steps.1 ∙ counts,
+      steps.2 ∙ ap (λ search. search.nodes) spent,
+      omega (arith, steps.3, ap (λ now. now.visits) here, ap (λ search. search.nodes) spent),
+      stands_with all closed row depth _ _ c.children.new.self _ steps.4 refl refl refl refl
+          (from_front all depth _ c.children.new.self.counts.items _ c.deref-2.ensures.value steps.4.places steps.4.within c.end_class.ensures),
+    )
+
+pub try_child-enter-requires : goal.try_child-enter-requires
+try_child-enter-requires t c =
+    let all = c.args.classes.now in let self = c.args.self.now in let depth = c.args.depth in let count = c.args.count in let mid = c.weights_allow.new.self in
+    let items = ap (λ counts. counts.items) c.weights_allow.ensures.counts in
+    let live : is_live all (take depth self.counts.items ++ count ∷ []) ≡ true = ap (λ items. is_live all (take depth items ++ count ∷ [])) (sym c.deref.ensures.value) ∙ (sym c.allows.ensures ∙ c.if-not-allows.false) in (
+      search rules,
+      (
+        c.requires.narrow,
+        (
+          c.requires.closed_narrow,
+          (
+            omega (arith, c.requires.few, ap (λ now. now.visits) c.weights_allow.ensures.told, c.weights_allow.ensures.nodes),
+            child_stands all c.args.closed.now c.args.row.now depth count _ self _ c.requires.stands c.requires.below c.requires.can_take live (ap (λ xs. set xs depth count) items) c.weights_allow.ensures.stands.kept_places
+                (child_tracks all depth count _ self.counts.items _ (c.deref-2.ensures.value ∙ items) c.requires.stands.places c.requires.stands.within c.take.ensures)
+                (c.weights_allow.ensures.priced c.if-not-weights_allow.false) (c.weights_allow.ensures.closed c.if-not-weights_allow.false),
+          ),
+        ),
+      ),
+    )
+
+pub try_child-give_back-requires-clause-stands : goal.try_child-give_back-requires-clause-stands
+try_child-give_back-requires-clause-stands t c =
+    let all = c.args.classes.now in let self = c.args.self.now in let depth = c.args.depth in let count = c.args.count in
+    let items = ap (λ counts. counts.items) c.weights_allow.ensures.counts in
+    let front = take depth self.counts.items in
+    let long : length front ≡ depth = front_length depth self.counts.items (length all.classes) c.requires.stands.places c.requires.stands.within in
+    let child : take (depth + 1) (set c.weights_allow.new.self.counts.items depth count) ≡ front ++ count ∷ [] =
+    ap (λ xs. take (depth + 1) (set xs depth count)) items ∙ placed depth count self.counts.items (omega (arith, c.requires.below, c.requires.stands.places)) in
+    let steps = c.in_ok-enter.ensures in
+    let same : take depth c.enter.new.self.counts.items ≡ front = front_of depth c.enter.new.self.counts.items front count long (steps.1 ∙ child) in
+    at_child all depth _ front count c.enter.new.self.tally long (ap (take depth) c.deref-3.ensures.value ∙ same)
+    (subst (λ f. Tracks all f (drop (depth + 1) all.classes) c.enter.new.self.tally) (steps.1 ∙ child) steps.4.tally)
+
+pub try_child-returns : goal.try_child-returns
+try_child-returns t c =
+    let all = c.args.classes.now in let self = c.args.self.now in let depth = c.args.depth in let count = c.args.count in let closed = c.args.closed.now in let row = c.args.row.now in
+    let items = ap (λ counts. counts.items) c.weights_allow.ensures.counts in
+    let front = take depth self.counts.items in let later = drop (depth + 1) all.classes in
+    let long : length front ≡ depth = front_length depth self.counts.items (length all.classes) c.requires.stands.places c.requires.stands.within in
+    let child : take (depth + 1) (set c.weights_allow.new.self.counts.items depth count) ≡ front ++ count ∷ [] =
+    ap (λ xs. take (depth + 1) (set xs depth count)) items ∙ placed depth count self.counts.items (omega (arith, c.requires.below, c.requires.stands.places)) in
+    let steps = c.in_ok-enter.ensures in
+    let same : take depth c.enter.new.self.counts.items ≡ front = front_of depth c.enter.new.self.counts.items front count long (steps.1 ∙ child) in
+    let live : is_live all (front ++ count ∷ []) ≡ true = ap (λ items. is_live all (take depth items ++ count ∷ [])) (sym c.deref.ensures.value) ∙ (sym c.allows.ensures ∙ c.if-not-allows.false) in
+    let due = child_due all closed row later (front ++ count ∷ []) (told self) live (sym c.weights_allow.ensures.value ∙ c.if-not-weights_allow.false) in
+    let here = ap (λ f. enter_best all closed row later f (told c.weights_allow.new.self)) child ∙ ap (enter_best all closed row later (front ++ count ∷ [])) c.weights_allow.ensures.told ∙ sym due in (
+      steps.0 ∙ here,
+      same,
+      steps.2 ∙ c.weights_allow.ensures.nodes,
+      omega (arith, steps.3, ap (λ now. now.visits) here, c.weights_allow.ensures.nodes),
+      parent_stands all closed row depth count later self c.enter.new.self _ c.requires.stands steps.4 (steps.1 ∙ child) same refl refl refl refl
+          (from_front_more all depth _ c.enter.new.self.counts.items _ c.deref-3.ensures.value steps.4.places c.requires.stands.within c.give_back.ensures),
+    )

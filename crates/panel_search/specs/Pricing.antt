@@ -1,0 +1,52 @@
+-- One step of the search for the best composition.
+use Rattle.std.specs.Prelude.{◌≡◌, ◌≤◌, ◌<◌, ◌+◌, ℕ, if◌then◌else◌, true, List, [], ◌∷◌, ◌++◌, length, take, fold, Result, Ok, Err, Some, None, slice_get}
+use Rattle.row_definitions.specs.Row.{Row}
+use Rattle.search_definitions.specs.Classes.{Class, Classes}
+use Rattle.search_definitions.specs.Fronts.{is_live, is_live_above}
+use Rattle.search_definitions.specs.Visits.{Pricing, enter_best}
+use Rattle.panel_search.specs.Front.{Tracks}
+use Rattle.panel_search.specs.Weights.{AreWithin, Weighs, WeighEach}
+use Rattle.panel_search.specs.declared.searching.BudgetSpent.{BudgetSpent}
+use Rattle.panel_search.specs.declared.pricing.BestSearch.{BestSearch}
+
+-- a search stands at a live front of the first classes, where these classes come after it
+pub record StandsAt (all : Classes) (closed : List Row) (row : Row) (depth : ℕ) (rest : List Class) (search : BestSearch) : Type 0 where
+  pub places : length search.counts.items ≡ length all.classes
+  pub kept_places : length search.kept.items ≡ length all.classes
+  pub within : depth ≤ length all.classes
+  pub live : is_live all (take depth search.counts.items) ≡ true
+  pub counts : AreWithin all (take depth search.counts.items)
+  pub tally : Tracks all (take depth search.counts.items) rest search.tally
+  pub priced : Weighs all row (take depth search.counts.items) search.priced
+  pub closed_rows : WeighEach all closed (take depth search.counts.items) search.closed.items
+
+-- its visits, its floor, and what it has kept
+abbrev pub told : BestSearch → Pricing
+told search = record { visits = search.visits; floor = search.floor; kept = if search.is_found then Some search.kept.items else None }
+
+-- at least so many of the class in a place can be taken
+abbrev pub CanTake : Classes → ℕ → ℕ → Type 0
+CanTake all depth count = (class : Class) → slice_get all.classes depth ≡ Some class → count ≤ length class.members
+
+-- so many above the least number of the class in a place can be taken
+abbrev pub CanTakeAbove : Classes → ℕ → ℕ → Type 0
+CanTakeAbove all depth above = (class : Class) → slice_get all.classes depth ≡ Some class → class.least + above ≤ length class.members
+
+-- a child where it is live, else nothing
+abbrev pub child_best : Classes → List Row → Row → List Class → List ℕ → Pricing → Pricing
+child_best all closed row later child now = if is_live_above all closed row now.floor child then enter_best all closed row later child now else now
+
+-- the children of a front, with these counts of the next class, one after the other
+abbrev pub children_best : Classes → List Row → Row → List Class → List ℕ → List ℕ → Pricing → Pricing
+children_best all closed row later front counts now = fold (λ now c. child_best all closed row later (front ++ c ∷ []) now) now counts
+
+-- a step comes to what is due and stands at the front where it stood, or the visits that are due are more than it may make
+abbrev pub Moves : Classes → List Row → Row → ℕ → List Class → Pricing → List ℕ → ℕ → Result (Unit {0}) BudgetSpent → BestSearch → Type 0
+Moves all closed row depth rest due front nodes (Ok done) after =
+    (told after ≡ due) × (take depth after.counts.items ≡ front) × (after.nodes ≡ nodes) × (due.visits ≤ nodes) × StandsAt all closed row depth rest after
+Moves all closed row depth rest due front nodes (Err spent) after = nodes < due.visits
+
+-- what a whole search comes to
+abbrev pub Ends : Pricing → ℕ → Result (Unit {0}) BudgetSpent → BestSearch → Type 0
+Ends due nodes (Ok done) after = (told after ≡ due) × (due.visits ≤ nodes)
+Ends due nodes (Err spent) after = nodes < due.visits
