@@ -1,6 +1,12 @@
-//! A small pool with its quota panels, and the kinds of fault at their edges.
+//! A small pool with its quota panels, standings and chances, copies, and the kinds of fault at their edges.
 
-use crate::{BuildStop, Name, Panel, Pool, Standing, fits, size_kind};
+ghost use Rattle.std.specs.Prelude.{IfOk};
+ghost use Rattle.pool_definitions.specs.Lottery.{TotalAgrees};
+
+use crate::{
+    Answer, BuildStop, Certificate, Lottery, LotteryRow, Name, Panel, Pool, Stage, Standing,
+    chances, fits, size_kind,
+};
 use std::alloc::{AllocError, Global};
 use std::process::Abort;
 use std::test::Fail;
@@ -145,6 +151,125 @@ fn knows_quota_panels(rt: HostRuntime) -> Result<(), Fail> {
         let answer = panel.map(|panel| panel.members() == members && fits(&pool, &panel));
         assert_eq!(rt; answer, want, "at {members:?}");
     }
+    Ok(())
+}
+
+/// Sets a standing, of a volunteer who is there.
+fn set(rt: &impl Abort, pool: &mut Pool, number: usize, standing: Standing) {
+    assert!(rt; number < pool.volunteers().len());
+    pool.set_standing(number, standing);
+}
+
+/// Which of the panels of one woman and one man of the four are quota panels.
+fn fitting(alloc: Global, pool: &Pool) -> Result<Vec<bool>, Fail> {
+    let mut answers = Vec::new(alloc);
+    for members in [[0, 2], [0, 3], [1, 2], [1, 3]] {
+        let panel = Panel::new(members.to_vec(alloc)?).ok_or("not increasing")?;
+        answers.push(fits(pool, &panel))?;
+    }
+    Ok(answers)
+}
+
+#[test]
+fn keeps_standings(rt: HostRuntime) -> Result<(), Fail> {
+    let mut pool = four(rt.alloc())?;
+    let before = shown(rt.alloc(), &pool)?;
+    let rows: [(Standing, Standing, &[bool]); 4] = [
+        (
+            Standing::Gone,
+            Standing::Seated,
+            &[false, false, true, false],
+        ),
+        (Standing::Gone, Standing::Open, &[false, false, true, true]),
+        (
+            Standing::Seated,
+            Standing::Gone,
+            &[false, true, false, false],
+        ),
+        (Standing::Open, Standing::Open, &[true, true, true, true]),
+    ];
+    for (first, third, want) in rows {
+        set(&rt, &mut pool, 0, first);
+        set(&rt, &mut pool, 2, third);
+        assert_eq!(rt;
+            fitting(rt.alloc(), &pool)?.as_slice(),
+            want,
+            "{first:?} {third:?}"
+        );
+    }
+    assert_eq!(rt; shown(rt.alloc(), &pool)?, before);
+    Ok(())
+}
+
+#[test]
+fn copies_a_pool(rt: HostRuntime) -> Result<(), Fail> {
+    let mut pool = four(rt.alloc())?;
+    set(&rt, &mut pool, 0, Standing::Gone);
+    let copy = pool.copy()?;
+    assert_eq!(rt; shown(rt.alloc(), &copy)?, shown(rt.alloc(), &pool)?);
+    Ok(())
+}
+
+/// Three of the four's panels, with weights 3, 1 and 2.
+fn three_panels(alloc: Global) -> Result<Lottery, Fail>
+    ensures { IfOk result (λ lottery. TotalAgrees lottery) }
+{
+    let mut rows = Vec::new(alloc);
+    let first = Panel::new([0, 2].to_vec(alloc)?).ok_or("not increasing")?;
+    rows.push(LotteryRow::new(first, 3))?;
+    let second = Panel::new([1, 3].to_vec(alloc)?).ok_or("not increasing")?;
+    rows.push(LotteryRow::new(second, 1))?;
+    let third = Panel::new([0, 3].to_vec(alloc)?).ok_or("not increasing")?;
+    rows.push(LotteryRow::new(third, 2))?;
+    Ok(Lottery::new(6, rows))
+}
+
+#[test]
+fn counts_chances(rt: HostRuntime) -> Result<(), Fail> {
+    let pool = four(rt.alloc())?;
+    let lottery = three_panels(rt.alloc())?;
+    assert_eq!(rt; lottery.total(), 6);
+    let counts = chances(rt.alloc(), &pool, &lottery)?;
+    assert_eq!(rt; counts.as_slice(), [5, 1, 3, 3].as_slice());
+    Ok(())
+}
+
+/// The lottery of three panels, with a stage that has these weights, -1, 0, 1 and 0.
+fn answer(alloc: Global, cap: i128) -> Result<Answer, Fail> {
+    let mut weights = Vec::new(alloc);
+    for weight in [-1, 0, 1, 0] {
+        weights.push(weight)?;
+    }
+    let mut stages = Vec::new(alloc);
+    stages.push(Stage::new(weights, cap))?;
+    Ok(Answer::new(three_panels(alloc)?, Certificate::new(stages)))
+}
+
+/// All that an answer holds.
+fn told_by(alloc: Global, answer: &Answer) -> Result<String, AllocError> {
+    format!(in alloc; "{answer:?}")
+}
+
+#[test]
+fn lends_its_parts(rt: HostRuntime) -> Result<(), Fail> {
+    let answer = answer(rt.alloc(), -2)?;
+    assert_eq!(rt; answer.lottery().total(), 6);
+    for row in answer.lottery().rows() {
+        assert_eq!(rt; row.panel().members().len(), 2);
+        assert!(rt; 0 < row.weight());
+    }
+    for stage in answer.certificate().stages() {
+        assert_eq!(rt; stage.cap(), -2);
+        assert_eq!(rt; stage.weights().len(), 4);
+    }
+    Ok(())
+}
+
+#[test]
+fn copies_an_answer(rt: HostRuntime) -> Result<(), Fail> {
+    let answer = answer(rt.alloc(), -2)?;
+    let copy = answer.copy()?;
+    assert_eq!(rt; told_by(rt.alloc(), &copy)?, told_by(rt.alloc(), &answer)?);
     Ok(())
 }
 
