@@ -12,7 +12,7 @@ use Rattle.search_definitions.proofs.Limits.{limits_kept}
 use Rattle.search_definitions.proofs.PoolClasses.{alone_makes_classes}
 use Rattle.search_definitions.specs.Classes.{Class, Classes, KeepsLimits, bounds_of, leaders, class_of, class_by, classes_of, least_taken, most_taken}
 use Rattle.search_definitions.proofs.ByClass.{any_false}
-use Rattle.alike.specs.Singles.{single}
+use Rattle.alike.specs.Singles.{AreAlone, single}
 
 none_from : (l first count : ℕ) → l < first → filter (eqb l) (range_with_len first count) ≡ []
 none_from l first zero h = refl
@@ -76,3 +76,10 @@ pub keeps_limits : (pool : Pool) (size : ℕ) (bounds : List (List Bounds)) (cla
     classes ≡ map (single pool.volunteers) (range_with_len 0 (length pool.volunteers)) → KeepsLimits (record { size = size; bounds = bounds; classes = classes })
 keeps_limits pool size bounds classes is_pool e f g =
     subst KeepsLimits (sym (made_classes pool size bounds classes e f g)) (limits_kept pool eqb is_pool (alone_makes_classes pool))
+
+singles_alone : (volunteers : List Volunteer) (first count : ℕ) → AreAlone first (map (single volunteers) (range_with_len first count))
+singles_alone volunteers first zero = tt
+singles_alone volunteers first (suc count) = (refl, singles_alone volunteers (first + 1) count)
+
+pub made_alone : (pool : Pool) (classes : List Class) → classes ≡ map (single pool.volunteers) (range_with_len 0 (length pool.volunteers)) → AreAlone 0 classes
+made_alone pool classes e = subst (AreAlone 0) (sym e) (singles_alone pool.volunteers 0 (length pool.volunteers))

@@ -1,2 +1,5 @@
 pub mod Taken
 pub mod Alone
+pub mod SpreadAlone
+pub mod EvenAlone
+pub mod LotteryAlone

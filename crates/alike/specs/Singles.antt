@@ -1,5 +1,5 @@
 -- Volunteers as classes of one member.
-use Rattle.std.specs.Prelude.{ℕ, List, [], ◌∷◌}
+use Rattle.std.specs.Prelude.{◌≡◌, ◌+◌, ℕ, List, [], ◌∷◌}
 use Rattle.pool_definitions.specs.Pool.{Volunteer, volunteer}
 use Rattle.search_definitions.specs.Classes.{Class, least_taken, most_taken}
 
@@ -11,3 +11,8 @@ single volunteers i = record {
   least = least_taken (volunteer volunteers i).standing 1;
   most = most_taken (volunteer volunteers i).standing 1;
 }
+
+-- each class is one volunteer alone, in order from a number on
+abbrev pub AreAlone : ℕ → List Class → Type 0
+AreAlone first [] = Unit {0}
+AreAlone first (class ∷ classes) = (class.members ≡ first ∷ []) × AreAlone (first + 1) classes

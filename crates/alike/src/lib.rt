@@ -1,10 +1,14 @@
-//! Classes of volunteers who are alike, compositions, which say how many of each class are taken, and the first panel of a
-//! composition. Contracts see them as the records and lists of `search_definitions`. `pool_model` stands below.
+//! Classes of volunteers who are alike, compositions, which say how many of each class are taken, the first panel of a
+//! composition, and the lottery that spreads compositions over panels. Contracts see them as the records and lists of
+//! `search_definitions` and `spread_definitions`. `pool_model` and `frac128` stand below.
 #![tactic(auto)]
 
 mod composing;
 mod grouping;
 mod groups;
+mod spreading;
+#[cfg(test)]
+mod spreading_tests;
 #[cfg(test)]
 mod tests;
 
@@ -12,3 +16,4 @@ pub use composing::{Composition, first_panel};
 pub use grouping::classes;
 pub use groups::{Class, Classes, ValueBounds};
 pub use search_definitions::Bounds;
+pub use spreading::{SpreadStop, spread};

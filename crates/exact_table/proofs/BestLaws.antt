@@ -85,10 +85,6 @@ module _ (table : Table) (v : Var) (sides : (i : ℕ) → i < length table.rows 
   state_of zero l = λ k m. absurd (omega arith)
   state_of (suc n) l = state_more n (omega arith) (best_of table v n) (state_of n (omega arith)) (may_leave table v n) refl
 
-  -- the best of the first n rows is among them and may be left
-  pub best-known : (n b : ℕ) → n ≤ length table.rows → best_of table v n ≡ Some b → IsBest table v n b
-  best-known n b l e = subst (IsState n) e (state_of n l)
-
   -- the best of all rows is the one row that is least
   module _ (different : AreDifferent table.basic) (each : length table.basic ≡ length table.rows) where
     not_before : (b k : ℕ) → IsBest table v (length table.rows) b → k < b → (t : Bool) → is_least table v k ≡ t → is_least table v k ≡ false

@@ -4,3 +4,4 @@ pub mod PartLaws
 pub mod BestLaws
 pub mod OrderLaws
 pub mod ValueLaws
+pub mod BoundLaws

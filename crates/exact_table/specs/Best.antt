@@ -1,12 +1,21 @@
 -- What enters and what leaves, found as the variables and the rows are looked at in turn.
-use Rattle.std.specs.Prelude.{ℕ, zero, suc, if◌then◌else◌, Bool, ◌&&◌, Option, Some, None, pos, int_lt}
+use Rattle.std.specs.Prelude.{◌≡◌, ◌<◌, ℕ, zero, suc, length, ℤ, ◌≤ℤ◌, ◌<ℤ◌, if◌then◌else◌, Bool, ◌&&◌, Option, Some, None, pos, int_lt}
 use Rattle.row_definitions.specs.declared.Var.{Var}
-use Rattle.row_definitions.specs.Table.{Table, coefficient_at}
+use Rattle.row_definitions.specs.Table.{Table, coefficient_at, row_at, basic_at}
 use Rattle.row_definitions.specs.Choice.{is_eligible, may_leave, leaves_before}
 
 -- a variable is eligible, and its coefficient in the row is below 0
 abbrev pub may_enter : Table → ℕ → Var → Bool
 may_enter table i v = is_eligible table v && int_lt (coefficient_at table i v) (pos 0)
+
+-- what is known of a row that may be left: its right side, its positive coefficient and its basic variable
+pub record IsLeaver (table : Table) (v : Var) (row : ℕ) (side coefficient : ℤ) (basic : Var) : Type 0 where
+  pub place : row < length table.rows
+  pub side_is : side ≡ (row_at table row).b
+  pub coefficient_is : coefficient ≡ coefficient_at table row v
+  pub basic_is : basic ≡ basic_at table row
+  pub some_side : pos 0 ≤ℤ side
+  pub positive : pos 0 <ℤ coefficient
 
 -- the better of a row and the best one so far
 abbrev pub better : Table → Var → ℕ → Option ℕ → Option ℕ

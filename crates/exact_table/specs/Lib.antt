@@ -2,4 +2,3 @@ pub mod Best
 pub mod Marks
 pub mod Parts
 pub mod Starting
-pub mod Values

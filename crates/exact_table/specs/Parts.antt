@@ -1,5 +1,5 @@
 -- The parts of the table that are no rows, and what they keep.
-use Rattle.std.specs.Prelude.{◌≡◌, ℕ, ◌-◌, ◌<◌, ◌≤◌, ◌^◌, ◌≤ℤ◌, pos, Bool, true, if◌then◌else◌, List, [], length, take, slice_index, slice_index_or}
+use Rattle.std.specs.Prelude.{◌≡◌, ◌≢◌, ℕ, ◌-◌, ◌<◌, ◌≤◌, ◌^◌, ◌≤ℤ◌, pos, Bool, true, if◌then◌else◌, List, [], length, take, slice_index, slice_index_or}
 use Rattle.std.specs.List.{All}
 use Rattle.row_definitions.specs.declared.Var.{Var}
 use Rattle.row_definitions.specs.Row.{Row, reach}
@@ -49,6 +49,10 @@ pub record AreRows (table : Table) : Type 0 where
   pub entry_count : All (λ row. length row.a ≡ length table.sizes) table.rows
   pub small : All (λ row. reach table.sizes row < 2 ^ 127) table.rows
   pub sides : All (λ row. pos 0 ≤ℤ row.b) table.rows
+
+-- the counts are those of no column
+abbrev pub IsNew : Table → List ℕ → Type 0
+IsNew table counts = (c : ℕ) → c < length table.columns → slice_index_or table.columns c [] ≢ counts
 
 -- no variable stands twice
 abbrev pub AreDifferent : List Var → Type 0

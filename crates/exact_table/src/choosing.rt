@@ -1,10 +1,11 @@
-// Bland's rule over the rows of a table.
-ghost use Rattle.std.specs.Prelude.{◌≡◌, ℕ, ◌<◌, ◌^◌, Bool, ◌&&◌, List, [], length, map, Option, Some, true, pos, ◌≤ℤ◌, ◌<ℤ◌, ◌*ℤ◌, int_lt, unsigned_abs, position, slice_index_or};
+//! Bland's rule over the rows of a table.
+
+ghost use Rattle.std.specs.Prelude.{◌≡◌, ◌<◌, ◌^◌, [], length, map, IfNone, IfSome, true, false, pos, ◌≤ℤ◌, ◌<ℤ◌, unsigned_abs, position};
 ghost use Rattle.std.specs.List.{All, find, range_with_len};
-ghost use Rattle.std.specs.Ordering.{int_eq};
+ghost use Rattle.std.specs.Option.{option_map};
 ghost use Rattle.row_definitions.specs.Table.{variables, coefficient_at, is_same, comes_before};
-ghost use Rattle.row_definitions.specs.Choice.{is_eligible, goes_before, may_leave, leaves_before, leaving, entering, choice};
-ghost use Rattle.exact_table.specs.Best.{may_enter, next_best};
+ghost use Rattle.row_definitions.specs.Choice.{is_eligible, goes_before, may_leave, leaving, entering, choice};
+ghost use Rattle.exact_table.specs.Best.{may_enter, IsLeaver, next_best};
 ghost use Rattle.row_definitions.specs.InOrder.{IsKnown, IsInOrder};
 ghost use Rattle.exact_table.specs.Parts.{with_rows, AreRows, AreDifferent};
 
@@ -154,54 +155,53 @@ fn first_to_enter(frame: &Frame, rows: &[Line], at: usize) -> Option<Var>
     }
 }
 
-// Of two rows with positive coefficients, the first leaves rather than the second.
-fn goes_before(b: i128, c: i128, x: Var, other_b: i128, other_c: i128, y: Var) -> bool
-    requires b { pos 0 ≤ℤ b }
-    requires c { pos 0 <ℤ c }
-    requires other_b { pos 0 ≤ℤ other_b }
-    requires other_c { pos 0 <ℤ other_c }
-    ensures { result ≡ goes_before b c x other_b other_c y }
+// A row that may be left.
+#[derive(Clone, Copy)]
+struct Leaver {
+    row: usize,
+    side: i128,
+    // The coefficient of the variable that enters.
+    coefficient: i128,
+    basic: Var,
+}
+
+// Of two rows that may be left, the first leaves rather than the second.
+fn goes_before(one: Leaver, other: Leaver) -> bool
+    requires side { pos 0 ≤ℤ one.side }
+    requires coefficient { pos 0 <ℤ one.coefficient }
+    requires other_side { pos 0 ≤ℤ other.side }
+    requires other_coefficient { pos 0 <ℤ other.coefficient }
+    ensures { result ≡ goes_before one.side one.coefficient one.basic other.side other.coefficient other.basic }
 {
-    match compare(b, c, other_b, other_c) {
+    match compare(one.side, one.coefficient, other.side, other.coefficient) {
         Ordering::Less => true,
-        Ordering::Equal => comes_before(x, y),
+        Ordering::Equal => comes_before(one.basic, other.basic),
         Ordering::Greater => false,
     }
 }
 
-// Row i has a positive coefficient on a variable.
-fn may_leave(frame: &Frame, rows: &[Line], basic: &[Var], variable: Var, i: usize) -> bool
-    requires known { IsKnown frame.now variable }
-    requires rows { AreRows (with_rows frame.now rows.now []) }
-    requires i { i < length rows.now }
-    ensures { result ≡ may_leave (with_rows frame.now rows.now basic.now) variable i }
-{
-    coefficient_in(frame, rows, i, variable) > 0
-}
-
-// Row i leaves rather than row j.
-fn leaves_before(
-    frame: &Frame,
-    rows: &[Line],
-    basic: &[Var],
-    variable: Var,
-    i: usize,
-    j: usize,
-) -> bool
+// Row i, where it has a positive coefficient on a variable.
+fn leaver_at(frame: &Frame, rows: &[Line], basic: &[Var], variable: Var, i: usize) -> Option<Leaver>
     requires known { IsKnown frame.now variable }
     requires rows { AreRows (with_rows frame.now rows.now []) }
     requires basic { length basic.now ≡ length rows.now }
     requires i { i < length rows.now }
-    requires j { j < length rows.now }
-    requires may { may_leave (with_rows frame.now rows.now basic.now) variable i ≡ true }
-    requires other { may_leave (with_rows frame.now rows.now basic.now) variable j ≡ true }
-    ensures { result ≡ leaves_before (with_rows frame.now rows.now basic.now) variable i j }
+    ensures none { IfNone result (may_leave (with_rows frame.now rows.now basic.now) variable i ≡ false) }
+    ensures row { IfSome result (λ here. here.row ≡ i) }
+    ensures some { IfSome result (λ here. IsLeaver (with_rows frame.now rows.now basic.now) variable here.row here.side here.coefficient here.basic) }
 {
-    let c = coefficient_in(frame, rows, i, variable);
-    let d = coefficient_in(frame, rows, j, variable);
-    let here = &rows[i];
-    let there = &rows[j];
-    goes_before(here.side(), c, basic[i], there.side(), d, basic[j])
+    let coefficient = coefficient_in(frame, rows, i, variable);
+    if coefficient > 0 {
+        let side = rows[i].side();
+        Some(Leaver {
+            row: i,
+            side,
+            coefficient,
+            basic: basic[i],
+        })
+    } else {
+        None
+    }
 }
 
 // The best row once row i was looked at.
@@ -211,28 +211,29 @@ fn next_best(
     basic: &[Var],
     variable: Var,
     i: usize,
-    best: Option<usize>,
-) -> Option<usize>
+    best: Option<Leaver>,
+) -> Option<Leaver>
     requires known { IsKnown frame.now variable }
     requires rows { AreRows (with_rows frame.now rows.now []) }
     requires basic { length basic.now ≡ length rows.now }
     requires i { i < length rows.now }
-    requires place { (b : ℕ) → best ≡ Some b → b < length rows.now }
-    requires may { (b : ℕ) → best ≡ Some b → may_leave (with_rows frame.now rows.now basic.now) variable b ≡ true }
-    ensures { result ≡ next_best (with_rows frame.now rows.now basic.now) variable i best }
+    requires best { IfSome best (λ so_far. IsLeaver (with_rows frame.now rows.now basic.now) variable so_far.row so_far.side so_far.coefficient so_far.basic) }
+    ensures row { option_map (λ here. here.row) result
+        ≡ next_best (with_rows frame.now rows.now basic.now) variable i (option_map (λ so_far. so_far.row) best) }
+    ensures leaver { IfSome result (λ here. IsLeaver (with_rows frame.now rows.now basic.now) variable here.row here.side here.coefficient here.basic) }
 {
-    if !may_leave(frame, rows, basic, variable, i) {
-        return best;
-    }
-    match best {
-        None => Some(i),
-        Some(other) => {
-            if leaves_before(frame, rows, basic, variable, i, other) {
-                Some(i)
-            } else {
-                Some(other)
+    match leaver_at(frame, rows, basic, variable, i) {
+        None => best,
+        Some(here) => match best {
+            None => Some(here),
+            Some(so_far) => {
+                if goes_before(here, so_far) {
+                    Some(here)
+                } else {
+                    Some(so_far)
+                }
             }
-        }
+        },
     }
 }
 
@@ -248,7 +249,10 @@ fn row_to_leave(frame: &Frame, rows: &[Line], basic: &[Var], variable: Var) -> O
     for i in 0..rows.len() {
         best = next_best(frame, rows, basic, variable, i, best);
     }
-    best
+    match best {
+        None => None,
+        Some(leaver) => Some(leaver.row),
+    }
 }
 
 // The variable that enters.

@@ -1,8 +1,9 @@
-// The exact simplex table of the leximin program, in whole numbers under a width: rows `(b; a_1 .. a_m)` whose greatest
-// common divisor is 1, Bland's rule, and a pivot that is made whole or passes the width at its first operation.
-// It stands on `frac128` and on the definitions of `row_definitions`.
+//! The exact simplex table of the leximin program, in whole numbers under a width: rows `(b; a_1 .. a_m)` whose greatest
+//! common divisor is 1, Bland's rule, and a pivot that is made whole or passes the width at its first operation.
+//! It stands on `frac128` and on the definitions of `row_definitions`.
 #![tactic(auto)]
 
+mod bounds;
 mod choosing;
 mod frame;
 mod line;
@@ -10,17 +11,22 @@ mod marks;
 mod pivoting;
 mod starting;
 mod table;
+#[cfg(test)]
+mod tests;
 mod width;
 
 pub use frame::Counts;
 pub use row_definitions::{Op, Pass, Var};
 pub use table::Table;
+use thiserror::Error;
 
 /// Why a table was not made.
-#[derive(Drop, Debug)]
+#[derive(Debug, Drop, Error)]
 pub enum TableStop {
-    /// A row passes the width.
+    /// The first operation of the rows' reaches whose result passes the width.
+    #[error("row {} passes the width", .0.row)]
     Pass(Pass),
-    /// Memory ran out.
+    /// No memory was left.
+    #[error("out of memory")]
     OutOfMemory,
 }

@@ -1,6 +1,7 @@
-// For each class the stage at whose close it was settled.
-ghost use Rattle.std.specs.Prelude.{◌≡◌, ◌==◌, ◌&&◌, if◌then◌else◌, length, replicate, IfOk, pos, int_lt};
-ghost use Rattle.exact_table.specs.Marks.{never, settled_marks};
+//! For each class the stage at whose close it was settled.
+
+ghost use Rattle.std.specs.Prelude.{◌≡◌, ◌==◌, ◌&&◌, if◌then◌else◌, count_by, length, replicate, IfOk, pos, int_lt};
+ghost use Rattle.exact_table.specs.Marks.{never, settled_of, settled_marks};
 
 use std::alloc::{AllocError, Global};
 
@@ -12,6 +13,13 @@ pub(crate) fn none_settled(alloc: Global, m: usize) -> Result<Vec<usize>, AllocE
     ensures { IfOk result (λ marks. marks.items ≡ replicate m never) }
 {
     vec![in alloc; NEVER; m]
+}
+
+// How many classes are settled.
+pub(crate) fn settled_count(settled_at: &[usize]) -> usize
+    ensures { result ≡ count_by (λ s. s) (settled_of settled_at.now) }
+{
+    settled_at.iter().filter(|at| **at < NEVER).count()
 }
 
 // A class's mark once a stage closes where the class has an entry.

@@ -1,4 +1,5 @@
-// The rows of the first table.
+//! The rows of the first table.
+
 ghost use Rattle.std.specs.Prelude.{◌≡◌, ◌+◌, ◌<◌, ◌^◌, ◌∷◌, map, length, IfOk, Ok, pos, ◌≤ℤ◌, unsigned_abs};
 ghost use Rattle.std.specs.List.{All, range_with_len};
 ghost use Rattle.row_definitions.specs.Row.{reach};

@@ -5,7 +5,7 @@
 ghost use Rattle.std.specs.Prelude.{◌≡◌, ◌≤ℤ◌, ◌<ℤ◌, pos, unsigned_abs, Some, SomeIff, max, ◌*◌, ◌^◌, ◌<◌, ◌≤◌};
 ghost use Rattle.std.specs.Ordering.{nat_cmp};
 ghost use Rattle.frac128.specs.Divisors.{gcd_of, lcm_of, IsGreatestCommonDivisor, IsLeastCommonMultiple};
-ghost use Rattle.frac128.specs.Fractions.{Fraction, IsLowest, fraction_text};
+ghost use Rattle.frac128.specs.Fractions.{Fraction, IsLowest, lowest_of, fraction_text};
 
 use std::cmp::Ordering;
 use std::fmt;
@@ -151,6 +151,7 @@ impl fmt::Display for Frac {
 pub fn lowest(num: i128, den: i128) -> Frac
     requires num { pos 0 ≤ℤ num }
     requires den { pos 0 <ℤ den }
+    ensures value { result ≡ lowest_of (unsigned_abs num) (unsigned_abs den) }
     ensures same { unsigned_abs num * result.den ≡ result.num * unsigned_abs den }
     ensures lowest { IsLowest result.num result.den }
 {

@@ -16,3 +16,8 @@ pub mod Leaving
 pub mod Keeps
 pub mod StepsKeep
 pub mod Starts
+pub mod Totals
+pub mod Solutions
+pub mod Satisfied
+pub mod SettledKeep
+pub mod Levels

@@ -7,3 +7,6 @@ pub mod Steps
 pub mod InOrder
 pub mod WorkedRun
 pub mod Laws
+pub mod Solutions
+pub mod Settled
+pub mod Levels

@@ -2,6 +2,7 @@
 use Rattle.std.specs.Prelude.{if◌then◌else◌, ℕ, Bool, true, false, not, ◌||◌, List, [], ◌∷◌, ◌++◌, map, length, Option, Some, None, ℤ, pos, int_lt, unsigned_abs, unwrap_or}
 use Rattle.std.specs.List.{filter_map, range_with_len}
 use Rattle.std.specs.Option.{option_and_then}
+use Rattle.frac128.specs.Fractions.{Fraction, lowest_of}
 use Rattle.row_definitions.specs.declared.Var.TheVariants.{Column}
 use Rattle.row_definitions.specs.Table.{Table, row_at, coefficient_at, stage_variable}
 use Rattle.row_definitions.specs.Choice.{row_of}
@@ -41,6 +42,10 @@ pub record ColumnValue : Type 0 where
   pub column : ℕ
   pub side : ℕ
   pub coefficient : ℕ
+
+-- a column and its value in lowest terms
+abbrev pub fraction_of : ColumnValue → ℕ × Fraction
+fraction_of there = (there.column, lowest_of there.side there.coefficient)
 
 -- a column's value, where it is basic in row i
 abbrev pub value_in : Table → ℕ → ℕ → Option ColumnValue

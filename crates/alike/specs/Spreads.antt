@@ -1,0 +1,29 @@
+-- What spreading answers.
+use Rattle.std.specs.Prelude.{◌≡◌, ℕ, ◌*◌, ◌/◌, ℤ, List, Result, Ok, Err, pos}
+use Rattle.frac128.specs.Fractions.{Fraction}
+use Rattle.pool_definitions.specs.Lottery.{Lottery, Row}
+use Rattle.search_definitions.specs.Classes.{Classes}
+use Rattle.search_definitions.specs.Compositions.{first_panel}
+use Rattle.spread_definitions.specs.Spreading.{TotalPass}
+use Rattle.alike.specs.declared.spreading.SpreadStop.{SpreadStop}
+use Rattle.alike.specs.declared.spreading.SpreadStop.TheVariants.{TotalPasses, OutOfMemory}
+
+-- the place at which the total passes first; want of memory may come at any time
+abbrev pub IsStop : {X : Type 0} → SpreadStop → Result X TotalPass → Type 0
+IsStop (TotalPasses place total den) sought =
+    (pass : TotalPass) × (sought ≡ Err pass) × (place ≡ pass.place) × (total ≡ pos pass.total) × (den ≡ pos pass.den)
+IsStop OutOfMemory sought = Unit {0}
+
+-- the lottery, or why there is none
+abbrev pub IsSpread : Result Lottery SpreadStop → Result Lottery TotalPass → Type 0
+IsSpread (Ok lottery) sought = sought ≡ Ok lottery
+IsSpread (Err stop) sought = IsStop stop sought
+
+-- the common total, or why there is none
+abbrev pub IsTotal : Result ℤ SpreadStop → Result ℕ TotalPass → Type 0
+IsTotal (Ok total) sought = (sum : ℕ) × (sought ≡ Ok sum) × (total ≡ pos sum)
+IsTotal (Err stop) sought = IsStop stop sought
+
+-- where each class is one volunteer alone: the one panel of a composition, with its fraction of the total
+abbrev pub row_alone : Classes → ℕ → List ℕ × Fraction → Row
+row_alone all total part = record { panel = first_panel all part.0; weight = part.1.num * (total / part.1.den) }

@@ -1,0 +1,151 @@
+//! Lotteries over one seat for three volunteers.
+
+ghost use Rattle.std.specs.Prelude.{◌≡◌, ◌<ℤ◌, ◌+ℤ◌, pos, unsigned_abs, IfOk};
+ghost use Rattle.frac128.specs.Fractions.{lowest_of};
+ghost use Rattle.search_definitions.specs.Classes.{classes_of};
+ghost use Rattle.spread_definitions.specs.WorkedSpreads.{one_of_three};
+
+use crate::{Classes, Composition, SpreadStop, classes, spread};
+use frac128::{Frac, lowest};
+use pool_model::{BuildStop, Lottery, Pool};
+use std::alloc::{AllocError, Global};
+use std::test::Fail;
+
+/// One seat, for one of three volunteers.
+fn three(alloc: Global) -> Result<Classes, BuildStop>
+    ensures { IfOk result (λ found. found ≡ classes_of one_of_three) }
+{
+    let mut pool = Pool::new(alloc, 1)?;
+    pool.add_volunteer("a", &[])?;
+    pool.add_volunteer("b", &[])?;
+    pool.add_volunteer("c", &[])?;
+    Ok(classes(alloc, &pool)?)
+}
+
+/// These counts, with a share of a whole.
+fn part(
+    alloc: Global,
+    counts: &[usize],
+    share: i128,
+    whole: i128,
+) -> Result<(Composition, Frac), AllocError>
+    requires share { pos 0 <ℤ share }
+    requires whole { pos 0 <ℤ whole }
+    ensures { IfOk result (λ part. part ≡ (counts.now, lowest_of (unsigned_abs share) (unsigned_abs whole))) }
+{
+    Ok((
+        Composition::new(Vec::from_slice(alloc, counts)?),
+        lowest(share, whole),
+    ))
+}
+
+/// The total, and each weight with its panel; or why there is none.
+fn told(alloc: Global, answer: &Result<Lottery, SpreadStop>) -> Result<String, AllocError> {
+    match answer {
+        Err(stop) => format!(in alloc; "{stop}"),
+        Ok(lottery) => {
+            let mut text = format!(in alloc; "{}:", lottery.total())?;
+            for row in lottery.rows() {
+                let row = format!(in alloc; " {} {:?}", row.weight(), row.panel().members())?;
+                text.push_str(&row)?;
+            }
+            Ok(text)
+        }
+    }
+}
+
+/// The first has a share, and the second the rest.
+fn spread_two(
+    alloc: Global,
+    found: &Classes,
+    whole: i128,
+    share: i128,
+) -> Result<String, AllocError>
+    requires found { found.now ≡ classes_of one_of_three }
+    requires share { pos 0 <ℤ share }
+    requires rest { share <ℤ whole }
+{
+    let rest = whole - share;
+    let parts = [
+        part(alloc, &[1, 0, 0], share, whole)?,
+        part(alloc, &[0, 1, 0], rest, whole)?,
+    ];
+    told(alloc, &spread(alloc, found, &parts))
+}
+
+/// The first and the second have shares, and the third the rest.
+fn spread_three(
+    alloc: Global,
+    found: &Classes,
+    whole: i128,
+    first: i128,
+    second: i128,
+) -> Result<String, AllocError>
+    requires found { found.now ≡ classes_of one_of_three }
+    requires first { pos 0 <ℤ first }
+    requires second { pos 0 <ℤ second }
+    requires rest { (first +ℤ second) <ℤ whole }
+{
+    let rest = whole - first - second;
+    let parts = [
+        part(alloc, &[1, 0, 0], first, whole)?,
+        part(alloc, &[0, 1, 0], second, whole)?,
+        part(alloc, &[0, 0, 1], rest, whole)?,
+    ];
+    told(alloc, &spread(alloc, found, &parts))
+}
+
+const TEN_38: i128 = 100000000000000000000000000000000000000;
+
+const TEN_19: i128 = 10000000000000000000;
+
+#[test]
+fn two_shares(rt: HostRuntime) -> Result<(), Fail> {
+    let alloc = rt.alloc();
+    let found = three(alloc)?;
+    for (whole, share, expected) in [
+        (2, 1, "2: 1 [0] 1 [1]"),
+        (12, 8, "3: 2 [0] 1 [1]"),
+        (
+            TEN_38,
+            1,
+            "100000000000000000000000000000000000000: 1 [0] 99999999999999999999999999999999999999 [1]",
+        ),
+        (
+            TEN_38 + 1,
+            1,
+            "the total 1 passes 10^38 at composition 0, of denominator 100000000000000000000000000000000000001",
+        ),
+    ] {
+        assert!(rt; 0 < share);
+        assert!(rt; share < whole);
+        let text = spread_two(alloc, &found, whole, share)?;
+        assert_eq!(rt; text.as_str(), expected);
+    }
+    Ok(())
+}
+
+#[test]
+fn three_shares(rt: HostRuntime) -> Result<(), Fail> {
+    let alloc = rt.alloc();
+    let found = three(alloc)?;
+    for (whole, first, second, expected) in [
+        (6, 2, 1, "6: 2 [0] 1 [1] 3 [2]"),
+        (30, 10, 6, "15: 5 [0] 3 [1] 7 [2]"),
+        // one over 10^19 and one over 10^19 + 1, which have no common divisor
+        (
+            TEN_38 + TEN_19,
+            TEN_19 + 1,
+            TEN_19,
+            "the total 10000000000000000000 passes 10^38 at composition 1, of denominator 10000000000000000001",
+        ),
+    ] {
+        assert!(rt; 0 < first);
+        assert!(rt; 0 < second);
+        assert!(rt; first < whole);
+        assert!(rt; second < whole - first);
+        let text = spread_three(alloc, &found, whole, first, second)?;
+        assert_eq!(rt; text.as_str(), expected);
+    }
+    Ok(())
+}

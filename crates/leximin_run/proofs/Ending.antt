@@ -1,0 +1,54 @@
+-- Where the run ends.
+use Rattle.std.proofs.Common.{◌≡◌, ◌<◌, ◌≤◌, false, cond, ltb, List, length, map, Some, Ok, Err, refl, sym, ap, ◌∙◌, subst}
+use Rattle.std.specs.List.{All}
+use Rattle.std.proofs.lemmas.Bool.{le-ltb}
+use Rattle.std.proofs.lemmas.List.Elements.{All-from_recursion, recursion_from_All}
+use Rattle.pool_definitions.specs.Lottery.{Lottery}
+use Rattle.row_definitions.specs.Choice.{choice}
+use Rattle.row_definitions.specs.InOrder.{IsInOrder, settled_count}
+use Rattle.row_definitions.specs.Row.{Row}
+use Rattle.row_definitions.specs.Steps.{enter_stage, fraction_of, solution}
+use Rattle.row_definitions.specs.Table.{Table}
+use Rattle.row_definitions.proofs.Satisfied.{solution-stands}
+use Rattle.search_definitions.specs.Classes.{Classes}
+use Rattle.search_definitions.proofs.Listed.{each_mapped}
+use Rattle.spread_definitions.specs.Spreading.{TotalPass, spread}
+use Rattle.run_definitions.specs.Run.{Ends, Limits, GoOn, Ended, Found, NodesSpent, PivotsSpent, TooWide, TotalPasses, answered, parts_of, stage_of, step, step_in_stage}
+use Rattle.run_definitions.proofs.Ends.{comes_to_end, goes_on}
+use Rattle.leximin_run.specs.declared.running.Refusal.{Refusal}
+use Rattle.leximin_run.specs.declared.running.Refusal.TheVariants.{Wide, NoPivot, NoVisit, NoMemory}
+use Rattle.leximin_run.specs.Advancing.{Reaches, Refuses, Stands}
+use Rattle.leximin_run.specs.Answers.{TellsEnding, stop_of}
+
+-- the columns of the solution are the table's
+pub known_columns : (table : Table) → IsInOrder table → All (λ part. part.0 < length table.columns) (map fraction_of (solution table))
+known_columns table h =
+    let stands = solution-stands table h in
+    All-from_recursion (λ part. part.0 < length table.columns) (map fraction_of (solution table))
+    (each_mapped (λ part. part.0 < length table.columns) fraction_of (solution table) (recursion_from_All (λ there. there.column < length table.columns) (solution table) stands.known))
+
+module _ (all : Classes) (limits : Limits) (table : Table) (closed : List Row) (reaches : Reaches all limits table closed) where
+  answer_due : table.in_stage ≡ false → length table.sizes ≤ settled_count table → step all limits table ≡ Ended (answered all table (spread all (parts_of table)))
+  unfolding step
+  answer_due shut settled =
+      ap (λ s. cond s (step_in_stage all limits table (choice table)) (cond (ltb (settled_count table) (length table.sizes)) (GoOn (enter_stage table)) (Ended (answered all table (spread all (parts_of table)))))) shut
+      ∙ ap (λ s. cond s (GoOn (enter_stage table)) (Ended (answered all table (spread all (parts_of table))))) (le-ltb (settled_count table) (length table.sizes) settled)
+
+  pub found_at_end : table.in_stage ≡ false → length table.sizes ≤ settled_count table → (lottery : Lottery) → spread all (parts_of table) ≡ Ok lottery →
+      Ends all limits (Found (record { lottery = lottery; stages = map (stage_of all) closed }))
+  found_at_end shut settled lottery e =
+      let ended = comes_to_end all limits table (answered all table (Ok lottery)) reaches.reached (answer_due shut settled ∙ ap (λ s. Ended (answered all table s)) e) in
+      subst (λ rows. Ends all limits (Found (record { lottery = lottery; stages = map (stage_of all) rows }))) (sym reaches.stands.closed_are) ended
+
+  pub passed_at_end : table.in_stage ≡ false → length table.sizes ≤ settled_count table → (pass : TotalPass) → spread all (parts_of table) ≡ Err pass → Ends all limits (TotalPasses table pass)
+  passed_at_end shut settled pass e = comes_to_end all limits table (answered all table (Err pass)) reaches.reached (answer_due shut settled ∙ ap (λ s. Ended (answered all table s)) e)
+
+  -- a step that is refused
+  pub refused_at : (refusal : Refusal) (after : Table) → Refuses all limits table refusal after → TellsEnding all limits (Err (stop_of after refusal))
+  refused_at (Wide pass) after told = subst (λ t. Ends all limits (TooWide (Some t) pass)) (sym told.1) (comes_to_end all limits table (TooWide (Some table) pass) reaches.reached told.0)
+  refused_at NoPivot after told = (after, refl, subst (λ t. Ends all limits (PivotsSpent t)) (sym told.1) (comes_to_end all limits table (PivotsSpent table) reaches.reached told.0))
+  refused_at NoVisit after told = subst (λ t. Ends all limits (NodesSpent (Some t))) (sym told.1) (comes_to_end all limits table (NodesSpent (Some table)) reaches.reached told.0)
+  refused_at NoMemory after told = tt
+
+  pub reaches_on : (after : Table) (rows : List Row) → step all limits table ≡ GoOn after → Stands all limits after rows → Reaches all limits after rows
+  reaches_on after rows e stands = record { reached = goes_on all limits table after reaches.reached e; stands = stands }

@@ -1,0 +1,7 @@
+use Rattle.std.proofs.Common.{◌≡◌, map, take}
+use Rattle.run_definitions.specs.Run.{stage_of}
+use Rattle.leximin_run.proofs.certifying.certificate.Given as goal
+
+-- the rows so far have their stages
+abbrev pub invariant-loop-row : goal.invariant-loop-row
+invariant-loop-row l = l.stages.items ≡ map (stage_of l.classes) (take l.row-index l.closed)

@@ -1,0 +1,34 @@
+use Rattle.std.proofs.Common.{Err, map, rules, refl, sym, ap, ◌∙◌, subst}
+use Rattle.run_definitions.specs.Run.{Ends, Found, stage_of}
+use Rattle.run_definitions.proofs.Parts.{parts_are}
+use Rattle.spread_definitions.specs.Spreading.{AreParts, spread}
+use Rattle.alike.specs.Spreads.{IsSpread}
+use Rattle.leximin_run.proofs.Ending.{found_at_end, passed_at_end}
+use Rattle.leximin_run.proofs.solving.answer.Goals as goal
+
+pub spread-requires : goal.spread-requires
+spread-requires c =
+    let run = c.args.run in
+    subst (AreParts run.classes) (sym (c.deref-2.ensures.value ∙ c.in-Ok.ensures)) (parts_are run.classes run.limits run.table c.requires.reached.stands.keeps)
+
+pub returns-in-Ok-spread : goal.returns-in-Ok-spread
+returns-in-Ok-spread c =
+    let run = c.args.run in
+    let made = sym (ap (spread run.classes) (c.deref-2.ensures.value ∙ c.in-Ok.ensures)) ∙ c.in-Ok-spread.ensures.spread in
+    let found = found_at_end run.classes run.limits run.table run.closed.items c.requires.reached c.requires.shut c.requires.settled c.in-Ok-spread.lottery made in
+    let stages = c.in-Ok-certificate.ensures ∙ ap (map (stage_of run.classes)) c.deref.ensures.value in
+    subst (λ answer. Ends run.classes run.limits (Found answer)) (sym c.new.ensures)
+    (subst (λ ss. Ends run.classes run.limits (Found (record { lottery = c.in-Ok-spread.lottery; stages = ss }))) (sym stages) found)
+
+pub returns-in-Err-TotalPasses : goal.returns-in-Err-TotalPasses
+returns-in-Err-TotalPasses c =
+    let run = c.args.run in
+    let told = subst (λ stop. IsSpread (Err stop) (spread run.classes c.deref-2.result.now)) c.in-Err-TotalPasses.field-0-is c.in-Err-TotalPasses.ensures.spread in
+    let passes = sym (ap (spread run.classes) (c.deref-2.ensures.value ∙ c.in-Ok.ensures)) ∙ told.1 in
+    let place = c.in-Err-TotalPasses.place-is in let total = c.in-Err-TotalPasses.total-is in let den = c.in-Err-TotalPasses.den-is in (
+      run.table,
+      told.0,
+      refl,
+      record { place_is = place ∙ told.2; total_is = search rules; den_is = search rules },
+      passed_at_end run.classes run.limits run.table run.closed.items c.requires.reached c.requires.shut c.requires.settled told.0 passes,
+    )

@@ -1,0 +1,43 @@
+-- What the run answers.
+use Rattle.std.specs.Prelude.{◌≡◌, ℕ, ℤ, pos, Option, Some, None, Result, Ok, Err}
+use Rattle.row_definitions.specs.Table.{Table}
+use Rattle.run_definitions.specs.Run.{Ending, Ends, Limits}
+use Rattle.search_definitions.specs.Classes.{Classes}
+use Rattle.spread_definitions.specs.Spreading.{TotalPass}
+use Rattle.leximin_run.specs.declared.running.Refusal.{Refusal}
+use Rattle.leximin_run.specs.declared.running.Refusal.TheVariants.{Wide, NoPivot, NoVisit, NoMemory}
+use Rattle.leximin_run.specs.declared.stops.At.{At}
+use Rattle.leximin_run.specs.declared.stops.At.TheVariants.{Opening}
+use Rattle.leximin_run.specs.declared.stops.Solved.{Solved}
+use Rattle.leximin_run.specs.declared.stops.Solved.TheVariants.{Found, NoPanel}
+use Rattle.leximin_run.specs.declared.stops.Stop.{Stop}
+use Rattle.leximin_run.specs.declared.stops.Stop.TheVariants.{TooWide, TotalPasses, PivotsSpent, NodesSpent, OutOfMemory}
+
+-- the table as it stood, if there was one
+abbrev pub stood : At → Option Table
+stood Opening = None
+stood (At.Table table) = Some table
+
+-- the numbers tell where the total passes
+pub record IsTotalPass (pass : TotalPass) (place : ℕ) (total den : ℤ) : Type 0 where
+  pub place_is : place ≡ pass.place
+  pub total_is : total ≡ pos pass.total
+  pub den_is : den ≡ pos pass.den
+
+-- the answer tells how the run over classes ends; want of memory may come at any time
+abbrev pub TellsEnding : Classes → Limits → Result Solved Stop → Type 0
+TellsEnding all limits (Ok (Found answer)) = Ends all limits (Ending.Found answer)
+TellsEnding all limits (Ok NoPanel) = Ends all limits Ending.NoPanel
+TellsEnding all limits (Err (TooWide place pass)) = Ends all limits (Ending.TooWide (stood place) pass)
+TellsEnding all limits (Err (TotalPasses place at total den)) =
+    (table : Table) × (pass : TotalPass) × (stood place ≡ Some table) × IsTotalPass pass at total den × Ends all limits (Ending.TotalPasses table pass)
+TellsEnding all limits (Err (PivotsSpent place)) = (table : Table) × (stood place ≡ Some table) × Ends all limits (Ending.PivotsSpent table)
+TellsEnding all limits (Err (NodesSpent place)) = Ends all limits (Ending.NodesSpent (stood place))
+TellsEnding all limits (Err OutOfMemory) = Unit {0}
+
+-- why the run stops where a step is refused
+abbrev pub stop_of : Table → Refusal → Stop
+stop_of table (Wide pass) = TooWide (At.Table table) pass
+stop_of table NoPivot = PivotsSpent (At.Table table)
+stop_of table NoVisit = NodesSpent (At.Table table)
+stop_of table NoMemory = OutOfMemory

@@ -1,0 +1,76 @@
+//! The limits of a run.
+
+ghost use Rattle.std.specs.Prelude.{◌≡◌, ◌≤◌, ◌&&◌, nat_le, if◌then◌else◌, Some, None};
+ghost use Rattle.run_definitions.specs.Keeps.{AreLimits};
+
+use std::marker::Model;
+
+const MOST_BITS: u32 = 127;
+
+const MOST_PIVOTS: u64 = 1_000_000_000;
+
+const MOST_NODES: u64 = 1_000_000_000_000;
+
+/// The limits of a run: the width of its numbers, from 1 to 127 bits; how many pivots it may make, at most 1,000,000,000; and how many
+/// visits each of its searches may take, at most 1,000,000,000,000.
+#[derive(Clone, Copy, Debug)]
+pub struct Limits {
+    bits: u32,
+    pivots: u64,
+    nodes: u64,
+}
+
+impl Model for Limits {
+    ghost use Rattle.run_definitions.specs.Run.{Limits as Seen};
+    ghost use Rattle.run_definitions.specs.Keeps.{AreLimits};
+
+    ghost Value = { Seen };
+
+    ghost view = { λ l. record { bits = l.bits; pivots = l.pivots; nodes = l.nodes } };
+
+    ghost invariant = { λ l. AreLimits (record { bits = l.bits; pivots = l.pivots; nodes = l.nodes }) };
+
+    ghost inverse = { λ l. record { bits = l.bits; pivots = l.pivots; nodes = l.nodes } };
+}
+
+impl Limits {
+    /// The limits of these numbers, or None exactly where one is out of its range.
+    pub fn new(bits: u32, pivots: u64, nodes: u64) -> Option<Limits>
+        ensures { result ≡ (if nat_le 1 bits && nat_le bits 127 && nat_le pivots 1000000000 && nat_le nodes 1000000000000
+            then Some (record { bits = bits; pivots = pivots; nodes = nodes }) else None) }
+    {
+        if 1 <= bits && bits <= MOST_BITS && pivots <= MOST_PIVOTS && nodes <= MOST_NODES {
+            Some(Limits {
+                bits,
+                pivots,
+                nodes,
+            })
+        } else {
+            None
+        }
+    }
+
+    /// The width in bits.
+    pub fn bits(self) -> u32
+        ensures value { result ≡ self.bits }
+        ensures ranges { AreLimits self }
+    {
+        self.bits
+    }
+
+    /// How many pivots the run may make.
+    pub fn pivots(self) -> u64
+        ensures value { result ≡ self.pivots }
+        ensures ranges { AreLimits self }
+    {
+        self.pivots
+    }
+
+    /// How many visits each of its searches may take.
+    pub fn nodes(self) -> u64
+        ensures value { result ≡ self.nodes }
+        ensures ranges { AreLimits self }
+    {
+        self.nodes
+    }
+}

@@ -1,0 +1,123 @@
+//! The run's steps.
+
+ghost use Rattle.std.specs.Prelude.{◌≡◌, ◌<◌, true, OnOk, IfOk, Some, None, length};
+ghost use Rattle.leximin_run.specs.Advancing.{Advances, Makes, Stands};
+ghost use Rattle.row_definitions.specs.Choice.{choice};
+ghost use Rattle.row_definitions.specs.Table.{row_at};
+
+use crate::limits::Limits;
+use alike::Classes;
+use exact_table::{Pass, Table, Var};
+use panel_search::{Row, SearchStop, best};
+use std::alloc::{AllocError, Global};
+
+// Why a step that is due is not made.
+#[derive(Debug, Clone, Copy)]
+pub(crate) enum Refusal {
+    // An operation passes the width.
+    Wide(Pass),
+    // A pivot is due, and no more may be made.
+    NoPivot,
+    // Pricing takes more visits than it may.
+    NoVisit,
+    NoMemory,
+}
+
+// A run between two steps. The rows of the closed stages are kept beside the table, as pricing takes them.
+#[derive(Drop)]
+pub(crate) struct Run {
+    pub(crate) classes: Classes,
+    pub(crate) limits: Limits,
+    pub(crate) table: Table,
+    pub(crate) closed: Vec<Row>,
+}
+
+impl Run {
+    // The next step. Is one made? If not, everybody is settled.
+    pub(crate) fn advance(&mut self, alloc: Global) -> Result<bool, Refusal>
+        requires { Stands self.old.classes self.old.limits self.old.table self.old.closed.items }
+        ensures advances { Advances self.old.classes self.old.limits self.old.table result self.new.table }
+        ensures stands { OnOk result (Stands self.new.classes self.new.limits self.new.table self.new.closed.items) }
+        ensures classes { self.new.classes ≡ self.old.classes }
+        ensures limits { self.new.limits ≡ self.old.limits }
+    {
+        if self.table.in_stage() {
+            match self.table.bland() {
+                Some((row, variable)) => self.pivot(row, variable)?,
+                None => self.price(alloc)?,
+            }
+            Ok(true)
+        } else if self.table.some_unsettled() {
+            self.table.enter_stage();
+            Ok(true)
+        } else {
+            Ok(false)
+        }
+    }
+
+    // The chosen pivot.
+    fn pivot(&mut self, row: usize, variable: Var) -> Result<(), Refusal>
+        requires stands { Stands self.old.classes self.old.limits self.old.table self.old.closed.items }
+        requires open { self.old.table.in_stage ≡ true }
+        requires chosen { choice self.old.table ≡ Some (row, variable) }
+        ensures makes { Makes self.old.classes self.old.limits self.old.table result self.new.table }
+        ensures stands { OnOk result (Stands self.new.classes self.new.limits self.new.table self.new.closed.items) }
+        ensures classes { self.new.classes ≡ self.old.classes }
+        ensures limits { self.new.limits ≡ self.old.limits }
+    {
+        if self.limits.pivots() <= self.table.pivots() {
+            return Err(Refusal::NoPivot);
+        }
+        match self.table.pivot(row, variable) {
+            Ok(()) => Ok(()),
+            Err(pass) => Err(Refusal::Wide(pass)),
+        }
+    }
+
+    // No pivot is chosen: the open row is priced, and a column comes or the stage closes.
+    fn price(&mut self, alloc: Global) -> Result<(), Refusal>
+        requires stands { Stands self.old.classes self.old.limits self.old.table self.old.closed.items }
+        requires open { self.old.table.in_stage ≡ true }
+        requires done { choice self.old.table ≡ None }
+        ensures makes { Makes self.old.classes self.old.limits self.old.table result self.new.table }
+        ensures stands { OnOk result (Stands self.new.classes self.new.limits self.new.table self.new.closed.items) }
+        ensures classes { self.new.classes ≡ self.old.classes }
+        ensures limits { self.new.limits ≡ self.old.limits }
+    {
+        self.classes.facts();
+        let open = self.table.open_row();
+        let Ok(row) = copied_row(alloc, &self.table, open) else {
+            return Err(Refusal::NoMemory);
+        };
+        match best(
+            alloc,
+            &self.classes,
+            &self.closed,
+            &row,
+            self.limits.nodes(),
+        ) {
+            Ok((Some(composition), _)) => match self.table.add_column(composition.counts()) {
+                Ok(()) => Ok(()),
+                Err(_) => Err(Refusal::NoMemory),
+            },
+            Ok((None, _)) => match self.closed.push(row) {
+                Ok(()) => {
+                    self.table.close_stage();
+                    Ok(())
+                }
+                Err(_) => Err(Refusal::NoMemory),
+            },
+            Err(SearchStop::Spent) => Err(Refusal::NoVisit),
+            Err(SearchStop::OutOfMemory) => Err(Refusal::NoMemory),
+        }
+    }
+}
+
+// A row of the table.
+fn copied_row(alloc: Global, table: &Table, row: usize) -> Result<Row, AllocError>
+    requires { row < length table.now.rows }
+    ensures { IfOk result (λ copied. copied ≡ row_at table.now row) }
+{
+    let (side, entries) = table.row(row);
+    Ok(Row::new(side, Vec::from_slice(alloc, entries)?))
+}

@@ -1,0 +1,150 @@
+//! The whole run.
+
+ghost use Rattle.std.specs.Prelude.{◌≡◌, ◌≤◌, ◌<◌, false, Some, IfOk, [], length, slice_index_or};
+ghost use Rattle.leximin_run.specs.Advancing.{Reaches};
+ghost use Rattle.leximin_run.specs.Answers.{TellsEnding, stop_of};
+ghost use Rattle.run_definitions.specs.Run.{parts_of};
+ghost use Rattle.row_definitions.specs.InOrder.{settled_count};
+ghost use Rattle.search_definitions.specs.Classes.{classes_of};
+ghost use Rattle.search_definitions.specs.Compositions.{first_composition};
+ghost use Rattle.search_definitions.specs.Fronts.{sizes_of};
+ghost use Rattle.search_definitions.specs.Visits.{first_search};
+
+use crate::certifying::certificate;
+use crate::limits::Limits;
+use crate::running::{Refusal, Run};
+use crate::stops::{At, Solved, Stop};
+use alike::{Classes, Composition, SpreadStop, classes, spread};
+use exact_table::{Table, TableStop};
+use frac128::Frac;
+use panel_search::{SearchStop, first};
+use pool_model::{Answer, Pool};
+use std::alloc::{AllocError, Global};
+
+/// The run over a pool under limits: the lottery with its certificate, or that the pool has no quota panel, or the first step that is
+/// refused, with the table as it stood.
+pub fn solve(alloc: Global, pool: &Pool, limits: Limits) -> Result<Solved, Stop>
+    ensures { TellsEnding (classes_of pool.now) limits result }
+{
+    let Ok(classes) = classes(alloc, pool) else {
+        return Err(Stop::OutOfMemory);
+    };
+    match first(alloc, &classes, limits.nodes()) {
+        Ok(Some(composition)) => begin(alloc, classes, limits, &composition),
+        Ok(None) => Ok(Solved::NoPanel),
+        Err(SearchStop::Spent) => Err(Stop::NodesSpent(At::Opening)),
+        Err(SearchStop::OutOfMemory) => Err(Stop::OutOfMemory),
+    }
+}
+
+// The run from the first composition on.
+fn begin(
+    alloc: Global,
+    classes: Classes,
+    limits: Limits,
+    composition: &Composition,
+) -> Result<Solved, Stop>
+    requires within { (first_search classes).visits ≤ limits.nodes }
+    requires first { first_composition classes ≡ Some composition.now }
+    ensures { TellsEnding classes limits result }
+{
+    classes.facts();
+    let Ok(sizes) = sizes(alloc, &classes) else {
+        return Err(Stop::OutOfMemory);
+    };
+    match Table::start(alloc, &sizes, composition.counts(), limits.bits()) {
+        Ok(table) => finish(
+            alloc,
+            Run {
+                classes,
+                limits,
+                table,
+                closed: Vec::new(alloc),
+            },
+        ),
+        Err(TableStop::Pass(pass)) => Err(Stop::TooWide(At::Opening, pass)),
+        Err(TableStop::OutOfMemory) => Err(Stop::OutOfMemory),
+    }
+}
+
+// The size of each class.
+fn sizes(alloc: Global, classes: &Classes) -> Result<Vec<usize>, AllocError>
+    ensures { IfOk result (λ sizes. sizes.items ≡ sizes_of classes.now) }
+{
+    classes
+        .classes()
+        .iter()
+        .map(|class| class.size())
+        .collect(alloc)
+}
+
+// The run from a table on.
+fn finish(alloc: Global, mut run: Run) -> Result<Solved, Stop>
+    requires { Reaches run.classes run.limits run.table run.closed.items }
+    ensures { TellsEnding run.classes run.limits result }
+{
+    loop {
+        match run.advance(alloc) {
+            Ok(true) => {}
+            Ok(false) => return answer(alloc, run),
+            Err(refusal) => return Err(stop(run, refusal)),
+        }
+    }
+}
+
+// Why the run stops where a step is refused.
+fn stop(run: Run, refusal: Refusal) -> Stop
+    ensures { result ≡ stop_of run.table refusal }
+{
+    let at = At::Table(run.table);
+    match refusal {
+        Refusal::Wide(pass) => Stop::TooWide(at, pass),
+        Refusal::NoPivot => Stop::PivotsSpent(at),
+        Refusal::NoVisit => Stop::NodesSpent(at),
+        Refusal::NoMemory => Stop::OutOfMemory,
+    }
+}
+
+// Everybody is settled: the columns of positive value are spread, and the closed rows certify the lottery.
+fn answer(alloc: Global, run: Run) -> Result<Solved, Stop>
+    requires reached { Reaches run.classes run.limits run.table run.closed.items }
+    requires shut { run.table.in_stage ≡ false }
+    requires settled { length run.table.sizes ≤ settled_count run.table }
+    ensures { TellsEnding run.classes run.limits result }
+{
+    let Ok(parts) = parts(alloc, &run.table) else {
+        return Err(Stop::OutOfMemory);
+    };
+    let Ok(certificate) = certificate(alloc, &run.classes, &run.closed) else {
+        return Err(Stop::OutOfMemory);
+    };
+    match spread(alloc, &run.classes, &parts) {
+        Ok(lottery) => Ok(Solved::Found(Answer::new(lottery, certificate))),
+        Err(SpreadStop::TotalPasses { place, total, den }) => {
+            Err(Stop::TotalPasses(At::Table(run.table), place, total, den))
+        }
+        Err(SpreadStop::OutOfMemory) => Err(Stop::OutOfMemory),
+    }
+}
+
+// The columns of positive value as compositions with their fractions.
+fn parts(alloc: Global, table: &Table) -> Result<Vec<(Composition, Frac)>, AllocError>
+    ensures { IfOk result (λ parts. parts.items ≡ parts_of table.now) }
+{
+    table.facts();
+    let solution = table.solution()?;
+    let mut parts = Vec::new(alloc);
+    for (column, value) in &solution {
+        parts.push((composition(alloc, table, *column)?, *value))?;
+    }
+    Ok(parts)
+}
+
+// A column as a composition.
+fn composition(alloc: Global, table: &Table, column: usize) -> Result<Composition, AllocError>
+    requires { column < length table.now.columns }
+    ensures { IfOk result (λ found. found ≡ slice_index_or table.now.columns column []) }
+{
+    let counts = table.columns()[column].as_slice();
+    Ok(Composition::new(Vec::from_slice(alloc, counts)?))
+}

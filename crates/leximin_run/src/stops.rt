@@ -1,0 +1,38 @@
+//! What a run answers, and why it stops.
+
+use exact_table::{Pass, Table};
+use pool_model::Answer;
+
+/// Where a run stood when a step was refused.
+#[derive(Drop)]
+pub enum At {
+    /// There was no table yet.
+    Opening,
+    /// The table as it stood when the refused step was due.
+    Table(Table),
+}
+
+/// What a run finds.
+#[derive(Debug, Drop)]
+pub enum Solved {
+    /// A lottery, with its certificate.
+    Found(Answer),
+    /// The pool has no quota panel.
+    NoPanel,
+}
+
+/// Why a run found nothing.
+#[derive(Drop)]
+pub enum Stop {
+    /// An operation passes the width.
+    TooWide(At, Pass),
+    /// The lottery's total passes 10^38: the number of the composition at which it does, counted from 0, the total of those before
+    /// it, and the denominator of its fraction.
+    TotalPasses(At, usize, i128, i128),
+    /// A pivot is due, and as many as may be made were made.
+    PivotsSpent(At),
+    /// A search takes more visits than it may.
+    NodesSpent(At),
+    /// No memory was left.
+    OutOfMemory,
+}

@@ -1,0 +1,58 @@
+-- What the tables of a run keep from step to step.
+use Rattle.std.specs.Prelude.{◌≡◌, ◌≢◌, ℕ, ◌<◌, ◌≤◌, true, List, length, take, slice_index, Contains, Some, None}
+use Rattle.std.specs.List.{All}
+use Rattle.row_definitions.specs.Choice.{choice}
+use Rattle.row_definitions.specs.InOrder.{IsInOrder}
+use Rattle.row_definitions.specs.Laws.{MayAdd}
+use Rattle.row_definitions.specs.Steps.{add_column, open_row}
+use Rattle.row_definitions.specs.Table.{Table, row_at}
+use Rattle.search_definitions.specs.Classes.{Classes, KeepsLimits}
+use Rattle.search_definitions.specs.Compositions.{compositions, price}
+use Rattle.search_definitions.specs.Fronts.{sizes_of}
+use Rattle.spread_definitions.specs.Spreading.{AreParts}
+use Rattle.run_definitions.specs.Run.{Limits, GoOn, closed_rows, follow, opening, parts_of}
+
+-- limits are in their ranges
+pub record AreLimits (limits : Limits) : Type 0 where
+  pub some_bits : 1 ≤ limits.bits
+  pub few_bits : limits.bits ≤ 127
+  pub few_pivots : limits.pivots ≤ 1000000000
+  pub few_nodes : limits.nodes ≤ 1000000000000
+
+-- the run over classes comes to a table
+pub record IsReached (all : Classes) (limits : Limits) (table : Table) : Type 0 where
+  pub steps : ℕ
+  pub there : follow all limits (opening all limits) steps ≡ GoOn table
+
+-- what each table of a run keeps
+pub record KeepsRun (all : Classes) (limits : Limits) (table : Table) : Type 0 where
+  pub in_order : IsInOrder table
+  pub sizes : table.sizes ≡ sizes_of all
+  pub width : table.bits ≡ limits.bits
+  pub pivots : table.pivots ≤ limits.pivots
+  -- each column is a composition
+  pub columns : All (Contains (compositions all)) table.columns
+  -- no composition that attains the rows closed before a closed row weighs more in it than its right side
+  pub priced_out : (k : ℕ) → k < length table.closed → price all (take k (closed_rows table)) (row_at table (slice_index table.closed k)) ≡ None
+
+-- each table of a run over classes of a pool keeps this
+abbrev pub ReachedIsKept : Type 0
+ReachedIsKept = (all : Classes) (limits : Limits) (table : Table) → KeepsLimits all → AreLimits limits → IsReached all limits table → KeepsRun all limits table
+
+-- a stage is open, nothing is chosen, and pricing found a composition
+pub record IsPriced (all : Classes) (limits : Limits) (table : Table) (counts : List ℕ) : Type 0 where
+  pub keeps : KeepsRun all limits table
+  pub open_now : table.in_stage ≡ true
+  pub done : choice table ≡ None
+  pub found : price all (closed_rows table) (row_at table (open_row table)) ≡ Some counts
+
+-- then it may become a column, and with it something is chosen
+abbrev pub PricedMayBeAdded : Type 0
+PricedMayBeAdded = (all : Classes) (limits : Limits) (table : Table) (counts : List ℕ) → KeepsLimits all → IsPriced all limits table counts → MayAdd table counts
+
+abbrev pub PricedIsChosen : Type 0
+PricedIsChosen = (all : Classes) (limits : Limits) (table : Table) (counts : List ℕ) → KeepsLimits all → IsPriced all limits table counts → choice (add_column table counts) ≢ None
+
+-- the columns of positive value are different compositions, with fractions that sum to one
+abbrev pub PartsSpread : Type 0
+PartsSpread = (all : Classes) (limits : Limits) (table : Table) → KeepsRun all limits table → AreParts all (parts_of table)

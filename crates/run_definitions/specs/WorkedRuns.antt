@@ -1,0 +1,22 @@
+-- Runs over a small pool, on which the definitions compute.
+use Rattle.std.specs.Prelude.{ℕ, [], ◌∷◌, pos, negsuc}
+use Rattle.pool_definitions.specs.Certificate.{Answer}
+use Rattle.run_definitions.specs.Run.{Limits}
+
+abbrev pub limits : ℕ → ℕ → ℕ → Limits
+limits bits pivots nodes = record { bits = bits; pivots = pivots; nodes = nodes }
+
+-- one of two volunteers, each with half a chance
+abbrev pub halves : Answer
+halves = record {
+  lottery = record { total = 2; rows = record { panel = 0 ∷ []; weight = 1 } ∷ record { panel = 1 ∷ []; weight = 1 } ∷ [] };
+  stages = record { weights = pos 1 ∷ pos 1 ∷ []; cap = pos 1 } ∷ [];
+}
+
+-- one woman and one man of two each: everybody with half a chance
+abbrev pub pairs : Answer
+pairs = record {
+  lottery = record { total = 2; rows = record { panel = 1 ∷ 2 ∷ []; weight = 1 } ∷ record { panel = 0 ∷ 3 ∷ []; weight = 1 } ∷ [] };
+  stages = record { weights = pos 1 ∷ pos 1 ∷ pos 0 ∷ pos 0 ∷ []; cap = pos 1 }
+      ∷ record { weights = negsuc 0 ∷ negsuc 0 ∷ pos 1 ∷ pos 1 ∷ []; cap = pos 0 } ∷ [];
+}

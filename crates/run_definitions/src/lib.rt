@@ -1,0 +1,51 @@
+//! The words of the run that finds the lottery: the opening search, the table's stages, pivots, pricing and closing, and how it
+//! ends. They stand in `specs/`, over the table of `row_definitions`, the searches of `search_definitions` and the spreading of
+//! `spread_definitions`.
+//!
+//! The functions here have no body: their contracts are laws over the definitions, and worked examples.
+#![tactic(auto)]
+
+ghost use Rattle.std.specs.Prelude.{◌≡◌, None, Some, pos};
+ghost use Rattle.pool_definitions.specs.Pool.{Pool};
+ghost use Rattle.pool_definitions.specs.WorkedExamples.{four};
+ghost use Rattle.row_definitions.specs.declared.Op.TheVariants.{Add};
+ghost use Rattle.row_definitions.specs.WorkedRun.{entered, widened};
+ghost use Rattle.run_definitions.specs.Run.{Ending, Limits, NoPanel, Found, TooWide, PivotsSpent, NodesSpent, RunEnds};
+ghost use Rattle.run_definitions.specs.Keeps.{ReachedIsKept, PricedMayBeAdded, PricedIsChosen, PartsSpread};
+ghost use Rattle.run_definitions.specs.WorkedRuns.{limits, halves, pairs};
+ghost use Rattle.search_definitions.specs.WorkedSearches.{either};
+
+/// A run ends in one way.
+pub fn one_ending()
+    ensures { (pool : Pool) (limits : Limits) (first second : Ending) → RunEnds pool limits first → RunEnds pool limits second → first ≡ second }
+{}
+
+/// Each table of a run is in order and has compositions as its columns, and its closed rows were priced out.
+pub fn reached_is_kept()
+    ensures { ReachedIsKept }
+{}
+
+/// A composition that pricing finds is none of the table's columns, and may become one.
+pub fn priced_may_be_added()
+    ensures { PricedMayBeAdded }
+{}
+
+/// Once it is a column, a pivot is chosen.
+pub fn priced_is_chosen()
+    ensures { PricedIsChosen }
+{}
+
+/// The columns of positive value are different compositions, whose values are positive fractions that sum to one.
+pub fn parts_can_be_spread()
+    ensures { PartsSpread }
+{}
+
+/// One seat for one of two volunteers: two pivots, and a search of 3 visits at most.
+pub fn worked_runs()
+    ensures found { RunEnds either (limits 2 2 3) (Found halves) }
+    ensures too_wide { RunEnds either (limits 1 2 3) (TooWide None (record { row = 1; op = Add; x = pos 1; y = pos 1 })) }
+    ensures one_pivot { RunEnds either (limits 2 1 3) (PivotsSpent widened) }
+    ensures no_pivot { RunEnds either (limits 2 0 3) (PivotsSpent entered) }
+    ensures few_nodes { RunEnds either (limits 2 2 2) (NodesSpent None) }
+    ensures four { RunEnds four (limits 127 4 100) (Found pairs) }
+{}

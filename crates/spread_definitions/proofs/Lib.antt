@@ -1,0 +1,3 @@
+pub mod CommonTotals
+pub mod Parts
+pub mod Shares

@@ -1,0 +1,21 @@
+-- Small classes on which spreading computes.
+use Rattle.std.specs.Prelude.{ℕ, List, [], ◌∷◌, codes, length}
+use Rattle.frac128.specs.Fractions.{Fraction}
+use Rattle.pool_definitions.specs.Pool.{Pool}
+use Rattle.pool_definitions.specs.WorkedExamples.{person}
+use Rattle.search_definitions.specs.Classes.{Class, Classes}
+
+-- a class of these members, each of whom may be taken
+abbrev pub class : List ℕ → Class
+class members = record { members = members; values = []; least = 0; most = length members }
+
+-- two seats, for one of three and one of two
+abbrev pub three_and_two : Classes
+three_and_two = record { size = 2; bounds = []; classes = class (0 ∷ 1 ∷ 2 ∷ []) ∷ class (3 ∷ 4 ∷ []) ∷ [] }
+
+abbrev pub over : ℕ → ℕ → Fraction
+over num den = record { num = num; den = den }
+
+-- one seat, for one of three volunteers
+abbrev pub one_of_three : Pool
+one_of_three = record { size = 1; categories = []; volunteers = person (codes "a") [] ∷ person (codes "b") [] ∷ person (codes "c") [] ∷ [] }

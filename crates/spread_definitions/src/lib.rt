@@ -1,0 +1,40 @@
+//! The words of spreading: compositions with fractions become panels with weights, so that the members of a class have even
+//! chances. They stand in `specs/`, over the classes and compositions of `search_definitions` and the least common multiples of
+//! `frac128`.
+//!
+//! The functions here have no body: their contracts are laws over the definitions, and a worked example.
+#![tactic(auto)]
+
+ghost use Rattle.std.specs.Prelude.{◌≡◌, ℕ, List, [], ◌∷◌, map, Ok};
+ghost use Rattle.frac128.specs.Fractions.{Fraction};
+ghost use Rattle.search_definitions.specs.Classes.{Classes, classes_of};
+ghost use Rattle.search_definitions.specs.Compositions.{compositions};
+ghost use Rattle.spread_definitions.specs.Spreading.{AreParts, AreShares, IsCommonTotal, with_fraction, pieces, spread, total_from};
+ghost use Rattle.spread_definitions.specs.WorkedSpreads.{one_of_three, three_and_two, over};
+
+/// Shares of a whole, as fractions in lowest terms, are positive fractions that sum to one.
+pub fn shares_are_parts()
+    ensures { (all : Classes) (whole : ℕ) (shares : List (List ℕ × ℕ)) → AreShares all whole shares → AreParts all (map (with_fraction whole) shares) }
+{}
+
+/// The total of parts, where it passes at none of them, is a multiple of each denominator times the length of its dial.
+pub fn total_is_common()
+    ensures { (all : Classes) (parts : List (List ℕ × Fraction)) (total : ℕ) → AreParts all parts → total_from all 0 1 parts ≡ Ok total →
+        IsCommonTotal all parts total }
+{}
+
+/// One of three and one of two: the dial has six places, cut at 0, 2, 3 and 4.
+pub fn worked_spread()
+    ensures pieces { pieces three_and_two (1 ∷ 1 ∷ []) ≡ (0, 2) ∷ (2, 1) ∷ (3, 1) ∷ (4, 2) ∷ [] }
+    ensures lottery { spread three_and_two ((1 ∷ 1 ∷ [], over 1 1) ∷ []) ≡ Ok (record {
+      total = 6;
+      rows =
+          record { panel = 0 ∷ 3 ∷ []; weight = 2 } ∷ record { panel = 1 ∷ 3 ∷ []; weight = 1 } ∷
+          record { panel = 1 ∷ 4 ∷ []; weight = 1 } ∷ record { panel = 2 ∷ 4 ∷ []; weight = 2 } ∷ [];
+    }) }
+{}
+
+/// One seat for three volunteers: each alone is a composition.
+pub fn worked_compositions()
+    ensures { compositions (classes_of one_of_three) ≡ (1 ∷ 0 ∷ 0 ∷ []) ∷ (0 ∷ 1 ∷ 0 ∷ []) ∷ (0 ∷ 0 ∷ 1 ∷ []) ∷ [] }
+{}
