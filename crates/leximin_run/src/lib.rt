@@ -8,6 +8,8 @@ mod limits;
 mod running;
 mod solving;
 mod stops;
+#[cfg(test)]
+mod tests;
 
 pub use limits::Limits;
 pub use solving::solve;

@@ -1,0 +1,257 @@
+//! Runs over small pools: what is answered, told as one line. The stops in mid run were found by another program, written from
+//! the rules.
+
+use crate::{At, Limits, Solved, Stop, solve};
+use pool_model::{Answer, BuildStop, Name, Pool, Standing};
+use row_definitions::Op;
+use std::alloc::{AllocError, Global};
+use std::test::Fail;
+
+/// A pool with one category, by the bounds of its values, and each volunteer's value and standing.
+#[derive(Clone, Copy, Debug)]
+struct Given<'a> {
+    size: usize,
+    bounds: &'a [(usize, usize)],
+    volunteers: &'a [(usize, Standing)],
+}
+
+const OPEN_0: (usize, Standing) = (0, Standing::Open);
+
+const OPEN_1: (usize, Standing) = (1, Standing::Open);
+
+/// Two women and two men, one of each to be chosen.
+const FOUR: Given<'static> = Given {
+    size: 2,
+    bounds: &[(1, 1), (1, 1)],
+    volunteers: &[OPEN_0, OPEN_0, OPEN_1, OPEN_1],
+};
+
+/// One woman and three men, one of each to be chosen.
+const ONE_WOMAN: Given<'static> = Given {
+    size: 2,
+    bounds: &[(1, 1), (1, 1)],
+    volunteers: &[OPEN_0, OPEN_1, OPEN_1, OPEN_1],
+};
+
+/// One seat, which the first of three may not have.
+const BARRED: Given<'static> = Given {
+    size: 1,
+    bounds: &[(0, 0), (0, 1)],
+    volunteers: &[OPEN_0, OPEN_1, OPEN_1],
+};
+
+/// One of three and one of two.
+const FIVE: Given<'static> = Given {
+    size: 2,
+    bounds: &[(1, 1), (1, 1)],
+    volunteers: &[OPEN_0, OPEN_0, OPEN_0, OPEN_1, OPEN_1],
+};
+
+/// Two seats for two volunteers.
+const PAIR: Given<'static> = Given {
+    size: 2,
+    bounds: &[(0, 2), (0, 2)],
+    volunteers: &[OPEN_0, OPEN_1],
+};
+
+/// One seat for one of two.
+const EITHER: Given<'static> = Given {
+    size: 1,
+    bounds: &[(0, 1), (0, 1)],
+    volunteers: &[OPEN_0, OPEN_1],
+};
+
+/// The first of the four is gone, and the third is seated.
+const REPLACED: Given<'static> = Given {
+    size: 2,
+    bounds: &[(1, 1), (1, 1)],
+    volunteers: &[(0, Standing::Gone), OPEN_0, (1, Standing::Seated), OPEN_1],
+};
+
+/// Nobody is left who could have the first value.
+const SHORT: Given<'static> = Given {
+    size: 2,
+    bounds: &[(1, 1), (1, 1)],
+    volunteers: &[(0, Standing::Gone), (0, Standing::Gone), OPEN_1, OPEN_1],
+};
+
+/// Two seats for four volunteers, each of another value.
+const APART: Given<'static> = Given {
+    size: 2,
+    bounds: &[(0, 1), (0, 1), (0, 1), (0, 1)],
+    volunteers: &[OPEN_0, OPEN_1, (2, Standing::Open), (3, Standing::Open)],
+};
+
+fn built(alloc: Global, given: Given<'_>) -> Result<Pool, BuildStop> {
+    let mut pool = Pool::new(alloc, given.size)?;
+    pool.add_category("value")?;
+    for (v, (lower, upper)) in given.bounds.iter().enumerate() {
+        pool.add_value(&format!(in alloc; "{v}")?, *lower, *upper)?;
+    }
+    for (i, (place, _)) in given.volunteers.iter().enumerate() {
+        let value = Name::new(alloc, &format!(in alloc; "{place}")?)?;
+        pool.add_volunteer(&format!(in alloc; "{i}")?, &[value])?;
+    }
+    for (i, (_, standing)) in given.volunteers.iter().enumerate() {
+        if i < pool.volunteers().len() {
+            pool.set_standing(i, *standing);
+        }
+    }
+    Ok(pool)
+}
+
+/// Where a run stood: the stages, columns and pivots.
+fn place(alloc: Global, at: &At) -> Result<String, AllocError> {
+    match at {
+        At::Opening => format!(in alloc; "0 0 0"),
+        At::Table(table) => {
+            format!(in alloc;
+                "{} {} {}",
+                table.stage(),
+                table.columns().len(),
+                table.pivots()
+            )
+        }
+    }
+}
+
+fn operation(op: Op) -> &'static str {
+    match op {
+        Op::Mul => "mul",
+        Op::Sub => "sub",
+        Op::Add => "add",
+    }
+}
+
+fn refusal(alloc: Global, stop: &Stop) -> Result<String, AllocError> {
+    match stop {
+        Stop::TooWide(at, pass) => {
+            let at = place(alloc, at)?;
+            let op = operation(pass.op);
+            format!(in alloc; "wide {at} {} {op} {} {}", pass.row, pass.x, pass.y)
+        }
+        Stop::TotalPasses(_, place, total, den) => {
+            format!(in alloc; "wide total {place} {total} {den}")
+        }
+        Stop::PivotsSpent(at) => {
+            let at = place(alloc, at)?;
+            format!(in alloc; "spent pivots {at}")
+        }
+        Stop::NodesSpent(at) => {
+            let at = place(alloc, at)?;
+            format!(in alloc; "spent nodes {at}")
+        }
+        Stop::OutOfMemory => format!(in alloc; "want of memory"),
+    }
+}
+
+fn lottery(alloc: Global, answer: &Answer) -> Result<String, AllocError> {
+    let mut text = format!(in alloc; "total {}", answer.lottery().total())?;
+    for row in answer.lottery().rows() {
+        let row = format!(in alloc; "; {} {:?}", row.weight(), row.panel().members())?;
+        text.push_str(&row)?;
+    }
+    for stage in answer.certificate().stages() {
+        let stage = format!(in alloc; "; cap {} {:?}", stage.cap(), stage.weights())?;
+        text.push_str(&stage)?;
+    }
+    Ok(text)
+}
+
+fn told(alloc: Global, answer: &Result<Solved, Stop>) -> Result<String, AllocError> {
+    match answer {
+        Ok(Solved::Found(answer)) => lottery(alloc, answer),
+        Ok(Solved::NoPanel) => format!(in alloc; "no panel"),
+        Err(stop) => refusal(alloc, stop),
+    }
+}
+
+/// The count of each volunteer, and the total.
+fn counted(alloc: Global, answer: &Answer, volunteers: usize) -> Result<String, AllocError> {
+    let mut text = format!(in alloc; "")?;
+    for volunteer in 0..volunteers {
+        let mut count: i128 = 0;
+        for row in answer.lottery().rows() {
+            if row.panel().members().contains(&volunteer) {
+                count = count.wrapping_add(row.weight());
+            }
+        }
+        text.push_str(&format!(in alloc; "{count} ")?)?;
+    }
+    text.push_str(&format!(in alloc; "of {}", answer.lottery().total())?)?;
+    Ok(text)
+}
+
+fn run(
+    alloc: Global,
+    given: Given<'_>,
+    limits: (u32, u64, u64),
+) -> Result<Result<Solved, Stop>, Fail> {
+    let pool = built(alloc, given)?;
+    let (bits, pivots, nodes) = limits;
+    match Limits::new(bits, pivots, nodes) {
+        Some(limits) => Ok(solve(alloc, &pool, limits)),
+        None => Ok(Err(Stop::OutOfMemory)),
+    }
+}
+
+const AMPLE: (u32, u64, u64) = (127, 100_000, 50_000_000);
+
+#[test]
+fn small_pools(rt: HostRuntime) -> Result<(), Fail> {
+    let alloc = rt.alloc();
+    let cases = [
+        (
+            FOUR,
+            AMPLE,
+            "total 2; 1 [1, 2]; 1 [0, 3]; cap 1 [1, 1, 0, 0]; cap 0 [-1, -1, 1, 1]",
+        ),
+        (
+            PAIR,
+            AMPLE,
+            "total 1; 1 [0, 1]; cap 1 [1, 0]; cap 0 [-1, 1]",
+        ),
+        (EITHER, (2, 2, 3), "total 2; 1 [0]; 1 [1]; cap 1 [1, 1]"),
+        (
+            REPLACED,
+            AMPLE,
+            "total 1; 1 [1, 2]; cap 0 [1, 0, 0, 0]; cap 0 [-1, 0, 0, 1]; cap 1 [0, 1, 0, -1]; cap 0 [0, -1, 1, 0]",
+        ),
+        (SHORT, AMPLE, "no panel"),
+        (EITHER, (1, 2, 3), "wide 0 0 0 1 add 1 1"),
+        (EITHER, (2, 0, 3), "spent pivots 1 1 0"),
+        (EITHER, (2, 1, 3), "spent pivots 1 2 1"),
+        (EITHER, (2, 2, 2), "spent nodes 0 0 0"),
+        (FOUR, (127, 3, 50), "spent pivots 2 3 3"),
+        (FIVE, (127, 50, 6), "spent nodes 1 1 1"),
+        (FIVE, (127, 50, 8), "spent nodes 1 2 2"),
+        (FIVE, (3, 50, 50), "wide 1 4 3 4 add 7 3"),
+    ];
+    for (given, limits, wanted) in cases {
+        let answer = run(alloc, given, limits)?;
+        assert_eq!(rt; told(alloc, &answer)?.as_str(), wanted);
+    }
+    Ok(())
+}
+
+#[test]
+fn chances(rt: HostRuntime) -> Result<(), Fail> {
+    let alloc = rt.alloc();
+    let cases = [
+        (FOUR, "1 1 1 1 of 2"),
+        (ONE_WOMAN, "3 1 1 1 of 3"),
+        (BARRED, "0 1 1 of 2"),
+        (FIVE, "2 2 2 3 3 of 6"),
+        (APART, "1 1 1 1 of 2"),
+    ];
+    for (given, wanted) in cases {
+        match run(alloc, given, AMPLE)? {
+            Ok(Solved::Found(answer)) => {
+                let counts = counted(alloc, &answer, given.volunteers.len())?;
+                assert_eq!(rt; counts.as_str(), wanted);
+            }
+            other => assert_eq!(rt; told(alloc, &other)?.as_str(), wanted),
+        }
+    }
+    Ok(())
+}
