@@ -1,0 +1,14 @@
+//! Laws over the run of `run_definitions`: what its ends say of the pool. They stand over definitions alone, those of the run and
+//! of the table, the searches and the spreading below it.
+//!
+//! The functions here have no body: their contracts are the laws.
+#![tactic(auto)]
+
+ghost use Rattle.run_laws.specs.Laws.{NoPanelWhereNone, NoneEndsSo};
+
+/// A run ends with no panel only where the pool has no quota panel, and does so where it has none and the opening search may take its
+/// visits.
+pub fn no_panel_where_none()
+    ensures none { NoPanelWhereNone }
+    ensures ends { NoneEndsSo }
+{}
