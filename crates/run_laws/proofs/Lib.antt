@@ -1,2 +1,4 @@
 pub mod Endings
 pub mod NoPanels
+pub mod FoundEnds
+pub mod StagesKept

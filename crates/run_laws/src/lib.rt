@@ -4,11 +4,17 @@
 //! The functions here have no body: their contracts are the laws.
 #![tactic(auto)]
 
-ghost use Rattle.run_laws.specs.Laws.{NoPanelWhereNone, NoneEndsSo};
+ghost use Rattle.run_laws.specs.Laws.{FoundIsLottery, FoundIsWithin, NoPanelWhereNone, NoneEndsSo};
 
 /// A run ends with no panel only where the pool has no quota panel, and does so where it has none and the opening search may take its
 /// visits.
 pub fn no_panel_where_none()
     ensures none { NoPanelWhereNone }
     ensures ends { NoneEndsSo }
+{}
+
+/// The lottery that a run finds is a lottery over the pool's quota panels, of a total of at most 10^38.
+pub fn found_is_lottery()
+    ensures lottery { FoundIsLottery }
+    ensures within { FoundIsWithin }
 {}
