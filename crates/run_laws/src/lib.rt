@@ -4,6 +4,7 @@
 //! The functions here have no body: their contracts are the laws.
 #![tactic(auto)]
 
+ghost use Rattle.run_laws.specs.Levels.{LevelsMakeStages};
 ghost use Rattle.run_laws.specs.Laws.{FoundIsLottery, FoundIsWithin, NoPanelWhereNone, NoneEndsSo};
 
 /// A run ends with no panel only where the pool has no quota panel, and does so where it has none and the opening search may take its
@@ -17,4 +18,10 @@ pub fn no_panel_where_none()
 pub fn found_is_lottery()
     ensures lottery { FoundIsLottery }
     ensures within { FoundIsWithin }
+{}
+
+/// Stages hold where each volunteer's chance is the sum of the levels of the stages at which this volunteer was unsettled, and what else
+/// a stage has to meet is known.
+pub fn levels_make_stages()
+    ensures { LevelsMakeStages }
 {}
