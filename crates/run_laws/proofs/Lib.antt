@@ -4,3 +4,7 @@ pub mod FoundEnds
 pub mod StagesKept
 pub mod StageFacts
 pub mod Levels
+pub mod StageRows
+pub mod PanelWeights
+pub mod ClosedStages
+pub mod Marks
