@@ -8,3 +8,5 @@ pub mod StageRows
 pub mod PanelWeights
 pub mod ClosedStages
 pub mod Marks
+pub mod LotteryCounts
+pub mod Certified

@@ -1,7 +1,7 @@
 -- What the ends of a run say.
 use Rattle.std.specs.Prelude.{◌≡◌, ◌≤◌, []}
-use Rattle.pool_definitions.specs.Certificate.{Answer}
-use Rattle.pool_definitions.specs.Lottery.{IsLottery}
+use Rattle.pool_definitions.specs.Certificate.{Answer, Certifies}
+use Rattle.pool_definitions.specs.Lottery.{IsLottery, LeximinGreatest}
 use Rattle.pool_definitions.specs.Pool.{IsPool, Pool, panels}
 use Rattle.run_definitions.specs.Keeps.{AreLimits}
 use Rattle.run_definitions.specs.Run.{Found, Limits, NoPanel, RunEnds}
@@ -23,3 +23,11 @@ FoundIsLottery = (pool : Pool) (limits : Limits) (answer : Answer) → IsPool po
 
 abbrev pub FoundIsWithin : Type 0
 FoundIsWithin = (pool : Pool) (limits : Limits) (answer : Answer) → IsPool pool → AreLimits limits → RunEnds pool limits (Found answer) → answer.lottery.total ≤ greatest_total
+
+-- its stages certify it
+abbrev pub FoundIsCertified : Type 0
+FoundIsCertified = (pool : Pool) (limits : Limits) (answer : Answer) → IsPool pool → AreLimits limits → RunEnds pool limits (Found answer) → Certifies pool answer.lottery answer.stages
+
+-- so no lottery over the pool is above it
+abbrev pub FoundIsGreatest : Type 0
+FoundIsGreatest = (pool : Pool) (limits : Limits) (answer : Answer) → IsPool pool → AreLimits limits → RunEnds pool limits (Found answer) → LeximinGreatest pool answer.lottery

@@ -5,7 +5,7 @@
 #![tactic(auto)]
 
 ghost use Rattle.run_laws.specs.Levels.{LevelsMakeStages};
-ghost use Rattle.run_laws.specs.Laws.{FoundIsLottery, FoundIsWithin, NoPanelWhereNone, NoneEndsSo};
+ghost use Rattle.run_laws.specs.Laws.{FoundIsCertified, FoundIsGreatest, FoundIsLottery, FoundIsWithin, NoPanelWhereNone, NoneEndsSo};
 
 /// A run ends with no panel only where the pool has no quota panel, and does so where it has none and the opening search may take its
 /// visits.
@@ -24,4 +24,14 @@ pub fn found_is_lottery()
 /// a stage has to meet is known.
 pub fn levels_make_stages()
     ensures { LevelsMakeStages }
+{}
+
+/// The stages that a run finds with a lottery certify it.
+pub fn found_is_certified()
+    ensures { FoundIsCertified }
+{}
+
+/// The lottery that a run finds is leximin greatest: no lottery over the pool's quota panels is above it.
+pub fn found_is_greatest()
+    ensures { FoundIsGreatest }
 {}
