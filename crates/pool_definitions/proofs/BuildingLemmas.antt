@@ -1,5 +1,5 @@
 -- What is added to a pool where no kind of fault holds keeps what each pool keeps.
-use Rattle.std.proofs.Common.{◌≡◌, ℕ, suc, ◌+◌, ◌<◌, Bool, true, false, cond, eqb, ltb, leb, not, ◌&&◌, ◌||◌, List, [], ◌∷◌, ◌++◌, length, Option, Some, None, option_map, unwrap_or, refl, sym, ap, ◌∙◌, arith, add-one, get_or}
+use Rattle.std.proofs.Common.{◌≡◌, ℕ, zero, suc, ◌+◌, ◌<◌, Bool, true, false, cond, eqb, ltb, leb, not, ◌&&◌, ◌||◌, List, [], ◌∷◌, ◌++◌, length, Option, Some, None, option_map, unwrap_or, refl, sym, ap, ◌∙◌, arith, add-one, get_or}
 use Rattle.std.specs.List.{list_all, AllByRecursion}
 use Rattle.std.specs.Str.{is_utf8, bytes_eq}
 use Rattle.std.proofs.lemmas.Bool.{false≢true, and_parts, and_from, or_parts, or_from, not-true, not-false, not_from_false, ltb-false, leb-false, eqb-true, eqb-false, le-leb, lt-ltb}
@@ -7,10 +7,11 @@ use Rattle.std.proofs.lemmas.Bool.Decides.{same_from_decides}
 use Rattle.std.proofs.lemmas.Slice.Eq.{bytes_eq-Decides}
 use Rattle.std.proofs.lemmas.List.{length_push, map_push, nil_from_length}
 use Rattle.std.proofs.lemmas.List.Folds.{list_all-append, list_any-append}
+use Rattle.pool_definitions.specs.declared.Standing.{Standing}
 use Rattle.pool_definitions.specs.declared.Standing.TheVariants.{Open}
 use Rattle.pool_definitions.specs.Lists.{stands, all_different}
 use Rattle.pool_definitions.specs.Pool.{BoundedValue, Category, Volunteer, Pool, keeps_name_limits, is_name, is_size, are_bounds, is_value, is_category, has_values, IsPool}
-use Rattle.pool_definitions.specs.Building.{lowest_kind, category_names, value_names, ids, last_values, with_value, place_of, places_of, are_known, empty_pool, size_kind, category_added, category_kind, value_added, value_kind, volunteer_added, volunteer_kind}
+use Rattle.pool_definitions.specs.Building.{lowest_kind, category_names, value_names, ids, last_values, with_value, place_of, places_of, are_known, empty_pool, size_kind, category_added, category_kind, value_added, value_kind, volunteer_added, volunteer_kind, with_standing, standing_set}
 
 -- where no kind is answered the first test is false, and the others answer none
 pub no_kind : (test : Bool) (kind : ℕ) (rest : Option ℕ) → cond test (Some kind) rest ≡ None → (test ≡ false) × (rest ≡ None)
@@ -234,3 +235,39 @@ IsPool-volunteer_added pool id names p kind utf8 =
       different_ids = rw (map_push (λ (v : Volunteer). v.id) pool.volunteers volunteer) (all_different_push (ids pool.volunteers) id p.different_ids fits.new);
       values = list_all_push (λ (v : Volunteer). has_values pool.categories v.values) pool.volunteers volunteer p.values (has_values_places pool.categories names fits.known fits.each);
     }
+
+-- another standing of one volunteer changes nothing else
+pub length-with_standing : (volunteers : List Volunteer) (number : ℕ) (standing : Standing) → length (with_standing volunteers number standing) ≡ length volunteers
+length-with_standing [] number standing = refl
+length-with_standing (volunteer ∷ volunteers) zero standing = refl
+length-with_standing (volunteer ∷ volunteers) (suc number) standing = ap suc (length-with_standing volunteers number standing)
+
+pub ids-with_standing : (volunteers : List Volunteer) (number : ℕ) (standing : Standing) → ids (with_standing volunteers number standing) ≡ ids volunteers
+ids-with_standing [] number standing = refl
+ids-with_standing (volunteer ∷ volunteers) zero standing = refl
+ids-with_standing (volunteer ∷ volunteers) (suc number) standing = ap (λ rest. volunteer.id ∷ rest) (ids-with_standing volunteers number standing)
+
+names-with_standing : (volunteers : List Volunteer) (number : ℕ) (standing : Standing) →
+    list_all (λ (v : Volunteer). is_name v.id) (with_standing volunteers number standing) ≡ list_all (λ (v : Volunteer). is_name v.id) volunteers
+names-with_standing [] number standing = refl
+names-with_standing (volunteer ∷ volunteers) zero standing = refl
+names-with_standing (volunteer ∷ volunteers) (suc number) standing = ap (λ b. is_name volunteer.id && b) (names-with_standing volunteers number standing)
+
+values-with_standing : (categories : List Category) (volunteers : List Volunteer) (number : ℕ) (standing : Standing) →
+    list_all (λ (v : Volunteer). has_values categories v.values) (with_standing volunteers number standing) ≡ list_all (λ (v : Volunteer). has_values categories v.values) volunteers
+values-with_standing categories [] number standing = refl
+values-with_standing categories (volunteer ∷ volunteers) zero standing = refl
+values-with_standing categories (volunteer ∷ volunteers) (suc number) standing =
+    ap (λ b. has_values categories volunteer.values && b) (values-with_standing categories volunteers number standing)
+
+pub IsPool-standing_set : (pool : Pool) (number : ℕ) (standing : Standing) → IsPool pool → IsPool (standing_set pool number standing)
+IsPool-standing_set pool number standing p = record {
+  size = p.size;
+  few_categories = p.few_categories;
+  categories = p.categories;
+  different_categories = p.different_categories;
+  few_volunteers = rw (length-with_standing pool.volunteers number standing) p.few_volunteers;
+  ids = rw (names-with_standing pool.volunteers number standing) p.ids;
+  different_ids = rw (ids-with_standing pool.volunteers number standing) p.different_ids;
+  values = rw (values-with_standing pool.categories pool.volunteers number standing) p.values;
+}

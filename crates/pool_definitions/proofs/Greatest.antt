@@ -62,7 +62,7 @@ total-filter i (row ∷ rows) =
       | false ↦ omega (arith, rest)
     ]
 
-count-is : (lottery : Lottery) (i : ℕ) → count lottery i ≡ counted lottery.rows i
+pub count-is : (lottery : Lottery) (i : ℕ) → count lottery i ≡ counted lottery.rows i
 count-is lottery i = sum_by-is-total (λ row. row.weight) (filter (λ row. holds row.panel i) lottery.rows) ∙ total-filter i lottery.rows
 
 all_fit : (pool : Pool) (lottery : Lottery) → IsLottery pool lottery → AllByRecursion (λ row. Fits (length pool.volunteers) row.panel) lottery.rows

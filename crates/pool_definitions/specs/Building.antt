@@ -1,6 +1,7 @@
 -- Building a pool step by step: what each step adds, and which kinds of fault a step may have. The numbers of the kinds
 -- are those of a faulty pool text. Of several kinds that hold the lowest is the answer.
-use Rattle.std.specs.Prelude.{ℕ, ◌+◌, ◌==◌, nat_lt, nat_le, if◌then◌else◌, Bool, true, not, ◌&&◌, ◌||◌, List, [], ◌∷◌, ◌++◌, map, length, bytes_eq, Option, Some, None, unwrap_or, option_map}
+use Rattle.std.specs.Prelude.{ℕ, zero, suc, ◌+◌, ◌==◌, nat_lt, nat_le, if◌then◌else◌, Bool, true, not, ◌&&◌, ◌||◌, List, [], ◌∷◌, ◌++◌, map, length, bytes_eq, Option, Some, None, unwrap_or, option_map}
+use Rattle.pool_definitions.specs.declared.Standing.{Standing}
 use Rattle.pool_definitions.specs.declared.Standing.TheVariants.{Open}
 use Rattle.pool_definitions.specs.Lists.{stands}
 use Rattle.pool_definitions.specs.Pool.{Pool, Category, BoundedValue, Volunteer, is_size, are_bounds, keeps_name_limits}
@@ -106,3 +107,12 @@ volunteer_kinds pool id names =
 
 abbrev pub volunteer_kind : Pool → List ℕ → List (List ℕ) → Option ℕ
 volunteer_kind pool id names = lowest_kind (volunteer_kinds pool id names)
+
+-- volunteers of whom the one of a number, counted from 0, has another standing
+abbrev pub with_standing : List Volunteer → ℕ → Standing → List Volunteer
+with_standing [] number standing = []
+with_standing (volunteer ∷ volunteers) zero standing = record volunteer { standing = standing } ∷ volunteers
+with_standing (volunteer ∷ volunteers) (suc number) standing = volunteer ∷ with_standing volunteers number standing
+
+abbrev pub standing_set : Pool → ℕ → Standing → Pool
+standing_set pool number standing = record pool { volunteers = with_standing pool.volunteers number standing }

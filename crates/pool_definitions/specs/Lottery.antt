@@ -22,6 +22,11 @@ pub record IsLottery (pool : Pool) (lottery : Lottery) : Type 0 where
   pub weights : IsTrue (list_all (λ row. nat_le 1 row.weight) lottery.rows)
   pub total : lottery.total ≡ sum_by (λ row. row.weight) lottery.rows
 
+-- each weight is at least 1, and the total is their sum
+pub record TotalAgrees (lottery : Lottery) : Type 0 where
+  pub weights : IsTrue (list_all (λ row. nat_le 1 row.weight) lottery.rows)
+  pub total : lottery.total ≡ sum_by (λ row. row.weight) lottery.rows
+
 -- the sum of the weights of the panels that hold a volunteer; the volunteer's chance is this over the total
 abbrev pub count : Lottery → ℕ → ℕ
 count lottery i = sum_by (λ row. row.weight) (filter (λ row. holds row.panel i) lottery.rows)

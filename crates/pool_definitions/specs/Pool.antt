@@ -109,11 +109,15 @@ abbrev pub keeps_standings : List Volunteer → List ℕ → Bool
 keeps_standings volunteers panel =
     list_all (λ (i, volunteer). allows volunteer.standing (holds panel i)) (enumerate_from 0 volunteers)
 
+-- an increasing list of numbers of volunteers, of the pool's size
+abbrev pub is_of_size : Pool → List ℕ → Bool
+is_of_size pool panel =
+    length panel == pool.size && is_increasing panel && list_all (λ i. nat_lt i (length pool.volunteers)) panel
+
 -- an increasing list of numbers of volunteers, of the pool's size, that keeps the standings and meets every quota
 abbrev pub is_quota_panel : Pool → List ℕ → Bool
 is_quota_panel pool panel =
-    length panel == pool.size && is_increasing panel && list_all (λ i. nat_lt i (length pool.volunteers)) panel
-    && keeps_standings pool.volunteers panel && meets_quotas pool.categories pool.volunteers panel
+    is_of_size pool panel && keeps_standings pool.volunteers panel && meets_quotas pool.categories pool.volunteers panel
 
 -- the quota panels of a pool: all increasing lists of its size over the volunteers, in lexicographic order, that are one
 abbrev pub panels : Pool → List (List ℕ)

@@ -1,9 +1,10 @@
 -- Small pools with their lotteries and certificates, on which the definitions compute.
 use Rattle.std.specs.Prelude.{ℕ, List, [], ◌∷◌, ℤ, pos, negsuc, codes}
-use Rattle.pool_definitions.specs.declared.Standing.TheVariants.{Open}
+use Rattle.pool_definitions.specs.declared.Standing.TheVariants.{Open, Seated, Gone}
 use Rattle.pool_definitions.specs.Pool.{BoundedValue, Category, Volunteer, Pool}
 use Rattle.pool_definitions.specs.Lottery.{Row, Lottery}
 use Rattle.pool_definitions.specs.Certificate.{Stage}
+use Rattle.pool_definitions.specs.Building.{standing_set}
 
 -- an open volunteer with the places of the values
 abbrev pub person : List ℕ → List ℕ → Volunteer
@@ -42,6 +43,20 @@ four_stages =
 -- one panel of the four
 abbrev pub four_single : Lottery
 four_single = record { total = 1; rows = row (0 ∷ 2 ∷ []) 1 ∷ [] }
+
+-- the four after a and c were drawn and a dropped out: c keeps the seat
+abbrev pub after_dropout : Pool
+after_dropout = standing_set (standing_set four 0 Gone) 2 Seated
+
+abbrev pub dropout_lottery : Lottery
+dropout_lottery = record { total = 1; rows = row (1 ∷ 2 ∷ []) 1 ∷ [] }
+
+abbrev pub dropout_stages : List Stage
+dropout_stages =
+    stage (pos 0) (pos 1 ∷ pos 0 ∷ pos 0 ∷ pos 0 ∷ []) ∷
+    stage (pos 0) (negsuc 0 ∷ pos 0 ∷ pos 0 ∷ pos 1 ∷ []) ∷
+    stage (pos 1) (pos 0 ∷ pos 1 ∷ pos 0 ∷ negsuc 0 ∷ []) ∷
+    stage (pos 0) (pos 0 ∷ negsuc 0 ∷ pos 1 ∷ pos 0 ∷ []) ∷ []
 
 -- one seat, which a may not have
 abbrev pub barred : Pool

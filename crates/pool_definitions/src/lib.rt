@@ -4,11 +4,12 @@
 //! The functions here have no body: their contracts are laws over the definitions, and the worked examples.
 #![tactic(auto)]
 
-ghost use Rattle.std.specs.Prelude.{◌≡◌, ◌↔◌, [], ◌∷◌, List, ℕ, Contains, IsTrue};
-ghost use Rattle.pool_definitions.specs.Pool.{is_quota_panel, Pool, IsPool, panels};
-ghost use Rattle.pool_definitions.specs.Lottery.{Lottery, IsLottery, LeximinGreatest, counts};
+ghost use Rattle.std.specs.Prelude.{◌≡◌, ◌↔◌, ◌*◌, [], ◌∷◌, List, ℕ, Contains, IsTrue, sum};
+ghost use Rattle.std.specs.List.{list_all};
+ghost use Rattle.pool_definitions.specs.Pool.{is_of_size, is_quota_panel, Pool, IsPool, panels};
+ghost use Rattle.pool_definitions.specs.Lottery.{Lottery, IsLottery, TotalAgrees, LeximinGreatest, counts};
 ghost use Rattle.pool_definitions.specs.Certificate.{Stage, Certifies};
-ghost use Rattle.pool_definitions.specs.WorkedExamples.{four, four_lottery, four_stages, four_single, barred, barred_lottery, barred_stages, short, crossed, nobody, pair, pair_lottery, pair_stages};
+ghost use Rattle.pool_definitions.specs.WorkedExamples.{four, four_lottery, four_stages, four_single, after_dropout, dropout_lottery, dropout_stages, barred, barred_lottery, barred_stages, short, crossed, nobody, pair, pair_lottery, pair_stages};
 
 /// How a volunteer stands to a panel.
 #[derive(Clone, Copy, Debug, PartialEq, Eq)]
@@ -31,6 +32,12 @@ pub fn all_are_listed()
     ensures { (pool : Pool) (panel : List ℕ) → Contains (panels pool) panel ↔ IsTrue (is_quota_panel pool panel) }
 {}
 
+/// Where the weights sum to the total and each panel is of the pool's size, the counts sum to the size times the total.
+pub fn counts_sum()
+    ensures { (pool : Pool) (lottery : Lottery) → TotalAgrees lottery → IsTrue (list_all (λ row. is_of_size pool row.panel) lottery.rows) →
+        sum (counts pool lottery) ≡ pool.size * lottery.total }
+{}
+
 /// Two women and two men, one of each to be chosen. A lottery of one panel is not the greatest.
 pub fn four_volunteers()
     ensures pool { IsPool four }
@@ -40,6 +47,15 @@ pub fn four_volunteers()
     ensures certified { Certifies four four_lottery four_stages }
     ensures single { IsLottery four four_single }
     ensures single_is_below { ¬ LeximinGreatest four four_single }
+{}
+
+/// A woman of the four is gone and a man keeps the seat: one panel is left.
+pub fn four_after_dropout()
+    ensures pool { IsPool after_dropout }
+    ensures panels { panels after_dropout ≡ (1 ∷ 2 ∷ []) ∷ [] }
+    ensures lottery { IsLottery after_dropout dropout_lottery }
+    ensures counts { counts after_dropout dropout_lottery ≡ 0 ∷ 1 ∷ 1 ∷ 0 ∷ [] }
+    ensures certified { Certifies after_dropout dropout_lottery dropout_stages }
 {}
 
 /// One seat, which one of three volunteers may not have.

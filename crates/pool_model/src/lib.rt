@@ -5,6 +5,7 @@
 
 mod building;
 mod certificates;
+mod counting;
 mod lotteries;
 mod names;
 mod panels;
@@ -16,6 +17,7 @@ mod tests;
 
 pub use building::BuildStop;
 pub use certificates::{Answer, Certificate, Stage};
+pub use counting::chances;
 pub use lotteries::{Lottery, LotteryRow};
 pub use panels::Panel;
 pub use parts::{Bound, BoundedValue, Category, Name, Volunteer};

@@ -1,6 +1,6 @@
 //! Lotteries: panels with their weights, and the weights' total.
 
-ghost use Rattle.std.specs.Prelude.{◌≡◌, ◌≤ℤ◌, pos, unsigned_abs, IfOk};
+ghost use Rattle.std.specs.Prelude.{◌≡◌, ◌<◌, ◌^◌, ◌≤ℤ◌, pos, unsigned_abs, IfOk};
 
 use crate::panels::Panel;
 use std::alloc::{AllocError, Global};
@@ -97,6 +97,13 @@ impl Lottery {
         ensures { result.now ≡ self.now.rows }
     {
         &self.rows
+    }
+
+    /// Does nothing; its contract tells what each lottery keeps.
+    pub fn facts(&self)
+        ensures { self.now.total < 2 ^ 127 }
+    {
+        let _total = self.total;
     }
 
     /// An equal lottery.

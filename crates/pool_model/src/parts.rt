@@ -241,6 +241,12 @@ impl Volunteer {
         self.standing
     }
 
+    pub(crate) fn set_standing(&mut self, standing: Standing)
+        ensures { self.new ≡ record self.old { standing = standing } }
+    {
+        self.standing = standing;
+    }
+
     /// An equal volunteer.
     pub fn copy(&self) -> Result<Volunteer, AllocError>
         ensures { IfOk result (λ copied. copied ≡ self.now) }

@@ -1,8 +1,8 @@
 //! Pools: a size of panels, categories, and volunteers.
 
-ghost use Rattle.std.specs.Prelude.{◌≡◌, ◌<◌, map, OnOk, OnErr, IfOk, vec_len};
+ghost use Rattle.std.specs.Prelude.{◌≡◌, ◌<◌, length, map, OnOk, OnErr, IfOk, vec_len};
 ghost use Rattle.pool_definitions.specs.Pool.{IsPool};
-ghost use Rattle.pool_definitions.specs.Building.{size_kind, category_kind, value_kind, volunteer_kind, empty_pool, category_added, value_added, volunteer_added, with_value, last_values as values_of_last};
+ghost use Rattle.pool_definitions.specs.Building.{size_kind, category_kind, value_kind, volunteer_kind, empty_pool, category_added, value_added, volunteer_added, with_value, last_values as values_of_last, with_standing, standing_set};
 ghost use Rattle.pool_model.specs.Answers.{Answers};
 
 use crate::building::BuildStop;
@@ -10,6 +10,7 @@ use crate::names::{
     are_known, bytes_of, is_category, is_value, is_volunteer, keeps_name_limits, places,
 };
 use crate::parts::{Bound, BoundedValue, Category, Name, Volunteer};
+use pool_definitions::Standing;
 use std::alloc::{AllocError, Global};
 use std::marker::Model;
 
@@ -208,6 +209,14 @@ impl Pool {
         self.volunteers.push(volunteer)?;
         Ok(())
     }
+
+    /// Sets how the volunteer of this number stands to a panel, and changes nothing else.
+    pub fn set_standing(&mut self, number: usize, standing: Standing)
+        requires { number < length self.old.volunteers }
+        ensures { self.new ≡ standing_set self.old number standing }
+    {
+        set_standing_of(&mut self.volunteers, number, standing);
+    }
 }
 
 /// The kind of fault of a size: 2 exactly where it is not from 1 to 200.
@@ -239,6 +248,14 @@ fn add_to_last(categories: &mut Vec<Category>, value: BoundedValue) -> Result<()
     let last = categories.len() - 1;
     let category = &mut categories[last];
     category.add(value)
+}
+
+fn set_standing_of(volunteers: &mut Vec<Volunteer>, number: usize, standing: Standing)
+    requires { number < vec_len volunteers.old }
+    ensures { volunteers.new.items ≡ with_standing volunteers.old.items number standing }
+{
+    let volunteer = &mut volunteers[number];
+    volunteer.set_standing(standing);
 }
 
 fn copied_categories(alloc: Global, categories: &[Category]) -> Result<Vec<Category>, AllocError>

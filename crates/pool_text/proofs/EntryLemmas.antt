@@ -7,10 +7,12 @@ use Rattle.std.specs.Str.{IsUtf8, is_utf8}
 use Rattle.std.proofs.lemmas.Bool.{cond_both}
 use Rattle.std.proofs.lemmas.List.Elements.{All-from_recursion}
 use Rattle.std.proofs.lemmas.Str.{IsUtf8-from_is_utf8}
+use Rattle.pool_definitions.specs.declared.Standing.{Standing}
+use Rattle.pool_definitions.specs.declared.Standing.TheVariants.{Seated, Gone}
 use Rattle.pool_definitions.specs.Pool.{Pool}
 use Rattle.pool_definitions.proofs.Sums.{each_map}
 use Rattle.text_definitions.specs.Lines.{fields_of}
-use Rattle.text_definitions.specs.PoolReading.{Unknown, category_entry, value_entry, volunteer_entry, end_entry, entry_of, entry_kind, encoding_kind, kind_or}
+use Rattle.text_definitions.specs.PoolReading.{Unknown, category_entry, value_entry, volunteer_entry, standing_entry, end_entry, entry_of, entry_kind, encoding_kind, kind_or}
 use Rattle.text_definitions.proofs.LineLemmas.{each_field_is_utf8, line_of-fields_of}
 use Rattle.pool_text.specs.Entries.{IsText}
 
@@ -30,6 +32,11 @@ text_volunteer : (fields : List (List ℕ)) → AllByRecursion IsUtf8 fields →
 text_volunteer [] h = tt
 text_volunteer (id ∷ names) h = h
 
+text_standing : (standing : Standing) (fields : List (List ℕ)) → IsText (standing_entry standing fields)
+text_standing standing [] = tt
+text_standing standing (id ∷ []) = tt
+text_standing standing (id ∷ other ∷ fields) = tt
+
 text_end : (fields : List (List ℕ)) → IsText (end_entry fields)
 text_end [] = tt
 text_end (other ∷ fields) = tt
@@ -38,12 +45,16 @@ entry_is_text : (fields : List (List ℕ)) → AllByRecursion IsUtf8 fields → 
 entry_is_text [] h = tt
 entry_is_text (first ∷ fields) h =
     let ending = cond (bytes_eq first (codes "end")) (end_entry fields) Unknown in
-    let from_volunteer = cond (bytes_eq first (codes "volunteer")) (volunteer_entry fields) ending in
+    let from_gone = cond (bytes_eq first (codes "gone")) (standing_entry Gone fields) ending in
+    let from_seated = cond (bytes_eq first (codes "seated")) (standing_entry Seated fields) from_gone in
+    let from_volunteer = cond (bytes_eq first (codes "volunteer")) (volunteer_entry fields) from_seated in
     let from_value = cond (bytes_eq first (codes "value")) (value_entry fields) from_volunteer in
     cond_both (bytes_eq first (codes "category")) (category_entry fields) from_value IsText (λ _. text_category fields h.1)
     (λ _. cond_both (bytes_eq first (codes "value")) (value_entry fields) from_volunteer IsText (λ _. text_value fields h.1)
-    (λ _. cond_both (bytes_eq first (codes "volunteer")) (volunteer_entry fields) ending IsText (λ _. text_volunteer fields h.1)
-    (λ _. cond_both (bytes_eq first (codes "end")) (end_entry fields) Unknown IsText (λ _. text_end fields) (λ _. tt))))
+    (λ _. cond_both (bytes_eq first (codes "volunteer")) (volunteer_entry fields) from_seated IsText (λ _. text_volunteer fields h.1)
+    (λ _. cond_both (bytes_eq first (codes "seated")) (standing_entry Seated fields) from_gone IsText (λ _. text_standing Seated fields)
+    (λ _. cond_both (bytes_eq first (codes "gone")) (standing_entry Gone fields) ending IsText (λ _. text_standing Gone fields)
+    (λ _. cond_both (bytes_eq first (codes "end")) (end_entry fields) Unknown IsText (λ _. text_end fields) (λ _. tt))))))
 
 -- what a line that is text says is text
 pub line_says_text : (line : List ℕ) → is_utf8 line ≡ true → IsText (entry_of (fields_of line))
@@ -52,11 +63,11 @@ line_says_text line h =
     entry_is_text (fields_of line) (each_map (λ field. is_utf8 field ≡ true) IsUtf8 IsUtf8-from_is_utf8 (fields_of line) each)
 
 -- the kind of a line whose entry is right
-pub kind_of_text : (pool : Pool) (line : List ℕ) → entry_kind pool (entry_of (fields_of line)) ≡ None → is_utf8 line ≡ true → kind_or (entry_kind pool (entry_of (fields_of line))) (encoding_kind line) ≡ None
-kind_of_text pool line h text = ap (λ kind. kind_or kind (encoding_kind line)) h ∙ ap (λ test. cond (not test) (Some 11) None) text
+pub kind_of_text : (pool : Pool) (passed : ℕ) (line : List ℕ) → entry_kind pool passed (entry_of (fields_of line)) ≡ None → is_utf8 line ≡ true → kind_or (entry_kind pool passed (entry_of (fields_of line))) (encoding_kind line) ≡ None
+kind_of_text pool passed line h text = ap (λ kind. kind_or kind (encoding_kind line)) h ∙ ap (λ test. cond (not test) (Some 11) None) text
 
-pub kind_of_no_text : (pool : Pool) (line : List ℕ) → entry_kind pool (entry_of (fields_of line)) ≡ None → is_utf8 line ≡ false → kind_or (entry_kind pool (entry_of (fields_of line))) (encoding_kind line) ≡ Some 11
-kind_of_no_text pool line h text = ap (λ kind. kind_or kind (encoding_kind line)) h ∙ ap (λ test. cond (not test) (Some 11) None) text
+pub kind_of_no_text : (pool : Pool) (passed : ℕ) (line : List ℕ) → entry_kind pool passed (entry_of (fields_of line)) ≡ None → is_utf8 line ≡ false → kind_or (entry_kind pool passed (entry_of (fields_of line))) (encoding_kind line) ≡ Some 11
+kind_of_no_text pool passed line h text = ap (λ kind. kind_or kind (encoding_kind line)) h ∙ ap (λ test. cond (not test) (Some 11) None) text
 
 -- names behind references
 pub each_name_is_text : (names : List (Bor (List ℕ))) → AllByRecursion IsUtf8 (map (λ name. name.now) names) → All (λ name. IsUtf8 name.now) names

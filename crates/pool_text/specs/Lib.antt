@@ -2,3 +2,4 @@ pub mod Answers
 pub mod Entries
 pub mod Numbers
 pub mod Progress
+pub mod Writing

@@ -1,4 +1,6 @@
 -- What the lines that were read make of a text, as the definitions have it.
+use Rattle.std.specs.Prelude.{ℕ, Option, Some, None}
+use Rattle.pool_definitions.specs.Pool.{Pool}
 use Rattle.text_definitions.specs.PoolReading as words
 use Rattle.pool_text.specs.declared.progress.Progress.{Progress}
 use Rattle.pool_text.specs.declared.progress.Progress.TheVariants.{Begun, Versioned, Inside, Ended}
@@ -6,5 +8,10 @@ use Rattle.pool_text.specs.declared.progress.Progress.TheVariants.{Begun, Versio
 abbrev pub seen : Progress → words.Progress
 seen Begun = words.Begun
 seen Versioned = words.Versioned
-seen (Inside pool) = words.Inside pool
+seen (Inside pool passed) = words.Inside pool passed
 seen (Ended pool) = words.Ended pool
+
+-- a pool of whose volunteers standing lines have passed so many, or at the end
+abbrev pub with_pool : Pool → Option ℕ → words.Progress
+with_pool pool (Some passed) = words.Inside pool passed
+with_pool pool None = words.Ended pool

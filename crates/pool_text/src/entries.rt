@@ -1,15 +1,16 @@
 //! The lines between the size and the end: what one says, and what it adds to the pool.
 
-ghost use Rattle.std.specs.Prelude.{◌≡◌, map, IfOk, if◌then◌else◌, None, Option};
+ghost use Rattle.std.specs.Prelude.{◌≡◌, ◌<◌, length, map, IfOk, IfSome, IsSome, None, Option, unwrap_or};
 ghost use Rattle.std.specs.List.{All};
 ghost use Rattle.std.specs.Str.{IsUtf8, is_utf8};
 ghost use Rattle.pool_model.specs.Answers.{Answers};
 ghost use Rattle.text_definitions.specs.Lines.{fields_of as fields_in};
-ghost use Rattle.text_definitions.specs.PoolReading.{Inside, Ended, line_kind, after_line, after_entry, value_entry as value_in, entry_of as entry_in, entry_kind as kind_in, bound_of as bound_in};
+ghost use Rattle.text_definitions.specs.PoolReading.{Inside, line_kind, after_line, after_entry, after_standing, value_entry as value_in, standing_entry as standing_in, entry_of as entry_in, entry_kind as kind_in, number_of as number_in, bound_of as bound_in};
 ghost use Rattle.pool_text.specs.Entries.{said, IsText};
+ghost use Rattle.pool_text.specs.Progress.{with_pool};
 
 use crate::numbers::number_up_to;
-use pool_model::{BuildStop, Name, Pool};
+use pool_model::{BuildStop, Name, Pool, Standing, Volunteer};
 use std::alloc::{AllocError, Global};
 use std::str;
 
@@ -24,6 +25,9 @@ const TAB: u8 = 9;
 /// The kind of a line that is of no form that may stand there.
 pub(crate) const FORM: u8 = 1;
 
+/// The kind of a standing line whose id isn't that of a volunteer after the one of the standing line before.
+const NOT_AHEAD: u8 = 9;
+
 /// The kind of a line that isn't UTF-8.
 const NOT_UTF8: u8 = 11;
 
@@ -33,6 +37,10 @@ const VALUE: &[u8] = b"value";
 
 const VOLUNTEER: &[u8] = b"volunteer";
 
+const SEATED: &[u8] = b"seated";
+
+const GONE: &[u8] = b"gone";
+
 const END: &[u8] = b"end";
 
 /// What a line says, by its first field and its number of fields.
@@ -41,6 +49,7 @@ pub(crate) enum Entry<'a> {
     Category(&'a [u8]),
     Value(&'a [u8], usize, usize),
     Volunteer(&'a [u8], &'a [&'a [u8]]),
+    Standing(Standing, &'a [u8]),
     End,
     Unknown,
 }
@@ -77,6 +86,10 @@ fn entry_of<'a>(fields: &'a [&'a [u8]]) -> Entry<'a>
             Some((id, values)) => Entry::Volunteer(id, values),
             None => Entry::Unknown,
         }
+    } else if first == SEATED {
+        standing_entry(Standing::Seated, rest)
+    } else if first == GONE {
+        standing_entry(Standing::Gone, rest)
     } else if first == END && rest.is_empty() {
         Entry::End
     } else {
@@ -93,20 +106,35 @@ fn value_entry<'a>(rest: &'a [&'a [u8]]) -> Entry<'a>
     Entry::Value(rest[0], bound_of(rest[1]), bound_of(rest[2]))
 }
 
-/// Adds to the pool what a line says. The answer is whether the line is the end; a line with a fault changes nothing.
-pub(crate) fn read_entry(alloc: Global, pool: &mut Pool, line: &[u8]) -> Result<bool, BuildStop>
-    ensures kind { Answers (line_kind (Inside pool.old) line.now) result }
-    ensures ok { IfOk result (λ ended. after_line (Inside pool.old) line.now ≡ (if ended then Ended pool.new else Inside pool.new)) }
+fn standing_entry<'a>(standing: Standing, rest: &'a [&'a [u8]]) -> Entry<'a>
+    ensures { said result ≡ standing_in standing (map (λ field. field.now) rest.now) }
+{
+    match rest {
+        [id] => Entry::Standing(standing, id),
+        _ => Entry::Unknown,
+    }
+}
+
+/// Adds to the pool what a line says, where standing lines have passed so many volunteers. The answer is how many they have passed
+/// then, or None at the end. A line with a fault changes nothing.
+pub(crate) fn read_entry(
+    alloc: Global,
+    pool: &mut Pool,
+    passed: usize,
+    line: &[u8],
+) -> Result<Option<usize>, BuildStop>
+    ensures kind { Answers (line_kind (Inside pool.old passed) line.now) result }
+    ensures ok { IfOk result (λ next. after_line (Inside pool.old passed) line.now ≡ with_pool pool.new next) }
 {
     let fields = fields_of(alloc, line)?;
     let entry = entry_of(&fields);
-    if let Some(kind) = entry_kind(pool, &entry) {
+    if let Some(kind) = entry_kind(pool, passed, &entry) {
         return Err(BuildStop::Kind(kind));
     }
     if !is_text(line) {
         return Err(BuildStop::Kind(NOT_UTF8));
     }
-    add_entry(alloc, pool, &entry)
+    add_entry(alloc, pool, passed, &entry)
 }
 
 fn is_text(line: &[u8]) -> bool
@@ -116,24 +144,44 @@ fn is_text(line: &[u8]) -> bool
 }
 
 /// The lowest kind of fault of an entry.
-fn entry_kind(pool: &Pool, entry: &Entry<'_>) -> Option<u8>
-    ensures { result ≡ kind_in pool.now (said entry.now) }
+fn entry_kind(pool: &Pool, passed: usize, entry: &Entry<'_>) -> Option<u8>
+    ensures { result ≡ kind_in pool.now passed (said entry.now) }
 {
     match entry {
         Entry::Category(name) => pool.category_kind(name),
         Entry::Value(name, lower, upper) => pool.value_kind(name, *lower, *upper),
+        Entry::Volunteer(_, _) if 0 < passed => Some(FORM),
         Entry::Volunteer(id, values) => pool.volunteer_kind(id, values),
+        Entry::Standing(_, id) => match number_of(pool.volunteers(), id) {
+            Some(number) if passed <= number => None,
+            _ => Some(NOT_AHEAD),
+        },
         Entry::End => None,
         Entry::Unknown => Some(FORM),
     }
 }
 
-/// Adds a right entry, whose fields are text. The answer is whether it is the end.
-fn add_entry(alloc: Global, pool: &mut Pool, entry: &Entry<'_>) -> Result<bool, BuildStop>
-    requires right { kind_in pool.old (said entry.now) ≡ None }
+/// The number of the volunteer of this id.
+fn number_of(volunteers: &[Volunteer], id: &[u8]) -> Option<usize>
+    ensures value { result ≡ number_in volunteers.now id.now }
+    ensures inside { IfSome result (λ number. number < length volunteers.now) }
+{
+    volunteers
+        .iter()
+        .position(|volunteer| id == volunteer.id().as_bytes())
+}
+
+/// Adds a right entry, whose fields are text. The answer is that of `read_entry`.
+fn add_entry(
+    alloc: Global,
+    pool: &mut Pool,
+    passed: usize,
+    entry: &Entry<'_>,
+) -> Result<Option<usize>, BuildStop>
+    requires right { kind_in pool.old passed (said entry.now) ≡ None }
     requires text { IsText (said entry.now) }
     ensures kind { Answers None result }
-    ensures ok { IfOk result (λ ended. after_entry pool.old (said entry.now) ≡ (if ended then Ended pool.new else Inside pool.new)) }
+    ensures ok { IfOk result (λ next. after_entry pool.old passed (said entry.now) ≡ with_pool pool.new next) }
 {
     match entry {
         Entry::Category(name) => pool.add_category(text_of(name))?,
@@ -142,10 +190,25 @@ fn add_entry(alloc: Global, pool: &mut Pool, entry: &Entry<'_>) -> Result<bool, 
             let names = names_of(alloc, values)?;
             pool.add_volunteer(text_of(id), &names)?
         }
-        Entry::End => return Ok(true),
+        Entry::Standing(standing, id) => return Ok(Some(add_standing(pool, *standing, id))),
+        Entry::End => return Ok(None),
         Entry::Unknown => {}
     }
-    Ok(false)
+    Ok(Some(passed))
+}
+
+/// Sets the standing of the volunteer of this id. The answer is how many volunteers standing lines have passed then.
+fn add_standing(pool: &mut Pool, standing: Standing, id: &[u8]) -> usize
+    requires { IsSome (number_in pool.old.volunteers id.now) }
+    ensures { after_standing pool.old (unwrap_or (number_in pool.old.volunteers id.now) 0) standing ≡ Inside pool.new result }
+{
+    match number_of(pool.volunteers(), id) {
+        Some(number) => {
+            pool.set_standing(number, standing);
+            number + 1
+        }
+        None => unreachable!(),
+    }
 }
 
 fn text_of(field: &[u8]) -> &str

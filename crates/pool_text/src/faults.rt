@@ -16,6 +16,7 @@ pub struct PoolFault {
     /// - 6 a field at the place of a category is none of its values
     /// - 7 not one field for each category
     /// - 8 the volunteer's id stood before
+    /// - 9 the id of a standing line isn't that of a volunteer after the one of the standing line before
     /// - 10 a new name isn't 1 to 200 bytes or has a byte below 32 or 127, or there is one more than 20 categories, 50 values
     ///   of a category or 400 volunteers
     /// - 11 the line isn't UTF-8

@@ -1,5 +1,5 @@
-//! The text of a pool: what a city writes, read into a pool or answered with its first fault. Below stand `pool_model`, whose
-//! builder and kinds of fault it uses, and the words of `text_definitions`.
+//! The text of a pool: what a city writes, read into a pool or answered with its first fault; and a pool written as its text.
+//! Below stand `pool_model`, whose builder and kinds of fault it uses, and the words of `text_definitions`.
 #![tactic(auto)]
 
 mod entries;
@@ -9,6 +9,8 @@ mod progress;
 mod reading;
 #[cfg(test)]
 mod tests;
+mod writing;
 
 pub use faults::{PoolFault, ReadPool};
 pub use reading::read_pool;
+pub use writing::write_pool;

@@ -28,8 +28,8 @@ pub(crate) enum Progress {
     Begun,
     /// The first line stood.
     Versioned,
-    /// The size stood, and the lines up to now make this pool.
-    Inside(Pool),
+    /// The size stood, the lines up to now make this pool, and standing lines have passed so many of its volunteers.
+    Inside(Pool, usize),
     /// The end stood.
     Ended(Pool),
 }
@@ -49,13 +49,12 @@ pub(crate) fn after(alloc: Global, progress: Progress, line: &[u8]) -> Result<Pr
         }
         Progress::Versioned => {
             let size = size_of(alloc, line)?;
-            Ok(Progress::Inside(Pool::new(alloc, size)?))
+            Ok(Progress::Inside(Pool::new(alloc, size)?, 0))
         }
-        Progress::Inside(mut pool) => {
-            if read_entry(alloc, &mut pool, line)? {
-                Ok(Progress::Ended(pool))
-            } else {
-                Ok(Progress::Inside(pool))
+        Progress::Inside(mut pool, passed) => {
+            match read_entry(alloc, &mut pool, passed, line)? {
+                Some(passed) => Ok(Progress::Inside(pool, passed)),
+                None => Ok(Progress::Ended(pool)),
             }
         }
         Progress::Ended(_) => Err(BuildStop::Kind(FORM)),

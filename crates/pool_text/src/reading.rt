@@ -19,8 +19,8 @@ const LINE_FEED: u8 = 10;
 /// The kind of a text whose lines run out before its end.
 const MISSING_END: u8 = 12;
 
-/// The pool that the bytes spell, all of them. A fault comes exactly where they are not the text of a pool in which everybody is
-/// open: the first line that has a fault, and the lowest kind in it.
+/// The pool that the bytes spell, all of them. A fault comes exactly where they are not the text of a pool: the first line that
+/// has a fault, and the lowest kind in it.
 pub fn read_pool(alloc: Global, bytes: &[u8]) -> Result<Pool, ReadPool>
     // What is read is spelled so, each byte of it.
     ensures spelled { IfOk result (λ pool. HasText pool × (bytes.now ≡ spelling pool)) }

@@ -2,23 +2,25 @@
 use Rattle.std.proofs.Common.{◌≡◌, ℕ, zero, suc, ◌+◌, ◌<◌, ◌≤◌, true, false, not, ◌&&◌, ◌||◌, cond, eqb, ltb, leb, List, [], ◌∷◌, ◌++◌, length, get_or, map, refl, sym, ◌∙◌, ap, subst, arith, add-one, append_assoc, Some, None, unwrap_or, option_map}
 use Rattle.std.specs.Prelude.{bytes_eq, codes, Ok}
 use Rattle.std.specs.Fmt.{decimal}
-use Rattle.std.specs.List.{AllByRecursion, flat_map, list_all, list_any}
+use Rattle.std.specs.List.{AllByRecursion, flat_map, list_all, list_any, position_or_len}
 use Rattle.std.specs.Str.{is_utf8}
-use Rattle.std.proofs.Common.{length-append}
-use Rattle.std.proofs.lemmas.Bool.{eq-eqb, false≢true, ne_eqb, and_from, and_parts, or_parts, or_left, or_right, leb-true, lt-leb, ltb-true, not-true}
-use Rattle.std.proofs.lemmas.List.{append-nil, length-map, map-append}
+use Rattle.std.proofs.Common.{length-append, Bool}
+use Rattle.std.proofs.Math.Seq.{get_or-append_seam}
+use Rattle.std.proofs.lemmas.List.Sums.{position_or_len_is}
+use Rattle.std.proofs.lemmas.Bool.{eq-eqb, false≢true, ne_eqb, and_from, and_parts, or_parts, or_left, or_right, leb-true, le-leb, lt-leb, lt-ltb, ltb-true, not-true}
+use Rattle.std.proofs.lemmas.List.{append-nil, length-map, map-append, get_or_append_left}
 use Rattle.std.proofs.lemmas.List.Folds.{list_any-append}
 use Rattle.std.proofs.lemmas.Str.{is_utf8-from_IsUtf8}
 use Rattle.pool_definitions.specs.declared.Standing.{Standing}
 use Rattle.pool_definitions.specs.declared.Standing.TheVariants.{Open, Seated, Gone}
 use Rattle.pool_definitions.specs.Lists.{stands, all_different}
 use Rattle.pool_definitions.specs.Pool.{BoundedValue, Category, Volunteer, Pool, is_name, is_value, is_category, are_bounds, has_values, keeps_name_limits}
-use Rattle.pool_definitions.specs.Building.{category_names, value_names, ids, last_values, with_value, place_of, places_of, are_known, empty_pool, size_kind, category_kind, value_kind, volunteer_kind, volunteer_added}
+use Rattle.pool_definitions.specs.Building.{category_names, value_names, ids, last_values, with_value, place_of, places_of, are_known, empty_pool, size_kind, category_kind, value_kind, volunteer_kind, volunteer_added, with_standing, standing_set}
 use Rattle.pool_definitions.proofs.BuildingLemmas.{same_bytes_comm}
 use Rattle.pool_definitions.proofs.Sums.{each_map}
 use Rattle.text_definitions.specs.Lines.{tab, line_feed, line_of, fields_of}
-use Rattle.text_definitions.specs.PoolText.{size_line, value_line, category_lines, names_at, volunteer_line, end_line, lines_before_end, spelling, HasText, is_open}
-use Rattle.text_definitions.specs.PoolReading.{Progress, Begun, Inside, Ended, Entry, OfCategory, OfValue, OfVolunteer, TheEnd, bound_of, entry_of, entry_kind, size_of, encoding_kind, kind_or, line_kind, after_entry, after_line, at_last, fault_or, read_lines, read}
+use Rattle.text_definitions.specs.PoolText.{size_line, value_line, category_lines, names_at, volunteer_line, standing_line, standing_lines, end_line, lines_before_end, spelling, HasText}
+use Rattle.text_definitions.specs.PoolReading.{Progress, Begun, Inside, Ended, Entry, OfCategory, OfValue, OfVolunteer, OfStanding, TheEnd, bound_of, entry_of, number_of, is_ahead, entry_kind, size_of, encoding_kind, kind_or, line_kind, after_standing, after_entry, after_line, at_last, fault_or, read_lines, read}
 use Rattle.text_definitions.proofs.LineLemmas.{Lacks, bytes_same, fields_of-line_of, line_is_utf8, pieces_of-text_of}
 use Rattle.text_definitions.proofs.FieldLemmas.{IsField, plain_field, name_field, decimal_field, number_again, line_lacks_feed}
 
@@ -44,17 +46,17 @@ read_to_end number before (line ∷ next ∷ later) pool h =
     ∙ read_to_end (number + 1) (after_line before line) (next ∷ later) pool h.2
 
 -- a line of fields that say a right entry, and lines that go on from there
-run_entry : (pool : Pool) (field : List ℕ) (fields : List (List ℕ)) (entry : Entry) (lines : List (List ℕ)) (after : Progress) → AllByRecursion IsField (field ∷ fields) →
-    entry_of (field ∷ fields) ≡ entry → entry_kind pool entry ≡ None → Runs (after_entry pool entry) lines after → Runs (Inside pool) (line_of (field ∷ fields) ∷ lines) after
-run_entry pool field fields entry lines after are e none rest =
+run_entry : (pool : Pool) (passed : ℕ) (field : List ℕ) (fields : List (List ℕ)) (entry : Entry) (lines : List (List ℕ)) (after : Progress) → AllByRecursion IsField (field ∷ fields) →
+    entry_of (field ∷ fields) ≡ entry → entry_kind pool passed entry ≡ None → Runs (after_entry pool passed entry) lines after → Runs (Inside pool passed) (line_of (field ∷ fields) ∷ lines) after
+run_entry pool passed field fields entry lines after are e none rest =
     let all = field ∷ fields in
     let line = line_of all in
     let same : entry_of (fields_of line) ≡ entry = ap entry_of (fields_of-line_of field fields (each_map IsField (Lacks tab) (λ f is. is.no_tab) all are)) ∙ e in
     let text : is_utf8 line ≡ true = is_utf8-from_IsUtf8 line (line_is_utf8 all (each_map IsField (λ f. is_utf8 f ≡ true) (λ f is. is.utf8) all are)) in (
       line_lacks_feed all are,
-      ap (λ said. kind_or (entry_kind pool said) (encoding_kind line)) same
+      ap (λ said. kind_or (entry_kind pool passed said) (encoding_kind line)) same
           ∙ (ap (λ kind. kind_or kind (encoding_kind line)) none ∙ ap (λ test. cond (not test) (Some 11) None) text),
-      subst (λ said. Runs (after_entry pool said) lines after) (sym same) rest,
+      subst (λ said. Runs (after_entry pool passed said) lines after) (sym same) rest,
     )
 
 -- a name in a list of different names is none of those before it
@@ -100,8 +102,8 @@ value_is_new size before name values value new is room =
     rw (some, last, new, parts.1, limits, few) refl
 
 values_run : (size : ℕ) (before : List Category) (name : List ℕ) (done todo : List BoundedValue) → list_all is_value todo ≡ true → all_different (value_names (done ++ todo)) ≡ true → length (done ++ todo) ≤ 50 →
-    Runs (Inside (made size (before ++ named name done ∷ []) [])) (map value_line todo) (Inside (made size (before ++ named name (done ++ todo) ∷ []) []))
-values_run size before name done [] are different few = ap (λ values. Inside (made size (before ++ named name values ∷ []) [])) (sym (append-nil done))
+    Runs (Inside (made size (before ++ named name done ∷ []) []) 0) (map value_line todo) (Inside (made size (before ++ named name (done ++ todo) ∷ []) []) 0)
+values_run size before name done [] are different few = ap (λ values. Inside (made size (before ++ named name values ∷ []) []) 0) (sym (append-nil done))
 values_run size before name done (value ∷ todo) are different few =
     let parts = and_parts (is_value value) (list_all is_value todo) are in
     let is = and_parts (is_name value.name) (are_bounds value.lower value.upper) parts.0 in
@@ -112,17 +114,17 @@ values_run size before name done (value ∷ todo) are different few =
     let upper_again = bound_again value.upper (omega arith) in
     let pool = made size (before ++ named name done ∷ []) [] in
     let fields = value.name ∷ decimal value.lower ∷ decimal value.upper ∷ [] in
-    let after = Inside (made size (before ++ named name (done ++ value ∷ todo) ∷ []) []) in
+    let after = Inside (made size (before ++ named name (done ++ value ∷ todo) ∷ []) []) 0 in
     let regrouped : (done ++ value ∷ []) ++ todo ≡ done ++ value ∷ todo = append_assoc done (value ∷ []) todo in
     let new = new_among (value_names done) value.name (value_names todo) (ap all_different (sym (map-append (λ v. v.name) done (value ∷ todo))) ∙ different) in
     let sizes : length (done ++ value ∷ todo) ≡ length done + suc (length todo) = length-append done (value ∷ todo) in
     let rest = values_run size before name (done ++ value ∷ []) todo parts.1 (ap (λ values. all_different (value_names values)) regrouped ∙ different) (subst (λ values. length values ≤ 50) (sym regrouped) few) in
-    let rest_to = subst (λ values. Runs (Inside (made size (before ++ named name (done ++ value ∷ []) ∷ []) [])) (map value_line todo) (Inside (made size (before ++ named name values ∷ []) []))) regrouped rest in
+    let rest_to = subst (λ values. Runs (Inside (made size (before ++ named name (done ++ value ∷ []) ∷ []) []) 0) (map value_line todo) (Inside (made size (before ++ named name values ∷ []) []) 0)) regrouped rest in
     let said : entry_of (codes "value" ∷ fields) ≡ OfValue value = ap (λ lower. OfValue (record { name = value.name; lower = lower; upper = bound_of (decimal value.upper) })) lower_again ∙ ap (λ upper. OfValue (record { name = value.name; lower = value.lower; upper = upper })) upper_again in
-    run_entry pool (codes "value") fields (OfValue value) (map value_line todo) after
+    run_entry pool 0 (codes "value") fields (OfValue value) (map value_line todo) after
     (plain_field (codes "value") refl, (name_field value.name is.0, (decimal_field value.lower (omega arith), (decimal_field value.upper upper_le, tt))))
     said (value_is_new size before name done value new parts.0 (omega (arith, sizes)))
-    (subst (λ categories. Runs (Inside (made size categories [])) (map value_line todo) after) (sym (with_value-push before (named name done) value)) rest_to)
+    (subst (λ categories. Runs (Inside (made size categories []) 0) (map value_line todo) after) (sym (with_value-push before (named name done) value)) rest_to)
 
 -- what is known of a category
 record IsCategory (category : Category) : Type 0 where
@@ -146,20 +148,20 @@ category_is_new size before name new is room =
     rw (new, limits, few) refl
 
 categories_run : (size : ℕ) (done todo : List Category) → list_all is_category todo ≡ true → all_different (category_names (done ++ todo)) ≡ true → length (done ++ todo) ≤ 20 →
-    Runs (Inside (made size done [])) (flat_map category_lines todo) (Inside (made size (done ++ todo) []))
-categories_run size done [] are different few = ap (λ categories. Inside (made size categories [])) (sym (append-nil done))
+    Runs (Inside (made size done []) 0) (flat_map category_lines todo) (Inside (made size (done ++ todo) []) 0)
+categories_run size done [] are different few = ap (λ categories. Inside (made size categories []) 0) (sym (append-nil done))
 categories_run size done (category ∷ todo) are different few =
     let parts = and_parts (is_category category) (list_all is_category todo) are in
     let is = category_parts category parts.0 in
-    let after = Inside (made size (done ++ category ∷ todo) []) in
+    let after = Inside (made size (done ++ category ∷ todo) []) 0 in
     let regrouped : (done ++ category ∷ []) ++ todo ≡ done ++ category ∷ todo = append_assoc done (category ∷ []) todo in
     let new = new_among (category_names done) category.name (category_names todo) (ap all_different (sym (map-append (λ c. c.name) done (category ∷ todo))) ∙ different) in
     let sizes : length (done ++ category ∷ todo) ≡ length done + suc (length todo) = length-append done (category ∷ todo) in
     let values = values_run size done category.name [] category.values is.values is.different is.few in
     let rest = categories_run size (done ++ category ∷ []) todo parts.1 (ap (λ categories. all_different (category_names categories)) regrouped ∙ different) (subst (λ categories. length categories ≤ 20) (sym regrouped) few) in
-    let rest_to = subst (λ categories. Runs (Inside (made size (done ++ category ∷ []) [])) (flat_map category_lines todo) (Inside (made size categories []))) regrouped rest in
-    let all = Runs-append (Inside (made size (done ++ named category.name [] ∷ []) [])) (Inside (made size (done ++ category ∷ []) [])) after (map value_line category.values) (flat_map category_lines todo) values rest_to in
-    run_entry (made size done []) (codes "category") (category.name ∷ []) (OfCategory category.name) (map value_line category.values ++ flat_map category_lines todo) after
+    let rest_to = subst (λ categories. Runs (Inside (made size (done ++ category ∷ []) []) 0) (flat_map category_lines todo) (Inside (made size categories []) 0)) regrouped rest in
+    let all = Runs-append (Inside (made size (done ++ named category.name [] ∷ []) []) 0) (Inside (made size (done ++ category ∷ []) []) 0) after (map value_line category.values) (flat_map category_lines todo) values rest_to in
+    run_entry (made size done []) 0 (codes "category") (category.name ∷ []) (OfCategory category.name) (map value_line category.values ++ flat_map category_lines todo) after
     (plain_field (codes "category") refl, (name_field category.name is.name, tt)) refl (category_is_new size done category.name new is.name (omega (arith, sizes))) all
 
 -- a name that stands at a place of different names is known, and that is its place
@@ -222,44 +224,130 @@ volunteer_is_new pool id names known each new is room =
     let few : leb 400 (length pool.volunteers) ≡ false = lt-leb 400 (length pool.volunteers) room in
     rw (known, same, new, limits, few) refl
 
-open_one : (volunteer : Volunteer) → is_open volunteer.standing ≡ true → record { id = volunteer.id; values = volunteer.values; standing = Open } ≡ volunteer
-open_one volunteer h = ap (λ standing. record { id = volunteer.id; values = volunteer.values; standing = standing }) (is_Open volunteer.standing h)
-  where
-    is_Open : (standing : Standing) → is_open standing ≡ true → Open ≡ standing
-    is_Open Open h = refl
-    is_Open Seated h = absurd (false≢true h)
-    is_Open Gone h = absurd (false≢true h)
+-- a volunteer as the own line has it
+abbrev opened : Volunteer → Volunteer
+opened volunteer = record { id = volunteer.id; values = volunteer.values; standing = Open }
 
 volunteers_run : (size : ℕ) (categories : List Category) (done todo : List Volunteer) → list_all is_category categories ≡ true → list_all (λ (v : Volunteer). is_name v.id) todo ≡ true →
-    list_all (λ (v : Volunteer). has_values categories v.values) todo ≡ true → list_all (λ (v : Volunteer). is_open v.standing) todo ≡ true →
-    all_different (ids (done ++ todo)) ≡ true → length (done ++ todo) ≤ 400 →
-    Runs (Inside (made size categories done)) (map (volunteer_line categories) todo) (Inside (made size categories (done ++ todo)))
-volunteers_run size categories done [] are names have are_open different few = ap (λ volunteers. Inside (made size categories volunteers)) (sym (append-nil done))
-volunteers_run size categories done (volunteer ∷ todo) are names have are_open different few =
+    list_all (λ (v : Volunteer). has_values categories v.values) todo ≡ true →
+    all_different (ids done ++ ids todo) ≡ true → length done + length todo ≤ 400 →
+    Runs (Inside (made size categories done) 0) (map (volunteer_line categories) todo) (Inside (made size categories (done ++ map opened todo)) 0)
+volunteers_run size categories done [] are names have different few = ap (λ volunteers. Inside (made size categories volunteers) 0) (sym (append-nil done))
+volunteers_run size categories done (volunteer ∷ todo) are names have different few =
     let name = and_parts (is_name volunteer.id) (list_all (λ (v : Volunteer). is_name v.id) todo) names in
     let has = and_parts (has_values categories volunteer.values) (list_all (λ (v : Volunteer). has_values categories v.values) todo) have in
-    let is = and_parts (is_open volunteer.standing) (list_all (λ (v : Volunteer). is_open v.standing) todo) are_open in
     let at = are_names_at categories volunteer.values are has.0 in
     let given = names_at categories volunteer.values in
     let pool = made size categories done in
-    let after = Inside (made size categories (done ++ volunteer ∷ todo)) in
-    let regrouped : (done ++ volunteer ∷ []) ++ todo ≡ done ++ volunteer ∷ todo = append_assoc done (volunteer ∷ []) todo in
-    let new = new_among (ids done) volunteer.id (ids todo) (ap all_different (sym (map-append (λ v. v.id) done (volunteer ∷ todo))) ∙ different) in
-    let sizes : length (done ++ volunteer ∷ todo) ≡ length done + suc (length todo) = length-append done (volunteer ∷ todo) in
-    let rest = volunteers_run size categories (done ++ volunteer ∷ []) todo are name.1 has.1 is.1 (ap (λ volunteers. all_different (ids volunteers)) regrouped ∙ different) (subst (λ volunteers. length volunteers ≤ 400) (sym regrouped) few) in
-    let rest_to = subst (λ volunteers. Runs (Inside (made size categories (done ++ volunteer ∷ []))) (map (volunteer_line categories) todo) (Inside (made size categories volunteers))) regrouped rest in
-    let again : volunteer_added pool volunteer.id given ≡ made size categories (done ++ volunteer ∷ []) =
-    ap (λ values. made size categories (done ++ record { id = volunteer.id; values = values; standing = Open } ∷ [])) at.again
-    ∙ ap (λ v. made size categories (done ++ v ∷ [])) (open_one volunteer is.0) in
-    run_entry pool (codes "volunteer") (volunteer.id ∷ given) (OfVolunteer volunteer.id given) (map (volunteer_line categories) todo) after
+    let one = opened volunteer in
+    let after = Inside (made size categories (done ++ one ∷ map opened todo)) 0 in
+    let regrouped : (done ++ one ∷ []) ++ map opened todo ≡ done ++ one ∷ map opened todo = append_assoc done (one ∷ []) (map opened todo) in
+    let new = new_among (ids done) volunteer.id (ids todo) different in
+    let same_ids : ids (done ++ one ∷ []) ++ ids todo ≡ ids done ++ volunteer.id ∷ ids todo =
+    ap (λ names. names ++ ids todo) (map-append (λ v. v.id) done (one ∷ [])) ∙ append_assoc (ids done) (volunteer.id ∷ []) (ids todo) in
+    let sizes : length (done ++ one ∷ []) ≡ length done + 1 = length-append done (one ∷ []) in
+    let rest = volunteers_run size categories (done ++ one ∷ []) todo are name.1 has.1 (ap all_different same_ids ∙ different) (omega (arith, sizes)) in
+    let rest_to = subst (λ volunteers. Runs (Inside (made size categories (done ++ one ∷ [])) 0) (map (volunteer_line categories) todo) (Inside (made size categories volunteers) 0)) regrouped rest in
+    let again : volunteer_added pool volunteer.id given ≡ made size categories (done ++ one ∷ []) =
+    ap (λ values. made size categories (done ++ record { id = volunteer.id; values = values; standing = Open } ∷ [])) at.again in
+    run_entry pool 0 (codes "volunteer") (volunteer.id ∷ given) (OfVolunteer volunteer.id given) (map (volunteer_line categories) todo) after
     (plain_field (codes "volunteer") refl, (name_field volunteer.id name.0, at.fields)) refl
-    (volunteer_is_new pool volunteer.id given at.known at.each new name.0 (omega (arith, sizes)))
-    (subst (λ p. Runs (Inside p) (map (volunteer_line categories) todo) after) (sym again) rest_to)
+    (volunteer_is_new pool volunteer.id given at.known at.each new name.0 (omega arith))
+    (subst (λ p. Runs (Inside p 0) (map (volunteer_line categories) todo) after) (sym again) rest_to)
+
+-- the one behind others of different ids is found by the id
+found_behind : (done todo : List Volunteer) (volunteer : Volunteer) → all_different (ids done ++ volunteer.id ∷ ids todo) ≡ true → number_of (done ++ opened volunteer ∷ map opened todo) volunteer.id ≡ Some (length done)
+found_behind done todo volunteer different =
+    let all = done ++ opened volunteer ∷ map opened todo in
+    let test : Volunteer → Bool = λ v. bytes_eq volunteer.id v.id in
+    let sizes : length all ≡ length done + suc (length (map opened todo)) = length-append done (opened volunteer ∷ map opened todo) in
+    let inside : length done < length all = omega (arith, sizes) in
+    let place : position_or_len test all ≡ length done =
+    position_or_len_is test all (length done) (opened volunteer) (omega arith)
+    (λ k l. ap test (get_or_append_left done (opened volunteer ∷ map opened todo) (opened volunteer) k l) ∙ other done k l (new_among (ids done) volunteer.id (ids todo) different))
+    (λ l. ap test (get_or-append_seam done (opened volunteer) (map opened todo) (opened volunteer)) ∙ bytes_same volunteer.id volunteer.id refl) in
+    ap (λ n. cond (ltb n (length all)) (Some n) None) place ∙ ap (λ b. cond b (Some (length done)) None) (lt-ltb (length done) (length all) inside)
+  where
+    other : (done : List Volunteer) (k : ℕ) → k < length done → stands (ids done) volunteer.id ≡ false → bytes_eq volunteer.id (get_or done k (opened volunteer)).id ≡ false
+    other [] k l h = absurd (omega arith)
+    other (first ∷ done) zero l h = (or_parts (bytes_eq volunteer.id first.id) (stands (ids done) volunteer.id) h).0
+    other (first ∷ done) (suc k) l h = other done k (omega arith) (or_parts (bytes_eq volunteer.id first.id) (stands (ids done) volunteer.id) h).1
+
+with_standing_behind : (done : List Volunteer) (volunteer : Volunteer) (todo : List Volunteer) (standing : Standing) →
+    with_standing (done ++ volunteer ∷ todo) (length done) standing ≡ done ++ record volunteer { standing = standing } ∷ todo
+with_standing_behind [] volunteer todo standing = refl
+with_standing_behind (first ∷ done) volunteer todo standing = ap (λ rest. first ∷ rest) (with_standing_behind done volunteer todo standing)
+
+-- the lines of standings, behind those of the volunteers
+module _ (size : ℕ) (categories : List Category) where
+  -- the lines of some volunteers lead from all of these open to their standings
+  Leads : List Volunteer → List Volunteer → ℕ → Type 0
+  Leads done todo passed = (last : ℕ) × Runs (Inside (made size categories (done ++ map opened todo)) passed) (standing_lines todo) (Inside (made size categories (done ++ todo)) last)
+
+  -- one more in front, whose line is read
+  one_leads : (done todo : List Volunteer) (volunteer : Volunteer) (passed : ℕ) (word : List ℕ) (standing : Standing) → passed ≤ length done → all_different (ids done ++ volunteer.id ∷ ids todo) ≡ true →
+      IsField word → is_name volunteer.id ≡ true → entry_of (word ∷ volunteer.id ∷ []) ≡ OfStanding standing volunteer.id → standing ≡ volunteer.standing →
+      standing_line volunteer.standing volunteer.id ≡ line_of (word ∷ volunteer.id ∷ []) ∷ [] →
+      Leads (done ++ volunteer ∷ []) todo (length done + 1) → Leads done (volunteer ∷ todo) passed
+  unfolding Leads
+  one_leads done todo volunteer passed word standing few different is name e same line rest =
+      let all = done ++ opened volunteer ∷ map opened todo in
+      let pool = made size categories all in
+      let found = found_behind done todo volunteer different in
+      let kind : entry_kind pool passed (OfStanding standing volunteer.id) ≡ None =
+      ap (λ o. cond (not (is_ahead passed o)) (Some 9) None) found ∙ ap (λ b. cond (not b) (Some 9) None) (le-leb passed (length done) few) in
+      let set : with_standing all (length done) standing ≡ (done ++ volunteer ∷ []) ++ map opened todo =
+      with_standing_behind done (opened volunteer) (map opened todo) standing
+      ∙ (ap (λ s. done ++ record { id = volunteer.id; values = volunteer.values; standing = s } ∷ map opened todo) same
+      ∙ sym (append_assoc done (volunteer ∷ []) (map opened todo))) in
+      let goes : after_entry pool passed (OfStanding standing volunteer.id) ≡ Inside (made size categories ((done ++ volunteer ∷ []) ++ map opened todo)) (length done + 1) =
+      ap (λ o. after_standing pool (unwrap_or o 0) standing) found ∙ ap (λ volunteers. Inside (made size categories volunteers) (length done + 1)) set in
+      let last = rest.0 in
+      let after = Inside (made size categories (done ++ volunteer ∷ todo)) last in
+      let rest_to : Runs (Inside (made size categories ((done ++ volunteer ∷ []) ++ map opened todo)) (length done + 1)) (standing_lines todo) after =
+      subst (λ volunteers. Runs (Inside (made size categories ((done ++ volunteer ∷ []) ++ map opened todo)) (length done + 1)) (standing_lines todo) (Inside (made size categories volunteers) last))
+      (append_assoc done (volunteer ∷ []) todo) rest.1 in
+      let runs = run_entry pool passed word (volunteer.id ∷ []) (OfStanding standing volunteer.id) (standing_lines todo) after (is, (name_field volunteer.id name, tt)) e kind
+      (subst (λ progress. Runs progress (standing_lines todo) after) (sym goes) rest_to) in
+      (last, subst (λ lines. Runs (Inside pool passed) (lines ++ standing_lines todo) after) (sym line) runs)
+
+  -- one more in front, who is open
+  open_leads : (done todo : List Volunteer) (volunteer : Volunteer) (passed : ℕ) → Open ≡ volunteer.standing → Leads (done ++ volunteer ∷ []) todo passed → Leads done (volunteer ∷ todo) passed
+  unfolding Leads
+  open_leads done todo volunteer passed same rest =
+      let last = rest.0 in
+      let self : volunteer ≡ opened volunteer = ap (λ s. record { id = volunteer.id; values = volunteer.values; standing = s }) (sym same) in
+      let from : (done ++ volunteer ∷ []) ++ map opened todo ≡ done ++ opened volunteer ∷ map opened todo =
+      append_assoc done (volunteer ∷ []) (map opened todo) ∙ ap (λ v. done ++ v ∷ map opened todo) self in
+      let begins = subst (λ volunteers. Runs (Inside (made size categories volunteers) passed) (standing_lines todo) (Inside (made size categories ((done ++ volunteer ∷ []) ++ todo)) last)) from rest.1 in
+      let ends = subst (λ volunteers. Runs (Inside (made size categories (done ++ opened volunteer ∷ map opened todo)) passed) (standing_lines todo) (Inside (made size categories volunteers) last))
+      (append_assoc done (volunteer ∷ []) todo) begins in
+      (last, subst (λ s. Runs (Inside (made size categories (done ++ opened volunteer ∷ map opened todo)) passed) (standing_line s volunteer.id ++ standing_lines todo) (Inside (made size categories (done ++ volunteer ∷ todo)) last)) same ends)
+
+  pub standings_run : (done todo : List Volunteer) (passed : ℕ) → passed ≤ length done → all_different (ids done ++ ids todo) ≡ true → list_all (λ (v : Volunteer). is_name v.id) todo ≡ true →
+      (last : ℕ) × Runs (Inside (made size categories (done ++ map opened todo)) passed) (standing_lines todo) (Inside (made size categories (done ++ todo)) last)
+  unfolding Leads
+  standings_run done [] passed few different names = (passed, refl)
+  standings_run done (volunteer ∷ todo) passed few different names =
+      let name = and_parts (is_name volunteer.id) (list_all (λ (v : Volunteer). is_name v.id) todo) names in
+      let sizes : length (done ++ volunteer ∷ []) ≡ length done + 1 = length-append done (volunteer ∷ []) in
+      let same_ids : ids (done ++ volunteer ∷ []) ++ ids todo ≡ ids done ++ volunteer.id ∷ ids todo =
+      ap (λ names. names ++ ids todo) (map-append (λ v. v.id) done (volunteer ∷ [])) ∙ append_assoc (ids done) (volunteer.id ∷ []) (ids todo) in
+      let apart = ap all_different same_ids ∙ different in
+      let behind = standings_run (done ++ volunteer ∷ []) todo (length done + 1) (omega (arith, sizes)) apart name.1 in
+      let still = standings_run (done ++ volunteer ∷ []) todo passed (omega (arith, sizes)) apart name.1 in
+      (elim volunteer.standing as (λ s. s ≡ volunteer.standing → Leads done (volunteer ∷ todo) passed) [
+        | Open ↦ λ same. open_leads done todo volunteer passed same still
+        | Seated ↦ λ same. one_leads done todo volunteer passed (codes "seated") Seated few different (plain_field (codes "seated") refl) name.0 refl same
+            (ap (λ s. standing_line s volunteer.id) (sym same)) behind
+        | Gone ↦ λ same. one_leads done todo volunteer passed (codes "gone") Gone few different (plain_field (codes "gone") refl) name.0 refl same
+            (ap (λ s. standing_line s volunteer.id) (sym same)) behind
+      ]) refl
 
 -- the lines of a pool lead to its end
 pool_runs : (pool : Pool) → HasText pool → Runs Begun (lines_before_end pool ++ end_line ∷ []) (Ended pool)
 pool_runs pool right =
-    let is = right.is_pool in
+    let is = right in
     let size = pool.size in
     let at_most = leb-true size 200 (and_parts (leb 1 size) (leb size 200) is.size).1 in
     let size_field = decimal_field size (omega arith) in
@@ -268,17 +356,22 @@ pool_runs pool right =
     ap size_of (fields_of-line_of (codes "size") (decimal size ∷ []) ((plain_field (codes "size") refl).no_tab, (size_field.no_tab, tt)))
     ∙ ap (λ o. unwrap_or o 0) (number_again 200 size (omega arith) at_most) in
     let categories = categories_run size [] pool.categories is.categories is.different_categories (leb-true (length pool.categories) 20 is.few_categories) in
-    let volunteers = volunteers_run size pool.categories [] pool.volunteers is.categories is.ids is.values right.all_open is.different_ids (leb-true (length pool.volunteers) 400 is.few_volunteers) in
-    let both = Runs-append (Inside (empty_pool size)) (Inside (made size pool.categories [])) (Inside pool) (flat_map category_lines pool.categories) (map (volunteer_line pool.categories) pool.volunteers) categories volunteers in
-    let last = run_entry pool (codes "end") [] TheEnd [] (Ended pool) (plain_field (codes "end") refl, tt) refl refl refl in
-    let all = Runs-append (Inside (empty_pool size)) (Inside pool) (Ended pool) (flat_map category_lines pool.categories ++ map (volunteer_line pool.categories) pool.volunteers) (end_line ∷ []) both last in
-    let entries = (flat_map category_lines pool.categories ++ map (volunteer_line pool.categories) pool.volunteers) ++ end_line ∷ [] in (
+    let few = leb-true (length pool.volunteers) 400 is.few_volunteers in
+    let volunteers = volunteers_run size pool.categories [] pool.volunteers is.categories is.ids is.values is.different_ids (omega arith) in
+    let standings = standings_run size pool.categories [] pool.volunteers 0 (omega arith) is.different_ids is.ids in
+    let listed = flat_map category_lines pool.categories ++ map (volunteer_line pool.categories) pool.volunteers in
+    let all_open : Progress = Inside (made size pool.categories (map opened pool.volunteers)) 0 in
+    let two = Runs-append (Inside (empty_pool size) 0) (Inside (made size pool.categories []) 0) all_open (flat_map category_lines pool.categories) (map (volunteer_line pool.categories) pool.volunteers) categories volunteers in
+    let three = Runs-append (Inside (empty_pool size) 0) all_open (Inside pool standings.0) listed (standing_lines pool.volunteers) two standings.1 in
+    let last = run_entry pool standings.0 (codes "end") [] TheEnd [] (Ended pool) (plain_field (codes "end") refl, tt) refl refl refl in
+    let all = Runs-append (Inside (empty_pool size) 0) (Inside pool standings.0) (Ended pool) (listed ++ standing_lines pool.volunteers) (end_line ∷ []) three last in
+    let entries = (listed ++ standing_lines pool.volunteers) ++ end_line ∷ [] in (
       line_lacks_feed (codes "pool" ∷ codes "1" ∷ []) (plain_field (codes "pool") refl, (plain_field (codes "1") refl, tt)),
       refl,
       (
         line_lacks_feed (codes "size" ∷ decimal size ∷ []) size_fields,
         ap size_kind size_again ∙ ap (λ test. cond (not test) (Some 2) None) is.size,
-        subst (λ n. Runs (Inside (empty_pool n)) entries (Ended pool)) (sym size_again) all,
+        subst (λ n. Runs (Inside (empty_pool n) 0) entries (Ended pool)) (sym size_again) all,
       ),
     )
 

@@ -1,23 +1,25 @@
 -- Lines that are read without a fault are those of the pool that is read.
-use Rattle.std.proofs.Common.{◌≡◌, ℕ, ◌+◌, ◌≤◌, true, not, cond, leb, List, [], ◌∷◌, ◌++◌, length, get_or, map, refl, sym, ◌∙◌, ap, subst, arith, append_assoc, Option, Some, None, unwrap_or}
+use Rattle.std.proofs.Common.{◌≡◌, ℕ, zero, suc, ◌+◌, ◌<◌, ◌≤◌, Bool, true, false, not, ◌&&◌, cond, ltb, leb, List, [], ◌∷◌, ◌++◌, length, get_or, drop, map, refl, sym, ◌∙◌, ap, subst, arith, add-one, append_assoc, Option, Some, None, unwrap_or}
 use Rattle.std.specs.Prelude.{bytes_eq, codes, Ok}
 use Rattle.std.specs.Fmt.{decimal}
-use Rattle.std.specs.List.{AllByRecursion, flat_map, join_with_byte}
+use Rattle.std.specs.List.{AllByRecursion, flat_map, join_with_byte, list_all, position}
 use Rattle.std.specs.Str.{is_utf8}
-use Rattle.std.proofs.lemmas.Bool.{and_parts, cond_both, leb-true, not-false}
+use Rattle.std.proofs.lemmas.Bool.{and_parts, and_from, cond_both, leb-true, ltb-false, not-false, false≢true}
 use Rattle.std.proofs.lemmas.Grind.{flat_map-append}
 use Rattle.std.proofs.lemmas.List.{append-nil, map-append}
+use Rattle.std.proofs.lemmas.List.Quantifiers.{position-Some}
 use Rattle.pool_definitions.specs.Pool.{Pool, BoundedValue, Category, Volunteer, are_bounds}
 use Rattle.pool_definitions.specs.Lists.{stands}
-use Rattle.pool_definitions.specs.Building.{value_names, size_kind, with_value, place_of, places_of, are_known}
+use Rattle.pool_definitions.specs.Building.{value_names, size_kind, with_value, place_of, places_of, are_known, volunteer_kind, volunteer_added, with_standing, standing_set}
 use Rattle.text_definitions.specs.Lines.{line_feed, line_of, text_of, fields_of, pieces_of, number_up_to}
-use Rattle.text_definitions.specs.PoolText.{version_line, size_line, value_line, category_lines, names_at, volunteer_line, end_line, lines_before_end, spelling, HasText, is_open}
-use Rattle.text_definitions.specs.PoolReading.{Progress, Begun, Versioned, Inside, Ended, Entry, OfCategory, OfValue, OfVolunteer, TheEnd, Unknown, category_entry, bound_of, value_entry, volunteer_entry, end_entry, entry_of, entry_kind, size_of, encoding_kind, kind_or, line_kind, after_entry, after_line, at_last, fault_or, read_lines, read}
-use Rattle.pool_definitions.specs.declared.Standing.TheVariants.{Open}
+use Rattle.text_definitions.specs.PoolText.{version_line, size_line, value_line, category_lines, names_at, volunteer_line, standing_line, standing_lines, end_line, lines_before_end, spelling, HasText}
+use Rattle.text_definitions.specs.PoolReading.{Progress, Begun, Versioned, Inside, Ended, Entry, OfCategory, OfValue, OfVolunteer, OfStanding, TheEnd, Unknown, category_entry, bound_of, value_entry, volunteer_entry, standing_entry, end_entry, entry_of, number_of, is_ahead, entry_kind, size_of, encoding_kind, kind_or, line_kind, after_entry, after_line, at_last, fault_or, read_lines, read}
+use Rattle.pool_definitions.specs.declared.Standing.{Standing}
+use Rattle.pool_definitions.specs.declared.Standing.TheVariants.{Open, Seated, Gone}
 use Rattle.std.specs.Str.{IsUtf8}
 use Rattle.std.proofs.lemmas.Str.{IsUtf8-from_is_utf8}
 use Rattle.std.proofs.lemmas.List.Splits.{join_with_byte-slice_split}
-use Rattle.pool_definitions.proofs.BuildingLemmas.{no_kind, list_all_push, category_fits, value_fits, volunteer_fits, place_at, IsPool-empty_pool, IsPool-category_added, IsPool-value_added, IsPool-volunteer_added}
+use Rattle.pool_definitions.proofs.BuildingLemmas.{no_kind, list_all_push, category_fits, value_fits, volunteer_fits, place_at, IsPool-empty_pool, IsPool-category_added, IsPool-value_added, IsPool-volunteer_added, IsPool-standing_set}
 use Rattle.text_definitions.proofs.LineLemmas.{bytes_are, each_field_is_utf8, number_spelled, line_of-fields_of}
 
 -- neither of two kinds
@@ -29,16 +31,17 @@ neither (Some kind) second h = cc
 abbrev pub lines_so_far : Progress → List (List ℕ)
 lines_so_far Begun = []
 lines_so_far Versioned = version_line ∷ []
-lines_so_far (Inside pool) = lines_before_end pool
+lines_so_far (Inside pool passed) = lines_before_end pool
 lines_so_far (Ended pool) = lines_before_end pool ++ end_line ∷ []
 
--- the line that says an entry
-abbrev pub entry_line : Entry → List ℕ
-entry_line (OfCategory name) = line_of (codes "category" ∷ name ∷ [])
-entry_line (OfValue value) = value_line value
-entry_line (OfVolunteer id names) = line_of (codes "volunteer" ∷ id ∷ names)
-entry_line TheEnd = end_line
-entry_line Unknown = []
+-- the line that says an entry; an open standing has none
+abbrev pub entry_lines : Entry → List (List ℕ)
+entry_lines (OfCategory name) = line_of (codes "category" ∷ name ∷ []) ∷ []
+entry_lines (OfValue value) = value_line value ∷ []
+entry_lines (OfVolunteer id names) = line_of (codes "volunteer" ∷ id ∷ names) ∷ []
+entry_lines (OfStanding standing id) = standing_line standing id
+entry_lines TheEnd = end_line ∷ []
+entry_lines Unknown = [] ∷ []
 
 -- a bound in range is spelled by its field
 bound_spelled : (field : List ℕ) → bound_of field ≤ 999 → decimal (bound_of field) ≡ field
@@ -54,14 +57,14 @@ bounds_in_range lower upper h =
     let a = leb-true lower upper parts.0 in let b = leb-true upper 999 parts.1 in (omega arith, omega arith)
 
 -- the line of fields that say a right entry is the entry's line
-module _ (pool : Pool) where
+module _ (pool : Pool) (passed : ℕ) where
   Spells : List (List ℕ) → Entry → Type 0
-  Spells fields entry = entry_kind pool entry ≡ None → line_of fields ≡ entry_line entry
+  Spells fields entry = entry_kind pool passed entry ≡ None → line_of fields ∷ [] ≡ entry_lines entry
 
   of_category : (first : List ℕ) (fields : List (List ℕ)) → first ≡ codes "category" → Spells (first ∷ fields) (category_entry fields)
   unfolding Spells
   of_category first [] e h = cc
-  of_category first (name ∷ []) e h = ap (λ word. line_of (word ∷ name ∷ [])) e
+  of_category first (name ∷ []) e h = ap (λ word. line_of (word ∷ name ∷ []) ∷ []) e
   of_category first (name ∷ other ∷ fields) e h = cc
 
   of_value : (first : List ℕ) (fields : List (List ℕ)) → first ≡ codes "value" → Spells (first ∷ fields) (value_entry fields)
@@ -72,36 +75,54 @@ module _ (pool : Pool) where
   of_value first (name ∷ lower ∷ upper ∷ []) e h =
       let value : BoundedValue = record { name = name; lower = bound_of lower; upper = bound_of upper } in
       let range = bounds_in_range (bound_of lower) (bound_of upper) (value_fits pool value h).bounds in
-      ap (λ word. line_of (word ∷ name ∷ lower ∷ upper ∷ [])) e
-      ∙ (ap (λ field. line_of (codes "value" ∷ name ∷ field ∷ upper ∷ [])) (sym (bound_spelled lower range.0))
-      ∙ ap (λ field. line_of (codes "value" ∷ name ∷ decimal (bound_of lower) ∷ field ∷ [])) (sym (bound_spelled upper range.1)))
+      ap (λ word. line_of (word ∷ name ∷ lower ∷ upper ∷ []) ∷ []) e
+      ∙ (ap (λ field. line_of (codes "value" ∷ name ∷ field ∷ upper ∷ []) ∷ []) (sym (bound_spelled lower range.0))
+      ∙ ap (λ field. line_of (codes "value" ∷ name ∷ decimal (bound_of lower) ∷ field ∷ []) ∷ []) (sym (bound_spelled upper range.1)))
   of_value first (name ∷ lower ∷ upper ∷ other ∷ fields) e h = cc
 
   of_volunteer : (first : List ℕ) (fields : List (List ℕ)) → first ≡ codes "volunteer" → Spells (first ∷ fields) (volunteer_entry fields)
   unfolding Spells
   of_volunteer first [] e h = cc
-  of_volunteer first (id ∷ names) e h = ap (λ word. line_of (word ∷ id ∷ names)) e
+  of_volunteer first (id ∷ names) e h = ap (λ word. line_of (word ∷ id ∷ names) ∷ []) e
+
+  of_seated : (first : List ℕ) (fields : List (List ℕ)) → first ≡ codes "seated" → Spells (first ∷ fields) (standing_entry Seated fields)
+  unfolding Spells
+  of_seated first [] e h = cc
+  of_seated first (id ∷ []) e h = ap (λ word. line_of (word ∷ id ∷ []) ∷ []) e
+  of_seated first (id ∷ other ∷ fields) e h = cc
+
+  of_gone : (first : List ℕ) (fields : List (List ℕ)) → first ≡ codes "gone" → Spells (first ∷ fields) (standing_entry Gone fields)
+  unfolding Spells
+  of_gone first [] e h = cc
+  of_gone first (id ∷ []) e h = ap (λ word. line_of (word ∷ id ∷ []) ∷ []) e
+  of_gone first (id ∷ other ∷ fields) e h = cc
 
   of_end : (first : List ℕ) (fields : List (List ℕ)) → first ≡ codes "end" → Spells (first ∷ fields) (end_entry fields)
   unfolding Spells
-  of_end first [] e h = e
+  of_end first [] e h = ap (λ word. word ∷ []) e
   of_end first (other ∷ fields) e h = cc
 
-  pub entry_spelled : (fields : List (List ℕ)) → entry_kind pool (entry_of fields) ≡ None → line_of fields ≡ entry_line (entry_of fields)
+  pub entry_spelled : (fields : List (List ℕ)) → entry_kind pool passed (entry_of fields) ≡ None → line_of fields ∷ [] ≡ entry_lines (entry_of fields)
   unfolding Spells
   entry_spelled [] h = cc
   entry_spelled (first ∷ fields) h =
       let is_end = bytes_eq first (codes "end") in
       let ending = cond is_end (end_entry fields) Unknown in
+      let is_gone = bytes_eq first (codes "gone") in
+      let from_gone = cond is_gone (standing_entry Gone fields) ending in
+      let is_seated = bytes_eq first (codes "seated") in
+      let from_seated = cond is_seated (standing_entry Seated fields) from_gone in
       let is_volunteer = bytes_eq first (codes "volunteer") in
-      let from_volunteer = cond is_volunteer (volunteer_entry fields) ending in
+      let from_volunteer = cond is_volunteer (volunteer_entry fields) from_seated in
       let is_value = bytes_eq first (codes "value") in
       let from_value = cond is_value (value_entry fields) from_volunteer in
       let all = first ∷ fields in
       cond_both (bytes_eq first (codes "category")) (category_entry fields) from_value (Spells all) (λ e. of_category first fields (bytes_are first (codes "category") e))
       (λ _. cond_both is_value (value_entry fields) from_volunteer (Spells all) (λ e. of_value first fields (bytes_are first (codes "value") e))
-      (λ _. cond_both is_volunteer (volunteer_entry fields) ending (Spells all) (λ e. of_volunteer first fields (bytes_are first (codes "volunteer") e))
-      (λ _. cond_both is_end (end_entry fields) Unknown (Spells all) (λ e. of_end first fields (bytes_are first (codes "end") e)) (λ _ k. cc)))) h
+      (λ _. cond_both is_volunteer (volunteer_entry fields) from_seated (Spells all) (λ e. of_volunteer first fields (bytes_are first (codes "volunteer") e))
+      (λ _. cond_both is_seated (standing_entry Seated fields) from_gone (Spells all) (λ e. of_seated first fields (bytes_are first (codes "seated") e))
+      (λ _. cond_both is_gone (standing_entry Gone fields) ending (Spells all) (λ e. of_gone first fields (bytes_are first (codes "gone") e))
+      (λ _. cond_both is_end (end_entry fields) Unknown (Spells all) (λ e. of_end first fields (bytes_are first (codes "end") e)) (λ _ k. cc)))))) h
 
 -- the lines of a category that gets one more value
 flat_map-with_value : (categories : List Category) (value : BoundedValue) → (length categories ≡ 0 → ⊥) →
@@ -134,37 +155,154 @@ names_at-places_of (category ∷ categories) (name ∷ names) known e =
 
 -- where nobody is there, one line more of the categories is one line more of all
 under_nobody : (f g : Volunteer → List ℕ) (volunteers : List Volunteer) (after before : List (List ℕ)) (line : List ℕ) →
-    volunteers ≡ [] → after ≡ before ++ line ∷ [] → after ++ map f volunteers ≡ (before ++ map g volunteers) ++ line ∷ []
-under_nobody f g [] after before line e h = append-nil after ∙ (h ∙ ap (λ lines. lines ++ line ∷ []) (sym (append-nil before)))
+    volunteers ≡ [] → after ≡ before ++ line ∷ [] → (after ++ map f volunteers) ++ standing_lines volunteers ≡ ((before ++ map g volunteers) ++ standing_lines volunteers) ++ line ∷ []
+under_nobody f g [] after before line e h =
+    append-nil (after ++ []) ∙ (append-nil after ∙ (h ∙ ap (λ lines. lines ++ line ∷ []) (sym (append-nil (before ++ []) ∙ append-nil before))))
 under_nobody f g (volunteer ∷ volunteers) after before line e h = cc
 
+-- whether somebody has no standing line
+abbrev pub is_open : Standing → Bool
+is_open Open = true
+is_open Seated = false
+is_open Gone = false
+
+-- those from a number on are open
+abbrev pub open_from : ℕ → List Volunteer → Bool
+open_from number volunteers = list_all (λ (volunteer : Volunteer). is_open volunteer.standing) (drop number volunteers)
+
+-- an open standing has no line
+no_line : (standing : Standing) (id : List ℕ) → is_open standing ≡ true → standing_line standing id ≡ []
+no_line Open id h = refl
+no_line Seated id h = absurd (false≢true h)
+no_line Gone id h = absurd (false≢true h)
+
+-- where all are open there is no standing line
+no_lines : (volunteers : List Volunteer) → open_from 0 volunteers ≡ true → standing_lines volunteers ≡ []
+no_lines [] h = refl
+no_lines (volunteer ∷ volunteers) h =
+    let parts = and_parts (is_open volunteer.standing) (open_from 0 volunteers) h in
+    rw (no_line volunteer.standing volunteer.id parts.0) (no_lines volunteers parts.1)
+
+-- one line more where somebody's standing is set whom no standing line has passed
+one_standing : (volunteers : List Volunteer) (passed number : ℕ) (standing : Standing) (d : Volunteer) → open_from passed volunteers ≡ true → passed ≤ number → number < length volunteers →
+    standing_lines (with_standing volunteers number standing) ≡ standing_lines volunteers ++ standing_line standing (get_or volunteers number d).id
+one_standing [] passed number standing d h l m = absurd (omega arith)
+one_standing (volunteer ∷ volunteers) zero zero standing d h l m =
+    let parts = and_parts (is_open volunteer.standing) (open_from 0 volunteers) h in
+    rw (no_line volunteer.standing volunteer.id parts.0, no_lines volunteers parts.1) (append-nil (standing_line standing volunteer.id))
+one_standing (volunteer ∷ volunteers) zero (suc number) standing d h l m =
+    let parts = and_parts (is_open volunteer.standing) (open_from 0 volunteers) h in
+    ap (λ lines. standing_line volunteer.standing volunteer.id ++ lines) (one_standing volunteers zero number standing d parts.1 (omega arith) (omega arith))
+    ∙ sym (append_assoc (standing_line volunteer.standing volunteer.id) (standing_lines volunteers) (standing_line standing (get_or volunteers number d).id))
+one_standing (volunteer ∷ volunteers) (suc passed) zero standing d h l m = absurd (omega arith)
+one_standing (volunteer ∷ volunteers) (suc passed) (suc number) standing d h l m =
+    ap (λ lines. standing_line volunteer.standing volunteer.id ++ lines) (one_standing volunteers passed number standing d h (omega arith) (omega arith))
+    ∙ sym (append_assoc (standing_line volunteer.standing volunteer.id) (standing_lines volunteers) (standing_line standing (get_or volunteers number d).id))
+
+-- behind the one whose standing is set all are open as before
+open_behind : (volunteers : List Volunteer) (passed number : ℕ) (standing : Standing) → open_from passed volunteers ≡ true → passed ≤ number → open_from (suc number) (with_standing volunteers number standing) ≡ true
+open_behind [] passed number standing h l = refl
+open_behind (volunteer ∷ volunteers) zero zero standing h l = (and_parts (is_open volunteer.standing) (open_from 0 volunteers) h).1
+open_behind (volunteer ∷ volunteers) zero (suc number) standing h l =
+    open_behind volunteers zero number standing (and_parts (is_open volunteer.standing) (open_from 0 volunteers) h).1 (omega arith)
+open_behind (volunteer ∷ volunteers) (suc passed) zero standing h l = absurd (omega arith)
+open_behind (volunteer ∷ volunteers) (suc passed) (suc number) standing h l = open_behind volunteers passed number standing h (omega arith)
+
+-- what no kind says of a standing line: a number that was not passed, of a volunteer of this id
+record StandingFits (pool : Pool) (passed : ℕ) (id : List ℕ) : Type 0 where
+  number : ℕ
+  found : number_of pool.volunteers id ≡ Some number
+  ahead : passed ≤ number
+  inside : number < length pool.volunteers
+  named : (d : Volunteer) → id ≡ (get_or pool.volunteers number d).id
+
+standing_fits : (pool : Pool) (passed : ℕ) (standing : Standing) (id : List ℕ) → entry_kind pool passed (OfStanding standing id) ≡ None → StandingFits pool passed id
+standing_fits pool passed standing id h =
+    let fails = no_kind (not (is_ahead passed (number_of pool.volunteers id))) 9 None h in
+    (elim (number_of pool.volunteers id) as (λ o. number_of pool.volunteers id ≡ o → is_ahead passed o ≡ true → StandingFits pool passed id) [
+      | None ↦ λ e k. absurd (false≢true k)
+      | Some number ↦ λ e k.
+          let test : Volunteer → Bool = λ volunteer. bytes_eq id volunteer.id in
+          let nobody : Volunteer = record { id = []; values = []; standing = Open } in
+          record {
+            number = number;
+            found = e;
+            ahead = leb-true passed number k;
+            inside = (position-Some test pool.volunteers number nobody e).0;
+            named = λ d. bytes_are id (get_or pool.volunteers number d).id (position-Some test pool.volunteers number d e).1;
+          }
+    ]) refl (not-false (is_ahead passed (number_of pool.volunteers id)) fails.0)
+
+-- what no kind says of a volunteer: no standing line stood, and the builder finds no fault
+volunteer_parts : (pool : Pool) (passed : ℕ) (id : List ℕ) (names : List (List ℕ)) → entry_kind pool passed (OfVolunteer id names) ≡ None → (passed ≡ 0) × (volunteer_kind pool id names ≡ None)
+volunteer_parts pool passed id names h =
+    let parts = no_kind (ltb 0 passed) 1 (volunteer_kind pool id names) h in
+    let none = ltb-false 0 passed parts.0 in (omega arith, parts.1)
+
+-- those from a number on are open, and all keep the limits
+pub record IsRightInside (pool : Pool) (passed : ℕ) : Type 0 where
+  pub has_text : HasText pool
+  pub ahead : open_from passed pool.volunteers ≡ true
+
+-- what stands is right: the pool, where there is one, has a text, and those whom standing lines have not passed are open
+abbrev pub IsRight : Progress → Type 0
+IsRight Begun = Unit {0}
+IsRight Versioned = Unit {0}
+IsRight (Inside pool passed) = IsRightInside pool passed
+IsRight (Ended pool) = HasText pool
+
 -- what a right entry leaves has one line more: the entry's
-pub entry_adds : (pool : Pool) (entry : Entry) → entry_kind pool entry ≡ None → lines_so_far (after_entry pool entry) ≡ lines_before_end pool ++ entry_line entry ∷ []
-entry_adds pool (OfCategory name) h =
+pub entry_adds : (pool : Pool) (passed : ℕ) (entry : Entry) → IsRight (Inside pool passed) → entry_kind pool passed entry ≡ None → lines_so_far (after_entry pool passed entry) ≡ lines_before_end pool ++ entry_lines entry
+entry_adds pool passed (OfCategory name) right h =
     let fits = category_fits pool name h in
     let category : Category = record { name = name; values = [] } in
     ap (λ lines. version_line ∷ size_line pool.size ∷ lines)
     (under_nobody (volunteer_line (pool.categories ++ category ∷ [])) (volunteer_line pool.categories) pool.volunteers
-    (flat_map category_lines (pool.categories ++ category ∷ [])) (flat_map category_lines pool.categories) (entry_line (OfCategory name))
+    (flat_map category_lines (pool.categories ++ category ∷ [])) (flat_map category_lines pool.categories) (line_of (codes "category" ∷ name ∷ []))
     fits.nobody (flat_map-append category_lines pool.categories (category ∷ [])))
-entry_adds pool (OfValue value) h =
+entry_adds pool passed (OfValue value) right h =
     let fits = value_fits pool value h in
     ap (λ lines. version_line ∷ size_line pool.size ∷ lines)
     (under_nobody (volunteer_line (with_value pool.categories value)) (volunteer_line pool.categories) pool.volunteers
     (flat_map category_lines (with_value pool.categories value)) (flat_map category_lines pool.categories) (value_line value)
     fits.nobody (flat_map-with_value pool.categories value (λ none. let some = fits.some in omega arith)))
-entry_adds pool (OfVolunteer id names) h =
-    let fits = volunteer_fits pool id names h in
+entry_adds pool passed (OfVolunteer id names) right h =
+    let parts = volunteer_parts pool passed id names h in
+    let fits = volunteer_fits pool id names parts.1 in
     let line = volunteer_line pool.categories in
     let one : Volunteer = record { id = id; values = places_of pool.categories names; standing = Open } in
     let before = flat_map category_lines pool.categories in
+    let all_open : open_from 0 pool.volunteers ≡ true = subst (λ n. open_from n pool.volunteers ≡ true) parts.0 right.ahead in
+    let none = no_lines pool.volunteers all_open in
+    let none_after = no_lines (pool.volunteers ++ one ∷ []) (list_all_push (λ (volunteer : Volunteer). is_open volunteer.standing) pool.volunteers one all_open refl) in
     let spelled : line one ≡ line_of (codes "volunteer" ∷ id ∷ names) = ap (λ fields. line_of (codes "volunteer" ∷ id ∷ fields)) (names_at-places_of pool.categories names fits.known fits.each) in
     ap (λ lines. version_line ∷ size_line pool.size ∷ lines)
-    (ap (λ lines. before ++ lines) (map-append line pool.volunteers (one ∷ []))
+    (ap (λ lines. (before ++ map line (pool.volunteers ++ one ∷ [])) ++ lines) none_after
+    ∙ (append-nil (before ++ map line (pool.volunteers ++ one ∷ []))
+    ∙ (ap (λ lines. before ++ lines) (map-append line pool.volunteers (one ∷ []))
     ∙ (sym (append_assoc before (map line pool.volunteers) (line one ∷ []))
-    ∙ ap (λ last. (before ++ map line pool.volunteers) ++ last ∷ []) spelled))
-entry_adds pool TheEnd h = refl
-entry_adds pool Unknown h = cc
+    ∙ (ap (λ last. (before ++ map line pool.volunteers) ++ last ∷ []) spelled
+    ∙ ap (λ lines. lines ++ line_of (codes "volunteer" ∷ id ∷ names) ∷ []) (sym (ap (λ lines. (before ++ map line pool.volunteers) ++ lines) none ∙ append-nil (before ++ map line pool.volunteers))))))))
+entry_adds pool passed (OfStanding standing id) right h =
+    let fits = standing_fits pool passed standing id h in
+    let line = volunteer_line pool.categories in
+    let before = flat_map category_lines pool.categories in
+    let nobody : Volunteer = record { id = []; values = []; standing = Open } in
+    let place : unwrap_or (number_of pool.volunteers id) 0 ≡ fits.number = ap (λ o. unwrap_or o 0) fits.found in
+    let kept = lines_kept pool.categories pool.volunteers fits.number standing in
+    let added = one_standing pool.volunteers passed fits.number standing nobody right.ahead fits.ahead fits.inside in
+    ap (λ n. lines_before_end (standing_set pool n standing)) place
+    ∙ ap (λ lines. version_line ∷ size_line pool.size ∷ lines)
+    (ap (λ lines. (before ++ lines) ++ standing_lines (with_standing pool.volunteers fits.number standing)) kept
+    ∙ (ap (λ lines. (before ++ map line pool.volunteers) ++ lines) (added ∙ ap (λ who. standing_lines pool.volunteers ++ standing_line standing who) (sym (fits.named nobody)))
+    ∙ sym (append_assoc (before ++ map line pool.volunteers) (standing_lines pool.volunteers) (standing_line standing id))))
+  where
+    lines_kept : (categories : List Category) (volunteers : List Volunteer) (number : ℕ) (standing : Standing) → map (volunteer_line categories) (with_standing volunteers number standing) ≡ map (volunteer_line categories) volunteers
+    lines_kept categories [] number standing = refl
+    lines_kept categories (volunteer ∷ volunteers) zero standing = refl
+    lines_kept categories (volunteer ∷ volunteers) (suc number) standing = ap (λ lines. volunteer_line categories volunteer ∷ lines) (lines_kept categories volunteers number standing)
+entry_adds pool passed TheEnd right h = refl
+entry_adds pool passed Unknown right h = cc
 
 -- a size in range is spelled by the fields
 size_spelled : (fields : List (List ℕ)) → size_kind (size_of fields) ≡ None → line_of fields ≡ size_line (size_of fields)
@@ -179,22 +317,15 @@ size_spelled (first ∷ field ∷ []) h =
     ]) refl)
     (λ _ k. cc) h
 
--- what stands is right: the pool, where there is one, has a text
-abbrev pub IsRight : Progress → Type 0
-IsRight Begun = Unit {0}
-IsRight Versioned = Unit {0}
-IsRight (Inside pool) = HasText pool
-IsRight (Ended pool) = HasText pool
-
 -- a right entry of fields that are text leaves what is right
-module _ (pool : Pool) (right : HasText pool) where
+module _ (pool : Pool) (passed : ℕ) (right : IsRight (Inside pool passed)) where
   Keeps : Entry → Type 0
-  Keeps entry = entry_kind pool entry ≡ None → IsRight (after_entry pool entry)
+  Keeps entry = entry_kind pool passed entry ≡ None → IsRight (after_entry pool passed entry)
 
   keeps_category : (fields : List (List ℕ)) → AllByRecursion (λ field. is_utf8 field ≡ true) fields → Keeps (category_entry fields)
   unfolding Keeps
   keeps_category [] utf8 h = cc
-  keeps_category (name ∷ []) utf8 h = record { is_pool = IsPool-category_added pool name right.is_pool h utf8.0; all_open = right.all_open }
+  keeps_category (name ∷ []) utf8 h = record { has_text = IsPool-category_added pool name right.has_text h utf8.0; ahead = right.ahead }
   keeps_category (name ∷ other ∷ fields) utf8 h = cc
 
   keeps_value : (fields : List (List ℕ)) → AllByRecursion (λ field. is_utf8 field ≡ true) fields → Keeps (value_entry fields)
@@ -204,33 +335,56 @@ module _ (pool : Pool) (right : HasText pool) where
   keeps_value (name ∷ lower ∷ []) utf8 h = cc
   keeps_value (name ∷ lower ∷ upper ∷ []) utf8 h =
       let value : BoundedValue = record { name = name; lower = bound_of lower; upper = bound_of upper } in
-      record { is_pool = IsPool-value_added pool value right.is_pool h utf8.0; all_open = right.all_open }
+      record { has_text = IsPool-value_added pool value right.has_text h utf8.0; ahead = right.ahead }
   keeps_value (name ∷ lower ∷ upper ∷ other ∷ fields) utf8 h = cc
 
   keeps_volunteer : (fields : List (List ℕ)) → AllByRecursion (λ field. is_utf8 field ≡ true) fields → Keeps (volunteer_entry fields)
   unfolding Keeps
   keeps_volunteer [] utf8 h = cc
-  keeps_volunteer (id ∷ names) utf8 h = record {
-    is_pool = IsPool-volunteer_added pool id names right.is_pool h utf8.0;
-    all_open = list_all_push (λ (volunteer : Volunteer). is_open volunteer.standing) pool.volunteers (record { id = id; values = places_of pool.categories names; standing = Open }) right.all_open refl;
-  }
+  keeps_volunteer (id ∷ names) utf8 h =
+      let parts = volunteer_parts pool passed id names h in
+      let one : Volunteer = record { id = id; values = places_of pool.categories names; standing = Open } in
+      let all_open : open_from 0 pool.volunteers ≡ true = subst (λ n. open_from n pool.volunteers ≡ true) parts.0 right.ahead in
+      record {
+        has_text = IsPool-volunteer_added pool id names right.has_text parts.1 utf8.0;
+        ahead = subst (λ n. open_from n (pool.volunteers ++ one ∷ []) ≡ true) (sym parts.0)
+            (list_all_push (λ (volunteer : Volunteer). is_open volunteer.standing) pool.volunteers one all_open refl);
+      }
+
+  keeps_standing : (standing : Standing) (fields : List (List ℕ)) → Keeps (standing_entry standing fields)
+  unfolding Keeps
+  keeps_standing standing [] h = cc
+  keeps_standing standing (id ∷ []) h =
+      let fits = standing_fits pool passed standing id h in
+      let place : unwrap_or (number_of pool.volunteers id) 0 ≡ fits.number = ap (λ o. unwrap_or o 0) fits.found in
+      let behind = open_behind pool.volunteers passed fits.number standing right.ahead fits.ahead in
+      let at_number : IsRight (Inside (standing_set pool fits.number standing) (fits.number + 1)) = record {
+        has_text = IsPool-standing_set pool fits.number standing right.has_text;
+        ahead = subst (λ n. open_from n (with_standing pool.volunteers fits.number standing) ≡ true) (sym (add-one fits.number)) behind;
+      } in
+      subst (λ n. IsRight (Inside (standing_set pool n standing) (n + 1))) (sym place) at_number
+  keeps_standing standing (id ∷ other ∷ fields) h = cc
 
   keeps_end : (fields : List (List ℕ)) → Keeps (end_entry fields)
   unfolding Keeps
-  keeps_end [] h = right
+  keeps_end [] h = right.has_text
   keeps_end (other ∷ fields) h = cc
 
-  pub entry_keeps : (fields : List (List ℕ)) → AllByRecursion (λ field. is_utf8 field ≡ true) fields → entry_kind pool (entry_of fields) ≡ None → IsRight (after_entry pool (entry_of fields))
+  pub entry_keeps : (fields : List (List ℕ)) → AllByRecursion (λ field. is_utf8 field ≡ true) fields → entry_kind pool passed (entry_of fields) ≡ None → IsRight (after_entry pool passed (entry_of fields))
   unfolding Keeps
   entry_keeps [] utf8 h = cc
   entry_keeps (first ∷ fields) utf8 h =
       let ending = cond (bytes_eq first (codes "end")) (end_entry fields) Unknown in
-      let from_volunteer = cond (bytes_eq first (codes "volunteer")) (volunteer_entry fields) ending in
+      let from_gone = cond (bytes_eq first (codes "gone")) (standing_entry Gone fields) ending in
+      let from_seated = cond (bytes_eq first (codes "seated")) (standing_entry Seated fields) from_gone in
+      let from_volunteer = cond (bytes_eq first (codes "volunteer")) (volunteer_entry fields) from_seated in
       let from_value = cond (bytes_eq first (codes "value")) (value_entry fields) from_volunteer in
       cond_both (bytes_eq first (codes "category")) (category_entry fields) from_value Keeps (λ _. keeps_category fields utf8.1)
       (λ _. cond_both (bytes_eq first (codes "value")) (value_entry fields) from_volunteer Keeps (λ _. keeps_value fields utf8.1)
-      (λ _. cond_both (bytes_eq first (codes "volunteer")) (volunteer_entry fields) ending Keeps (λ _. keeps_volunteer fields utf8.1)
-      (λ _. cond_both (bytes_eq first (codes "end")) (end_entry fields) Unknown Keeps (λ _. keeps_end fields) (λ _ k. cc)))) h
+      (λ _. cond_both (bytes_eq first (codes "volunteer")) (volunteer_entry fields) from_seated Keeps (λ _. keeps_volunteer fields utf8.1)
+      (λ _. cond_both (bytes_eq first (codes "seated")) (standing_entry Seated fields) from_gone Keeps (λ _. keeps_standing Seated fields)
+      (λ _. cond_both (bytes_eq first (codes "gone")) (standing_entry Gone fields) ending Keeps (λ _. keeps_standing Gone fields)
+      (λ _. cond_both (bytes_eq first (codes "end")) (end_entry fields) Unknown Keeps (λ _. keeps_end fields) (λ _ k. cc)))))) h
 
 -- a right line is one line more, and what stands stays right
 pub line_adds : (progress : Progress) (line : List ℕ) → IsRight progress → line_kind progress line ≡ None →
@@ -240,15 +394,15 @@ line_adds Begun line right h =
     (tt, ap (λ l. l ∷ []) (sym (bytes_are line version_line (not-false (bytes_eq line version_line) fails.0))))
 line_adds Versioned line right h =
     let spelled = sym (line_of-fields_of line) ∙ size_spelled (fields_of line) h in
-    (record { is_pool = IsPool-empty_pool (size_of (fields_of line)) h; all_open = refl }, ap (λ l. version_line ∷ l ∷ []) (sym spelled))
-line_adds (Inside pool) line right h =
-    let kinds = neither (entry_kind pool (entry_of (fields_of line))) (encoding_kind line) h in
+    (record { has_text = IsPool-empty_pool (size_of (fields_of line)) h; ahead = refl }, ap (λ l. version_line ∷ l ∷ []) (sym spelled))
+line_adds (Inside pool passed) line right h =
+    let kinds = neither (entry_kind pool passed (entry_of (fields_of line))) (encoding_kind line) h in
     let same = line_of-fields_of line in
     let text = not-false (is_utf8 line) (no_kind (not (is_utf8 line)) 11 None kinds.1).0 in
     let utf8 = each_field_is_utf8 (fields_of line) (subst IsUtf8 (sym same) (IsUtf8-from_is_utf8 line text)) in (
-      entry_keeps pool right (fields_of line) utf8 kinds.0,
-      entry_adds pool (entry_of (fields_of line)) kinds.0
-          ∙ ap (λ l. lines_before_end pool ++ l ∷ []) (sym (entry_spelled pool (fields_of line) kinds.0) ∙ same),
+      entry_keeps pool passed right (fields_of line) utf8 kinds.0,
+      entry_adds pool passed (entry_of (fields_of line)) right kinds.0
+          ∙ ap (λ lines. lines_before_end pool ++ lines) (sym (entry_spelled pool passed (fields_of line) kinds.0) ∙ ap (λ l. l ∷ []) same),
     )
 line_adds (Ended pool) line right h = cc
 
@@ -257,7 +411,7 @@ last_is_spelled : (number : ℕ) (progress : Progress) (bytes : List ℕ) (pool 
     HasText pool × (text_of (lines_so_far progress) ++ bytes ≡ spelling pool)
 last_is_spelled number Begun bytes pool right h = cc
 last_is_spelled number Versioned bytes pool right h = cc
-last_is_spelled number (Inside other) bytes pool right h = cc
+last_is_spelled number (Inside other passed) bytes pool right h = cc
 last_is_spelled number (Ended other) (byte ∷ bytes) pool right h = cc
 last_is_spelled number (Ended other) [] pool right h =
     let same : other ≡ pool = cc in

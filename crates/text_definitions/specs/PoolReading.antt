@@ -1,8 +1,10 @@
 -- What a list of bytes says as the text of a pool: the pool, or the first faulty line and in it the lowest kind.
-use Rattle.std.specs.Prelude.{ℕ, ◌+◌, if◌then◌else◌, not, List, [], ◌∷◌, bytes_eq, codes, Option, Some, None, Result, Ok, Err, unwrap_or}
+use Rattle.std.specs.Prelude.{ℕ, ◌+◌, nat_lt, nat_le, if◌then◌else◌, Bool, false, not, List, [], ◌∷◌, bytes_eq, codes, Option, Some, None, Result, Ok, Err, unwrap_or, position}
 use Rattle.std.specs.Str.{is_utf8}
-use Rattle.pool_definitions.specs.Pool.{Pool, BoundedValue}
-use Rattle.pool_definitions.specs.Building.{lowest_kind, size_kind, empty_pool, category_kind, category_added, value_kind, value_added, volunteer_kind, volunteer_added}
+use Rattle.pool_definitions.specs.declared.Standing.{Standing}
+use Rattle.pool_definitions.specs.declared.Standing.TheVariants.{Seated, Gone}
+use Rattle.pool_definitions.specs.Pool.{Pool, BoundedValue, Volunteer}
+use Rattle.pool_definitions.specs.Building.{lowest_kind, size_kind, empty_pool, category_kind, category_added, value_kind, value_added, volunteer_kinds, volunteer_added, standing_set}
 use Rattle.text_definitions.specs.Lines.{Fault, fields_of, pieces_of, number_up_to}
 use Rattle.text_definitions.specs.PoolText.{version_line}
 
@@ -12,8 +14,9 @@ pub data Progress : Type 0 where
   Begun : Progress
   -- the first line stood
   Versioned : Progress
-  -- the size stood, and the lines up to now make this pool
-  Inside : (pool : Pool) → Progress
+  -- the size stood, and the lines up to now make this pool; standing lines have passed so many of the volunteers, which is 0
+  -- where no such line stood, and else the volunteers up to the one of the last
+  Inside : (pool : Pool) (passed : ℕ) → Progress
   -- the end stood
   Ended : (pool : Pool) → Progress
 
@@ -22,6 +25,7 @@ pub data Entry : Type 0 where
   OfCategory : (name : List ℕ) → Entry
   OfValue : (value : BoundedValue) → Entry
   OfVolunteer : (id : List ℕ) (names : List (List ℕ)) → Entry
+  OfStanding : (standing : Standing) (id : List ℕ) → Entry
   TheEnd : Entry
   Unknown : Entry
 
@@ -41,6 +45,10 @@ abbrev pub volunteer_entry : List (List ℕ) → Entry
 volunteer_entry [] = Unknown
 volunteer_entry (id ∷ names) = OfVolunteer id names
 
+abbrev pub standing_entry : Standing → List (List ℕ) → Entry
+standing_entry standing (id ∷ []) = OfStanding standing id
+standing_entry standing _ = Unknown
+
 abbrev pub end_entry : List (List ℕ) → Entry
 end_entry [] = TheEnd
 end_entry _ = Unknown
@@ -51,15 +59,29 @@ entry_of (first ∷ fields) =
     if bytes_eq first (codes "category") then category_entry fields
     else (if bytes_eq first (codes "value") then value_entry fields
     else (if bytes_eq first (codes "volunteer") then volunteer_entry fields
-    else (if bytes_eq first (codes "end") then end_entry fields else Unknown)))
+    else (if bytes_eq first (codes "seated") then standing_entry Seated fields
+    else (if bytes_eq first (codes "gone") then standing_entry Gone fields
+    else (if bytes_eq first (codes "end") then end_entry fields else Unknown)))))
 
--- the lowest kind of fault of an entry, given the pool that stood before. 1: it may not stand there
-abbrev pub entry_kind : Pool → Entry → Option ℕ
-entry_kind pool (OfCategory name) = category_kind pool name
-entry_kind pool (OfValue value) = value_kind pool value
-entry_kind pool (OfVolunteer id names) = volunteer_kind pool id names
-entry_kind pool TheEnd = None
-entry_kind pool Unknown = Some 1
+-- the number of the volunteer of an id
+abbrev pub number_of : List Volunteer → List ℕ → Option ℕ
+number_of volunteers id = position (λ volunteer. bytes_eq id volunteer.id) volunteers
+
+-- there is a number, and standing lines have not passed it
+abbrev pub is_ahead : ℕ → Option ℕ → Bool
+is_ahead passed None = false
+is_ahead passed (Some number) = nat_le passed number
+
+-- the lowest kind of fault of an entry, given the pool that stood before and how many standing lines have passed. 1: it may
+-- not stand there, as a volunteer behind a standing line; 9: the id isn't that of a volunteer after the one of the standing
+-- line before
+abbrev pub entry_kind : Pool → ℕ → Entry → Option ℕ
+entry_kind pool passed (OfCategory name) = category_kind pool name
+entry_kind pool passed (OfValue value) = value_kind pool value
+entry_kind pool passed (OfVolunteer id names) = lowest_kind ((1, nat_lt 0 passed) ∷ volunteer_kinds pool id names)
+entry_kind pool passed (OfStanding standing id) = lowest_kind ((9, not (is_ahead passed (number_of pool.volunteers id))) ∷ [])
+entry_kind pool passed TheEnd = None
+entry_kind pool passed Unknown = Some 1
 
 -- the size that the fields of the second line give, or 0, which no size may be
 abbrev pub size_of : List (List ℕ) → ℕ
@@ -79,22 +101,27 @@ kind_or (Some kind) other = Some kind
 abbrev pub line_kind : Progress → List ℕ → Option ℕ
 line_kind Begun line = lowest_kind ((1, not (bytes_eq line version_line)) ∷ [])
 line_kind Versioned line = size_kind (size_of (fields_of line))
-line_kind (Inside pool) line = kind_or (entry_kind pool (entry_of (fields_of line))) (encoding_kind line)
+line_kind (Inside pool passed) line = kind_or (entry_kind pool passed (entry_of (fields_of line))) (encoding_kind line)
 line_kind (Ended pool) line = Some 1
 
+-- what stands after the standing line of the volunteer of a number
+abbrev pub after_standing : Pool → ℕ → Standing → Progress
+after_standing pool number standing = Inside (standing_set pool number standing) (number + 1)
+
 -- what stands after a right entry
-abbrev pub after_entry : Pool → Entry → Progress
-after_entry pool (OfCategory name) = Inside (category_added pool name)
-after_entry pool (OfValue value) = Inside (value_added pool value)
-after_entry pool (OfVolunteer id names) = Inside (volunteer_added pool id names)
-after_entry pool TheEnd = Ended pool
-after_entry pool Unknown = Inside pool
+abbrev pub after_entry : Pool → ℕ → Entry → Progress
+after_entry pool passed (OfCategory name) = Inside (category_added pool name) passed
+after_entry pool passed (OfValue value) = Inside (value_added pool value) passed
+after_entry pool passed (OfVolunteer id names) = Inside (volunteer_added pool id names) passed
+after_entry pool passed (OfStanding standing id) = after_standing pool (unwrap_or (number_of pool.volunteers id) 0) standing
+after_entry pool passed TheEnd = Ended pool
+after_entry pool passed Unknown = Inside pool passed
 
 -- what stands after a right line
 abbrev pub after_line : Progress → List ℕ → Progress
 after_line Begun line = Versioned
-after_line Versioned line = Inside (empty_pool (size_of (fields_of line)))
-after_line (Inside pool) line = after_entry pool (entry_of (fields_of line))
+after_line Versioned line = Inside (empty_pool (size_of (fields_of line))) 0
+after_line (Inside pool passed) line = after_entry pool passed (entry_of (fields_of line))
 after_line (Ended pool) line = Ended pool
 
 -- What the lines come to, with what stands behind the last LF. 12: the lines run out before the end. 1: bytes after the end

@@ -1,6 +1,6 @@
 -- The text of a pool: each pool has one spelling.
-use Rattle.std.specs.Prelude.{ℕ, Bool, true, false, IsTrue, List, [], ◌∷◌, ◌++◌, map, codes, slice_index_or}
-use Rattle.std.specs.List.{flat_map, list_all}
+use Rattle.std.specs.Prelude.{ℕ, List, [], ◌∷◌, ◌++◌, map, codes, slice_index_or}
+use Rattle.std.specs.List.{flat_map}
 use Rattle.std.specs.Fmt.{decimal}
 use Rattle.pool_definitions.specs.declared.Standing.{Standing}
 use Rattle.pool_definitions.specs.declared.Standing.TheVariants.{Open, Seated, Gone}
@@ -32,24 +32,29 @@ names_at (category ∷ categories) (place ∷ places) = slice_index_or (value_na
 abbrev pub volunteer_line : List Category → Volunteer → List ℕ
 volunteer_line categories volunteer = line_of (codes "volunteer" ∷ volunteer.id ∷ names_at categories volunteer.values)
 
+-- the line of a standing, if it has one: its word, and the volunteer's id
+abbrev pub standing_line : Standing → List ℕ → List (List ℕ)
+standing_line Open id = []
+standing_line Seated id = line_of (codes "seated" ∷ id ∷ []) ∷ []
+standing_line Gone id = line_of (codes "gone" ∷ id ∷ []) ∷ []
+
+-- the lines of those who aren't open, in the order of the volunteers
+abbrev pub standing_lines : List Volunteer → List (List ℕ)
+standing_lines volunteers = flat_map (λ volunteer. standing_line volunteer.standing volunteer.id) volunteers
+
 abbrev pub end_line : List ℕ
 end_line = codes "end"
 
 -- the lines of a pool before its end
 abbrev pub lines_before_end : Pool → List (List ℕ)
 lines_before_end pool =
-    version_line ∷ size_line pool.size ∷ (flat_map category_lines pool.categories ++ map (volunteer_line pool.categories) pool.volunteers)
+    version_line ∷ size_line pool.size
+    ∷ (flat_map category_lines pool.categories ++ map (volunteer_line pool.categories) pool.volunteers ++ standing_lines pool.volunteers)
 
 -- the text of a pool
 abbrev pub spelling : Pool → List ℕ
 spelling pool = text_of (lines_before_end pool ++ end_line ∷ [])
 
-abbrev pub is_open : Standing → Bool
-is_open Open = true
-is_open Seated = false
-is_open Gone = false
-
--- the pools that have a text: those in which everybody is open
-pub record HasText (pool : Pool) : Type 0 where
-  pub is_pool : IsPool pool
-  pub all_open : IsTrue (list_all (λ volunteer. is_open volunteer.standing) pool.volunteers)
+-- the pools that have a text: all that keep the limits
+abbrev pub HasText : Pool → Type 0
+HasText pool = IsPool pool

@@ -20,3 +20,15 @@ returns-clause-nobody c = refl
 pub returns-clause-cut : goal.returns-clause-cut
 unfolding digits is_utf8 chars encode
 returns-clause-cut c = refl
+
+pub returns-clause-after_dropout_length : goal.returns-clause-after_dropout_length
+unfolding digits
+returns-clause-after_dropout_length c = refl
+
+pub returns-clause-after_dropout : goal.returns-clause-after_dropout
+unfolding digits is_utf8 chars encode
+returns-clause-after_dropout c = refl
+
+pub returns-clause-out_of_order : goal.returns-clause-out_of_order
+unfolding digits is_utf8 chars encode
+returns-clause-out_of_order c = refl

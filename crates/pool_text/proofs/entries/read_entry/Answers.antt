@@ -14,5 +14,5 @@ add_entry-requires-clause-text c =
 pub returns-clause-kind : goal.returns-clause-kind
 returns-clause-kind c =
     let says : said c.entry_of-entry.result ≡ entry_of (fields_of c.args.line.now) = c.entry_of-entry.ensures ∙ (ap (λ fields. entry_of (map (λ field. field.now) fields)) c.deref.ensures.value ∙ ap entry_of c.in_ok-fields.ensures) in
-    let none : entry_kind c.args.pool.now (entry_of (fields_of c.args.line.now)) ≡ None = ap (entry_kind c.args.pool.now) (sym says) ∙ (sym c.entry_kind.ensures ∙ c.in_default.is) in
-    subst (λ kind. Answers kind c.add_entry.result) (sym (kind_of_text c.args.pool.now c.args.line.now none (sym c.is_text.ensures ∙ c.if-not-is_text.false))) c.add_entry.ensures.kind
+    let none : entry_kind c.args.pool.now c.args.passed (entry_of (fields_of c.args.line.now)) ≡ None = ap (entry_kind c.args.pool.now c.args.passed) (sym says) ∙ (sym c.entry_kind.ensures ∙ c.in_default.is) in
+    subst (λ kind. Answers kind c.add_entry.result) (sym (kind_of_text c.args.pool.now c.args.passed c.args.line.now none (sym c.is_text.ensures ∙ c.if-not-is_text.false))) c.add_entry.ensures.kind

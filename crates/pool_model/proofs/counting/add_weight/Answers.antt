@@ -1,0 +1,108 @@
+use Rattle.std.proofs.Common.{rules, ◌≡◌, ◌≢◌, ℕ, zero, suc, ◌+◌, ◌<◌, Bool, true, false, cond, ◌||◌, eqb, ltb, List, [], ◌∷◌, length, take, get_or, set, ℤ, pos, ◌+ℤ◌, refl, sym, ap, ◌∙◌, subst, arith, ⊎_elim}
+use Rattle.std.specs.List.{list_all}
+use Rattle.std.proofs.lemmas.Bool.{and_parts, eq-eqb, ne_eqb, ltb-true, cases_eq}
+use Rattle.std.proofs.lemmas.List.{get_or-set_same, get_or-set_other, length-set}
+use Rattle.std.proofs.lemmas.List.Folds.{list_any_more}
+use Rattle.std.proofs.lemmas.Int.{ints, to_z-of_z}
+use Rattle.std.proofs.Math.Bool.{or-true, or-false}
+use mir.Val.{SFits, to_z, of_z}
+use mir.Syntax.{w128}
+use Rattle.pool_definitions.specs.Lists.{holds, is_increasing}
+use Rattle.pool_model.proofs.counting.add_weight.Goals as goal
+use Rattle.pool_model.proofs.counting.add_weight.Goals.{then-i-chances, else-i-chances}
+
+above : (x : ℕ) (xs : List ℕ) (j : ℕ) → list_all (λ y. ltb x y) xs ≡ true → j < length xs → x < get_or xs j 0
+above x [] j h l = absurd (omega arith)
+above x (y ∷ ys) zero h l = ltb-true x y (and_parts (ltb x y) (list_all (λ y. ltb x y) ys) h).0
+above x (y ∷ ys) (suc j) h l = above x ys j (and_parts (ltb x y) (list_all (λ y. ltb x y) ys) h).1 (omega arith)
+
+-- a member of an increasing list is none of those before it
+not_before : (xs : List ℕ) (j : ℕ) → is_increasing xs ≡ true → j < length xs → holds (take j xs) (get_or xs j 0) ≡ false
+not_before [] j h l = absurd (omega arith)
+not_before (x ∷ xs) zero h l = refl
+not_before (x ∷ xs) (suc j) h l =
+    let parts = and_parts (list_all (λ y. ltb x y) xs) (is_increasing xs) h in
+    let less = above x xs j parts.0 (omega arith) in
+    let other : eqb x (get_or xs j 0) ≡ false = ne_eqb x (get_or xs j 0) (λ e. omega arith) in
+    let rest = not_before xs j parts.1 (omega arith) in rw (other, rest) refl
+
+-- the sums with the members' weight
+abbrev AddedTo : List ℤ → List ℤ → List ℕ → ℤ → Type 0
+AddedTo before xs members weight =
+    (k : ℕ) → k < length xs → get_or xs k (pos 0) ≡ cond (holds members k) (get_or before k (pos 0) +ℤ weight) (get_or before k (pos 0))
+
+-- one more member, at whose number there is a sum
+module _ (before xs : List ℤ) (members : List ℕ) (weight : ℤ) (j : ℕ) (up : is_increasing members ≡ true) (inside : j < length members) (added : AddedTo before xs (take j members) weight) where
+  abbrev member : ℕ
+  member = get_or members j 0
+
+  pub as_before : member < length xs → get_or xs member (pos 0) ≡ get_or before member (pos 0)
+  as_before l =
+      added (get_or members j 0) l
+      ∙ ap (λ b. cond b (get_or before (get_or members j 0) (pos 0) +ℤ weight) (get_or before (get_or members j 0) (pos 0))) (not_before members j up inside)
+
+  -- for the other numbers nothing changes
+  pub other_number : (k : ℕ) → k < length xs → (k ≡ member → ⊥) →
+      get_or xs k (pos 0) ≡ cond (holds (take (j + 1) members) k) (get_or before k (pos 0) +ℤ weight) (get_or before k (pos 0))
+  other_number k l apart =
+      let e : eqb (get_or members j 0) k ≡ false = ne_eqb (get_or members j 0) k (λ e. apart (sym e)) in
+      let more : holds (take (j + 1) members) k ≡ holds (take j members) k =
+      list_any_more (λ x. eqb x k) members j 0 inside ∙ (ap (λ b. holds (take j members) k || b) e ∙ or-false (holds (take j members) k)) in
+      added k l ∙ ap (λ b. cond b (get_or before k (pos 0) +ℤ weight) (get_or before k (pos 0))) (sym more)
+
+  pub this_number : (k : ℕ) → k ≡ member →
+      get_or before k (pos 0) +ℤ weight ≡ cond (holds (take (j + 1) members) k) (get_or before k (pos 0) +ℤ weight) (get_or before k (pos 0))
+  this_number k same =
+      let e : eqb (get_or members j 0) k ≡ true = eq-eqb (get_or members j 0) k (sym same) in
+      let more : holds (take (j + 1) members) k ≡ true =
+      list_any_more (λ x. eqb x k) members j 0 inside ∙ (ap (λ b. holds (take j members) k || b) e ∙ or-true (holds (take j members) k)) in
+      ap (λ b. cond b (get_or before k (pos 0) +ℤ weight) (get_or before k (pos 0))) (sym more)
+
+  -- the sum at the member is written
+  pub written : member < length xs → AddedTo before (set xs member (get_or xs member (pos 0) +ℤ weight)) (take (j + 1) members) weight
+  written room k l =
+      let m = get_or members j 0 in
+      let size : length (set xs m (get_or xs m (pos 0) +ℤ weight)) ≡ length xs = length-set xs m (get_or xs m (pos 0) +ℤ weight) in
+      ⊎_elim
+      (λ (same : k ≡ m).
+      ap (λ i. get_or (set xs m (get_or xs m (pos 0) +ℤ weight)) i (pos 0)) same ∙ (get_or-set_same xs m (get_or xs m (pos 0) +ℤ weight) (pos 0) room
+      ∙ (ap (λ z. z +ℤ weight) (as_before room ∙ ap (λ i. get_or before i (pos 0)) (sym same)) ∙ this_number k same)))
+      (λ (apart : k ≡ m → ⊥). get_or-set_other xs m k (get_or xs m (pos 0) +ℤ weight) (pos 0) apart ∙ other_number k (omega (arith, size)) apart)
+      (cases_eq k m)
+
+-- a number as it is stored
+abbrev stored : ℤ → ℤ
+stored z = to_z w128 (of_z w128 z)
+
+sum_fits : (x a w : ℤ) → SFits w128 x → SFits w128 w → x ≡ a → SFits w128 (a +ℤ w) → SFits w128 (stored x +ℤ stored w)
+sum_fits x a w f g e room = rw (to_z-of_z w128 x f, to_z-of_z w128 w g, e) room
+
+sum_stored : (x a w : ℤ) → SFits w128 x → SFits w128 w → x ≡ a → SFits w128 (a +ℤ w) → stored (stored x +ℤ stored w) ≡ x +ℤ stored w
+sum_stored x a w f g e room = to_z-of_z w128 (stored x +ℤ stored w) (sum_fits x a w f g e room) ∙ ap (λ z. z +ℤ stored w) (to_z-of_z w128 x f)
+
+pub overflow_add-chances : goal.overflow_add-chances
+overflow_add-chances c =
+    let m = get_or c.args.members.now c.loop-i.i-index 0 in
+    let same = as_before c.args.chances.now c.loop-i.chances c.args.members.now (stored c.args.weight) c.loop-i.i-index c.requires.increasing c.loop-i-test.true c.loop-i.invariant c.if-i-chances.true in
+    let fits : SFits w128 (get_or c.loop-i.chances m (pos 0)) = search rules in
+    sum_fits (get_or c.loop-i.chances m (pos 0)) (get_or c.args.chances.now m (pos 0)) c.args.weight fits c.ranges.weight same (c.requires.room m (omega arith))
+
+pub loop-i-preserved : goal.loop-i-preserved
+loop-i-preserved c k l =
+    let weight = stored c.args.weight in
+    let before = c.args.chances.now in
+    let xs = c.loop-i.chances in
+    let members = c.args.members.now in
+    let j = c.loop-i.i-index in
+    let m = get_or members j 0 in
+    elim c.if-i-chances.branch [
+      | then-i-chances w ↦
+          let fits : SFits w128 (get_or xs m (pos 0)) = search rules in
+          let same = as_before before xs members weight j c.requires.increasing c.loop-i-test.true c.loop-i.invariant w.if-i-chances.true in
+          let sum = sum_stored (get_or xs m (pos 0)) (get_or before m (pos 0)) c.args.weight fits c.ranges.weight same (c.requires.room m (omega arith)) in
+          ap (λ ys. get_or ys k (pos 0)) (w.chances-is ∙ ap (set xs m) sum)
+          ∙ written before xs members weight j c.requires.increasing c.loop-i-test.true c.loop-i.invariant w.if-i-chances.true k (omega (arith, length-set xs m (get_or xs m (pos 0) +ℤ weight)))
+      | else-i-chances w ↦
+          ap (λ ys. get_or ys k (pos 0)) w.chances-is
+          ∙ other_number before xs members weight j c.requires.increasing c.loop-i-test.true c.loop-i.invariant k (omega arith) (λ same. omega arith)
+    ]

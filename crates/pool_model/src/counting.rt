@@ -1,0 +1,38 @@
+//! How much of a lottery's weight lies on panels that hold a volunteer.
+
+ghost use Rattle.std.specs.Prelude.{◌≡◌, ◌<◌, ℕ, map, length, pos, ◌+ℤ◌, IfOk, IsTrue, FitsSigned, if◌then◌else◌, slice_index_or};
+ghost use Rattle.std.specs.Int.{w128};
+ghost use Rattle.pool_definitions.specs.Lists.{is_increasing, holds};
+ghost use Rattle.pool_definitions.specs.Lottery.{TotalAgrees, counts};
+
+use crate::lotteries::Lottery;
+use crate::pools::Pool;
+use std::alloc::{AllocError, Global};
+
+/// Each volunteer's count: the sum of the weights of the panels that hold the volunteer. It is the volunteer's chance times the
+/// total. The lottery's weights are at least 1 and sum to its total.
+pub fn chances(alloc: Global, pool: &Pool, lottery: &Lottery) -> Result<Vec<i128>, AllocError>
+    requires { TotalAgrees lottery.now }
+    ensures { IfOk result (λ chances. chances.items ≡ map pos (counts pool.now lottery.now)) }
+{
+    lottery.facts();
+    let mut chances = vec![in alloc; 0; pool.volunteers().len()]?;
+    for row in lottery.rows() {
+        add_weight(&mut chances, row.panel().members(), row.weight());
+    }
+    Ok(chances)
+}
+
+/// Adds a panel's weight for each of its members.
+fn add_weight(chances: &mut [i128], members: &[usize], weight: i128)
+    requires increasing { IsTrue (is_increasing members.now) }
+    requires room { (i : ℕ) → i < length chances.old → FitsSigned w128 (slice_index_or chances.old i (pos 0) +ℤ weight) }
+    ensures { (i : ℕ) → i < length chances.old → slice_index_or chances.new i (pos 0)
+        ≡ (if holds members.now i then slice_index_or chances.old i (pos 0) +ℤ weight else slice_index_or chances.old i (pos 0)) }
+{
+    for i in members {
+        if *i < chances.len() {
+            chances[*i] += weight;
+        }
+    }
+}

@@ -1,0 +1,47 @@
+-- Lines and names as they are written, one field after the other.
+use Rattle.std.proofs.Common.{◌≡◌, ℕ, zero, suc, ◌+◌, ◌<◌, true, List, [], ◌∷◌, ◌++◌, length, take, get_or, refl, sym, ◌∙◌, ap, append_assoc, arith}
+use Rattle.std.proofs.lemmas.Bool.{and_parts, false≢true, ltb-true}
+use Rattle.std.proofs.lemmas.List.{append-nil}
+use Rattle.std.proofs.lemmas.Bool.{ltb-true}
+use Rattle.pool_definitions.specs.Pool.{Category, has_values}
+use Rattle.pool_definitions.specs.Building.{value_names}
+use Rattle.text_definitions.specs.Lines.{tab, line_feed, line_of, text_of}
+use Rattle.text_definitions.specs.PoolText.{names_at}
+use Rattle.pool_text.specs.Writing.{tabbed}
+
+line-tabbed : (word : List ℕ) (fields : List (List ℕ)) → line_of (word ∷ fields) ≡ word ++ tabbed fields
+line-tabbed word [] = sym (append-nil word)
+line-tabbed word (field ∷ fields) = ap (λ rest. word ++ (tab ∷ rest)) (line-tabbed field fields)
+
+-- a word, its fields and LF are a line
+pub line_written : (word : List ℕ) (fields : List (List ℕ)) → (word ++ tabbed fields) ++ line_feed ∷ [] ≡ text_of (line_of (word ∷ fields) ∷ [])
+line_written word fields =
+    ap (λ line. line ++ line_feed ∷ []) (sym (line-tabbed word fields)) ∙ sym (append-nil (line_of (word ∷ fields) ++ line_feed ∷ []))
+
+-- a place is that of a value of its category
+pub place_inside : (categories : List Category) (places : List ℕ) (i : ℕ) (d : Category) → has_values categories places ≡ true → i < length places → get_or places i 0 < length (get_or categories i d).values
+place_inside [] [] i d h l = absurd (omega arith)
+place_inside [] (place ∷ places) i d h l = absurd (false≢true h)
+place_inside (category ∷ categories) [] i d h l = absurd (omega arith)
+place_inside (category ∷ categories) (place ∷ places) zero d h l = ltb-true place (length category.values) (and_parts _ (has_values categories places) h).0
+place_inside (category ∷ categories) (place ∷ places) (suc i) d h l = place_inside categories places i d (and_parts _ (has_values categories places) h).1 (omega arith)
+
+-- there are as many places as categories
+pub as_many : (categories : List Category) (places : List ℕ) → has_values categories places ≡ true → length places ≡ length categories
+as_many [] [] h = refl
+as_many [] (place ∷ places) h = absurd (false≢true h)
+as_many (category ∷ categories) [] h = absurd (false≢true h)
+as_many (category ∷ categories) (place ∷ places) h = ap suc (as_many categories places (and_parts _ (has_values categories places) h).1)
+
+-- one name more
+pub tabbed_more : (categories : List Category) (places : List ℕ) (i : ℕ) (d : Category) → i < length categories → i < length places →
+    tabbed (names_at (take (i + 1) categories) (take (i + 1) places)) ≡ tabbed (names_at (take i categories) (take i places)) ++ (tab ∷ get_or (value_names (get_or categories i d).values) (get_or places i 0) [])
+tabbed_more [] places i d l m = absurd (omega arith)
+tabbed_more (category ∷ categories) [] i d l m = absurd (omega arith)
+tabbed_more (category ∷ categories) (place ∷ places) zero d l m = append-nil (tab ∷ get_or (value_names category.values) place [])
+tabbed_more (category ∷ categories) (place ∷ places) (suc i) d l m =
+    let first = tab ∷ get_or (value_names category.values) place [] in
+    let last = tab ∷ get_or (value_names (get_or categories i d).values) (get_or places i 0) [] in
+    let e : suc i + 1 ≡ suc (i + 1) = omega arith in
+    rw e (ap (λ rest. first ++ rest) (tabbed_more categories places i d (omega arith) (omega arith))
+    ∙ sym (append_assoc first (tabbed (names_at (take i categories) (take i places))) last))

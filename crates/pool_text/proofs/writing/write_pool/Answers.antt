@@ -1,0 +1,11 @@
+use Rattle.std.proofs.Common.{◌≡◌, ap, ◌∙◌, arith}
+use Rattle.std.proofs.lemmas.Grind.{common_steps}
+use Rattle.text_definitions.specs.PoolText.{spelling}
+use Rattle.text_definitions.specs.PoolReading.{read}
+use Rattle.text_definitions.proofs.ReadAgain.{spelled_is_read}
+use Rattle.pool_text.proofs.writing.write_pool.Goals as goal
+
+pub returns-clause-read : goal.returns-clause-read
+returns-clause-read c =
+    let spelled : c.into_bytes.result.items ≡ spelling c.args.pool.now = grind (arith, common_steps) in
+    ap read spelled ∙ spelled_is_read c.args.pool.now c.facts.ensures
