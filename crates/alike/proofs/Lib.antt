@@ -1,5 +1,4 @@
 pub mod Taken
 pub mod Alone
-pub mod SpreadAlone
-pub mod EvenAlone
-pub mod LotteryAlone
+pub mod TotalsAlone
+pub mod SpreadStops

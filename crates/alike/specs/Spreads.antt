@@ -1,9 +1,6 @@
 -- What spreading answers.
-use Rattle.std.specs.Prelude.{◌≡◌, ℕ, ◌*◌, ◌/◌, ℤ, List, Result, Ok, Err, pos}
-use Rattle.frac128.specs.Fractions.{Fraction}
-use Rattle.pool_definitions.specs.Lottery.{Lottery, Row}
-use Rattle.search_definitions.specs.Classes.{Classes}
-use Rattle.search_definitions.specs.Compositions.{first_panel}
+use Rattle.std.specs.Prelude.{◌≡◌, ℕ, ℤ, Result, Ok, Err, pos}
+use Rattle.pool_definitions.specs.Lottery.{Lottery}
 use Rattle.spread_definitions.specs.Spreading.{TotalPass}
 use Rattle.alike.specs.declared.spreading.SpreadStop.{SpreadStop}
 use Rattle.alike.specs.declared.spreading.SpreadStop.TheVariants.{TotalPasses, OutOfMemory}
@@ -23,7 +20,3 @@ IsSpread (Err stop) sought = IsStop stop sought
 abbrev pub IsTotal : Result ℤ SpreadStop → Result ℕ TotalPass → Type 0
 IsTotal (Ok total) sought = (sum : ℕ) × (sought ≡ Ok sum) × (total ≡ pos sum)
 IsTotal (Err stop) sought = IsStop stop sought
-
--- where each class is one volunteer alone: the one panel of a composition, with its fraction of the total
-abbrev pub row_alone : Classes → ℕ → List ℕ × Fraction → Row
-row_alone all total part = record { panel = first_panel all part.0; weight = part.1.num * (total / part.1.den) }

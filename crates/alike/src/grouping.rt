@@ -2,7 +2,7 @@
 
 ghost use Rattle.std.specs.Prelude.{◌≡◌, IfOk, map, length};
 ghost use Rattle.std.specs.List.{range_with_len};
-ghost use Rattle.alike.specs.Singles.{single};
+ghost use Rattle.spread_definitions.specs.Singles.{single};
 ghost use Rattle.search_definitions.specs.Classes.{bounds_of, classes_of};
 
 use crate::groups::{Class, Classes, ValueBounds};

@@ -1,7 +1,7 @@
 //! Classes of volunteers, with the size of a panel and the bounds of the values: what a search for panels goes through.
 
 ghost use Rattle.std.specs.Prelude.{◌≡◌, [], ◌∷◌, length, take, sum_by};
-ghost use Rattle.alike.specs.Singles.{AreAlone};
+ghost use Rattle.spread_definitions.specs.Singles.{AreAlone};
 ghost use Rattle.search_definitions.specs.Classes.{KeepsLimits, least_taken, most_taken};
 
 use pool_definitions::Standing;
@@ -136,7 +136,7 @@ pub struct Classes {
 }
 
 impl Model for Classes {
-    ghost use Rattle.alike.specs.Singles.{AreAlone};
+    ghost use Rattle.spread_definitions.specs.Singles.{AreAlone};
     ghost use Rattle.search_definitions.specs.Classes.{Classes as Seen, KeepsLimits};
 
     ghost Value = { Seen };

@@ -1,8 +1,8 @@
 //! Compositions with fractions, spread over panels.
 
 ghost use Rattle.std.specs.Prelude.{◌≡◌, ◌*◌, ◌/◌, ◌≤◌, ◌≤ℤ◌, pos, unsigned_abs, map, All, IfOk};
-ghost use Rattle.alike.specs.Singles.{AreAlone};
-ghost use Rattle.alike.specs.Spreads.{IsSpread, IsTotal, row_alone};
+ghost use Rattle.spread_definitions.specs.Singles.{AreAlone, row_alone};
+ghost use Rattle.alike.specs.Spreads.{IsSpread, IsTotal};
 ghost use Rattle.pool_definitions.specs.Lottery.{IsLottery};
 ghost use Rattle.pool_definitions.specs.Pool.{Pool};
 ghost use Rattle.search_definitions.specs.Classes.{Classes as ClassesOf, classes_of};

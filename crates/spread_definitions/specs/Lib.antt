@@ -1,2 +1,3 @@
 pub mod Spreading
+pub mod Singles
 pub mod WorkedSpreads

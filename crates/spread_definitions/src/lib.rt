@@ -5,11 +5,13 @@
 //! The functions here have no body: their contracts are laws over the definitions, and a worked example.
 #![tactic(auto)]
 
-ghost use Rattle.std.specs.Prelude.{◌≡◌, ℕ, List, [], ◌∷◌, map, Ok};
+ghost use Rattle.std.specs.Prelude.{◌≡◌, ◌≤◌, ℕ, List, [], ◌∷◌, map, Ok};
 ghost use Rattle.frac128.specs.Fractions.{Fraction};
+ghost use Rattle.pool_definitions.specs.Lottery.{Lottery, IsLottery};
+ghost use Rattle.pool_definitions.specs.Pool.{Pool, IsPool};
 ghost use Rattle.search_definitions.specs.Classes.{Classes, classes_of};
 ghost use Rattle.search_definitions.specs.Compositions.{compositions};
-ghost use Rattle.spread_definitions.specs.Spreading.{AreParts, AreShares, IsCommonTotal, with_fraction, pieces, spread, total_from};
+ghost use Rattle.spread_definitions.specs.Spreading.{AreParts, AreShares, HasEvenChances, IsCommonTotal, greatest_total, with_fraction, pieces, spread, total_from};
 ghost use Rattle.spread_definitions.specs.WorkedSpreads.{one_of_three, three_and_two, over};
 
 /// Shares of a whole, as fractions in lowest terms, are positive fractions that sum to one.
@@ -21,6 +23,21 @@ pub fn shares_are_parts()
 pub fn total_is_common()
     ensures { (all : Classes) (parts : List (List ℕ × Fraction)) (total : ℕ) → AreParts all parts → total_from all 0 1 parts ≡ Ok total →
         IsCommonTotal all parts total }
+{}
+
+/// What is spread over the classes of a pool, each volunteer a class alone, is a lottery over the pool's quota panels, of a total of at
+/// most 10^38.
+pub fn alone_spread_is_lottery()
+    ensures lottery { (pool : Pool) (parts : List (List ℕ × Fraction)) (lottery : Lottery) → AreParts (classes_of pool) parts →
+        spread (classes_of pool) parts ≡ Ok lottery → IsLottery pool lottery }
+    ensures within { (pool : Pool) (parts : List (List ℕ × Fraction)) (lottery : Lottery) → AreParts (classes_of pool) parts →
+        spread (classes_of pool) parts ≡ Ok lottery → lottery.total ≤ greatest_total }
+{}
+
+/// And each volunteer's count is the number expected of the volunteer's class, times the total.
+pub fn alone_spread_has_even_chances()
+    ensures { (pool : Pool) (parts : List (List ℕ × Fraction)) (lottery : Lottery) → IsPool pool → AreParts (classes_of pool) parts →
+        spread (classes_of pool) parts ≡ Ok lottery → HasEvenChances (classes_of pool) parts lottery }
 {}
 
 /// One of three and one of two: the dial has six places, cut at 0, 2, 3 and 4.

@@ -2,7 +2,7 @@ use Rattle.std.proofs.Common.{List, map, length, ◌∙◌, ap}
 use Rattle.std.specs.List.{range_with_len}
 use Rattle.pool_definitions.specs.Pool.{Volunteer}
 use Rattle.search_definitions.specs.Classes.{bounds_of}
-use Rattle.alike.specs.Singles.{single}
+use Rattle.spread_definitions.specs.Singles.{single}
 use Rattle.alike.proofs.Alone.{made_classes, keeps_limits, made_alone}
 use Rattle.alike.proofs.grouping.classes.Goals as goal
 

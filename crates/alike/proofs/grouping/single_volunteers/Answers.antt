@@ -2,7 +2,7 @@ use Rattle.std.proofs.Common.{◌∙◌, ap, arith, [], ◌∷◌, ◌++◌, map
 use Rattle.std.specs.List.{range_with_len}
 use Rattle.std.proofs.lemmas.List.FromFn.{map-range_with_len_more}
 use Rattle.search_definitions.specs.Classes.{Class}
-use Rattle.alike.specs.Singles.{single}
+use Rattle.spread_definitions.specs.Singles.{single}
 use Rattle.alike.proofs.Alone.{made_single}
 use Rattle.alike.proofs.grouping.single_volunteers.Goals as goal
 

@@ -5,7 +5,7 @@ use Rattle.std.proofs.lemmas.Int.{to_z-of_z, ints}
 use Rattle.frac128.specs.Divisors.{lcm_of}
 use Rattle.spread_definitions.specs.Spreading.{greatest_total, TotalPass}
 use Rattle.spread_definitions.proofs.CommonTotals.{lcm_of-positive}
-use Rattle.alike.proofs.SpreadAlone.{next_so_far, passes_here}
+use Rattle.alike.proofs.TotalsAlone.{next_so_far, passes_here}
 use Rattle.alike.proofs.spreading.common_total.Goals as goal
 
 whole : (z : ℤ) → pos 0 <ℤ z → z ≡ pos (unsigned_abs z)

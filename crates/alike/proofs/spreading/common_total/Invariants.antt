@@ -1,7 +1,7 @@
 use Rattle.std.proofs.Common.{◌≡◌, ◌<ℤ◌, pos, drop, unsigned_abs}
 use Rattle.search_definitions.specs.Classes.{Classes}
 use Rattle.spread_definitions.specs.Spreading.{total_from}
-use Rattle.alike.specs.Singles.{AreAlone}
+use Rattle.spread_definitions.specs.Singles.{AreAlone}
 use Rattle.alike.proofs.spreading.common_total.Given as goal
 
 abbrev pub invariant-loop-place : goal.invariant-loop-place

@@ -1,5 +1,5 @@
 use Rattle.std.proofs.Common.{◌≡◌, map, take, unsigned_abs}
-use Rattle.alike.specs.Spreads.{row_alone}
+use Rattle.spread_definitions.specs.Singles.{row_alone}
 use Rattle.alike.proofs.spreading.rows_of.Given as goal
 
 abbrev pub invariant-loop-composition : goal.invariant-loop-composition

@@ -10,9 +10,10 @@ use Rattle.search_definitions.specs.Classes.{Classes}
 use Rattle.spread_definitions.specs.Spreading.{HasEvenChances, total_from, greatest_total}
 use Rattle.spread_definitions.proofs.CommonTotals.{common_total}
 use Rattle.spread_definitions.proofs.Parts.{sum_is_total}
-use Rattle.alike.specs.Spreads.{row_alone}
-use Rattle.alike.proofs.EvenAlone.{even_alone}
-use Rattle.alike.proofs.LotteryAlone.{lottery_alone, made_lottery, spread_alone, stop_alone}
+use Rattle.spread_definitions.specs.Singles.{row_alone}
+use Rattle.spread_definitions.proofs.EvenAlone.{even_alone}
+use Rattle.spread_definitions.proofs.LotteryAlone.{lottery_alone, spread_alone}
+use Rattle.alike.proofs.SpreadStops.{made_lottery, stop_alone}
 use Rattle.alike.proofs.spreading.spread.Goals as goal
 
 -- what is returned: the common total, and the rows for it

@@ -1,24 +1,24 @@
 -- Where each class is one volunteer alone, the rows of first panels are a lottery over the pool, and the one that spreading gives.
-use Rattle.std.proofs.Common.{◌≡◌, ℕ, ◌+◌, ◌*◌, ◌/◌, ◌<◌, true, leb, List, [], ◌∷◌, map, length, Ok, refl, sym, ap, subst, ◌∙◌, arith}
+use Rattle.std.proofs.Common.{◌≡◌, ℕ, ◌+◌, ◌*◌, ◌/◌, ◌<◌, true, leb, List, [], ◌∷◌, map, length, Result, Ok, Err, refl, sym, ap, subst, ◌∙◌, arith}
 use Rattle.std.specs.List.{AllByRecursion}
 use Rattle.std.proofs.lemmas.Bool.{lt-ltb, le-leb}
 use Rattle.frac128.specs.Fractions.{Fraction}
 use Rattle.pool_definitions.specs.Lists.{all_different}
-use Rattle.pool_definitions.specs.Lottery.{Row, Lottery, IsLottery}
-use Rattle.pool_definitions.specs.Pool.{Pool, is_quota_panel}
+use Rattle.pool_definitions.specs.Lottery.{Lottery, IsLottery}
+use Rattle.pool_definitions.specs.Pool.{Pool, IsPool, is_quota_panel}
 use Rattle.pool_definitions.proofs.Sums.{each_map, total, sum_by-is-total}
 use Rattle.search_definitions.specs.Classes.{Classes, are_alike, classes_of}
 use Rattle.search_definitions.specs.Compositions.{compositions, composition_of, first_panel}
+use Rattle.search_definitions.proofs.Limits.{limits_kept}
 use Rattle.search_definitions.proofs.Listed.{each_mapped, list_all_from_each}
 use Rattle.search_definitions.proofs.PoolClasses.{alone_makes_classes, first_panels_compose, first_panels_fit}
-use Rattle.spread_definitions.specs.Spreading.{AreParts, IsCommonTotal, lottery_of, spread, total_from}
+use Rattle.spread_definitions.specs.Spreading.{AreParts, HasEvenChances, IsCommonTotal, TotalPass, lottery_of, spread, total_from}
 use Rattle.spread_definitions.proofs.CommonTotals.{common_total, each_den}
 use Rattle.spread_definitions.proofs.Parts.{all_different-map, each_composition, each_weighs, some_parts, sum_is_total}
-use Rattle.alike.specs.declared.spreading.SpreadStop.{SpreadStop}
-use Rattle.alike.specs.declared.spreading.SpreadStop.TheVariants.{TotalPasses, OutOfMemory}
-use Rattle.alike.specs.Singles.{AreAlone}
-use Rattle.alike.specs.Spreads.{IsStop, row_alone}
-use Rattle.alike.proofs.SpreadAlone.{all_rows_alone}
+use Rattle.spread_definitions.specs.Singles.{AreAlone, row_alone}
+use Rattle.spread_definitions.proofs.Alone.{pool_alone}
+use Rattle.spread_definitions.proofs.EvenAlone.{even_alone}
+use Rattle.spread_definitions.proofs.SpreadAlone.{all_rows_alone}
 
 panels_are : (all : Classes) (sum : ℕ) (parts : List (List ℕ × Fraction)) → map (λ row. row.panel) (map (row_alone all sum) parts) ≡ map (first_panel all) (map (λ part. part.0) parts)
 panels_are all sum [] = refl
@@ -60,13 +60,32 @@ spread_alone all parts sum alone are e =
     ap (lottery_of all parts) e
     ∙ ap (λ rows. Ok (record { total = sum; rows = rows })) (all_rows_alone all sum parts alone (each_den all parts sum (common_total all parts sum are e)))
 
-pub stop_alone : (all : Classes) (parts : List (List ℕ × Fraction)) (stop : SpreadStop) → IsStop stop (total_from all 0 1 parts) → IsStop stop (spread all parts)
-unfolding spread
-stop_alone all parts (TotalPasses place before den) (pass, e, f, g, h) = (pass, ap (lottery_of all parts) e, f, g, h)
-stop_alone all parts OutOfMemory told = tt
+-- what is spread: the common total, and the rows for it
+pub record IsSpreadAlone (all : Classes) (parts : List (List ℕ × Fraction)) (lottery : Lottery) : Type 0 where
+  pub common : IsCommonTotal all parts lottery.total
+  pub is : lottery ≡ (let made : Lottery = record { total = lottery.total; rows = map (row_alone all lottery.total) parts } in made)
 
--- the lottery that is made of a total and rows
-pub made_lottery : (all : Classes) (parts : List (List ℕ × Fraction)) (lottery : Lottery) (z : ℕ) (sum : ℕ) (rows : List Row) → lottery ≡ (let made : Lottery = record { total = z; rows = rows } in made) →
-    rows ≡ map (row_alone all z) parts → z ≡ sum → lottery ≡ (let made : Lottery = record { total = sum; rows = map (row_alone all sum) parts } in made)
-made_lottery all parts lottery z sum rows e f g =
-    e ∙ ap (λ rows. let made : Lottery = record { total = z; rows = rows } in made) f ∙ ap (λ n. let made : Lottery = record { total = n; rows = map (row_alone all n) parts } in made) g
+pub is_spread_alone : (all : Classes) (parts : List (List ℕ × Fraction)) (lottery : Lottery) → AreAlone 0 all.classes → AreParts all parts → spread all parts ≡ Ok lottery → IsSpreadAlone all parts lottery
+unfolding spread
+is_spread_alone all parts lottery alone are e = by (total_from all 0 1 parts) refl e
+  where
+    by : (found : Result ℕ TotalPass) → total_from all 0 1 parts ≡ found → lottery_of all parts found ≡ Ok lottery → IsSpreadAlone all parts lottery
+    by (Ok sum) f g =
+        let made : Lottery = record { total = sum; rows = map (row_alone all sum) parts } in
+        let told : ◌≡◌ {A = Result Lottery TotalPass} (Ok made) (Ok lottery) = sym (spread_alone all parts sum alone are f) ∙ e in
+        let same : made ≡ lottery = cc in
+        subst (IsSpreadAlone all parts) same (record { common = common_total all parts sum are f; is = refl })
+    by (Err pass) f g = absurd cc
+
+-- over a pool's classes it is a lottery over the pool
+pub pool_lottery : (pool : Pool) (parts : List (List ℕ × Fraction)) (lottery : Lottery) → AreParts (classes_of pool) parts → spread (classes_of pool) parts ≡ Ok lottery → IsLottery pool lottery
+pool_lottery pool parts lottery are e =
+    let found = is_spread_alone (classes_of pool) parts lottery (pool_alone pool) are e in
+    subst (IsLottery pool) (sym found.is) (lottery_alone pool (classes_of pool) parts lottery.total refl are found.common)
+
+-- and the members of a class have even chances
+pub pool_even : (pool : Pool) (parts : List (List ℕ × Fraction)) (lottery : Lottery) → IsPool pool → AreParts (classes_of pool) parts → spread (classes_of pool) parts ≡ Ok lottery → HasEvenChances (classes_of pool) parts lottery
+pool_even pool parts lottery is_pool are e =
+    let found = is_spread_alone (classes_of pool) parts lottery (pool_alone pool) are e in
+    subst (HasEvenChances (classes_of pool) parts) (sym found.is)
+    (even_alone (classes_of pool) parts lottery.total (limits_kept pool (are_alike pool) is_pool (alone_makes_classes pool)) (pool_alone pool) are)

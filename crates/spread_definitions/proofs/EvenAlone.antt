@@ -13,8 +13,7 @@ use Rattle.search_definitions.proofs.FirstPanel.{holds_filter}
 use Rattle.search_definitions.proofs.Listed.{each_count, each_filter, each_mapped}
 use Rattle.spread_definitions.specs.Spreading.{AreParts, HasEvenChances, expected}
 use Rattle.spread_definitions.proofs.Parts.{each_composition}
-use Rattle.alike.specs.Singles.{AreAlone}
-use Rattle.alike.specs.Spreads.{row_alone}
+use Rattle.spread_definitions.specs.Singles.{AreAlone, row_alone}
 
 -- ---- counts are at most 1
 
@@ -107,7 +106,7 @@ taken_at first (suc t) (class ∷ classes) (c ∷ counts) alone inside =
 
 -- ---- a volunteer is in one class
 
-member_at : (first t : ℕ) (classes : List Class) (class : Class) → AreAlone first classes → slice_get classes t ≡ Some class → (t < length classes) × (class.members ≡ (first + t) ∷ [])
+pub member_at : (first t : ℕ) (classes : List Class) (class : Class) → AreAlone first classes → slice_get classes t ≡ Some class → (t < length classes) × (class.members ≡ (first + t) ∷ [])
 member_at first t [] class alone e = cc
 member_at first zero (x ∷ classes) class alone e =
     let same : x ≡ class = cc in
@@ -118,7 +117,7 @@ member_at first (suc t) (x ∷ classes) class alone e =
     let here : first + 1 + t ≡ first + suc t = omega arith in
     (omega (arith, rest.0), rest.1 ∙ ap (λ n. n ∷ []) here)
 
-as_many : (first : ℕ) (classes : List Class) → AreAlone first classes → sum_by (λ class. length class.members) classes ≡ length classes
+pub as_many : (first : ℕ) (classes : List Class) → AreAlone first classes → sum_by (λ class. length class.members) classes ≡ length classes
 as_many first classes alone = sum_by-is-total (λ class. length class.members) classes ∙ each_one first classes alone
   where
     each_one : (first : ℕ) (classes : List Class) → AreAlone first classes → total (λ class. length class.members) classes ≡ length classes

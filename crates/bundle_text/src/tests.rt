@@ -1,0 +1,161 @@
+//! The bundle of two women and two men, the widest numbers, and the edges of the ranges.
+
+use crate::{is_in_ranges, write_bundle};
+use pool_model::{Answer, Certificate, Lottery, LotteryRow, Panel, Pool, Stage};
+use pool_text::read_pool;
+use std::alloc::{AllocError, Global};
+use std::test::Fail;
+
+/// Two women and two men, one of each to be chosen.
+const FOUR: &str =
+    "pool 1/size 2/category gender/value female 1 1/value male 1 1/volunteer a female/volunteer b female/volunteer c male/volunteer d male/end/";
+
+/// The greatest weight.
+const MOST: i128 = 100_000_000_000_000_000_000_000_000_000_000_000_000;
+
+/// A panel's weight and its members.
+type Row<'a> = (i128, &'a [usize]);
+
+/// A stage's cap and its weights.
+type Numbers<'a> = (i128, &'a [i128]);
+
+/// The text that is shown with a blank for TAB and a stroke for LF.
+fn spelled(alloc: Global, shown: &str) -> Result<Vec<u8>, AllocError> {
+    let mut text = Vec::new(alloc);
+    for byte in shown.as_bytes() {
+        text.push(match *byte {
+            b' ' => b'\t',
+            b'/' => b'\n',
+            other => other,
+        })?;
+    }
+    Ok(text)
+}
+
+fn four(alloc: Global) -> Result<Pool, Fail> {
+    Ok(read_pool(alloc, &spelled(alloc, FOUR)?)?)
+}
+
+fn lottery(alloc: Global, total: i128, given: &[Row<'_>]) -> Result<Lottery, Fail> {
+    let mut rows = Vec::new(alloc);
+    for (weight, members) in given {
+        let panel = Panel::new(members.to_vec(alloc)?).ok_or("no panel")?;
+        if *weight < 0 {
+            return Err("no weight".into());
+        }
+        rows.push(LotteryRow::new(panel, *weight))?;
+    }
+    if total < 0 {
+        return Err("no total".into());
+    }
+    Ok(Lottery::new(total, rows))
+}
+
+fn certificate(alloc: Global, given: &[Numbers<'_>]) -> Result<Certificate, AllocError> {
+    let mut stages = Vec::new(alloc);
+    for (cap, weights) in given {
+        stages.push(Stage::new(weights.to_vec(alloc)?, *cap))?;
+    }
+    Ok(Certificate::new(stages))
+}
+
+/// The text of the four with this answer, or nothing where it isn't in the ranges.
+fn written(
+    alloc: Global,
+    total: i128,
+    rows: &[Row<'_>],
+    stages: &[Numbers<'_>],
+) -> Result<Option<Vec<u8>>, Fail> {
+    let pool = four(alloc)?;
+    let answer = Answer::new(lottery(alloc, total, rows)?, certificate(alloc, stages)?);
+    if !is_in_ranges(&pool, &answer) {
+        return Ok(None);
+    }
+    Ok(Some(write_bundle(alloc, &pool, &answer)?))
+}
+
+/// The text of the four with the lines of an answer.
+fn with_lines(alloc: Global, lines: &str) -> Result<Vec<u8>, AllocError> {
+    let mut shown = String::new(alloc);
+    shown.push_str("bundle 1/")?;
+    shown.push_str(FOUR)?;
+    shown.push_str(lines)?;
+    spelled(alloc, &shown)
+}
+
+#[test]
+fn writes_a_bundle(rt: HostRuntime) -> Result<(), Fail> {
+    let text = written(
+        rt.alloc(),
+        2,
+        &[(1, &[0, 2]), (1, &[1, 3])],
+        &[(1, &[1, 1, 0, 0]), (0, &[-1, -1, 1, 1])],
+    )?
+    .ok_or("out of range")?;
+    assert_eq!(rt; text.len(), 218);
+    let lines = "total 2/panel 1 0 2/panel 1 1 3/stage 1 1 1 0 0/stage 0 -1 -1 1 1/done/";
+    assert!(rt; text == with_lines(rt.alloc(), lines)?);
+    Ok(())
+}
+
+#[test]
+fn writes_the_widest_numbers(rt: HostRuntime) -> Result<(), Fail> {
+    let text = written(
+        rt.alloc(),
+        MOST,
+        &[(MOST, &[3]), (MOST - 1, &[0, 1, 2, 3])],
+        &[
+            (-i128::MAX, &[0, 0, 0, 0]),
+            (0, &[i128::MAX, 0, 0, 0]),
+            (-1, &[1 - i128::MAX, 0, 0, 0]),
+        ],
+    )?
+    .ok_or("out of range")?;
+    let mut lines = String::new(rt.alloc());
+    lines.push_str("total 100000000000000000000000000000000000000/")?;
+    lines.push_str("panel 100000000000000000000000000000000000000 3/")?;
+    lines.push_str("panel 99999999999999999999999999999999999999 0 1 2 3/")?;
+    lines.push_str("stage -170141183460469231731687303715884105727 0 0 0 0/")?;
+    lines.push_str("stage 0 170141183460469231731687303715884105727 0 0 0/")?;
+    lines.push_str("stage -1 -170141183460469231731687303715884105726 0 0 0/done/")?;
+    assert!(rt; text == with_lines(rt.alloc(), &lines)?);
+    Ok(())
+}
+
+/// The answer for the four is in the ranges.
+fn is_kept(
+    alloc: Global,
+    total: i128,
+    rows: &[Row<'_>],
+    stages: &[Numbers<'_>],
+) -> Result<bool, Fail> {
+    Ok(written(alloc, total, rows, stages)?.is_some())
+}
+
+#[test]
+fn keeps_the_ranges_of_rows(rt: HostRuntime) -> Result<(), Fail> {
+    let alloc = rt.alloc();
+    let stages: [Numbers<'_>; 1] = [(1, &[1, 1, 0, 0])];
+    assert!(rt; is_kept(alloc, 1, &[(1, &[0, 2])], &stages)?);
+    assert!(rt; !is_kept(alloc, 0, &[(1, &[0, 2])], &stages)?);
+    assert!(rt; !is_kept(alloc, MOST + 1, &[(1, &[0, 2])], &stages)?);
+    assert!(rt; !is_kept(alloc, 1, &[], &stages)?);
+    assert!(rt; !is_kept(alloc, 1, &[(1, &[0, 2]), (0, &[1, 3])], &stages)?);
+    assert!(rt; !is_kept(alloc, 1, &[(MOST + 1, &[0, 2])], &stages)?);
+    assert!(rt; !is_kept(alloc, 1, &[(1, &[])], &stages)?);
+    assert!(rt; !is_kept(alloc, 1, &[(1, &[0, 4])], &stages)?);
+    Ok(())
+}
+
+#[test]
+fn keeps_the_ranges_of_stages(rt: HostRuntime) -> Result<(), Fail> {
+    let alloc = rt.alloc();
+    let rows: [Row<'_>; 1] = [(1, &[0, 2])];
+    assert!(rt; !is_kept(alloc, 1, &rows, &[])?);
+    assert!(rt; !is_kept(alloc, 1, &rows, &[(1, &[1, 1, 0])])?);
+    assert!(rt; !is_kept(alloc, 1, &rows, &[(1, &[1, 1, 0, 0, 0])])?);
+    assert!(rt; !is_kept(alloc, 1, &rows, &[(1, &[i128::MAX, 0, 0, 0])])?);
+    assert!(rt; !is_kept(alloc, 1, &rows, &[(i128::MIN, &[0, 0, 0, 0])])?);
+    assert!(rt; !is_kept(alloc, 1, &rows, &[(0, &[i128::MIN, i128::MIN, 0, 0])])?);
+    Ok(())
+}

@@ -1,0 +1,93 @@
+-- The stages of a table's closed rows, and that pricing found nothing above their caps.
+use Rattle.std.proofs.Common.{◌≡◌, ℕ, zero, suc, ◌+◌, ◌<◌, ◌≤◌, Bool, true, false, ◌&&◌, List, [], ◌∷◌, map, length, take, refl, sym, ap, ap₂, ◌∙◌, arith}
+use Rattle.std.specs.Prelude.{int_le, slice_index}
+use Rattle.std.specs.List.{range_with_len}
+use Rattle.std.proofs.lemmas.List.{get_or-map, length-map}
+use Rattle.std.proofs.lemmas.List.Folds.{list_all-append}
+use Rattle.std.proofs.lemmas.List.FromFn.{map-range_with_len_more, take-map-range_with_len}
+use Rattle.pool_definitions.specs.Certificate.{Stage, is_capped}
+use Rattle.pool_definitions.specs.Pool.{Pool}
+use Rattle.row_definitions.specs.Row.{Row}
+use Rattle.row_definitions.specs.Table.{Table, row_at}
+use Rattle.search_definitions.specs.Classes.{Classes, are_alike, classes_of}
+use Rattle.search_definitions.specs.Compositions.{attains, compositions, first_greatest, price, weight_in}
+use Rattle.search_definitions.specs.Stages.{row_of}
+use Rattle.search_definitions.proofs.NothingToPrice.{capped_where_nothing_priced}
+use Rattle.search_definitions.proofs.PoolClasses.{alone_makes_classes, filter_same}
+use Rattle.run_definitions.specs.Keeps.{KeepsRun}
+use Rattle.run_definitions.specs.Run.{Limits, closed_rows, stage_of}
+use Rattle.run_laws.proofs.StageRows.{class_count, from_places, row_back, weigh_alike}
+
+-- the row of a closed stage, and the stage
+abbrev pub closed_row : Table → ℕ → Row
+closed_row table k = row_at table (slice_index table.closed k)
+
+abbrev pub stage_at : Classes → Table → ℕ → Stage
+stage_at all table k = stage_of all (closed_row table k)
+
+-- the stages before a stage, and their rows, the last one first
+abbrev pub earlier : Classes → Table → ℕ → List Stage
+earlier all table zero = []
+earlier all table (suc k) = stage_at all table k ∷ earlier all table k
+
+abbrev rows_before : Table → ℕ → List Row
+rows_before table zero = []
+rows_before table (suc k) = closed_row table k ∷ rows_before table k
+
+-- ---- the closed rows by their places
+
+pub closed_rows_are : (table : Table) → map (closed_row table) (range_with_len 0 (length table.closed)) ≡ closed_rows table
+closed_rows_are table =
+    ap (λ n. map (closed_row table) (range_with_len 0 n)) (sym (length-map table.closed (row_at table)))
+    ∙ from_places (closed_row table) 0 (closed_rows table) (row_at table 0)
+    (λ i l. let here : 0 + i ≡ i = omega arith in ap (closed_row table) here ∙ sym (get_or-map (row_at table) table.closed i 0 (row_at table 0) (omega (arith, length-map table.closed (row_at table)))))
+
+first_rows_are : (table : Table) (k : ℕ) → k ≤ length table.closed → take k (closed_rows table) ≡ map (closed_row table) (range_with_len 0 k)
+first_rows_are table k l = ap (take k) (sym (closed_rows_are table)) ∙ take-map-range_with_len (closed_row table) 0 (length table.closed) k l
+
+-- ---- in either order
+
+and_turned : (a b : Bool) → (a && b) ≡ (b && (a && true))
+and_turned true true = refl
+and_turned true false = refl
+and_turned false true = refl
+and_turned false false = refl
+
+attained_same : (table : Table) (k : ℕ) (counts : List ℕ) → attains (rows_before table k) counts ≡ attains (map (closed_row table) (range_with_len 0 k)) counts
+attained_same table zero counts = refl
+attained_same table (suc k) counts =
+    let passes : Row → Bool = λ row. int_le row.b (weight_in row.a counts) in
+    let before : List Row = map (closed_row table) (range_with_len 0 k) in
+    let next : k + 1 ≡ suc k = omega arith in
+    ap (λ b. passes (closed_row table k) && b) (attained_same table k counts)
+    ∙ and_turned (passes (closed_row table k)) (attains before counts)
+    ∙ sym (list_all-append passes before (closed_row table k ∷ []))
+    ∙ ap (λ rows. attains rows counts) (sym (map-range_with_len_more (closed_row table) 0 k k (omega arith)))
+    ∙ ap (λ n. attains (map (closed_row table) (range_with_len 0 n)) counts) next
+
+price_same : (all : Classes) (table : Table) (k : ℕ) (row : Row) → price all (rows_before table k) row ≡ price all (map (closed_row table) (range_with_len 0 k)) row
+price_same all table k row =
+    ap (first_greatest (weight_in row.a) row.b)
+    (filter_same (attains (rows_before table k)) (attains (map (closed_row table) (range_with_len 0 k))) (attained_same table k) (compositions all))
+
+-- ---- the caps
+
+module _ (pool : Pool) (limits : Limits) (table : Table) (keeps : KeepsRun (classes_of pool) limits table) where
+  pub size_count : length table.sizes ≡ length pool.volunteers
+  size_count = ap length keeps.sizes ∙ length-map (classes_of pool).classes (λ class. length class.members) ∙ class_count pool
+
+  pub entry_each : (k : ℕ) → k < length table.closed → length (closed_row table k).a ≡ length pool.volunteers
+  entry_each k l = keeps.in_order.entry_count (slice_index table.closed k) _ (keeps.in_order.closed_known k 0 l) ∙ size_count
+
+  rows_back : (k : ℕ) → k ≤ length table.closed → map (row_of (are_alike pool) pool) (earlier (classes_of pool) table k) ≡ rows_before table k
+  rows_back zero l = refl
+  rows_back (suc k) l = ap₂ (λ row rows. row ∷ rows) (row_back pool (closed_row table k) (entry_each k (omega arith))) (rows_back k (omega arith))
+
+  pub capped : (k : ℕ) → k < length table.closed → is_capped pool (earlier (classes_of pool) table k) (stage_at (classes_of pool) table k) ≡ true
+  capped k l =
+      capped_where_nothing_priced pool (are_alike pool) (earlier (classes_of pool) table k) (stage_at (classes_of pool) table k) (alone_makes_classes pool)
+      (weigh_alike pool (stage_at (classes_of pool) table k ∷ earlier (classes_of pool) table k))
+      (ap₂ (price (classes_of pool)) (rows_back k (omega arith)) (row_back pool (closed_row table k) (entry_each k l))
+      ∙ price_same (classes_of pool) table k (closed_row table k)
+      ∙ ap (λ rows. price (classes_of pool) rows (closed_row table k)) (sym (first_rows_are table k (omega arith)))
+      ∙ keeps.priced_out k l)

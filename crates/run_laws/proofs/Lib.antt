@@ -1,0 +1,12 @@
+pub mod Endings
+pub mod NoPanels
+pub mod FoundEnds
+pub mod StagesKept
+pub mod StageFacts
+pub mod Levels
+pub mod StageRows
+pub mod PanelWeights
+pub mod ClosedStages
+pub mod Marks
+pub mod LotteryCounts
+pub mod Certified

@@ -1,0 +1,169 @@
+-- What the lottery that is spread from a table's columns weighs in its closed stages, and each volunteer's count as a sum of levels.
+use Rattle.std.proofs.Common.{◌≡◌, ℕ, zero, suc, ◌+◌, ◌*◌, ◌/◌, ◌<◌, Bool, true, false, cond, not, ◌||◌, List, [], ◌∷◌, map, length, get_or, Ok, refl, sym, ap, ap₂, ◌∙◌, subst, arith}
+use Rattle.std.specs.Int.{◌∣◌}
+use Rattle.std.specs.List.{All, AllByRecursion, range_with_len}
+use Rattle.std.proofs.lemmas.Bool.{eq-eqb}
+use Rattle.std.proofs.lemmas.List.{get_or-map}
+use Rattle.std.proofs.lemmas.List.Elements.{All-from_recursion, recursion_from_All}
+use Rattle.std.proofs.lemmas.Option.{slice_get-get_or}
+use Rattle.frac128.specs.Fractions.{Fraction, lowest_of}
+use Rattle.pool_definitions.specs.Certificate.{panel_weight}
+use Rattle.pool_definitions.specs.Lists.{holds}
+use Rattle.pool_definitions.specs.Lottery.{Lottery, count}
+use Rattle.pool_definitions.specs.Pool.{IsPool, Pool}
+use Rattle.pool_definitions.proofs.Sums.{each_both, each_map, total, sum_by-is-total}
+use Rattle.row_definitions.specs.InOrder.{count_in}
+use Rattle.row_definitions.specs.Levels.{HasLevels, count_over}
+use Rattle.row_definitions.specs.Levels as table_levels
+use Rattle.row_definitions.specs.Settled.{KeepsStages, was_unsettled}
+use Rattle.row_definitions.specs.Solutions.{IsTight, SolutionStands, numerator_over}
+use Rattle.row_definitions.specs.Steps.{ColumnValue, fraction_of, solution}
+use Rattle.row_definitions.specs.Table.{Table}
+use Rattle.row_definitions.proofs.Satisfied.{solution-stands, solution-tight}
+use Rattle.search_definitions.specs.Classes.{Classes, classes_of}
+use Rattle.search_definitions.specs.Compositions.{first_panel}
+use Rattle.search_definitions.proofs.Listed.{each_mapped}
+use Rattle.spread_definitions.specs.Singles.{row_alone, single}
+use Rattle.spread_definitions.specs.Spreading.{AreParts, expected, spread}
+use Rattle.spread_definitions.proofs.Alone.{pool_alone}
+use Rattle.spread_definitions.proofs.CommonTotals.{each_den}
+use Rattle.spread_definitions.proofs.LotteryAlone.{IsSpreadAlone, is_spread_alone, pool_even}
+use Rattle.run_definitions.specs.Keeps.{KeepsRun}
+use Rattle.run_definitions.specs.Run.{Limits, parts_of}
+use Rattle.run_definitions.proofs.Found.{weight_is_sum}
+use Rattle.run_definitions.proofs.Parts.{parts_are}
+use Rattle.run_laws.specs.Levels.{Closed, levels_of}
+use Rattle.run_laws.proofs.ClosedStages.{closed_row, earlier, entry_each, size_count, stage_at}
+use Rattle.run_laws.proofs.Marks.{marked}
+use Rattle.run_laws.proofs.PanelWeights.{panel_weighs}
+use Rattle.run_laws.proofs.StageRows.{class_count, members_alone}
+
+-- what holds of each part, from each column of the solution
+each_part : (table : Table) (P : List ℕ × Fraction → Type 0) (theres : List ColumnValue) →
+    AllByRecursion (λ there. P (get_or table.columns there.column [], lowest_of there.side there.coefficient)) theres →
+    AllByRecursion P (map (λ (c, value). (get_or table.columns c [], value)) (map fraction_of theres))
+each_part table P [] h = tt
+each_part table P (there ∷ theres) h = (h.0, each_part table P theres h.1)
+
+each_column : (table : Table) (P : List ℕ × Fraction → Type 0) (theres : List ColumnValue) →
+    AllByRecursion P (map (λ (c, value). (get_or table.columns c [], value)) (map fraction_of theres)) →
+    AllByRecursion (λ there. P (get_or table.columns there.column [], lowest_of there.side there.coefficient)) theres
+each_column table P [] h = tt
+each_column table P (there ∷ theres) h = (h.0, each_column table P theres h.1)
+
+-- the number expected of a class is its count over the total
+expected_is : (table : Table) (common t : ℕ) (theres : List ColumnValue) →
+    total (λ (part : List ℕ × Fraction). get_or part.0 t 0 * (part.1.num * (common / part.1.den))) (map (λ (c, value). (get_or table.columns c [], value)) (map fraction_of theres))
+    ≡ total (λ there. numerator_over common there * count_in table.columns there.column t) theres
+expected_is table common t [] = refl
+expected_is table common t (there ∷ theres) =
+    ap₂ (λ a b. a + b) (turned (count_in table.columns there.column t) (numerator_over common there)) (expected_is table common t theres)
+  where
+    turned : (a b : ℕ) → a * b ≡ b * a
+    turned a b = omega arith
+
+module _ (pool : Pool) (limits : Limits) (table : Table) (keeps : KeepsRun (classes_of pool) limits table) (lottery : Lottery) (lottery_is : spread (classes_of pool) (parts_of table) ≡ Ok lottery) where
+  abbrev all : Classes
+  all = classes_of pool
+
+  parts : AreParts all (parts_of table)
+  parts = parts_are all limits table keeps
+
+  made : IsSpreadAlone all (parts_of table) lottery
+  made = is_spread_alone all (parts_of table) lottery (pool_alone pool) parts lottery_is
+
+  -- ---- each panel of the lottery weighs the cap
+
+  solved : SolutionStands table
+  solved = solution-stands table keeps.in_order
+
+  pub caps_reached : (k : ℕ) → k < length table.closed → AllByRecursion (λ row. panel_weight (stage_at all table k) row.panel ≡ (closed_row table k).b) lottery.rows
+  caps_reached k l =
+      subst (AllByRecursion (λ row. panel_weight (stage_at all table k) row.panel ≡ (closed_row table k).b)) (sym (ap (λ (lottery : Lottery). lottery.rows) made.is))
+      (each_mapped (λ row. panel_weight (stage_at all table k) row.panel ≡ (closed_row table k).b) (row_alone all lottery.total) (parts_of table)
+      (each_part table (λ part. panel_weight (stage_at all table k) (first_panel all part.0) ≡ (closed_row table k).b) (solution table)
+      (each_map (λ there. (there.column < length table.columns) × All (IsTight table there.column) table.closed)
+      (λ there. panel_weight (stage_at all table k) (first_panel all (get_or table.columns there.column [])) ≡ (closed_row table k).b)
+      (λ there h. panel_weighs pool (closed_row table k) (entry_each pool limits table keeps k l) (get_or table.columns there.column []) (keeps.columns there.column [] h.0)
+      ∙ weight_is_sum (closed_row table k).a (get_or table.columns there.column []) ∙ h.1 k 0 l) (solution table)
+      (each_both (λ there. there.column < length table.columns) (λ there. All (IsTight table there.column) table.closed) (solution table)
+      (recursion_from_All (λ there. there.column < length table.columns) (solution table) solved.known)
+      (recursion_from_All (λ there. All (IsTight table there.column) table.closed) (solution table) (solution-tight table keeps.in_order))))))
+
+  -- ---- each volunteer's count
+
+  divides : All (λ there. (lowest_of there.side there.coefficient).den ∣ lottery.total) (solution table)
+  divides = All-from_recursion (λ there. (lowest_of there.side there.coefficient).den ∣ lottery.total) (solution table)
+      (each_column table (λ part. part.1.den ∣ lottery.total) (solution table) (each_den all (parts_of table) lottery.total made.common))
+
+  expected_count : (t : ℕ) → expected lottery.total (parts_of table) t ≡ count_over table lottery.total t
+  expected_count t =
+      sum_by-is-total (λ part. get_or part.0 t 0 * (part.1.num * (lottery.total / part.1.den))) (parts_of table)
+      ∙ expected_is table lottery.total t (solution table)
+      ∙ sym (sum_by-is-total (λ there. numerator_over lottery.total there * count_in table.columns there.column t) (solution table))
+
+  module _ (is_pool : IsPool pool) where
+    counted : (i : ℕ) → i < length pool.volunteers → count lottery i ≡ count_over table lottery.total i
+    counted i l =
+        let inside : i < length all.classes = omega (arith, class_count pool) in
+        let mine = members_alone 0 i all.classes (single pool.volunteers 0) (pool_alone pool) inside in
+        let me : holds ((0 + i) ∷ []) i ≡ true = ap (λ b. b || false) (eq-eqb (0 + i) i (omega arith)) in
+        let even = pool_even pool (parts_of table) lottery is_pool parts lottery_is i i (get_or all.classes i (single pool.volunteers 0)) (slice_get-get_or all.classes i (single pool.volunteers 0) inside)
+        (ap (λ members. holds members i) mine ∙ me) in
+        times_one (count lottery i) (length (get_or all.classes i (single pool.volunteers 0)).members) (ap length mine) ∙ even ∙ expected_count i
+      where
+        times_one : (n size : ℕ) → size ≡ 1 → n ≡ n * size
+        times_one n size e = sym (ap (λ m. n * m) e ∙ one n)
+          where
+            one : (n : ℕ) → n * 1 ≡ n
+            one n = omega arith
+
+    one_size : (i : ℕ) → i < length pool.volunteers → get_or table.sizes i 0 ≡ 1
+    one_size i l =
+        let inside : i < length all.classes = omega (arith, class_count pool) in
+        ap (λ sizes. get_or sizes i 0) keeps.sizes
+        ∙ get_or-map (λ class. length class.members) all.classes i (single pool.volunteers 0) 0 inside
+        ∙ ap length (members_alone 0 i all.classes (single pool.volunteers 0) (pool_alone pool) inside)
+
+    -- over the scale of the levels
+    pub counts_are : (levels : HasLevels table) (i : ℕ) → i < length pool.volunteers → count lottery i * levels.scale ≡ lottery.total * table_levels.levels_of table levels.level i
+    counts_are levels i l =
+        let told = levels.counts_over lottery.total i divides (omega (arith, size_count pool limits table keeps)) in
+        scaled (count lottery i) (count_over table lottery.total i) levels.scale lottery.total (get_or table.sizes i 0) (table_levels.levels_of table levels.level i) (counted i l) told (one_size i l)
+      where
+        scaled : (n m scale sum size level : ℕ) → n ≡ m → scale * m ≡ sum * (size * level) → size ≡ 1 → n * scale ≡ sum * level
+        scaled n m scale sum size level e f g =
+            let a : n * scale ≡ scale * m = ap (λ n. n * scale) e ∙ turned m scale in
+            let b : sum * (size * level) ≡ sum * level = ap (λ size. sum * (size * level)) g ∙ ap (λ n. sum * n) (one level) in
+            a ∙ f ∙ b
+          where
+            turned : (a b : ℕ) → a * b ≡ b * a
+            turned a b = omega arith
+
+            one : (n : ℕ) → 1 * n ≡ n
+            one n = omega arith
+
+-- ---- the levels of the stages that come
+
+abbrev pub closed_at : Classes → Table → (ℕ → ℕ) → ℕ → Closed
+closed_at all table level k = record { stage = stage_at all table k; level = level k }
+
+module _ (pool : Pool) (limits : Limits) (table : Table) (keeps : KeepsRun (classes_of pool) limits table) (stages : KeepsStages table) (shut : table.in_stage ≡ false) (level : ℕ → ℕ) where
+  levels_from : (more k i : ℕ) → k + more ≡ length table.closed → i < length pool.volunteers →
+      levels_of (earlier (classes_of pool) table k) (map (closed_at (classes_of pool) table level) (range_with_len k more)) i ≡ total (λ k. cond (was_unsettled table k i) (level k) 0) (range_with_len k more)
+  levels_from zero k i e l = refl
+  levels_from (suc more) k i e l =
+      let next : k + 1 ≡ suc k = omega arith in
+      let rest : levels_of (earlier (classes_of pool) table (suc k)) (map (closed_at (classes_of pool) table level) (range_with_len (k + 1) more)) i ≡ total (λ k. cond (was_unsettled table k i) (level k) 0) (range_with_len (k + 1) more) =
+      ap (λ n. levels_of (earlier (classes_of pool) table n) (map (closed_at (classes_of pool) table level) (range_with_len (k + 1) more)) i) (sym next) ∙ levels_from more (k + 1) i (omega arith) l in
+      ap₂ (λ a b. a + b) (ap (λ b. cond b 0 (level k)) (marked pool limits table keeps stages shut k i (omega arith) l) ∙ either (was_unsettled table k i)) rest
+    where
+      either : (b : Bool) → cond (not b) 0 (level k) ≡ cond b (level k) 0
+      either true = refl
+      either false = refl
+
+  pub levels_are : (i : ℕ) → i < length pool.volunteers →
+      levels_of [] (map (closed_at (classes_of pool) table level) (range_with_len 0 (length table.closed))) i ≡ table_levels.levels_of table level i
+  levels_are i l =
+      levels_from (length table.closed) 0 i (omega arith) l
+      ∙ sym (sum_by-is-total (λ k. cond (was_unsettled table k i) (level k) 0) (range_with_len 0 (length table.closed)))

@@ -1,0 +1,51 @@
+-- A run ends with no panel where the pool has no quota panel.
+use Rattle.std.proofs.Common.{◌≡◌, ℕ, ◌≤◌, true, cond, List, [], ◌∷◌, None, Result, Ok, Err, refl, sym, ap, ◌∙◌, inl, inr, ◌⊎◌}
+use Rattle.std.proofs.lemmas.Bool.{false≢true, le-ltb}
+use Rattle.std.specs.Prelude.{slice_get}
+use Rattle.pool_definitions.specs.Pool.{Pool, panels}
+use Rattle.pool_definitions.specs.Lottery.{Lottery}
+use Rattle.row_definitions.specs.Table.{Table}
+use Rattle.run_definitions.specs.Run.{Limits, Ended, NoPanel, NodesSpent, RunEnds, answered, opened, opening, parts_of}
+use Rattle.search_definitions.specs.Classes.{Classes, are_alike, classes_of}
+use Rattle.search_definitions.specs.Compositions.{compositions, first_composition}
+use Rattle.search_definitions.specs.Visits.{first_search}
+use Rattle.search_definitions.proofs.FirstSearch.{search_finds_first}
+use Rattle.search_definitions.proofs.PoolClasses.{alone_makes_classes, classes_in_order, no_panel_of_classes, search_finds_none}
+use Rattle.spread_definitions.specs.Spreading.{TotalPass, spread}
+use Rattle.run_definitions.proofs.Ends.{ends_at_once}
+use Rattle.run_laws.proofs.Endings.{EndsAt, FindsNone, IsAnswered, ends_at, is_refused, opening_tells, step_tells}
+
+nothing_first : (xs : List (List ℕ)) → slice_get xs 0 ≡ None → xs ≡ []
+nothing_first [] e = refl
+nothing_first (x ∷ xs) e = absurd cc
+
+-- spreading tells a panel, or where the total passes
+some_answer : (all : Classes) (table : Table) → NoPanel ≡ answered all table (spread all (parts_of table)) → ⊥
+some_answer all table e = by (spread all (parts_of table)) e
+  where
+    by : (found : Result Lottery TotalPass) → NoPanel ≡ answered all table found → ⊥
+    by (Ok lottery) f = cc
+    by (Err pass) f = cc
+
+pub none_where_no_panel : (pool : Pool) (limits : Limits) → RunEnds pool limits NoPanel → panels pool ≡ []
+none_where_no_panel pool limits ends = by (ends_at (classes_of pool) limits ends.steps NoPanel ends.there)
+  where
+    opens : FindsNone (classes_of pool) limits NoPanel ⊎ (is_refused NoPanel ≡ true) → panels pool ≡ []
+    opens (inl found) = no_panel_of_classes pool (are_alike pool) (alone_makes_classes pool) (nothing_first (compositions (classes_of pool)) found.none)
+    opens (inr refused) = absurd (false≢true refused)
+
+    steps : (table : Table) → IsAnswered (classes_of pool) limits table NoPanel ⊎ (is_refused NoPanel ≡ true) → ⊥
+    steps table (inl answer) = some_answer (classes_of pool) table answer.is
+    steps table (inr refused) = false≢true refused
+
+    by : (opening (classes_of pool) limits ≡ Ended NoPanel) ⊎ EndsAt (classes_of pool) limits NoPanel → panels pool ≡ []
+    by (inl now) = opens (opening_tells (classes_of pool) limits NoPanel now)
+    by (inr last) = absurd (steps last.last (step_tells (classes_of pool) limits last.last NoPanel last.step_is))
+
+pub no_panel_where_none : (pool : Pool) (limits : Limits) → panels pool ≡ [] → (first_search (classes_of pool)).visits ≤ limits.nodes → RunEnds pool limits NoPanel
+unfolding opening
+no_panel_where_none pool limits none few =
+    let all = classes_of pool in
+    let finds : first_composition all ≡ None = sym (search_finds_first all (classes_in_order pool (are_alike pool))) ∙ (search_finds_none pool (are_alike pool) (alone_makes_classes pool)).1 none in
+    ends_at_once all limits NoPanel
+    (ap (λ b. cond b (Ended (NodesSpent None)) (opened all limits (first_composition all))) (le-ltb limits.nodes (first_search all).visits few) ∙ ap (opened all limits) finds)

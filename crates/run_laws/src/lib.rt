@@ -1,0 +1,37 @@
+//! Laws over the run of `run_definitions`: what its ends say of the pool. They stand over definitions alone, those of the run and
+//! of the table, the searches and the spreading below it.
+//!
+//! The functions here have no body: their contracts are the laws.
+#![tactic(auto)]
+
+ghost use Rattle.run_laws.specs.Levels.{LevelsMakeStages};
+ghost use Rattle.run_laws.specs.Laws.{FoundIsCertified, FoundIsGreatest, FoundIsLottery, FoundIsWithin, NoPanelWhereNone, NoneEndsSo};
+
+/// A run ends with no panel only where the pool has no quota panel, and does so where it has none and the opening search may take its
+/// visits.
+pub fn no_panel_where_none()
+    ensures none { NoPanelWhereNone }
+    ensures ends { NoneEndsSo }
+{}
+
+/// The lottery that a run finds is a lottery over the pool's quota panels, of a total of at most 10^38.
+pub fn found_is_lottery()
+    ensures lottery { FoundIsLottery }
+    ensures within { FoundIsWithin }
+{}
+
+/// Stages hold where each volunteer's chance is the sum of the levels of the stages at which this volunteer was unsettled, and what else
+/// a stage has to meet is known.
+pub fn levels_make_stages()
+    ensures { LevelsMakeStages }
+{}
+
+/// The stages that a run finds with a lottery certify it.
+pub fn found_is_certified()
+    ensures { FoundIsCertified }
+{}
+
+/// The lottery that a run finds is leximin greatest: no lottery over the pool's quota panels is above it.
+pub fn found_is_greatest()
+    ensures { FoundIsGreatest }
+{}
