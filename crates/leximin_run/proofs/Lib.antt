@@ -1,3 +1,4 @@
 mod Turns
 mod Beginning
 mod Ending
+mod Certified

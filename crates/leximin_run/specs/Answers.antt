@@ -1,5 +1,8 @@
 -- What the run answers.
-use Rattle.std.specs.Prelude.{◌≡◌, ℕ, ℤ, pos, Option, Some, None, Result, Ok, Err}
+use Rattle.std.specs.Prelude.{◌≡◌, [], ℕ, ℤ, pos, Option, Some, None, Result, Ok, Err}
+use Rattle.pool_definitions.specs.Certificate.{Certifies}
+use Rattle.pool_definitions.specs.Lottery.{LeximinGreatest}
+use Rattle.pool_definitions.specs.Pool.{Pool, panels}
 use Rattle.row_definitions.specs.Table.{Table}
 use Rattle.run_definitions.specs.Run.{Ending, Ends, Limits}
 use Rattle.search_definitions.specs.Classes.{Classes}
@@ -34,6 +37,12 @@ TellsEnding all limits (Err (TotalPasses place at total den)) =
 TellsEnding all limits (Err (PivotsSpent place)) = (table : Table) × (stood place ≡ Some table) × Ends all limits (Ending.PivotsSpent table)
 TellsEnding all limits (Err (NodesSpent place)) = Ends all limits (Ending.NodesSpent (stood place))
 TellsEnding all limits (Err OutOfMemory) = Unit {0}
+
+-- a lottery that is found is certified by its stages and leximin greatest; where no panel is told, the pool has none
+abbrev pub IsCertified : Pool → Result Solved Stop → Type 0
+IsCertified pool (Ok (Found answer)) = Certifies pool answer.lottery answer.stages × LeximinGreatest pool answer.lottery
+IsCertified pool (Ok NoPanel) = panels pool ≡ []
+IsCertified pool (Err stop) = Unit {0}
 
 -- why the run stops where a step is refused
 abbrev pub stop_of : Table → Refusal → Stop

@@ -2,7 +2,7 @@
 
 ghost use Rattle.std.specs.Prelude.{◌≡◌, ◌≤◌, ◌<◌, false, Some, IfOk, [], length, slice_index_or};
 ghost use Rattle.leximin_run.specs.Advancing.{Reaches};
-ghost use Rattle.leximin_run.specs.Answers.{TellsEnding, stop_of};
+ghost use Rattle.leximin_run.specs.Answers.{IsCertified, TellsEnding, stop_of};
 ghost use Rattle.run_definitions.specs.Run.{parts_of};
 ghost use Rattle.row_definitions.specs.InOrder.{settled_count};
 ghost use Rattle.search_definitions.specs.Classes.{classes_of};
@@ -22,8 +22,18 @@ use pool_model::{Answer, Pool};
 use std::alloc::{AllocError, Global};
 
 /// The run over a pool under limits: the lottery with its certificate, or that the pool has no quota panel, or the first step that is
-/// refused, with the table as it stood.
+/// refused, with the table as it stood. A lottery is leximin greatest, and its stages certify it.
 pub fn solve(alloc: Global, pool: &Pool, limits: Limits) -> Result<Solved, Stop>
+    ensures run { TellsEnding (classes_of pool.now) limits result }
+    ensures certified { IsCertified pool.now result }
+{
+    pool.facts();
+    let _ = limits.bits();
+    run(alloc, pool, limits)
+}
+
+// The run.
+fn run(alloc: Global, pool: &Pool, limits: Limits) -> Result<Solved, Stop>
     ensures { TellsEnding (classes_of pool.now) limits result }
 {
     let Ok(classes) = classes(alloc, pool) else {

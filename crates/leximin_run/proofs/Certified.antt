@@ -1,0 +1,19 @@
+-- What the run answers is certified.
+use Rattle.std.specs.Prelude.{Result, Ok, Err}
+use Rattle.pool_definitions.specs.Pool.{IsPool, Pool}
+use Rattle.pool_definitions.proofs.Greatest.{greatest_from_Certifies}
+use Rattle.search_definitions.specs.Classes.{classes_of}
+use Rattle.run_definitions.specs.Keeps.{AreLimits}
+use Rattle.run_definitions.specs.Run.{Limits}
+use Rattle.run_laws.proofs.Certified.{found_certified}
+use Rattle.run_laws.proofs.NoPanels.{none_where_no_panel}
+use Rattle.leximin_run.specs.declared.stops.Solved.{Solved}
+use Rattle.leximin_run.specs.declared.stops.Solved.TheVariants.{Found, NoPanel}
+use Rattle.leximin_run.specs.declared.stops.Stop.{Stop}
+use Rattle.leximin_run.specs.Answers.{IsCertified, TellsEnding}
+
+pub certified : (pool : Pool) (limits : Limits) → IsPool pool → AreLimits limits → (answer : Result Solved Stop) → TellsEnding (classes_of pool) limits answer → IsCertified pool answer
+certified pool limits is_pool ranges (Ok (Found answer)) told =
+    let certifies = found_certified pool limits answer is_pool ranges told in (certifies, greatest_from_Certifies pool answer.lottery answer.stages certifies)
+certified pool limits is_pool ranges (Ok NoPanel) told = none_where_no_panel pool limits told
+certified pool limits is_pool ranges (Err stop) told = tt
