@@ -5,7 +5,7 @@
 #![tactic(auto)]
 
 ghost use Rattle.run_laws.specs.Levels.{LevelsMakeStages};
-ghost use Rattle.run_laws.specs.Laws.{FoundIsCertified, FoundIsGreatest, FoundIsLottery, FoundIsWithin, NoPanelWhereNone, NoneEndsSo};
+ghost use Rattle.run_laws.specs.Laws.{FoundIsCertified, FoundIsGreatest, FoundIsInRanges, FoundIsLottery, FoundIsWithin, NoPanelWhereNone, NoneEndsSo};
 
 /// A run ends with no panel only where the pool has no quota panel, and does so where it has none and the opening search may take its
 /// visits.
@@ -34,4 +34,9 @@ pub fn found_is_certified()
 /// The lottery that a run finds is leximin greatest: no lottery over the pool's quota panels is above it.
 pub fn found_is_greatest()
     ensures { FoundIsGreatest }
+{}
+
+/// The numbers of what a run finds keep the ranges that they have in the text of a bundle.
+pub fn found_is_in_ranges()
+    ensures { FoundIsInRanges }
 {}
