@@ -4,8 +4,14 @@
 //! The functions here have no body: their contracts are the laws.
 #![tactic(auto)]
 
+ghost use Rattle.pool_definitions.specs.Certificate.{Certifies};
+ghost use Rattle.pool_definitions.specs.WorkedExamples.{four};
+ghost use Rattle.run_definitions.specs.WorkedRuns.{pairs};
 ghost use Rattle.run_laws.specs.Levels.{LevelsMakeStages};
 ghost use Rattle.run_laws.specs.Laws.{FoundIsCertified, FoundIsGreatest, FoundIsInRanges, FoundIsLottery, FoundIsWithin, NoPanelWhereNone, NoneEndsSo};
+
+use pool_definitions::four_volunteers;
+use run_definitions::worked_runs;
 
 /// A run ends with no panel only where the pool has no quota panel, and does so where it has none and the opening search may take its
 /// visits.
@@ -40,3 +46,11 @@ pub fn found_is_greatest()
 pub fn found_is_in_ranges()
     ensures { FoundIsInRanges }
 {}
+
+/// The lottery that the run finds over two women and two men is certified by the two stages that it finds.
+pub fn worked_certificate()
+    ensures { Certifies four pairs.lottery pairs.stages }
+{
+    four_volunteers();
+    worked_runs();
+}
