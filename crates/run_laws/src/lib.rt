@@ -1,5 +1,5 @@
-//! Laws over the run of `run_definitions`: what its ends say of the pool. They stand over definitions alone, those of the run and
-//! of the table, the searches and the spreading below it.
+//! Laws over the run of `run_definitions`: what its ends say of the pool. They stand over definitions alone: those of the run, of the
+//! table, the searches and the spreading below it, and of the ranges of a bundle (`bundle_definitions`).
 //!
 //! The functions here have no body: their contracts are the laws.
 #![tactic(auto)]
