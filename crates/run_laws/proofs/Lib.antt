@@ -10,3 +10,4 @@ pub mod ClosedStages
 pub mod Marks
 pub mod LotteryCounts
 pub mod Certified
+pub mod Ranges

@@ -1,5 +1,6 @@
 -- What the ends of a run say.
 use Rattle.std.specs.Prelude.{◌≡◌, ◌≤◌, []}
+use Rattle.bundle_definitions.specs.Ranges.{IsInRanges}
 use Rattle.pool_definitions.specs.Certificate.{Answer, Certifies}
 use Rattle.pool_definitions.specs.Lottery.{IsLottery, LeximinGreatest}
 use Rattle.pool_definitions.specs.Pool.{IsPool, Pool, panels}
@@ -31,3 +32,7 @@ FoundIsCertified = (pool : Pool) (limits : Limits) (answer : Answer) → IsPool 
 -- so no lottery over the pool is above it
 abbrev pub FoundIsGreatest : Type 0
 FoundIsGreatest = (pool : Pool) (limits : Limits) (answer : Answer) → IsPool pool → AreLimits limits → RunEnds pool limits (Found answer) → LeximinGreatest pool answer.lottery
+
+-- and its numbers keep the ranges that they have in the text of a bundle
+abbrev pub FoundIsInRanges : Type 0
+FoundIsInRanges = (pool : Pool) (limits : Limits) (answer : Answer) → IsPool pool → AreLimits limits → RunEnds pool limits (Found answer) → IsInRanges pool answer

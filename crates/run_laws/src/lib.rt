@@ -1,11 +1,17 @@
-//! Laws over the run of `run_definitions`: what its ends say of the pool. They stand over definitions alone, those of the run and
-//! of the table, the searches and the spreading below it.
+//! Laws over the run of `run_definitions`: what its ends say of the pool. They stand over definitions alone: those of the run, of the
+//! table, the searches and the spreading below it, and of the ranges of a bundle (`bundle_definitions`).
 //!
 //! The functions here have no body: their contracts are the laws.
 #![tactic(auto)]
 
+ghost use Rattle.pool_definitions.specs.Certificate.{Certifies};
+ghost use Rattle.pool_definitions.specs.WorkedExamples.{four};
+ghost use Rattle.run_definitions.specs.WorkedRuns.{pairs};
 ghost use Rattle.run_laws.specs.Levels.{LevelsMakeStages};
-ghost use Rattle.run_laws.specs.Laws.{FoundIsCertified, FoundIsGreatest, FoundIsLottery, FoundIsWithin, NoPanelWhereNone, NoneEndsSo};
+ghost use Rattle.run_laws.specs.Laws.{FoundIsCertified, FoundIsGreatest, FoundIsInRanges, FoundIsLottery, FoundIsWithin, NoPanelWhereNone, NoneEndsSo};
+
+use pool_definitions::four_volunteers;
+use run_definitions::worked_runs;
 
 /// A run ends with no panel only where the pool has no quota panel, and does so where it has none and the opening search may take its
 /// visits.
@@ -35,3 +41,16 @@ pub fn found_is_certified()
 pub fn found_is_greatest()
     ensures { FoundIsGreatest }
 {}
+
+/// The numbers of what a run finds keep the ranges that they have in the text of a bundle.
+pub fn found_is_in_ranges()
+    ensures { FoundIsInRanges }
+{}
+
+/// The lottery that the run finds over two women and two men is certified by the two stages that it finds.
+pub fn worked_certificate()
+    ensures { Certifies four pairs.lottery pairs.stages }
+{
+    four_volunteers();
+    worked_runs();
+}
