@@ -2,7 +2,6 @@
 use Rattle.std.proofs.Common.{◌≡◌, ℕ, zero, suc, ◌+◌, ◌<◌, true, List, [], ◌∷◌, ◌++◌, length, take, get_or, refl, sym, ◌∙◌, ap, append_assoc, arith}
 use Rattle.std.proofs.lemmas.Bool.{and_parts, false≢true, ltb-true}
 use Rattle.std.proofs.lemmas.List.{append-nil}
-use Rattle.std.proofs.lemmas.Bool.{ltb-true}
 use Rattle.pool_definitions.specs.Pool.{Category, has_values}
 use Rattle.pool_definitions.specs.Building.{value_names}
 use Rattle.text_definitions.specs.Lines.{tab, line_feed, line_of, text_of}

@@ -1,11 +1,11 @@
 -- Each panel of the pool's size adds its weight to so many counts.
-use Rattle.std.proofs.Common.{◌≡◌, ℕ, suc, ◌+◌, ◌*◌, Bool, true, ◌&&◌, eqb, ltb, List, [], ◌∷◌, length, sum, refl, ap, sym, ◌∙◌, arith}
-use Rattle.std.specs.List.{list_all, AllByRecursion}
+use Rattle.std.proofs.Common.{◌≡◌, ℕ, ◌*◌, true, ◌&&◌, eqb, ltb, List, [], ◌∷◌, length, refl, ap, ◌∙◌, arith}
+use Rattle.std.specs.List.{list_all}
 use Rattle.std.proofs.lemmas.Bool.{and_parts, eqb-true}
 use Rattle.std.proofs.lemmas.List.Sums.{sum-map}
 use Rattle.pool_definitions.specs.Lists.{is_increasing}
 use Rattle.pool_definitions.specs.Pool.{Pool, everybody, is_of_size}
-use Rattle.pool_definitions.specs.Lottery.{Row, Lottery, TotalAgrees, count, counts}
+use Rattle.pool_definitions.specs.Lottery.{Row, count}
 use Rattle.pool_definitions.proofs.Sums.{total, sum_by-is-total, total_eq, total_ext, total-scaled, each_map, each_from_list_all}
 use Rattle.pool_definitions.proofs.Weights.{Fits, counted, exchange}
 use Rattle.pool_definitions.proofs.Greatest.{count-is}

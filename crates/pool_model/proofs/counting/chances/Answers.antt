@@ -1,15 +1,14 @@
-use Rattle.std.proofs.Common.{◌≡◌, ℕ, zero, suc, ◌+◌, ◌*◌, ◌<◌, ◌≤◌, ◌^◌, Bool, true, false, cond, List, [], ◌∷◌, length, take, get_or, map, ℤ, pos, ◌+ℤ◌, refl, sym, ap, ◌∙◌, subst, arith, rules}
-use Rattle.std.specs.List.{range_with_len}
+use Rattle.std.proofs.Common.{◌≡◌, ℕ, zero, suc, ◌+◌, ◌<◌, ◌≤◌, ◌^◌, Bool, true, false, cond, List, [], ◌∷◌, length, take, get_or, ℤ, pos, ◌+ℤ◌, sym, ap, ◌∙◌, arith, rules}
 use Rattle.std.proofs.lemmas.List.{with_items_is}
 use Rattle.std.proofs.lemmas.List.FromFn.{fill_by_all}
-use Rattle.std.proofs.lemmas.Int.{ints, to_z-of_z}
+use Rattle.std.proofs.lemmas.Int.{to_z-of_z}
 use Rattle.std.proofs.lemmas.List.{take_all}
 use Rattle.std.proofs.lemmas.Simd.{map-map}
 use mir.Val.{SFits, to_z, of_z}
 use mir.Syntax.{w128}
 use Rattle.pool_definitions.specs.Lists.{holds}
 use Rattle.pool_definitions.specs.Pool.{everybody}
-use Rattle.pool_definitions.specs.Lottery.{Row, Lottery, count, counts}
+use Rattle.pool_definitions.specs.Lottery.{Row, count}
 use Rattle.pool_definitions.proofs.Sums.{total, sum_by-is-total}
 use Rattle.pool_definitions.proofs.Weights.{counted}
 use Rattle.pool_definitions.proofs.Greatest.{count-is}

@@ -2,7 +2,6 @@ use Rattle.std.proofs.Common.{◌≡◌, [], ◌∷◌, ◌++◌, map, take, ap,
 use Rattle.std.specs.Prelude.{string_bytes, OnOk}
 use Rattle.std.proofs.lemmas.List.{take_all}
 use Rattle.std.proofs.lemmas.Result.{on_ok_weaker}
-use Rattle.text_definitions.specs.Lines.{line_of, text_of}
 use Rattle.pool_text.specs.Writing.{tabbed}
 use Rattle.pool_text.proofs.WritingLemmas.{line_written}
 use Rattle.pool_text.proofs.writing.push_line.Goals as goal

@@ -1,6 +1,5 @@
-use Rattle.std.proofs.Common.{◌≡◌, ◌++◌, map, take}
+use Rattle.std.proofs.Common.{◌≡◌, ◌++◌, take}
 use Rattle.std.specs.Prelude.{string_bytes}
-use Rattle.std.specs.List.{flat_map}
 use Rattle.text_definitions.specs.Lines.{text_of}
 use Rattle.text_definitions.specs.PoolText.{standing_lines}
 use Rattle.pool_text.proofs.writing.push_standings.Given as goal
