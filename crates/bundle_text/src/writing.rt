@@ -5,7 +5,7 @@ ghost use Rattle.std.specs.Fmt.{decimal, signed_decimal};
 ghost use Rattle.text_definitions.specs.Lines.{text_of};
 ghost use Rattle.bundle_definitions.specs.Ranges.{IsInRanges};
 ghost use Rattle.bundle_definitions.specs.BundleText.{total_line, panel_line, stage_line, done_line, answer_lines, bundle_text};
-ghost use Rattle.bundle_text.specs.Writing.{tabbed};
+ghost use Rattle.text_definitions.specs.Lines.{tabbed};
 
 use pool_model::{Answer, Lottery, LotteryRow, Pool, Stage};
 use pool_text::write_pool;

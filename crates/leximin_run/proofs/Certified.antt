@@ -1,4 +1,4 @@
--- What the run answers is certified.
+-- What the run answers is certified, and keeps the ranges of a bundle.
 use Rattle.std.specs.Prelude.{Result, Ok, Err}
 use Rattle.pool_definitions.specs.Pool.{IsPool, Pool}
 use Rattle.pool_definitions.proofs.Greatest.{greatest_from_Certifies}
@@ -6,14 +6,20 @@ use Rattle.search_definitions.specs.Classes.{classes_of}
 use Rattle.run_definitions.specs.Keeps.{AreLimits}
 use Rattle.run_definitions.specs.Run.{Limits}
 use Rattle.run_laws.proofs.Certified.{found_certified}
+use Rattle.run_laws.proofs.Ranges.{found_in_ranges}
 use Rattle.run_laws.proofs.NoPanels.{none_where_no_panel}
 use Rattle.leximin_run.specs.declared.stops.Solved.{Solved}
 use Rattle.leximin_run.specs.declared.stops.Solved.TheVariants.{Found, NoPanel}
 use Rattle.leximin_run.specs.declared.stops.Stop.{Stop}
-use Rattle.leximin_run.specs.Answers.{IsCertified, TellsEnding}
+use Rattle.leximin_run.specs.Answers.{IsCertified, KeepsRanges, TellsEnding}
 
 pub certified : (pool : Pool) (limits : Limits) → IsPool pool → AreLimits limits → (answer : Result Solved Stop) → TellsEnding (classes_of pool) limits answer → IsCertified pool answer
 certified pool limits is_pool ranges (Ok (Found answer)) told =
     let certifies = found_certified pool limits answer is_pool ranges told in (certifies, greatest_from_Certifies pool answer.lottery answer.stages certifies)
 certified pool limits is_pool ranges (Ok NoPanel) told = none_where_no_panel pool limits told
 certified pool limits is_pool ranges (Err stop) told = tt
+
+pub keeps_ranges : (pool : Pool) (limits : Limits) → IsPool pool → AreLimits limits → (answer : Result Solved Stop) → TellsEnding (classes_of pool) limits answer → KeepsRanges pool answer
+keeps_ranges pool limits is_pool ranges (Ok (Found answer)) told = found_in_ranges pool limits answer is_pool ranges told
+keeps_ranges pool limits is_pool ranges (Ok NoPanel) told = tt
+keeps_ranges pool limits is_pool ranges (Err stop) told = tt

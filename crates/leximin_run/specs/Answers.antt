@@ -1,5 +1,6 @@
 -- What the run answers.
 use Rattle.std.specs.Prelude.{◌≡◌, [], ℕ, ℤ, pos, Option, Some, None, Result, Ok, Err}
+use Rattle.bundle_definitions.specs.Ranges.{IsInRanges}
 use Rattle.pool_definitions.specs.Certificate.{Certifies}
 use Rattle.pool_definitions.specs.Lottery.{LeximinGreatest}
 use Rattle.pool_definitions.specs.Pool.{Pool, panels}
@@ -43,6 +44,12 @@ abbrev pub IsCertified : Pool → Result Solved Stop → Type 0
 IsCertified pool (Ok (Found answer)) = Certifies pool answer.lottery answer.stages × LeximinGreatest pool answer.lottery
 IsCertified pool (Ok NoPanel) = panels pool ≡ []
 IsCertified pool (Err stop) = Unit {0}
+
+-- the numbers of what is found keep the ranges that they have in the text of a bundle
+abbrev pub KeepsRanges : Pool → Result Solved Stop → Type 0
+KeepsRanges pool (Ok (Found answer)) = IsInRanges pool answer
+KeepsRanges pool (Ok NoPanel) = Unit {0}
+KeepsRanges pool (Err stop) = Unit {0}
 
 -- why the run stops where a step is refused
 abbrev pub stop_of : Table → Refusal → Stop

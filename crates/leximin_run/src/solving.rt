@@ -2,7 +2,7 @@
 
 ghost use Rattle.std.specs.Prelude.{◌≡◌, ◌≤◌, ◌<◌, false, Some, IfOk, [], length, slice_index_or};
 ghost use Rattle.leximin_run.specs.Advancing.{Reaches};
-ghost use Rattle.leximin_run.specs.Answers.{IsCertified, TellsEnding, stop_of};
+ghost use Rattle.leximin_run.specs.Answers.{IsCertified, KeepsRanges, TellsEnding, stop_of};
 ghost use Rattle.run_definitions.specs.Run.{parts_of};
 ghost use Rattle.row_definitions.specs.InOrder.{settled_count};
 ghost use Rattle.search_definitions.specs.Classes.{classes_of};
@@ -26,6 +26,8 @@ use std::alloc::{AllocError, Global};
 pub fn solve(alloc: Global, pool: &Pool, limits: Limits) -> Result<Solved, Stop>
     ensures run { TellsEnding (classes_of pool.now) limits result }
     ensures certified { IsCertified pool.now result }
+    // So a lottery that is found has a bundle.
+    ensures ranges { KeepsRanges pool.now result }
 {
     pool.facts();
     let _ = limits.bits();

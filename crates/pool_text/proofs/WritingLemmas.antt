@@ -1,21 +1,11 @@
--- Lines and names as they are written, one field after the other.
+-- Names as they are written, one field after the other.
 use Rattle.std.proofs.Common.{◌≡◌, ℕ, zero, suc, ◌+◌, ◌<◌, true, List, [], ◌∷◌, ◌++◌, length, take, get_or, refl, sym, ◌∙◌, ap, append_assoc, arith}
 use Rattle.std.proofs.lemmas.Bool.{and_parts, false≢true, ltb-true}
 use Rattle.std.proofs.lemmas.List.{append-nil}
 use Rattle.pool_definitions.specs.Pool.{Category, has_values}
 use Rattle.pool_definitions.specs.Building.{value_names}
-use Rattle.text_definitions.specs.Lines.{tab, line_feed, line_of, text_of}
 use Rattle.text_definitions.specs.PoolText.{names_at}
-use Rattle.pool_text.specs.Writing.{tabbed}
-
-line-tabbed : (word : List ℕ) (fields : List (List ℕ)) → line_of (word ∷ fields) ≡ word ++ tabbed fields
-line-tabbed word [] = sym (append-nil word)
-line-tabbed word (field ∷ fields) = ap (λ rest. word ++ (tab ∷ rest)) (line-tabbed field fields)
-
--- a word, its fields and LF are a line
-pub line_written : (word : List ℕ) (fields : List (List ℕ)) → (word ++ tabbed fields) ++ line_feed ∷ [] ≡ text_of (line_of (word ∷ fields) ∷ [])
-line_written word fields =
-    ap (λ line. line ++ line_feed ∷ []) (sym (line-tabbed word fields)) ∙ sym (append-nil (line_of (word ∷ fields) ++ line_feed ∷ []))
+use Rattle.text_definitions.specs.Lines.{tab, tabbed}
 
 -- a place is that of a value of its category
 pub place_inside : (categories : List Category) (places : List ℕ) (i : ℕ) (d : Category) → has_values categories places ≡ true → i < length places → get_or places i 0 < length (get_or categories i d).values

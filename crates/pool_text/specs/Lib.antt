@@ -2,4 +2,3 @@ pub mod Answers
 pub mod Entries
 pub mod Numbers
 pub mod Progress
-pub mod Writing

@@ -7,7 +7,7 @@ ghost use Rattle.pool_definitions.specs.Pool.{has_values};
 ghost use Rattle.text_definitions.specs.Lines.{line_of, text_of};
 ghost use Rattle.text_definitions.specs.PoolText.{category_lines, value_line, names_at, volunteer_line, standing_line, standing_lines, spelling};
 ghost use Rattle.text_definitions.specs.PoolReading.{read};
-ghost use Rattle.pool_text.specs.Writing.{tabbed};
+ghost use Rattle.text_definitions.specs.Lines.{tabbed};
 
 use pool_model::{BoundedValue, Category, Pool, Standing, Volunteer};
 use std::alloc::{AllocError, Global};

@@ -62,23 +62,26 @@ module _ (all : Classes) (limits : Limits) where
   -- the opening finds no composition
   pub record FindsNone (ending : Ending) : Type 0 where
     pub none : first_composition all ≡ None
+    pub within : ltb limits.nodes (first_search all).visits ≡ false
     pub is : ending ≡ NoPanel
 
   pub opening_tells : (ending : Ending) → opening all limits ≡ Ended ending → FindsNone ending ⊎ (is_refused ending ≡ true)
   unfolding opening
-  opening_tells ending e = by (ltb limits.nodes (first_search all).visits) e
+  opening_tells ending e = by (ltb limits.nodes (first_search all).visits) refl e
     where
       of_start : (tried : Result Table Pass) → started tried ≡ Ended ending → FindsNone ending ⊎ (is_refused ending ≡ true)
       of_start (Ok table) f = absurd cc
       of_start (Err pass) f = let same : TooWide None pass ≡ ending = cc in inr (ap is_refused (sym same))
 
-      of_first : (found : Option (List ℕ)) → first_composition all ≡ found → opened all limits found ≡ Ended ending → FindsNone ending ⊎ (is_refused ending ≡ true)
-      of_first None p f = let same : NoPanel ≡ ending = cc in inl (record { none = p; is = sym same })
-      of_first (Some first) p f = of_start (start (sizes_of all) first limits.bits) f
+      of_first : (found : Option (List ℕ)) → ltb limits.nodes (first_search all).visits ≡ false → first_composition all ≡ found → opened all limits found ≡ Ended ending →
+          FindsNone ending ⊎ (is_refused ending ≡ true)
+      of_first None w p f = let same : NoPanel ≡ ending = cc in inl (record { none = p; within = w; is = sym same })
+      of_first (Some first) w p f = of_start (start (sizes_of all) first limits.bits) f
 
-      by : (b : Bool) → cond b (Ended (NodesSpent None)) (opened all limits (first_composition all)) ≡ Ended ending → FindsNone ending ⊎ (is_refused ending ≡ true)
-      by true f = let same : NodesSpent None ≡ ending = cc in inr (ap is_refused (sym same))
-      by false f = of_first (first_composition all) refl f
+      by : (b : Bool) → ltb limits.nodes (first_search all).visits ≡ b → cond b (Ended (NodesSpent None)) (opened all limits (first_composition all)) ≡ Ended ending →
+          FindsNone ending ⊎ (is_refused ending ≡ true)
+      by true w f = let same : NodesSpent None ≡ ending = cc in inr (ap is_refused (sym same))
+      by false w f = of_first (first_composition all) w refl f
 
   -- ---- what a step that ends the run tells
 

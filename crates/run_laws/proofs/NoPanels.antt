@@ -1,11 +1,11 @@
 -- A run ends with no panel where the pool has no quota panel.
 use Rattle.std.proofs.Common.{◌≡◌, ℕ, ◌≤◌, true, cond, List, [], ◌∷◌, None, Result, Ok, Err, refl, sym, ap, ◌∙◌, inl, inr, ◌⊎◌}
-use Rattle.std.proofs.lemmas.Bool.{false≢true, le-ltb}
+use Rattle.std.proofs.lemmas.Bool.{false≢true, le-ltb, ltb-false}
 use Rattle.std.specs.Prelude.{slice_get}
 use Rattle.pool_definitions.specs.Pool.{Pool, panels}
 use Rattle.pool_definitions.specs.Lottery.{Lottery}
 use Rattle.row_definitions.specs.Table.{Table}
-use Rattle.run_definitions.specs.Run.{Limits, Ended, NoPanel, NodesSpent, RunEnds, answered, opened, opening, parts_of}
+use Rattle.run_definitions.specs.Run.{Limits, Ended, NoPanel, NodesSpent, Ends, RunEnds, answered, opened, opening, parts_of}
 use Rattle.search_definitions.specs.Classes.{Classes, are_alike, classes_of}
 use Rattle.search_definitions.specs.Compositions.{compositions, first_composition}
 use Rattle.search_definitions.specs.Visits.{first_search}
@@ -27,20 +27,28 @@ some_answer all table e = by (spread all (parts_of table)) e
     by (Ok lottery) f = cc
     by (Err pass) f = cc
 
-pub none_where_no_panel : (pool : Pool) (limits : Limits) → RunEnds pool limits NoPanel → panels pool ≡ []
-none_where_no_panel pool limits ends = by (ends_at (classes_of pool) limits ends.steps NoPanel ends.there)
+-- a run that ends with no panel does so at its opening
+at_opening : (all : Classes) (limits : Limits) → Ends all limits NoPanel → FindsNone all limits NoPanel
+at_opening all limits ends = by (ends_at all limits ends.steps NoPanel ends.there)
   where
-    opens : FindsNone (classes_of pool) limits NoPanel ⊎ (is_refused NoPanel ≡ true) → panels pool ≡ []
-    opens (inl found) = no_panel_of_classes pool (are_alike pool) (alone_makes_classes pool) (nothing_first (compositions (classes_of pool)) found.none)
+    opens : FindsNone all limits NoPanel ⊎ (is_refused NoPanel ≡ true) → FindsNone all limits NoPanel
+    opens (inl found) = found
     opens (inr refused) = absurd (false≢true refused)
 
-    steps : (table : Table) → IsAnswered (classes_of pool) limits table NoPanel ⊎ (is_refused NoPanel ≡ true) → ⊥
-    steps table (inl answer) = some_answer (classes_of pool) table answer.is
+    steps : (table : Table) → IsAnswered all limits table NoPanel ⊎ (is_refused NoPanel ≡ true) → ⊥
+    steps table (inl answer) = some_answer all table answer.is
     steps table (inr refused) = false≢true refused
 
-    by : (opening (classes_of pool) limits ≡ Ended NoPanel) ⊎ EndsAt (classes_of pool) limits NoPanel → panels pool ≡ []
-    by (inl now) = opens (opening_tells (classes_of pool) limits NoPanel now)
-    by (inr last) = absurd (steps last.last (step_tells (classes_of pool) limits last.last NoPanel last.step_is))
+    by : (opening all limits ≡ Ended NoPanel) ⊎ EndsAt all limits NoPanel → FindsNone all limits NoPanel
+    by (inl now) = opens (opening_tells all limits NoPanel now)
+    by (inr last) = absurd (steps last.last (step_tells all limits last.last NoPanel last.step_is))
+
+pub no_panel_is_within : (pool : Pool) (limits : Limits) → RunEnds pool limits NoPanel → (first_search (classes_of pool)).visits ≤ limits.nodes
+no_panel_is_within pool limits ends = ltb-false _ _ (at_opening (classes_of pool) limits ends).within
+
+pub none_where_no_panel : (pool : Pool) (limits : Limits) → RunEnds pool limits NoPanel → panels pool ≡ []
+none_where_no_panel pool limits ends =
+    no_panel_of_classes pool (are_alike pool) (alone_makes_classes pool) (nothing_first (compositions (classes_of pool)) (at_opening (classes_of pool) limits ends).none)
 
 pub no_panel_where_none : (pool : Pool) (limits : Limits) → panels pool ≡ [] → (first_search (classes_of pool)).visits ≤ limits.nodes → RunEnds pool limits NoPanel
 unfolding opening

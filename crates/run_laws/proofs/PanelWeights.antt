@@ -1,5 +1,5 @@
 -- The panel of a composition weighs in a row's stage what the composition weighs in the row.
-use Rattle.std.proofs.Common.{◌≡◌, ℕ, ◌<◌, true, ltb, List, [], ◌∷◌, map, length, ℤ, pos, ◌+ℤ◌, ◌*ℤ◌, refl, sym, ap, ◌∙◌, subst}
+use Rattle.std.proofs.Common.{◌≡◌, ℕ, ◌<◌, true, ltb, List, length, sym, ap, ◌∙◌, subst}
 use Rattle.std.specs.Prelude.{Contains}
 use Rattle.std.specs.List.{AllByRecursion}
 use Rattle.std.proofs.lemmas.Bool.{eqb-true, ltb-true}
@@ -12,16 +12,12 @@ use Rattle.search_definitions.specs.Classes.{are_alike, classes_of, leaders}
 use Rattle.search_definitions.specs.Compositions.{compositions, first_panel, weight_in}
 use Rattle.search_definitions.proofs.FirstPanel.{FitsAndComposes, each_first_panel}
 use Rattle.search_definitions.proofs.LeaderForm as by_leader
+use Rattle.search_definitions.proofs.NothingToPrice.{weight_same}
 use Rattle.search_definitions.proofs.PanelCompositions.{weighing}
 use Rattle.search_definitions.proofs.PoolClasses.{alone_makes_classes, compositions_same, first_panel_same}
 use Rattle.run_definitions.specs.Run.{stage_of}
 use Rattle.run_definitions.proofs.Found.{each_contains}
 use Rattle.run_laws.proofs.StageRows.{entries_back}
-
-weight_same : (w : ℕ → ℤ) (firsts counts : List ℕ) → weight_in (map w firsts) counts ≡ by_leader.composition_weight w firsts counts
-weight_same w [] counts = refl
-weight_same w (l ∷ firsts) [] = refl
-weight_same w (l ∷ firsts) (c ∷ counts) = ap (λ rest. pos c *ℤ w l +ℤ rest) (weight_same w firsts counts)
 
 module _ (pool : Pool) (row : Row) (entries : length row.a ≡ length pool.volunteers) (counts : List ℕ) (there : Contains (compositions (classes_of pool)) counts) where
   abbrev n : ℕ

@@ -14,6 +14,10 @@ use Rattle.spread_definitions.specs.Spreading.{greatest_total}
 abbrev pub NoPanelWhereNone : Type 0
 NoPanelWhereNone = (pool : Pool) (limits : Limits) → RunEnds pool limits NoPanel → panels pool ≡ []
 
+-- the opening search took no more visits than it may
+abbrev pub NoPanelIsWithin : Type 0
+NoPanelIsWithin = (pool : Pool) (limits : Limits) → RunEnds pool limits NoPanel → (first_search (classes_of pool)).visits ≤ limits.nodes
+
 -- where the pool has none, and the opening search may take its visits, the run ends so
 abbrev pub NoneEndsSo : Type 0
 NoneEndsSo = (pool : Pool) (limits : Limits) → panels pool ≡ [] → (first_search (classes_of pool)).visits ≤ limits.nodes → RunEnds pool limits NoPanel

@@ -8,15 +8,15 @@ ghost use Rattle.pool_definitions.specs.Certificate.{Certifies};
 ghost use Rattle.pool_definitions.specs.WorkedExamples.{four};
 ghost use Rattle.run_definitions.specs.WorkedRuns.{pairs};
 ghost use Rattle.run_laws.specs.Levels.{LevelsMakeStages};
-ghost use Rattle.run_laws.specs.Laws.{FoundIsCertified, FoundIsGreatest, FoundIsInRanges, FoundIsLottery, FoundIsWithin, NoPanelWhereNone, NoneEndsSo};
+ghost use Rattle.run_laws.specs.Laws.{FoundIsCertified, FoundIsGreatest, FoundIsInRanges, FoundIsLottery, FoundIsWithin, NoPanelIsWithin, NoPanelWhereNone, NoneEndsSo};
 
 use pool_definitions::four_volunteers;
 use run_definitions::worked_runs;
 
-/// A run ends with no panel only where the pool has no quota panel, and does so where it has none and the opening search may take its
-/// visits.
+/// A run ends with no panel only where the pool has no quota panel and the opening search may take its visits, and does so there.
 pub fn no_panel_where_none()
     ensures none { NoPanelWhereNone }
+    ensures within { NoPanelIsWithin }
     ensures ends { NoneEndsSo }
 {}
 

@@ -1,11 +1,12 @@
 -- What an input says, and what reading it says.
-use Rattle.std.specs.Prelude.{◌≡◌, ℕ, nat_lt, if◌then◌else◌, List, length, Result, Ok, Err, IfSome, ⊤}
+use Rattle.std.specs.Prelude.{◌≡◌, ℕ, nat_lt, if◌then◌else◌, List, [], length, Result, Ok, Err, IfSome, ⊤}
 use Rattle.pool_definitions.specs.Pool.{Pool}
 use Rattle.text_definitions.specs.Lines.{Fault}
 use Rattle.text_definitions.specs.PoolText.{HasText, spelling}
 use Rattle.text_definitions.specs.PoolReading.{read}
 use Rattle.pool_text.specs.Answers.{fault_of}
-use Rattle.sortition.specs.Told.{Object, HasFaulted, HeldAll}
+use Rattle.sortition.specs.Lines.{input_line, read_fault_line, want_of_memory_line}
+use Rattle.sortition.specs.Told.{Object, Told, Gains, GainsUnlessFaulted, HasFaulted, HeldAll}
 use Rattle.sortition.specs.declared.input.Refusal.{Refusal}
 use Rattle.sortition.specs.declared.input.Refusal.TheVariants.{Input, ReadFault, WantOfMemory}
 
@@ -26,6 +27,18 @@ pub record HoldsPool (source : Object) (pool : Pool) : Type 0 where
   pub has_text : HasText pool
   pub held : HeldAll source (spelling pool)
   pub read : IfSome source.before (λ bytes. pool_in bytes ≡ Ok pool)
+
+-- the input is no text of a pool, or too long, and errs tells where
+abbrev pub TellsFault : Told → Type 0
+TellsFault told = (fault : Fault) × IfSome told.source.before (λ bytes. pool_in bytes ≡ Err fault) × Gains told.out [] × GainsUnlessFaulted told.errs (input_line fault)
+
+-- the source counted a fault
+abbrev pub TellsReadFault : Told → Type 0
+TellsReadFault told = HasFaulted told.source × Gains told.out [] × GainsUnlessFaulted told.errs read_fault_line
+
+-- no memory was left
+abbrev pub TellsWant : Told → Type 0
+TellsWant told = Gains told.out [] × GainsUnlessFaulted told.errs want_of_memory_line
 
 -- the fault of the input, where the source told its bytes; or a fault that the source counted
 abbrev pub RefusalSays : Object → Refusal → Type 0

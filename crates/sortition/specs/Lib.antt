@@ -3,5 +3,8 @@ pub mod Lines
 pub mod Words
 pub mod Input
 pub mod Panel
-pub mod Outcome
+pub mod Lottery
+pub mod Telling
+pub mod PanelOutcome
+pub mod LotteryOutcome
 pub mod Office

@@ -1,10 +1,11 @@
 -- What a call of the program may tell, for its words.
 use Rattle.std.specs.Prelude.{◌≡◌, ◌≢◌, ℕ, List, Option, Some, None}
 use Rattle.sortition.specs.declared.words.Command.{Command}
-use Rattle.sortition.specs.declared.words.Command.TheVariants.{Panel}
+use Rattle.sortition.specs.declared.words.Command.TheVariants.{Lottery, Panel}
 use Rattle.sortition.specs.Told.{Told, IsUntouched, GainsUnlessFaulted}
 use Rattle.sortition.specs.Lines.{want_of_memory_line}
 use Rattle.sortition.specs.Words.{asked}
+use Rattle.sortition.specs.Lottery.{LotteryIsRight}
 use Rattle.sortition.specs.Panel.{PanelIsRight}
 
 -- words that are not of the forms, or ask for help
@@ -23,6 +24,7 @@ pub record UsageIsRight (told : Told) : Type 0 where
 abbrev pub AnswersRightly : Option Command → Told → Type 0
 AnswersRightly None told = UsageIsRight told
 AnswersRightly (Some (Panel nodes)) told = PanelIsRight nodes told
+AnswersRightly (Some (Lottery limits)) told = LotteryIsRight limits told
 
 -- a call is right
 abbrev pub OfficeIsRight : List (List ℕ) → Told → Type 0

@@ -1,14 +1,14 @@
 -- What the command `panel` may tell: the first quota panel of the pool whose text the source holds, by a search of at most so
 -- many visits.
-use Rattle.std.specs.Prelude.{◌≡◌, ◌≢◌, ◌⊎◌, ◌<◌, ◌≤◌, ℕ, nat_lt, if◌then◌else◌, List, [], ◌∷◌, Some, Result, Ok, Err, IfSome, IsTrue}
+use Rattle.std.specs.Prelude.{◌≡◌, ◌≢◌, ◌⊎◌, ◌<◌, ◌≤◌, ℕ, nat_lt, if◌then◌else◌, List, [], ◌∷◌, Some, None, Result, Ok, Err, IfSome, IsTrue}
 use Rattle.pool_definitions.specs.Pool.{Pool, is_quota_panel, panels}
 use Rattle.text_definitions.specs.Lines.{Fault}
 use Rattle.search_definitions.specs.Classes.{classes_of}
 use Rattle.search_definitions.specs.Compositions.{first_composition, first_panel}
 use Rattle.search_definitions.specs.Visits.{first_search}
 use Rattle.sortition.specs.Told.{Told, HasFaulted, Gains, GainsPart, GainsUnlessFaulted}
-use Rattle.sortition.specs.Input.{HoldsPool, pool_in}
-use Rattle.sortition.specs.Lines.{panel_line, no_panel_line, input_line, spent_line, read_fault_line, write_fault_line, want_of_memory_line}
+use Rattle.sortition.specs.Input.{HoldsPool, TellsFault, TellsReadFault, TellsWant, pool_in}
+use Rattle.sortition.specs.Lines.{panel_line, no_panel_line, nodes_spent_line, write_fault_line}
 
 -- how many visits the search for the first composition takes
 abbrev pub visits_of : Pool → ℕ
@@ -53,14 +53,14 @@ pub record PanelIsRight (nodes : ℕ) (told : Told) : Type 0 where
   -- 1: there is none
   pub no_panel : told.status ≡ 1 → (pool : Pool) × HoldsPool told.source pool × HasNoPanel nodes pool × Gains told.out no_panel_line × Gains told.errs []
   -- 3: the input is no text of a pool, or too long
-  pub text : told.status ≡ 3 → (fault : Fault) × IfSome told.source.before (λ bytes. pool_in bytes ≡ Err fault) × Gains told.out [] × GainsUnlessFaulted told.errs (input_line fault)
+  pub text : told.status ≡ 3 → TellsFault told
   -- 5: the search takes more visits
-  pub spent : told.status ≡ 5 → (pool : Pool) × HoldsPool told.source pool × (nodes < visits_of pool) × Gains told.out [] × GainsUnlessFaulted told.errs (spent_line nodes)
+  pub spent : told.status ≡ 5 → (pool : Pool) × HoldsPool told.source pool × (nodes < visits_of pool) × Gains told.out [] × GainsUnlessFaulted told.errs (nodes_spent_line nodes None)
   -- 7 and 8: the source or out counted a fault
-  pub read_fault : told.status ≡ 7 → HasFaulted told.source × Gains told.out [] × GainsUnlessFaulted told.errs read_fault_line
+  pub read_fault : told.status ≡ 7 → TellsReadFault told
   pub write_fault : told.status ≡ 8 → HasFaulted told.out × TellsPart nodes told × GainsUnlessFaulted told.errs write_fault_line
   -- 12: want of memory, which may come at any time
-  pub want_of_memory : told.status ≡ 12 → Gains told.out [] × GainsUnlessFaulted told.errs want_of_memory_line
+  pub want_of_memory : told.status ≡ 12 → TellsWant told
   -- no other status
   pub no_other : told.status ≢ 0 → told.status ≢ 1 → told.status ≢ 3 → told.status ≢ 5 → told.status ≢ 7 → told.status ≢ 8 → told.status ≡ 12
   -- where the source counted no fault, the status is the one that the input asks for, but for 8 and 12

@@ -9,8 +9,9 @@ use Rattle.clap.specs.declared.builder.value_parser.ValueParser.TheVariants as p
 use Rattle.clap.specs.declared.error.Error.{Error}
 use Rattle.clap.specs.declared.error.kind.ErrorKind.TheVariants as kind
 use Rattle.clap.specs.declared.parser.matches.ArgMatches.{ArgMatches}
+use Rattle.run_definitions.specs.Run.{Limits}
 use Rattle.sortition.specs.declared.words.Command.{Command}
-use Rattle.sortition.specs.declared.words.Command.TheVariants.{Panel}
+use Rattle.sortition.specs.declared.words.Command.TheVariants.{Lottery, Panel}
 use Rattle.sortition.specs.declared.words.WordsStop.{WordsStop}
 use Rattle.sortition.specs.declared.words.WordsStop.TheVariants.{Usage, OutOfMemory}
 
@@ -22,9 +23,23 @@ number_rule name least most default = record (new_rule name) {
   defaults = default ∷ [];
 }
 
+-- the greatest width in bits
+abbrev pub most_bits : ℕ
+most_bits = 127
+
+-- the most pivots that `--pivots` allows
+abbrev pub most_pivots : ℕ
+most_pivots = 1000000000
+
 -- the most visits that `--nodes` allows
 abbrev pub most_nodes : ℕ
 most_nodes = 1000000000000
+
+abbrev pub bits_rule : Rule
+bits_rule = number_rule (codes "bits") 1 most_bits (codes "127")
+
+abbrev pub pivots_rule : Rule
+pivots_rule = number_rule (codes "pivots") 0 most_pivots (codes "100000")
 
 abbrev pub nodes_rule : Rule
 nodes_rule = number_rule (codes "nodes") 0 most_nodes (codes "50000000")
@@ -32,12 +47,15 @@ nodes_rule = number_rule (codes "nodes") 0 most_nodes (codes "50000000")
 abbrev pub panel_app : App
 panel_app = with_rule (new_app (codes "panel")) nodes_rule
 
+abbrev pub lottery_app : App
+lottery_app = with_rule (with_rule (with_rule (new_app (codes "lottery")) bits_rule) pivots_rule) nodes_rule
+
 -- the program, of which one subcommand is required; the words don't include its name
 abbrev pub program_alone : App
 program_alone = on_top (λ top. record top { no_binary_name = true; subcommand_required = true }) (new_app (codes "sortition"))
 
 abbrev pub program_app : App
-program_app = with_subcommand program_alone panel_app.top
+program_app = with_subcommand (with_subcommand program_alone panel_app.top) lottery_app.top
 
 -- some digits of a number below 2 ^ 64
 abbrev pub is_number : Text → Bool
@@ -63,9 +81,25 @@ number_within name least most rows = option_and_then (within least most) (number
 abbrev pub panel_asked : List Row → Option Command
 panel_asked rows = option_map Panel (number_within (codes "nodes") 0 most_nodes rows)
 
+-- the limits of a run, where each is in its range
+abbrev pub limits_asked : List Row → Option Limits
+limits_asked rows =
+    option_and_then (λ bits.
+    option_and_then (λ pivots.
+    option_map (λ nodes. record { bits = bits; pivots = pivots; nodes = nodes })
+    (number_within (codes "nodes") 0 most_nodes rows))
+    (number_within (codes "pivots") 0 most_pivots rows))
+    (number_within (codes "bits") 1 most_bits rows)
+
+abbrev pub lottery_asked : List Row → Option Command
+lottery_asked rows = option_map Lottery (limits_asked rows)
+
 -- the command of a subcommand's name, with its values
 abbrev pub command_named : Text → List Row → Option Command
-command_named name rows = if bytes_eq name (codes "panel") then panel_asked rows else None
+command_named name rows =
+    if bytes_eq name (codes "panel") then panel_asked rows
+    else if bytes_eq name (codes "lottery") then lottery_asked rows
+    else None
 
 abbrev pub command_of : Option (Text × List Row) → Option Command
 command_of = option_and_then (λ met. command_named met.0 met.1)

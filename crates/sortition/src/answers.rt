@@ -1,15 +1,17 @@
-//! The statuses of the program, and how an answer is told: one line to `out`, or one to `errs`.
+//! The statuses of the program, and how an answer is told: its lines to `out`, or one line to `errs`.
 
-ghost use Rattle.std.specs.Prelude.{◌≡◌, ◌≢◌, IfOk, string_bytes};
+ghost use Rattle.std.specs.Prelude.{◌≡◌, ◌≢◌, ◌<◌, ◌≤◌, length, MatchResult, OnErr, OnOk, string_bytes};
+ghost use Rattle.std.specs.Io.KnownBytes.{Appends};
 ghost use Rattle.std.specs.declared.io.ErrorKind.TheVariants.{InvalidData};
-ghost use Rattle.pool_text.specs.Answers.{fault_of};
+ghost use Rattle.outside.specs.Content.{AppendsPart};
+ghost use Rattle.outside.specs.Faults.{Rose};
 ghost use Rattle.sortition.specs.Told.{object, GainsUnlessFaulted};
-ghost use Rattle.sortition.specs.Lines.{input_line as words_of_input, spent_line as words_of_spent, want_of_memory_line, words_not_utf8_line};
-ghost use Rattle.sortition.specs.Outcome.{TellsLine, TellsOrWants, TellsRefusal};
+ghost use Rattle.sortition.specs.Lines.{want_of_memory_line, words_not_utf8_line};
+ghost use Rattle.sortition.specs.Telling.{TellsText, TellsRefusal};
 
 use crate::input::Refusal;
-use outside::Sink;
-use pool_text::PoolFault;
+use crate::lines::input_line;
+use outside::{Failed, Sink};
 use std::alloc::{AllocError, Global};
 use std::io;
 
@@ -25,6 +27,9 @@ pub(crate) const USAGE: u8 = 2;
 /// The input is not of its format, or too long.
 pub(crate) const INPUT: u8 = 3;
 
+/// A number passes the width, or the total of a lottery passes.
+pub(crate) const WIDE: u8 = 4;
+
 /// A budget is spent.
 pub(crate) const SPENT: u8 = 5;
 
@@ -39,6 +44,8 @@ pub(crate) const WANT_OF_MEMORY: u8 = 12;
 
 pub(crate) const NO_PANEL_LINE: &[u8] = b"no panel\n";
 
+const LINE_FEED: u8 = b'\n';
+
 const READ_FAULT_LINE: &[u8] = b"read fault\n";
 
 const WRITE_FAULT_LINE: &[u8] = b"write fault\n";
@@ -47,17 +54,44 @@ const WANT_OF_MEMORY_LINE: &[u8] = b"want of memory\n";
 
 const WORDS_NOT_UTF8_LINE: &[u8] = b"error: invalid UTF-8 was detected in one or more arguments\n";
 
-/// Puts the line of an answer to `out`. Where `out` fails, the status is that of a write fault, and `errs` gets its line.
-pub(crate) fn tell<O: Sink, E: Sink>(out: &mut O, errs: &mut E, status: u8, line: &[u8]) -> u8
-    ensures { TellsLine status line.now result
+/// Puts the text of an answer to `out`. Where `out` fails, the status is that of a write fault, and `errs` gets its line.
+pub(crate) fn tell<O: Sink, E: Sink>(out: &mut O, errs: &mut E, status: u8, text: &[u8]) -> u8
+    ensures { TellsText status text.now result
         (object (O.written out.old) (O.written out.new) (O.faults out.old) (O.faults out.new))
         (object (E.written errs.old) (E.written errs.new) (E.faults errs.old) (E.faults errs.new)) }
 {
-    if out.put(line).is_ok() {
+    if put_lines(out, text).is_ok() {
         return status;
     }
     complain(errs, WRITE_FAULT_LINE);
     WRITE_FAULT
+}
+
+/// Puts a text line by line, each with its LF, up to the first call that fails.
+fn put_lines<O: Sink>(out: &mut O, text: &[u8]) -> Result<(), Failed>
+    ensures part { AppendsPart (O.written out.old) (O.written out.new) text.now }
+    ensures whole { OnOk result (Appends (O.written out.old) (O.written out.new) text.now) }
+    ensures cause { OnErr result (Rose (O.faults out.old) (O.faults out.new)) }
+{
+    let mut start = 0;
+    while start < text.len() {
+        let end = line_end(text, start);
+        out.put(&text[start..end])?;
+        start = end;
+    }
+    Ok(())
+}
+
+/// Where the line that begins at a place ends: behind its LF, or with the text.
+fn line_end(text: &[u8], start: usize) -> usize
+    requires { start < length text.now }
+    ensures later { start < result }
+    ensures inside { result ≤ length text.now }
+{
+    match text[start..].iter().position(|byte| *byte == LINE_FEED) {
+        Some(before) => start + before + 1,
+        None => text.len(),
+    }
 }
 
 /// Puts a line to `errs`, whose failing changes nothing.
@@ -67,26 +101,19 @@ pub(crate) fn complain<E: Sink>(errs: &mut E, line: &[u8])
     let _ = errs.put(line);
 }
 
-/// The line that says where the input first goes wrong.
-fn input_line(alloc: Global, fault: PoolFault) -> Result<String, AllocError>
-    ensures { IfOk result (λ line. string_bytes line ≡ words_of_input (fault_of fault)) }
+/// Tells why a command stops: its status, with a line to `errs`. A line that could not be made is want of memory.
+pub(crate) fn stop<E: Sink>(errs: &mut E, status: u8, line: Result<String, AllocError>) -> u8
+    ensures { MatchResult line
+        (λ made. (result ≡ status) × GainsUnlessFaulted (object (E.written errs.old) (E.written errs.new) (E.faults errs.old) (E.faults errs.new)) (string_bytes made))
+        (λ _. (result ≡ 12) × GainsUnlessFaulted (object (E.written errs.old) (E.written errs.new) (E.faults errs.old) (E.faults errs.new)) want_of_memory_line) }
 {
-    let mut line = String::from_str(alloc, "input\t")?;
-    line.push_str(fault.line.to_string(alloc)?.as_str())?;
-    line.push_str("\t")?;
-    line.push_str(fault.kind.to_string(alloc)?.as_str())?;
-    line.push_str("\n")?;
-    Ok(line)
-}
-
-/// The line that says that a search takes more than so many visits.
-fn spent_line(alloc: Global, nodes: u64) -> Result<String, AllocError>
-    ensures { IfOk result (λ line. string_bytes line ≡ words_of_spent nodes) }
-{
-    let mut line = String::from_str(alloc, "spent\tnodes\t")?;
-    line.push_str(nodes.to_string(alloc)?.as_str())?;
-    line.push_str("\t0\t0\t0\n")?;
-    Ok(line)
+    match line {
+        Ok(line) => {
+            complain(errs, line.as_bytes());
+            status
+        }
+        Err(_) => want_memory(errs),
+    }
 }
 
 /// Tells a refusal to `errs`, and answers its status.
@@ -94,31 +121,12 @@ pub(crate) fn refuse<E: Sink>(alloc: Global, errs: &mut E, refusal: Refusal) -> 
     ensures { TellsRefusal refusal result (object (E.written errs.old) (E.written errs.new) (E.faults errs.old) (E.faults errs.new)) }
 {
     match refusal {
-        Refusal::Input(fault) => match input_line(alloc, fault) {
-            Ok(line) => {
-                complain(errs, line.as_bytes());
-                INPUT
-            }
-            Err(_) => want_memory(errs),
-        },
+        Refusal::Input(fault) => stop(errs, INPUT, input_line(alloc, fault)),
         Refusal::ReadFault => {
             complain(errs, READ_FAULT_LINE);
             READ_FAULT
         }
         Refusal::WantOfMemory => want_memory(errs),
-    }
-}
-
-/// Tells that a search takes more than so many visits.
-pub(crate) fn spent<E: Sink>(alloc: Global, errs: &mut E, nodes: u64) -> u8
-    ensures { TellsOrWants 5 (words_of_spent nodes) result (object (E.written errs.old) (E.written errs.new) (E.faults errs.old) (E.faults errs.new)) }
-{
-    match spent_line(alloc, nodes) {
-        Ok(line) => {
-            complain(errs, line.as_bytes());
-            SPENT
-        }
-        Err(_) => want_memory(errs),
     }
 }
 

@@ -1,10 +1,14 @@
 //! The program: a citizens' assembly sortition office. `office` is the top call, whose contract says what each answer means;
-//! `main` calls it over standard input and output. Below stand the reader of pool texts, the search for a panel and the outside;
-//! `clap` reads the words.
+//! `main` calls it over standard input and output. Below stand the reader of pool texts, the search for a panel, the run that finds
+//! the lottery, the writer of bundles and the outside; `clap` reads the words.
 #![tactic(auto)]
 
 mod answers;
 mod input;
+mod lines;
+mod lottery;
+#[cfg(test)]
+mod lottery_tests;
 mod office;
 mod panel;
 #[cfg(test)]

@@ -1,10 +1,11 @@
 //! The top call.
 
-ghost use Rattle.std.specs.Prelude.{map, string_bytes};
+ghost use Rattle.std.specs.Prelude.{map, string_bytes, Some};
 ghost use Rattle.sortition.specs.Told.{object, told};
-ghost use Rattle.sortition.specs.Office.{OfficeIsRight};
+ghost use Rattle.sortition.specs.Office.{AnswersRightly, OfficeIsRight};
 
 use crate::answers::{usage, want_memory};
+use crate::lottery::lottery;
 use crate::panel::panel;
 use crate::words::{Command, WordsStop, read_words};
 use outside::{Sink, Source};
@@ -26,8 +27,27 @@ pub fn office<S: Source, O: Sink, E: Sink>(
         (object (E.written errs.old) (E.written errs.new) (E.faults errs.old) (E.faults errs.new))) }
 {
     match read_words(alloc, words) {
-        Ok(Command::Panel { nodes }) => panel(alloc, nodes, source, out, errs),
+        Ok(command) => run(alloc, command, source, out, errs),
         Err(WordsStop::Usage(text)) => usage(errs, text.as_bytes()),
         Err(WordsStop::OutOfMemory) => want_memory(errs),
+    }
+}
+
+/// One call of a command.
+fn run<S: Source, O: Sink, E: Sink>(
+    alloc: Global,
+    command: Command,
+    source: &mut S,
+    out: &mut O,
+    errs: &mut E,
+) -> u8
+    ensures { AnswersRightly (Some command) (told result
+        (object (S.left source.old) (S.left source.new) (S.faults source.old) (S.faults source.new))
+        (object (O.written out.old) (O.written out.new) (O.faults out.old) (O.faults out.new))
+        (object (E.written errs.old) (E.written errs.new) (E.faults errs.old) (E.faults errs.new))) }
+{
+    match command {
+        Command::Panel { nodes } => panel(alloc, nodes, source, out, errs),
+        Command::Lottery { limits } => lottery(alloc, limits, source, out, errs),
     }
 }

@@ -5,11 +5,13 @@ ghost use Rattle.pool_definitions.specs.Pool.{is_quota_panel};
 ghost use Rattle.sortition.specs.Told.{object, told};
 ghost use Rattle.sortition.specs.Lines.{panel_line as words_of_panel};
 ghost use Rattle.sortition.specs.Panel.{PanelIsRight};
-ghost use Rattle.sortition.specs.Outcome.{FirstSays, OutcomeSays};
+ghost use Rattle.sortition.specs.PanelOutcome.{FirstSays, OutcomeSays};
 
-use crate::answers::{DONE, NO_PANEL, NO_PANEL_LINE, refuse, spent, tell};
+use crate::answers::{DONE, NO_PANEL, NO_PANEL_LINE, SPENT, refuse, stop, tell};
 use crate::input::{Refusal, read_input};
+use crate::lines::nodes_spent_line;
 use alike::{classes, first_panel};
+use leximin_run::At;
 use outside::{Sink, Source};
 use panel_search::{SearchStop, first};
 use pool_model::{Panel, Pool};
@@ -43,7 +45,7 @@ pub(crate) fn panel<S: Source, O: Sink, E: Sink>(
     match outcome_of(alloc, nodes, source) {
         Ok(Outcome::First(line)) => tell(out, errs, DONE, line.as_bytes()),
         Ok(Outcome::NoPanel) => tell(out, errs, NO_PANEL, NO_PANEL_LINE),
-        Ok(Outcome::NodesSpent) => spent(alloc, errs, nodes),
+        Ok(Outcome::NodesSpent) => stop(errs, SPENT, nodes_spent_line(alloc, nodes, &At::Opening)),
         Err(refusal) => refuse(alloc, errs, refusal),
     }
 }

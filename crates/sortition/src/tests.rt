@@ -1,4 +1,5 @@
-//! Calls of `office` over the forms in memory: what it answers, and what `out` and `errs` gained.
+//! Calls of `office` over the forms in memory: what it answers, and what `out` and `errs` gained. The command `lottery` has its own
+//! file, `lottery_tests`.
 
 use crate::answers::no_words;
 use crate::office::office;
@@ -7,7 +8,7 @@ use std::alloc::{AllocError, Global};
 use std::io;
 
 /// Two women and two men, one of each to be chosen. The search makes 5 visits.
-const FOUR: &[u8] =
+pub(crate) const FOUR: &[u8] =
     b"pool\t1\nsize\t2\ncategory\tgender\nvalue\tfemale\t1\t1\nvalue\tmale\t1\t1\nvolunteer\ta\tfemale\nvolunteer\tb\tfemale\nvolunteer\tc\tmale\nvolunteer\td\tmale\nend\n";
 
 /// Two women are asked for, and one is there.
@@ -40,7 +41,27 @@ const WORDS: &[(&[&str], u8)] = &[
     (&[""], 2),
     (&["pane"], 2),
     (&["Panel"], 2),
-    (&["lottery"], 2),
+    (&["lottery"], 0),
+    (&["lottery", "--bits", "127"], 0),
+    (&["lottery", "--bits", "1"], 4),
+    (&["lottery", "--bits", "0"], 2),
+    (&["lottery", "--bits", "128"], 2),
+    (&["lottery", "--bits", "4294967297"], 2),
+    (&["lottery", "--pivots", "0"], 5),
+    (&["lottery", "--pivots", "1000000000"], 0),
+    (&["lottery", "--pivots", "1000000001"], 2),
+    (&["lottery", "--pivots", "-1"], 2),
+    (&["lottery", "--nodes", "0"], 5),
+    (&["lottery", "--nodes", "1000000000000"], 0),
+    (&["lottery", "--nodes", "1000000000001"], 2),
+    (
+        &["lottery", "--nodes", "9", "--bits", "3", "--pivots", "4"],
+        0,
+    ),
+    (&["lottery", "--pivots=+4", "--bits=003"], 0),
+    (&["lottery", "--bits", "3", "--bits", "3"], 2),
+    (&["lottery", "--workers", "1"], 2),
+    (&["lottery", "x"], 2),
     (&["sortition", "panel"], 2),
     (&["--", "panel"], 2),
     (&["--nodes", "5", "panel"], 2),
@@ -63,6 +84,7 @@ const WORDS: &[(&[&str], u8)] = &[
     (&["panel", "--node", "5"], 2),
     (&["panel", "-n", "5"], 2),
     (&["panel", "--bits", "5"], 2),
+    (&["panel", "--pivots", "5"], 2),
     (&["--help"], 2),
     (&["-h"], 2),
     (&["help"], 2),
@@ -73,36 +95,41 @@ const WORDS: &[(&[&str], u8)] = &[
 
 /// One call: its words, what the source holds, and the calls of each object that fail.
 #[derive(Clone, Copy)]
-struct Call<'a> {
-    words: &'a [&'a str],
-    text: &'a [u8],
-    source_fails: &'a [u64],
-    out_fails: &'a [u64],
-    out_room: usize,
-    errs_fails: &'a [u64],
+pub(crate) struct Call<'a> {
+    pub(crate) words: &'a [&'a str],
+    pub(crate) text: &'a [u8],
+    pub(crate) source_fails: &'a [u64],
+    pub(crate) out_fails: &'a [u64],
+    pub(crate) out_room: usize,
+    pub(crate) errs_fails: &'a [u64],
 }
 
 /// A call with the one word `panel` and no failing object.
 fn reading(text: &[u8]) -> Call<'_> {
+    asking(&["panel"], text)
+}
+
+/// A call with these words and no failing object.
+pub(crate) fn asking<'a>(words: &'a [&'a str], text: &'a [u8]) -> Call<'a> {
     Call {
-        words: &["panel"],
+        words,
         text,
         source_fails: &[],
         out_fails: &[],
-        out_room: 100,
+        out_room: 1000,
         errs_fails: &[],
     }
 }
 
 /// What a call told: its status, and what `out` and `errs` gained.
 #[derive(Drop)]
-struct Answer {
-    status: u8,
-    out: MemSink,
-    errs: MemSink,
+pub(crate) struct Answer {
+    pub(crate) status: u8,
+    pub(crate) out: MemSink,
+    pub(crate) errs: MemSink,
 }
 
-fn answer_of(alloc: Global, call: &Call<'_>) -> Result<Answer, AllocError> {
+pub(crate) fn answer_of(alloc: Global, call: &Call<'_>) -> Result<Answer, AllocError> {
     let mut words = Vec::new(alloc);
     for word in call.words {
         words.push(String::from_str(alloc, word)?)?;
@@ -115,7 +142,7 @@ fn answer_of(alloc: Global, call: &Call<'_>) -> Result<Answer, AllocError> {
 }
 
 /// Whether the call answers this status, and `out` and `errs` gain these bytes.
-fn answers(
+pub(crate) fn answers(
     alloc: Global,
     call: &Call<'_>,
     status: u8,
@@ -182,17 +209,21 @@ fn clap_says_what_is_wrong(rt: HostRuntime) -> Result<(), AllocError> {
         ..reading(FOUR)
     };
     let no_word_text =
-        b"error: 'sortition' requires a subcommand but one was not provided\n  [subcommands: panel, help]\n\nUsage: sortition <COMMAND>\n\nFor more information, try '--help'.\n";
+        b"error: 'sortition' requires a subcommand but one was not provided\n  [subcommands: panel, lottery, help]\n\nUsage: sortition <COMMAND>\n\nFor more information, try '--help'.\n";
     let letter_text =
         b"error: invalid value 'x' for '--nodes <nodes>': invalid digit found in string\n\nFor more information, try '--help'.\n";
+    let lottery_help = asking(&["lottery", "--help"], FOUR);
+    let lottery_help_text =
+        b"Prints the lottery over the quota panels of the pool on standard input, with its certificate\n\nUsage: sortition lottery [OPTIONS]\n\nOptions:\n      --bits <bits>      The width in bits of the run's numbers [default: 127]\n      --pivots <pivots>  The most pivots that the run may make [default: 100000]\n      --nodes <nodes>    The most visits that a search may make [default: 50000000]\n  -h, --help             Print help\n";
     let help_text =
         b"Prints the first quota panel of the pool on standard input\n\nUsage: sortition panel [OPTIONS]\n\nOptions:\n      --nodes <nodes>  The most visits that a search may make [default: 50000000]\n  -h, --help           Print help\n";
     let right = [
         answers(alloc, &no_word, 2, b"", no_word_text)?,
         answers(alloc, &letter, 2, b"", letter_text)?,
         answers(alloc, &help, 2, b"", help_text)?,
+        answers(alloc, &lottery_help, 2, b"", lottery_help_text)?,
     ];
-    assert_eq!(rt; right, [true; 3]);
+    assert_eq!(rt; right, [true; 4]);
     Ok(())
 }
 
@@ -223,7 +254,7 @@ fn each_failing_has_its_status(rt: HostRuntime) -> Result<(), AllocError> {
     let alloc = rt.alloc();
     let long = vec![in alloc; b'x'; 16_777_217]?;
     let words_and_errs_fail = Call {
-        words: &["lottery"],
+        words: &["bundle"],
         errs_fails: &[1],
         ..reading(FOUR)
     };

@@ -7,28 +7,39 @@ ghost use Rattle.sortition.specs.Words.{
   MatchesSay,
   StopSays,
   WordsSay,
+  bits_rule,
   command_of as command_asked,
+  limits_asked,
+  lottery_app,
+  lottery_asked,
   nodes_rule,
   number_at as number_said,
   number_within as number_said_within,
   panel_app,
   panel_asked,
+  pivots_rule,
   program_alone as words_of_program_alone,
   program_app,
 };
 
 use clap::error::ErrorKind;
 use clap::{Arg, ArgMatches};
+use leximin_run::Limits;
 use std::alloc::{AllocError, Global};
 use thiserror::Error;
 
 /// What the words ask for.
-#[derive(Clone, Copy, Debug, PartialEq, Eq)]
+#[derive(Clone, Copy, Debug)]
 pub(crate) enum Command {
     /// The first quota panel of a pool, by a search of at most so many visits.
     Panel {
         /// From 0 to 1,000,000,000,000.
         nodes: u64,
+    },
+    /// The lottery over the quota panels of a pool, by a run under these limits.
+    Lottery {
+        /// How wide its numbers may be, and how many pivots and visits it may make.
+        limits: Limits,
     },
 }
 
@@ -42,6 +53,10 @@ pub(crate) enum WordsStop {
     #[error("out of memory")]
     OutOfMemory,
 }
+
+const MOST_BITS: u64 = 127;
+
+const MOST_PIVOTS: u64 = 1_000_000_000;
 
 const MOST_NODES: u64 = 1_000_000_000_000;
 
@@ -91,7 +106,9 @@ fn stop_of(alloc: Global, error: &clap::Error) -> WordsStop
 fn program<'a>(alloc: Global) -> Result<clap::Command<'a>, AllocError>
     ensures { IfOk result (λ program. app_of program ≡ program_app) }
 {
-    program_alone(alloc)?.subcommand(panel(alloc)?)
+    program_alone(alloc)?
+        .subcommand(panel(alloc)?)?
+        .subcommand(lottery(alloc)?)
 }
 
 fn program_alone<'a>(alloc: Global) -> Result<clap::Command<'a>, AllocError>
@@ -112,6 +129,40 @@ fn panel<'a>(alloc: Global) -> Result<clap::Command<'a>, AllocError>
         .arg(nodes_option(alloc))
 }
 
+fn lottery<'a>(alloc: Global) -> Result<clap::Command<'a>, AllocError>
+    ensures { IfOk result (λ lottery. (app_of lottery ≡ lottery_app) × ((out-Command lottery).has_globals ≡ false)) }
+{
+    clap::Command::new(alloc, "lottery")
+        .about(
+            "Prints the lottery over the quota panels of the pool on standard input, with its certificate",
+        )
+        .arg(bits_option(alloc))?
+        .arg(pivots_option(alloc))?
+        .arg(nodes_option(alloc))
+}
+
+fn bits_option<'a>(alloc: Global) -> Arg<'a>
+    ensures rule { rule_of result ≡ bits_rule }
+    ensures local { result.global ≡ false }
+{
+    Arg::new(alloc, "bits")
+        .long("bits")
+        .help("The width in bits of the run's numbers")
+        .value_parser(clap::value_parser!(u64).range(1..=127))
+        .default_value("127")
+}
+
+fn pivots_option<'a>(alloc: Global) -> Arg<'a>
+    ensures rule { rule_of result ≡ pivots_rule }
+    ensures local { result.global ≡ false }
+{
+    Arg::new(alloc, "pivots")
+        .long("pivots")
+        .help("The most pivots that the run may make")
+        .value_parser(clap::value_parser!(u64).range(0..=1_000_000_000))
+        .default_value("100000")
+}
+
 fn nodes_option<'a>(alloc: Global) -> Arg<'a>
     ensures rule { rule_of result ≡ nodes_rule }
     ensures local { result.global ≡ false }
@@ -129,6 +180,7 @@ fn command_of(matches: &ArgMatches) -> Option<Command>
 {
     match matches.subcommand() {
         Some(("panel", own)) => panel_of(own),
+        Some(("lottery", own)) => lottery_of(own),
         _ => None,
     }
 }
@@ -138,6 +190,23 @@ fn panel_of(matches: &ArgMatches) -> Option<Command>
 {
     let nodes = number_within(matches, "nodes", 0, MOST_NODES)?;
     Some(Command::Panel { nodes })
+}
+
+fn lottery_of(matches: &ArgMatches) -> Option<Command>
+    ensures { result ≡ lottery_asked (rows_of (found_of matches.now)) }
+{
+    let limits = limits_of(matches)?;
+    Some(Command::Lottery { limits })
+}
+
+/// The limits of a run, where each is in its range.
+fn limits_of(matches: &ArgMatches) -> Option<Limits>
+    ensures { result ≡ limits_asked (rows_of (found_of matches.now)) }
+{
+    let bits = number_within(matches, "bits", 1, MOST_BITS)?;
+    let pivots = number_within(matches, "pivots", 0, MOST_PIVOTS)?;
+    let nodes = number_within(matches, "nodes", 0, MOST_NODES)?;
+    Limits::new(u32::try_from(bits).ok()?, pivots, nodes)
 }
 
 /// The number that an option has, where it is from `least` to `most`.

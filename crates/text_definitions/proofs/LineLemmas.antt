@@ -1,5 +1,5 @@
 -- Laws on lines, fields and numbers.
-use Rattle.std.proofs.Common.{◌≡◌, ℕ, zero, suc, ◌+◌, ◌<◌, ◌≤◌, Bool, true, false, cond, eqb, List, [], ◌∷◌, ◌++◌, length, get_or, refl, ◌∙◌, ap, subst, arith, append_assoc, Some}
+use Rattle.std.proofs.Common.{◌≡◌, sym, ℕ, zero, suc, ◌+◌, ◌<◌, ◌≤◌, Bool, true, false, cond, eqb, List, [], ◌∷◌, ◌++◌, length, get_or, refl, ◌∙◌, ap, subst, arith, append_assoc, Some}
 use Rattle.std.specs.Prelude.{bytes_eq}
 use Rattle.std.specs.Fmt.{decimal}
 use Rattle.std.specs.List.{AllByRecursion, find, range_with_len, All}
@@ -7,10 +7,11 @@ use Rattle.std.specs.Str.{IsUtf8, is_utf8}
 use Rattle.std.proofs.lemmas.Slice.Eq.{bytes_eq-Decides}
 use Rattle.std.proofs.lemmas.Str.{IsUtf8-append, IsUtf8-from_ascii, IsUtf8-from_is_utf8, IsUtf8-take, IsUtf8-drop, IsCharBoundary-before_ascii, IsCharBoundary-after_ascii, is_utf8-from_IsUtf8}
 use Rattle.std.proofs.lemmas.Str.{IsUtf8-nil}
+use Rattle.std.proofs.lemmas.List.{append-nil}
 use Rattle.std.proofs.Common.{lit<, length-append}
 use Rattle.std.proofs.Math.Seq.{get_or-append_seam, take-append_seam, drop-append-add}
 use Rattle.std.proofs.lemmas.List.Splits.{slice_split_at, slice_split_none, join_with_byte-slice_split}
-use Rattle.text_definitions.specs.Lines.{tab, line_feed, line_of, text_of, fields_of, pieces_of, number_up_to}
+use Rattle.text_definitions.specs.Lines.{tab, tabbed, line_feed, line_of, text_of, fields_of, pieces_of, number_up_to}
 
 pub bytes_are : (xs ys : List ℕ) → bytes_eq xs ys ≡ true → xs ≡ ys
 bytes_are xs ys h = (bytes_eq-Decides xs ys).0 h
@@ -87,3 +88,12 @@ fields_of-line_of field (next ∷ later) h =
 -- a line is the line of its fields
 pub line_of-fields_of : (line : List ℕ) → line_of (fields_of line) ≡ line
 line_of-fields_of line = join_with_byte-slice_split tab line
+
+line-tabbed : (word : List ℕ) (fields : List (List ℕ)) → line_of (word ∷ fields) ≡ word ++ tabbed fields
+line-tabbed word [] = sym (append-nil word)
+line-tabbed word (field ∷ fields) = ap (λ rest. word ++ (tab ∷ rest)) (line-tabbed field fields)
+
+-- a word, its fields and LF, as they are written, are a line
+pub line_written : (word : List ℕ) (fields : List (List ℕ)) → (word ++ tabbed fields) ++ line_feed ∷ [] ≡ text_of (line_of (word ∷ fields) ∷ [])
+line_written word fields =
+    ap (λ line. line ++ line_feed ∷ []) (sym (line-tabbed word fields)) ∙ sym (append-nil (line_of (word ∷ fields) ++ line_feed ∷ []))

@@ -13,6 +13,10 @@ line_feed = 10
 abbrev pub line_of : List (List ℕ) → List ℕ
 line_of fields = join_with_byte tab fields
 
+-- fields, each behind a TAB
+abbrev pub tabbed : List (List ℕ) → List ℕ
+tabbed fields = flat_map (λ field. tab ∷ field) fields
+
 -- the text of these lines
 abbrev pub text_of : List (List ℕ) → List ℕ
 text_of lines = flat_map (λ line. line ++ line_feed ∷ []) lines

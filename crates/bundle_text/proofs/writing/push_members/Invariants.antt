@@ -1,7 +1,7 @@
 use Rattle.std.proofs.Common.{◌≡◌, ◌++◌, map, take}
 use Rattle.std.specs.Prelude.{string_bytes}
 use Rattle.std.specs.Fmt.{decimal}
-use Rattle.bundle_text.specs.Writing.{tabbed}
+use Rattle.text_definitions.specs.Lines.{tabbed}
 use Rattle.bundle_text.proofs.writing.push_members.Given as goal
 
 abbrev pub invariant-loop-member : goal.invariant-loop-member

@@ -3,7 +3,7 @@ use Rattle.std.specs.Prelude.{codes, string_bytes, OnOk}
 use Rattle.std.specs.Fmt.{signed_decimal}
 use Rattle.std.proofs.lemmas.Grind.{common_steps}
 use Rattle.std.proofs.lemmas.Result.{on_ok_weaker}
-use Rattle.bundle_text.specs.Writing.{tabbed}
+use Rattle.text_definitions.specs.Lines.{tabbed}
 use Rattle.bundle_text.proofs.WritingLemmas.{line_added}
 use Rattle.bundle_text.proofs.writing.push_stage.Goals as goal
 

@@ -1,7 +1,7 @@
 use Rattle.std.proofs.Common.{◌≡◌, ◌++◌, map, take}
 use Rattle.std.specs.Prelude.{string_bytes}
 use Rattle.std.specs.Fmt.{signed_decimal}
-use Rattle.bundle_text.specs.Writing.{tabbed}
+use Rattle.text_definitions.specs.Lines.{tabbed}
 use Rattle.bundle_text.proofs.writing.push_weights.Given as goal
 
 abbrev pub invariant-loop-weight : goal.invariant-loop-weight

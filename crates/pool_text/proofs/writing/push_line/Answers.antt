@@ -2,8 +2,8 @@ use Rattle.std.proofs.Common.{◌≡◌, [], ◌∷◌, ◌++◌, map, take, ap,
 use Rattle.std.specs.Prelude.{string_bytes, OnOk}
 use Rattle.std.proofs.lemmas.List.{take_all}
 use Rattle.std.proofs.lemmas.Result.{on_ok_weaker}
-use Rattle.pool_text.specs.Writing.{tabbed}
-use Rattle.pool_text.proofs.WritingLemmas.{line_written}
+use Rattle.text_definitions.specs.Lines.{tabbed}
+use Rattle.text_definitions.proofs.LineLemmas.{line_written}
 use Rattle.pool_text.proofs.writing.push_line.Goals as goal
 
 pub returns : goal.returns

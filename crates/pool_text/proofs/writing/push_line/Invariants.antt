@@ -1,6 +1,6 @@
 use Rattle.std.proofs.Common.{◌≡◌, ◌++◌, map, take}
 use Rattle.std.specs.Prelude.{string_bytes}
-use Rattle.pool_text.specs.Writing.{tabbed}
+use Rattle.text_definitions.specs.Lines.{tabbed}
 use Rattle.pool_text.proofs.writing.push_line.Given as goal
 
 -- the word and the fields so far

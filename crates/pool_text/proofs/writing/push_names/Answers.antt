@@ -5,7 +5,7 @@ use Rattle.std.proofs.lemmas.Slice.Zip.{zip_turn, zip_end}
 use Rattle.pool_definitions.specs.Pool.{Category}
 use Rattle.pool_definitions.specs.Building.{value_names}
 use Rattle.text_definitions.specs.PoolText.{names_at}
-use Rattle.pool_text.specs.Writing.{tabbed}
+use Rattle.text_definitions.specs.Lines.{tabbed}
 use Rattle.pool_text.proofs.WritingLemmas.{place_inside, as_many, tabbed_more}
 use Rattle.pool_text.proofs.writing.push_names.Goals as goal
 

@@ -1,7 +1,7 @@
 use Rattle.std.proofs.Common.{◌≡◌, ◌++◌, length, take}
 use Rattle.std.specs.Prelude.{string_bytes}
 use Rattle.text_definitions.specs.PoolText.{names_at}
-use Rattle.pool_text.specs.Writing.{tabbed}
+use Rattle.text_definitions.specs.Lines.{tabbed}
 use Rattle.pool_text.proofs.writing.push_names.Given as goal
 
 -- the names of the categories so far

@@ -2,8 +2,8 @@ use Rattle.std.proofs.Common.{◌≡◌, [], ◌∷◌, ◌++◌, ap, ◌∙◌,
 use Rattle.std.specs.Prelude.{codes, string_bytes, OnOk}
 use Rattle.std.proofs.lemmas.Result.{on_ok_weaker}
 use Rattle.text_definitions.specs.PoolText.{names_at}
-use Rattle.pool_text.specs.Writing.{tabbed}
-use Rattle.pool_text.proofs.WritingLemmas.{line_written}
+use Rattle.text_definitions.specs.Lines.{tabbed}
+use Rattle.text_definitions.proofs.LineLemmas.{line_written}
 use Rattle.pool_text.proofs.writing.push_volunteer.Goals as goal
 
 pub returns : goal.returns

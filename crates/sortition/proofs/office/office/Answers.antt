@@ -1,6 +1,7 @@
 use Rattle.std.proofs.Common.{refl}
 use Rattle.sortition.specs.Words.{asked}
-use Rattle.sortition.proofs.CallLemmas.{gains_nothing, unread_is_right}
+use Rattle.sortition.proofs.CallLemmas.{gains_nothing}
+use Rattle.sortition.proofs.OfficeLemmas.{unread_is_right}
 use Rattle.sortition.proofs.office.office.Goals as goal
 
 pub returns-in-Err-OutOfMemory : goal.returns-in-Err-OutOfMemory

@@ -1,4 +1,5 @@
-use Rattle.sortition.proofs.CallLemmas.{gains_nothing, refusal_is_right}
+use Rattle.sortition.proofs.CallLemmas.{gains_nothing}
+use Rattle.sortition.proofs.PanelLemmas.{refusal_is_right}
 use Rattle.sortition.proofs.panel.panel.Goals as goal
 
 pub returns-in-Err : goal.returns-in-Err
