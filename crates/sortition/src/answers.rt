@@ -6,7 +6,7 @@ ghost use Rattle.std.specs.declared.io.ErrorKind.TheVariants.{InvalidData};
 ghost use Rattle.outside.specs.Content.{AppendsPart};
 ghost use Rattle.outside.specs.Faults.{Rose};
 ghost use Rattle.sortition.specs.Told.{object, GainsUnlessFaulted};
-ghost use Rattle.sortition.specs.Lines.{want_of_memory_line, words_not_utf8_line};
+ghost use Rattle.sortition.specs.Lines.{want_of_memory_line, words_not_utf8_line, write_fault_line};
 ghost use Rattle.sortition.specs.Telling.{TellsText, TellsRefusal};
 
 use crate::input::Refusal;
@@ -60,11 +60,10 @@ pub(crate) fn tell<O: Sink, E: Sink>(out: &mut O, errs: &mut E, status: u8, text
         (object (O.written out.old) (O.written out.new) (O.faults out.old) (O.faults out.new))
         (object (E.written errs.old) (E.written errs.new) (E.faults errs.old) (E.faults errs.new)) }
 {
-    if put_lines(out, text).is_ok() {
-        return status;
+    match put_lines(out, text) {
+        Ok(()) => status,
+        Err(_) => write_fault(errs),
     }
-    complain(errs, WRITE_FAULT_LINE);
-    WRITE_FAULT
 }
 
 /// Puts a text line by line, each with its LF, up to the first call that fails.
@@ -159,4 +158,13 @@ pub(crate) fn want_memory<E: Sink>(errs: &mut E) -> u8
 {
     complain(errs, WANT_OF_MEMORY_LINE);
     WANT_OF_MEMORY
+}
+
+/// Tells that `out` counted a fault.
+fn write_fault<E: Sink>(errs: &mut E) -> u8
+    ensures status { result ≡ 8 }
+    ensures line { GainsUnlessFaulted (object (E.written errs.old) (E.written errs.new) (E.faults errs.old) (E.faults errs.new)) write_fault_line }
+{
+    complain(errs, WRITE_FAULT_LINE);
+    WRITE_FAULT
 }
