@@ -1,14 +1,22 @@
 -- What calls do to the content of an object, where the object tells it: `Some` of the bytes, or `None`.
-use Rattle.std.specs.Prelude.{◌≡◌, ℕ, List, [], Option, Some, None, take, ⊤}
+use Rattle.std.specs.Prelude.{◌≡◌, ◌<◌, ℕ, List, [], length, Option, Some, None, take, ⊤}
 use Rattle.std.specs.Io.KnownBytes.{Appends, Consumes}
 
 -- told bytes grew by a prefix of the piece
 abbrev pub AppendsPart : Option (List ℕ) → Option (List ℕ) → List ℕ → Type 0
 AppendsPart old new piece = (count : ℕ) × Appends old new (take count piece)
 
+-- told bytes grew by a prefix of the piece, and not by all of it
+abbrev pub AppendsLess : Option (List ℕ) → Option (List ℕ) → List ℕ → Type 0
+AppendsLess old new piece = (count : ℕ) × (count < length piece) × Appends old new (take count piece)
+
 -- told bytes lost some bytes, or none, from their front
 abbrev pub LosesFront : Option (List ℕ) → Option (List ℕ) → Type 0
 LosesFront old new = (front : List ℕ) × Consumes old new front
+
+-- told bytes lost more than so many bytes from their front
+abbrev pub LosesMore : ℕ → Option (List ℕ) → Option (List ℕ) → Type 0
+LosesMore limit old new = (front : List ℕ) × (limit < length front) × Consumes old new front
 
 -- bytes is all that was told as left, and nothing is left
 abbrev pub ReadsAll : Option (List ℕ) → Option (List ℕ) → List ℕ → Type 0

@@ -1,4 +1,4 @@
-// The calls of an object in memory: which are to fail, and how many were made and failed.
+//! The calls of an object in memory: which are to fail, and how many were made and failed.
 ghost use Rattle.std.specs.Prelude.{◌≡◌, ◌≤◌, IfOk};
 ghost use Rattle.outside.specs.Memory.{no_calls, next_fails, after_call};
 

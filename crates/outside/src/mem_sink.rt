@@ -1,4 +1,4 @@
-// A sink in memory.
+//! A sink in memory.
 ghost use Rattle.std.specs.Prelude.{◌≡◌, ◌+◌, ◌-◌, ◌≤◌, ◌++◌, [], length, take, is_err, Some, IfOk, OnErr, OnOk, vec_capacity};
 ghost use Rattle.std.specs.Io.KnownBytes.{Appends};
 ghost use Rattle.outside.specs.Content.{AppendsPart};
@@ -71,6 +71,7 @@ impl Sink for MemSink {
             (Appends (Some self.old.written) (Some self.new.written) piece.now) }
         ensures never_falls { self.old.calls.faults ≤ self.new.calls.faults }
         ensures cause { OnErr result (Rose self.old.calls.faults self.new.calls.faults) }
+        ensures none { OnOk result (self.new.calls.faults ≡ self.old.calls.faults) }
 
         // Exactly what a put does.
         ensures failed { is_err result ≡ put_fails self.old piece.now }

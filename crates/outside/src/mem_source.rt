@@ -1,5 +1,5 @@
-// A source in memory.
-ghost use Rattle.std.specs.Prelude.{◌≡◌, ◌+◌, ◌<◌, ◌≤◌, ◌++◌, [], length, min, take, drop, is_err, Some, IfOk, OnErr};
+//! A source in memory.
+ghost use Rattle.std.specs.Prelude.{◌≡◌, ◌+◌, ◌<◌, ◌≤◌, ◌++◌, [], length, min, take, drop, is_err, Some, IfOk, OnErr, OnOk};
 ghost use Rattle.std.specs.Io.{ReadsAtMost};
 ghost use Rattle.std.specs.Io.KnownBytes.{ReadConsumes};
 ghost use Rattle.outside.specs.Faults.{Rose};
@@ -68,6 +68,7 @@ impl Source for MemSource {
         ensures given { ReadConsumes (Some self.old.left) (Some self.new.left) result room.new }
         ensures never_falls { self.old.calls.faults ≤ self.new.calls.faults }
         ensures cause { OnErr result (Rose self.old.calls.faults self.new.calls.faults) }
+        ensures none { OnOk result (self.new.calls.faults ≡ self.old.calls.faults) }
 
         // Exactly what a read does.
         ensures failed { is_err result ≡ next_fails self.old.calls }

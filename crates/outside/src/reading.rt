@@ -1,6 +1,6 @@
-// All the bytes of a source, up to a limit.
-ghost use Rattle.std.specs.Prelude.{◌≡◌, ◌+◌, ◌<◌, ◌≤◌, ◌^◌, length, IfOk, IfSome};
-ghost use Rattle.outside.specs.Content.{LosesFront, ReadsAll};
+//! All the bytes of a source, up to a limit.
+ghost use Rattle.std.specs.Prelude.{◌≡◌, ◌≢◌, ◌+◌, ◌<◌, ◌≤◌, ◌^◌, length, IfOk};
+ghost use Rattle.outside.specs.Content.{LosesFront, LosesMore, ReadsAll};
 ghost use Rattle.outside.specs.Faults.{Rose};
 
 use crate::Source;
@@ -36,10 +36,11 @@ pub fn read_all<S: Source>(alloc: Global, source: &mut S, limit: usize) -> Resul
     ensures fault { result ≡ Err ReadStop.Fault
         → Rose (S.faults source.old) (S.faults source.new) }
     ensures long { result ≡ Err ReadStop.TooLong
-        → IfSome (S.left source.old) (λ left. limit < length left) }
+        → LosesMore limit (S.left source.old) (S.left source.new) }
 
     // What stands after each answer.
     ensures front { LosesFront (S.left source.old) (S.left source.new) }
+    ensures none { result ≢ Err ReadStop.Fault → S.faults source.new ≡ S.faults source.old }
     ensures never_falls { S.faults source.old ≤ S.faults source.new }
 {
     let mut bytes = Vec::new(alloc);

@@ -1,5 +1,5 @@
-// A sink of bytes.
-ghost use Rattle.std.specs.Prelude.{◌≤◌, List, ℕ, OnErr, OnOk, Option};
+//! A sink of bytes.
+ghost use Rattle.std.specs.Prelude.{◌≡◌, ◌≤◌, List, ℕ, OnErr, OnOk, Option};
 ghost use Rattle.std.specs.Io.KnownBytes.{Appends};
 ghost use Rattle.outside.specs.Content.{AppendsPart};
 ghost use Rattle.outside.specs.Faults.{Rose};
@@ -14,10 +14,12 @@ pub trait Sink {
     /// How many faults the sink has counted.
     ghost faults: { Self → ℕ };
 
-    /// Appends a prefix of the piece: all of it at `Ok`, and none, some or all of it at `Failed`.
+    /// Appends a prefix of the piece: all of it at `Ok`, and none, some or all of it at `Failed`, which counts a fault.
+    /// `Ok` counts none.
     fn put(&mut self, piece: &[u8]) -> Result<(), Failed>
         ensures part { AppendsPart (written self.old) (written self.new) piece.now }
         ensures whole { OnOk result (Appends (written self.old) (written self.new) piece.now) }
         ensures never_falls { faults self.old ≤ faults self.new }
-        ensures cause { OnErr result (Rose (faults self.old) (faults self.new)) };
+        ensures cause { OnErr result (Rose (faults self.old) (faults self.new)) }
+        ensures none { OnOk result (faults self.new ≡ faults self.old) };
 }

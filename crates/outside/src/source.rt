@@ -1,5 +1,5 @@
-// A source of bytes.
-ghost use Rattle.std.specs.Prelude.{◌≤◌, List, ℕ, OnErr, Option};
+//! A source of bytes.
+ghost use Rattle.std.specs.Prelude.{◌≡◌, ◌≤◌, List, ℕ, OnErr, OnOk, Option};
 ghost use Rattle.std.specs.Io.{ReadsAtMost};
 ghost use Rattle.std.specs.Io.KnownBytes.{ReadConsumes};
 ghost use Rattle.outside.specs.Faults.{Rose};
@@ -21,10 +21,11 @@ pub trait Source {
 
     /// Fills the front of `room` with bytes from the front of what is left, takes them from there
     /// and answers how many. For a room that isn't empty the answer is 0 only at the end.
-    /// `Failed` gives and takes nothing.
+    /// `Failed` gives and takes nothing, and counts a fault; an answer counts none.
     fn read(&mut self, room: &mut [u8]) -> Result<usize, Failed>
         ensures fits { ReadsAtMost result room.new }
         ensures given { ReadConsumes (left self.old) (left self.new) result room.new }
         ensures never_falls { faults self.old ≤ faults self.new }
-        ensures cause { OnErr result (Rose (faults self.old) (faults self.new)) };
+        ensures cause { OnErr result (Rose (faults self.old) (faults self.new)) }
+        ensures none { OnOk result (faults self.new ≡ faults self.old) };
 }

@@ -1,14 +1,14 @@
-// A sink over any writer of std.
-ghost use Rattle.std.specs.Prelude.{◌≡◌, ◌≤◌, if◌then◌else◌, is_err, true, OnErr, OnOk};
+//! A sink over any writer of std.
+ghost use Rattle.std.specs.Prelude.{◌≡◌, ◌≤◌, if◌then◌else◌, is_err, false, true, OnErr, OnOk};
 ghost use Rattle.std.specs.Io.KnownBytes.{Appends};
-ghost use Rattle.outside.specs.Content.{AppendsPart};
+ghost use Rattle.outside.specs.Content.{AppendsLess, AppendsPart};
 ghost use Rattle.outside.specs.Faults.{Rose, raised};
 
 use crate::{Failed, Sink};
 use std::io::Write;
 
 /// Any writer of std. It tells what was written where the writer does. Each error of the writer is
-/// a fault, and so is a write that takes nothing.
+/// a fault, an interrupted call too, and so is a write that takes nothing. Nothing is tried again.
 #[derive(Drop)]
 pub struct StdSink<W: Write> {
     inner: W,
@@ -46,8 +46,12 @@ impl<W: Write> Sink for StdSink<W> {
             ≤ ⟦<StdSink<W> as Sink>⟧.faults self.new }
         ensures cause { OnErr result (Rose (⟦<StdSink<W> as Sink>⟧.faults self.old)
             (⟦<StdSink<W> as Sink>⟧.faults self.new)) }
+        ensures none { OnOk result (⟦<StdSink<W> as Sink>⟧.faults self.new
+            ≡ ⟦<StdSink<W> as Sink>⟧.faults self.old) }
 
-        // One fault for each put that fails, and no other.
+        // One fault for each put that fails, and no other. A put whose piece went out whole doesn't fail.
+        ensures less { OnErr result (AppendsLess (⟦<StdSink<W> as Sink>⟧.written self.old)
+            (⟦<StdSink<W> as Sink>⟧.written self.new) piece.now) }
         ensures counted { ⟦<StdSink<W> as Sink>⟧.faults self.new
             ≡ (if is_err result then raised (⟦<StdSink<W> as Sink>⟧.faults self.old)
             else ⟦<StdSink<W> as Sink>⟧.faults self.old) }
@@ -65,6 +69,8 @@ fn write_piece<W: Write>(inner: &mut W, piece: &[u8]) -> bool
     ensures part { AppendsPart (W.contents inner.old) (W.contents inner.new) piece.now }
     ensures whole { result ≡ true
         → Appends (W.contents inner.old) (W.contents inner.new) piece.now }
+    ensures less { result ≡ false
+        → AppendsLess (W.contents inner.old) (W.contents inner.new) piece.now }
 {
     let mut taken = 0;
     while taken < piece.len() {

@@ -1,5 +1,5 @@
-// A source over any reader of std.
-ghost use Rattle.std.specs.Prelude.{◌≡◌, ◌≤◌, if◌then◌else◌, is_err, OnErr};
+//! A source over any reader of std.
+ghost use Rattle.std.specs.Prelude.{◌≡◌, ◌≤◌, if◌then◌else◌, is_err, OnErr, OnOk};
 ghost use Rattle.std.specs.Io.{ReadsAtMost};
 ghost use Rattle.std.specs.Io.KnownBytes.{ReadConsumes};
 ghost use Rattle.outside.specs.Faults.{Rose, raised};
@@ -8,7 +8,7 @@ use crate::{Failed, Source};
 use std::io::Read;
 
 /// Any reader of std. It tells what is left where the reader does, and each error of the reader is
-/// a fault.
+/// a fault, an interrupted call too. Nothing is tried again.
 #[derive(Drop)]
 pub struct StdSource<R: Read> {
     inner: R,
@@ -45,6 +45,8 @@ impl<R: Read> Source for StdSource<R> {
             ≤ ⟦<StdSource<R> as Source>⟧.faults self.new }
         ensures cause { OnErr result (Rose (⟦<StdSource<R> as Source>⟧.faults self.old)
             (⟦<StdSource<R> as Source>⟧.faults self.new)) }
+        ensures none { OnOk result (⟦<StdSource<R> as Source>⟧.faults self.new
+            ≡ ⟦<StdSource<R> as Source>⟧.faults self.old) }
 
         // One fault for each error, and no other.
         ensures counted { ⟦<StdSource<R> as Source>⟧.faults self.new

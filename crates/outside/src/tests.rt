@@ -1,7 +1,7 @@
-// The memory forms and `read_all` in a table each, and the adapters over readers and writers.
-use crate::{MemSink, MemSource, ReadStop, Sink, Source, StdSink, StdSource, read_all};
+//! The memory forms and `read_all` in a table each, and the adapters over readers and writers.
+use crate::{Failed, MemSink, MemSource, ReadStop, Sink, Source, StdSink, StdSource, read_all};
 use std::io;
-use std::io::{Cursor, ErrorKind, Read};
+use std::io::{Cursor, ErrorKind, Read, Write};
 use std::test::Fail;
 
 // What five reads of at most four bytes answer: how many bytes came, or F.
@@ -97,18 +97,42 @@ fn reads_all(rt: HostRuntime) -> Result<(), Fail> {
     Ok(())
 }
 
-// Gives an error, then a byte, and from then on errors.
+// Is interrupted at the listed calls, counted from 1; each other call gives a byte, and from the fifth on the end.
 #[derive(Drop)]
-struct Flaky(u8);
+struct Interrupted<'a> {
+    calls: u64,
+    at: &'a [u64],
+}
 
-impl Read for Flaky {
+impl Interrupted<'_> {
+    fn call(&mut self) -> io::Result<u64> {
+        self.calls = self.calls.saturating_add(1);
+        if self.at.contains(&self.calls) {
+            return Err(io::Error::from(ErrorKind::Interrupted));
+        }
+        Ok(self.calls)
+    }
+}
+
+impl Read for Interrupted<'_> {
     fn read(&mut self, room: &mut [u8]) -> io::Result<usize> {
-        self.0 = self.0.saturating_add(1);
-        if self.0 != 2 || room.is_empty() {
-            return Err(io::Error::from(ErrorKind::Other));
+        if self.call()? > 4 || room.is_empty() {
+            return Ok(0);
         }
         room[0] = b'x';
         Ok(1)
+    }
+}
+
+// Takes at most 1,000 bytes a call, into room that it has.
+impl Write for Interrupted<'_> {
+    fn write(&mut self, piece: &[u8]) -> io::Result<usize> {
+        self.call()?;
+        Ok(piece.len().min(1000))
+    }
+
+    fn flush(&mut self) -> io::Result<()> {
+        Ok(())
     }
 }
 
@@ -119,9 +143,14 @@ fn reads_from_std(rt: HostRuntime) -> Result<(), Fail> {
     let mut source = StdSource::new(Cursor::new(b"pool 3".as_slice()));
     let read = read_all(rt.alloc(), &mut source, 6)?;
     assert_eq!(rt; read.as_slice(), b"pool 3".as_slice());
-    let mut source = StdSource::new(Flaky(0));
-    assert_eq!(rt; five_reads(&mut source), *b"F1FFF");
-    assert_eq!(rt; source.faults(), 4);
+    for (at, answers, faults) in [([9u64, 9], *b"11110", 0u64), ([1, 3], *b"F1F10", 2)] {
+        let mut source = StdSource::new(Interrupted { calls: 0, at: &at });
+        assert_eq!(rt; five_reads(&mut source), answers);
+        assert_eq!(rt; source.faults(), faults);
+    }
+    let mut source = StdSource::new(Interrupted { calls: 0, at: &[6] });
+    let read = read_all(rt.alloc(), &mut source, 6)?;
+    assert_eq!(rt; read.as_slice(), b"xxxx".as_slice());
     Ok(())
 }
 
@@ -136,4 +165,12 @@ fn puts_into_std(rt: HostRuntime) {
     assert_eq!(rt; four_puts(&mut sink), *b"oFoF");
     assert_eq!(rt; sink.faults(), 2);
     assert_eq!(rt; full, *b"abcdef");
+    let mut sink = StdSink::new(Interrupted {
+        calls: 0,
+        at: &[1, 5],
+    });
+    assert_eq!(rt; four_puts(&mut sink), *b"Fooo");
+    assert_eq!(rt; sink.put(&[b'x'; 70_000]), Err(Failed));
+    assert_eq!(rt; sink.put(&[b'x'; 70_000]), Ok(()));
+    assert_eq!(rt; sink.faults(), 2);
 }
