@@ -1,0 +1,64 @@
+-- What one call of the program told of the outside.
+use Rattle.std.specs.Prelude.{◌≡◌, ℕ, List, Option}
+use Rattle.std.specs.Io.KnownBytes.{Appends}
+use Rattle.outside.specs.Faults.{Rose}
+use Rattle.outside.specs.Content.{AppendsPart, LosesMore, ReadsAll}
+
+-- an object of the outside before and after the call: what it tells of its meaning (a source the bytes still to come, a sink
+-- those written), and its count of faults
+pub record Object (Meaning : Type 0) : Type 0 where
+  pub before : Option Meaning
+  pub after : Option Meaning
+  pub faults_before : ℕ
+  pub faults_after : ℕ
+
+abbrev pub object : {Meaning : Type 0} → Option Meaning → Option Meaning → ℕ → ℕ → Object Meaning
+object before after faults_before faults_after = record { before = before; after = after; faults_before = faults_before; faults_after = faults_after }
+
+-- an object that tells bytes
+abbrev pub Bytes : Type 0
+Bytes = Object (List ℕ)
+
+-- what a call told: its status, and the objects
+pub record Told : Type 0 where
+  pub status : ℕ
+  pub source : Bytes
+  pub out : Bytes
+  pub errs : Bytes
+
+abbrev pub told : ℕ → Bytes → Bytes → Bytes → Told
+told status source out errs = record { status = status; source = source; out = out; errs = errs }
+
+-- the object counted a fault in this call; a count that stands at its last value is said to have risen too
+abbrev pub HasFaulted : {Meaning : Type 0} → Object Meaning → Type 0
+HasFaulted object = Rose object.faults_before object.faults_after
+
+-- the count of faults is as it was
+abbrev pub HasNoFault : {Meaning : Type 0} → Object Meaning → Type 0
+HasNoFault object = object.faults_after ≡ object.faults_before
+
+-- nothing was asked of the object
+pub record IsUntouched {Meaning : Type 0} (object : Object Meaning) : Type 0 where
+  pub same : object.after ≡ object.before
+  pub no_fault : HasNoFault object
+
+-- these bytes are all that the source held, and it was read to its end
+abbrev pub HeldAll : Bytes → List ℕ → Type 0
+HeldAll source bytes = ReadsAll source.before source.after bytes
+
+-- the source held more bytes than this, and more than this were read
+abbrev pub HeldMore : Bytes → ℕ → Type 0
+HeldMore source limit = LosesMore limit source.before source.after
+
+-- the sink gained these bytes
+abbrev pub Gains : Bytes → List ℕ → Type 0
+Gains object bytes = Appends object.before object.after bytes
+
+-- the sink gained a prefix of these bytes
+abbrev pub GainsPart : Bytes → List ℕ → Type 0
+GainsPart object bytes = AppendsPart object.before object.after bytes
+
+-- the sink gained a prefix of this line, and all of it unless it counted a fault
+pub record GainsLine (errs : Bytes) (line : List ℕ) : Type 0 where
+  pub part : GainsPart errs line
+  pub whole : (HasFaulted errs → ⊥) → Gains errs line

@@ -1,0 +1,22 @@
+//! What a command answers.
+
+use crate::status::{Cause, Printed};
+
+/// What a command answers, made whole before any of it is told.
+#[derive(Debug, Drop)]
+pub enum Answer {
+    /// A text for `out`.
+    Prints {
+        /// How the command ends.
+        printed: Printed,
+        /// Lines, each ended by LF.
+        text: Vec<u8>,
+    },
+    /// A line for `errs`.
+    Stops {
+        /// Why the command stops.
+        cause: Cause,
+        /// The line with its LF.
+        line: String,
+    },
+}

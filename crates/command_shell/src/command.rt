@@ -1,0 +1,20 @@
+//! What a command is.
+
+ghost use Rattle.std.specs.Prelude.{List, ℕ, IfOk};
+ghost use Rattle.command_shell.specs.Answers.{AnswersOnce, Saying, saying};
+
+use crate::answer::Answer;
+use std::alloc::{AllocError, Global};
+
+/// A command with its arguments: a function from the bytes of the input to an answer.
+pub trait Command {
+    /// Which answers are right about some bytes.
+    ghost means: { Self → List ℕ → Saying → Type 0 };
+
+    /// An answer that is right about the bytes, or want of memory.
+    fn answer(&self, alloc: Global, bytes: &[u8]) -> Result<Answer, AllocError>
+        ensures { IfOk result (λ answer. means self.now bytes.now (saying answer)) };
+
+    /// At most one answer is right about some bytes.
+    ghost answers_once: { (command : Self) → AnswersOnce (means command) };
+}

@@ -1,0 +1,28 @@
+//! The lines that several commands tell.
+
+ghost use Rattle.std.specs.Prelude.{◌≡◌, IfOk, string_bytes};
+ghost use Rattle.command_shell.specs.Answers.{Prints, saying};
+ghost use Rattle.command_shell.specs.Lines.{input_line as words_of_input, no_panel_line};
+
+use crate::answer::Answer;
+use crate::status::Printed;
+use std::alloc::{AllocError, Global};
+
+const NO_PANEL_LINE: &[u8] = b"no panel\n";
+
+/// Where the input first goes wrong: the line, counted from 1, and the lowest kind of fault in it.
+pub fn input_line(alloc: Global, line: usize, kind: u8) -> Result<String, AllocError>
+    ensures { IfOk result (λ text. string_bytes text ≡ words_of_input (record { line = line; kind = kind })) }
+{
+    format!(in alloc; "input\t{line}\t{kind}\n")
+}
+
+/// The answer that no quota panel exists.
+pub fn no_panel(alloc: Global) -> Result<Answer, AllocError>
+    ensures { IfOk result (λ answer. saying answer ≡ Prints Printed.NoPanel no_panel_line) }
+{
+    Ok(Answer::Prints {
+        printed: Printed::NoPanel,
+        text: Vec::from_slice(alloc, NO_PANEL_LINE)?,
+    })
+}

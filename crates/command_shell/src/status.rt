@@ -1,0 +1,86 @@
+//! How a call of the program ends.
+
+ghost use Rattle.std.specs.Prelude.{◌≡◌};
+ghost use Rattle.command_shell.specs.Answers.{cause_number, number_of, printed_number};
+
+/// How a command ends that has a text for `out`.
+#[derive(Clone, Copy, Debug, PartialEq, Eq)]
+pub enum Printed {
+    /// It did what it does.
+    Done,
+    /// No quota panel exists.
+    NoPanel,
+    /// A certificate is refused.
+    Refused,
+}
+
+/// Why a command stops.
+#[derive(Clone, Copy, Debug, PartialEq, Eq)]
+pub enum Cause {
+    /// The input is not of its format.
+    Input,
+    /// A number passes its width.
+    Wide,
+    /// A budget is spent.
+    Spent,
+    /// A rule refuses.
+    Rule,
+}
+
+/// How a call ends.
+#[derive(Clone, Copy, Debug, PartialEq, Eq)]
+pub enum Status {
+    /// A text went to `out`.
+    Printed(Printed),
+    /// The words are not of the forms, or ask for help.
+    Usage,
+    /// The command stopped.
+    Stopped(Cause),
+    /// The source counted a fault.
+    ReadFault,
+    /// `out` counted a fault.
+    WriteFault,
+    /// No memory was left.
+    WantOfMemory,
+}
+
+impl Status {
+    /// The number that the program answers.
+    pub fn number(self) -> u8
+        ensures { result ≡ number_of self }
+    {
+        match self {
+            Status::Printed(printed) => printed.number(),
+            Status::Usage => 2,
+            Status::Stopped(cause) => cause.number(),
+            Status::ReadFault => 7,
+            Status::WriteFault => 8,
+            Status::WantOfMemory => 12,
+        }
+    }
+}
+
+impl Printed {
+    fn number(self) -> u8
+        ensures { result ≡ printed_number self }
+    {
+        match self {
+            Printed::Done => 0,
+            Printed::NoPanel => 1,
+            Printed::Refused => 11,
+        }
+    }
+}
+
+impl Cause {
+    fn number(self) -> u8
+        ensures { result ≡ cause_number self }
+    {
+        match self {
+            Cause::Input => 3,
+            Cause::Wide => 4,
+            Cause::Spent => 5,
+            Cause::Rule => 6,
+        }
+    }
+}

@@ -1,0 +1,122 @@
+//! How an answer goes to `out` and `errs`: its text to `out` line by line, up to the first call that fails, or one line to `errs`.
+
+ghost use Rattle.std.specs.Prelude.{◌≡◌, ◌<◌, ◌≤◌, length, OnErr, OnOk};
+ghost use Rattle.std.specs.Io.KnownBytes.{Appends};
+ghost use Rattle.outside.specs.Content.{AppendsPart};
+ghost use Rattle.outside.specs.Faults.{Rose};
+ghost use Rattle.command_shell.specs.Told.{object, GainsLine};
+ghost use Rattle.command_shell.specs.Answers.{number_of, saying};
+ghost use Rattle.command_shell.specs.Lines.{read_fault_line, too_long_line, want_of_memory_line, write_fault_line};
+ghost use Rattle.command_shell.specs.Telling.{IsTold};
+
+use crate::answer::Answer;
+use crate::status::{Cause, Status};
+use outside::{Failed, Sink};
+
+const LINE_FEED: u8 = b'\n';
+
+const TOO_LONG_LINE: &[u8] = b"input\t0\t10\n";
+
+const READ_FAULT_LINE: &[u8] = b"read fault\n";
+
+const WRITE_FAULT_LINE: &[u8] = b"write fault\n";
+
+const WANT_OF_MEMORY_LINE: &[u8] = b"want of memory\n";
+
+/// Tells an answer. Where `out` fails on the way, the status is that of a write fault, and `errs` gets its line.
+pub(crate) fn tell<O: Sink, E: Sink>(out: &mut O, errs: &mut E, answer: &Answer) -> Status
+    ensures { IsTold (saying answer.now) (number_of result)
+        (object (O.written out.old) (O.written out.new) (O.faults out.old) (O.faults out.new))
+        (object (E.written errs.old) (E.written errs.new) (E.faults errs.old) (E.faults errs.new)) }
+{
+    match answer {
+        Answer::Prints { printed, text } => match put_lines(out, text) {
+            Ok(()) => Status::Printed(*printed),
+            Err(_) => write_fault(errs),
+        },
+        Answer::Stops { cause, line } => {
+            complain(errs, line.as_bytes());
+            Status::Stopped(*cause)
+        }
+    }
+}
+
+/// Puts a text line by line, each with its LF, up to the first call that fails.
+fn put_lines<O: Sink>(out: &mut O, text: &[u8]) -> Result<(), Failed>
+    ensures part { AppendsPart (O.written out.old) (O.written out.new) text.now }
+    ensures whole { OnOk result (Appends (O.written out.old) (O.written out.new) text.now) }
+    ensures cause { OnErr result (Rose (O.faults out.old) (O.faults out.new)) }
+    ensures none { OnOk result (O.faults out.new ≡ O.faults out.old) }
+{
+    let mut start = 0;
+    while start < text.len() {
+        let end = line_end(text, start);
+        out.put(&text[start..end])?;
+        start = end;
+    }
+    Ok(())
+}
+
+/// Where the line that begins at a place ends: behind its LF, or with the text.
+fn line_end(text: &[u8], start: usize) -> usize
+    requires { start < length text.now }
+    ensures later { start < result }
+    ensures inside { result ≤ length text.now }
+{
+    match text[start..].iter().position(|byte| *byte == LINE_FEED) {
+        Some(before) => start + before + 1,
+        None => text.len(),
+    }
+}
+
+/// Puts a line to `errs`, whose failing changes no status. It is one call, which is not tried again.
+fn complain<E: Sink>(errs: &mut E, line: &[u8])
+    ensures { GainsLine (object (E.written errs.old) (E.written errs.new) (E.faults errs.old) (E.faults errs.new)) line.now }
+{
+    let _ = errs.put(line);
+}
+
+/// Tells why the words ask for nothing.
+pub fn refuse_words<E: Sink>(errs: &mut E, text: &[u8]) -> Status
+    ensures status { number_of result ≡ 2 }
+    ensures line { GainsLine (object (E.written errs.old) (E.written errs.new) (E.faults errs.old) (E.faults errs.new)) text.now }
+{
+    complain(errs, text);
+    Status::Usage
+}
+
+/// Tells that the input is too long.
+pub(crate) fn too_long<E: Sink>(errs: &mut E) -> Status
+    ensures status { number_of result ≡ 3 }
+    ensures line { GainsLine (object (E.written errs.old) (E.written errs.new) (E.faults errs.old) (E.faults errs.new)) too_long_line }
+{
+    complain(errs, TOO_LONG_LINE);
+    Status::Stopped(Cause::Input)
+}
+
+/// Tells that the source counted a fault.
+pub(crate) fn read_fault<E: Sink>(errs: &mut E) -> Status
+    ensures status { number_of result ≡ 7 }
+    ensures line { GainsLine (object (E.written errs.old) (E.written errs.new) (E.faults errs.old) (E.faults errs.new)) read_fault_line }
+{
+    complain(errs, READ_FAULT_LINE);
+    Status::ReadFault
+}
+
+/// Tells that `out` counted a fault.
+fn write_fault<E: Sink>(errs: &mut E) -> Status
+    ensures status { number_of result ≡ 8 }
+    ensures line { GainsLine (object (E.written errs.old) (E.written errs.new) (E.faults errs.old) (E.faults errs.new)) write_fault_line }
+{
+    complain(errs, WRITE_FAULT_LINE);
+    Status::WriteFault
+}
+
+/// Tells that no memory was left.
+pub fn want_memory<E: Sink>(errs: &mut E) -> Status
+    ensures status { number_of result ≡ 12 }
+    ensures line { GainsLine (object (E.written errs.old) (E.written errs.new) (E.faults errs.old) (E.faults errs.new)) want_of_memory_line }
+{
+    complain(errs, WANT_OF_MEMORY_LINE);
+    Status::WantOfMemory
+}
