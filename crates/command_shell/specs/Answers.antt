@@ -42,6 +42,11 @@ abbrev pub status_of : Saying → ℕ
 status_of (Prints printed text) = printed_number printed
 status_of (Stops cause line) = cause_number cause
 
+-- the text or the line of an answer
+abbrev pub bytes_of : Saying → List ℕ
+bytes_of (Prints printed text) = text
+bytes_of (Stops cause line) = line
+
 -- at most one answer is right about an input
 abbrev pub AnswersOnce : {Input : Type 0} → (Input → Saying → Type 0) → Type 0
 AnswersOnce {Input} Means = (input : Input) (first second : Saying) → Means input first → Means input second → first ≡ second

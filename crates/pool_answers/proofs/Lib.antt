@@ -1,0 +1,4 @@
+pub mod OfPoolLaws
+pub mod PanelLaws
+pub mod LotteryLaws
+pub mod LotteryByStatus

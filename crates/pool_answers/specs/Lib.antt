@@ -1,0 +1,4 @@
+pub mod Lines
+pub mod OfPool
+pub mod Panel
+pub mod Lottery
