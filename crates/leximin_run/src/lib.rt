@@ -4,13 +4,12 @@
 #![tactic(auto)]
 
 mod certifying;
-mod limits;
 mod running;
 mod solving;
 mod stops;
 #[cfg(test)]
 mod tests;
 
-pub use limits::Limits;
+pub use run_limits::Limits;
 pub use solving::solve;
 pub use stops::{At, Solved, Stop};

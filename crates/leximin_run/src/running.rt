@@ -5,7 +5,7 @@ ghost use Rattle.leximin_run.specs.Advancing.{Advances, Makes, Stands};
 ghost use Rattle.row_definitions.specs.Choice.{choice};
 ghost use Rattle.row_definitions.specs.Table.{row_at};
 
-use crate::limits::Limits;
+use run_limits::Limits;
 use alike::Classes;
 use exact_table::{Pass, Table, Var};
 use panel_search::{Row, SearchStop, best};

@@ -11,7 +11,7 @@ ghost use Rattle.search_definitions.specs.Fronts.{sizes_of};
 ghost use Rattle.search_definitions.specs.Visits.{first_search};
 
 use crate::certifying::certificate;
-use crate::limits::Limits;
+use run_limits::Limits;
 use crate::running::{Refusal, Run};
 use crate::stops::{At, Solved, Stop};
 use alike::{Classes, Composition, SpreadStop, classes, spread};

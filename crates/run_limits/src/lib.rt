@@ -1,15 +1,22 @@
-//! The limits of a run.
+//! The limits of a run, and the ranges of their numbers, which the program's words have too. Below stand the definitions of the run.
+#![tactic(auto)]
 
 ghost use Rattle.std.specs.Prelude.{◌≡◌, ◌≤◌, ◌&&◌, nat_le, if◌then◌else◌, Some, None};
 ghost use Rattle.run_definitions.specs.Keeps.{AreLimits};
 
 use std::marker::Model;
 
-const MOST_BITS: u32 = 127;
+/// The least width in bits: with fewer the table has no number but 0.
+pub const LEAST_BITS: u32 = 1;
 
-const MOST_PIVOTS: u64 = 1_000_000_000;
+/// The greatest width in bits, that of the machine's signed numbers of 128 bits.
+pub const MOST_BITS: u32 = 127;
 
-const MOST_NODES: u64 = 1_000_000_000_000;
+/// The most pivots that a run may be allowed.
+pub const MOST_PIVOTS: u64 = 1_000_000_000;
+
+/// The most visits that a search may be allowed.
+pub const MOST_NODES: u64 = 1_000_000_000_000;
 
 /// The limits of a run: the width of its numbers, from 1 to 127 bits; how many pivots it may make, at most 1,000,000,000; and how many
 /// visits each of its searches may take, at most 1,000,000,000,000.
@@ -36,10 +43,10 @@ impl Model for Limits {
 impl Limits {
     /// The limits of these numbers, or None exactly where one is out of its range.
     pub fn new(bits: u32, pivots: u64, nodes: u64) -> Option<Limits>
-        ensures { result ≡ (if nat_le 1 bits && nat_le bits 127 && nat_le pivots 1000000000 && nat_le nodes 1000000000000
+        ensures { result ≡ (if nat_le LEAST_BITS bits && nat_le bits MOST_BITS && nat_le pivots MOST_PIVOTS && nat_le nodes MOST_NODES
             then Some (record { bits = bits; pivots = pivots; nodes = nodes }) else None) }
     {
-        if 1 <= bits && bits <= MOST_BITS && pivots <= MOST_PIVOTS && nodes <= MOST_NODES {
+        if LEAST_BITS <= bits && bits <= MOST_BITS && pivots <= MOST_PIVOTS && nodes <= MOST_NODES {
             Some(Limits {
                 bits,
                 pivots,

@@ -1,0 +1,119 @@
+-- What the words of a call ask for, as `clap`'s rule for a simple command reads them.
+use Rattle.std.specs.Prelude.{◌≡◌, ◌≢◌, ◌^◌, ◌&&◌, ℕ, Bool, true, List, [], ◌∷◌, Option, Some, None, Result, Ok, Err, codes, length, if◌then◌else◌, nat_le, nat_lt, bytes_eq, option_and_then, option_map, ⊤}
+use Rattle.std.specs.List.{list_all}
+use Rattle.std.specs.Char.{digit_value}
+use Rattle.std.specs.Str.Parse.{digits_value, without_leading_plus}
+use Rattle.clap.specs.Words.{App, Kinds, Row, Rule, Text, fault_of, kind_of, new_app, new_rule, one_of, subcommand_of, subcommand_rows_of, with_rule, with_subcommand}
+use Rattle.clap.specs.Simple.{on_top}
+use Rattle.clap.specs.declared.builder.value_parser.ValueParser.TheVariants as parser
+use Rattle.clap.specs.declared.error.Error.{Error}
+use Rattle.clap.specs.declared.error.kind.ErrorKind.TheVariants as kind
+use Rattle.clap.specs.declared.parser.matches.ArgMatches.{ArgMatches}
+use Rattle.run_definitions.specs.Run.{Limits}
+use Rattle.run_limits.specs.declared.TheConstants.{LEAST_BITS, MOST_BITS, MOST_NODES, MOST_PIVOTS}
+use Rattle.command_words.specs.declared.asked.Asked.{Asked}
+use Rattle.command_words.specs.declared.asked.Asked.TheVariants.{Lottery, Panel}
+use Rattle.command_words.specs.declared.asked.WordsStop.{WordsStop}
+use Rattle.command_words.specs.declared.asked.WordsStop.TheVariants.{Usage, OutOfMemory}
+
+-- an option that holds a number of a range, with the text of its default
+abbrev pub number_rule : Text → ℕ → ℕ → Text → Rule
+number_rule name least most default = record (new_rule name) {
+  long = Some name;
+  parser = Some (parser.Unsigned least most);
+  defaults = default ∷ [];
+}
+
+abbrev pub bits_rule : Rule
+bits_rule = number_rule (codes "bits") LEAST_BITS MOST_BITS (codes "127")
+
+abbrev pub pivots_rule : Rule
+pivots_rule = number_rule (codes "pivots") 0 MOST_PIVOTS (codes "100000")
+
+abbrev pub nodes_rule : Rule
+nodes_rule = number_rule (codes "nodes") 0 MOST_NODES (codes "50000000")
+
+abbrev pub panel_app : App
+panel_app = with_rule (new_app (codes "panel")) nodes_rule
+
+abbrev pub lottery_app : App
+lottery_app = with_rule (with_rule (with_rule (new_app (codes "lottery")) bits_rule) pivots_rule) nodes_rule
+
+-- the program, of which one subcommand is required; the words don't include its name
+abbrev pub program_alone : App
+program_alone = on_top (λ top. record top { no_binary_name = true; subcommand_required = true }) (new_app (codes "sortition"))
+
+abbrev pub program_app : App
+program_app = with_subcommand (with_subcommand program_alone panel_app.top) lottery_app.top
+
+-- some digits of a number below 2 ^ 64
+abbrev pub is_number : Text → Bool
+is_number digits = nat_lt 0 (length digits) && list_all (λ d. nat_lt (digit_value d) 10) digits && nat_lt (digits_value 10 digits) (2 ^ 64)
+
+-- the number that a text says, which may have a plus before its digits
+abbrev pub number_in : Text → Option ℕ
+number_in text =
+    let digits = without_leading_plus text in
+    if is_number digits then Some (digits_value 10 digits) else None
+
+-- the number that an option has
+abbrev pub number_at : Text → List Row → Option ℕ
+number_at name rows = option_and_then number_in (one_of name rows)
+
+abbrev pub within : ℕ → ℕ → ℕ → Option ℕ
+within least most n = if nat_le least n && nat_le n most then Some n else None
+
+-- the same, where it is from the least to the most
+abbrev pub number_within : Text → ℕ → ℕ → List Row → Option ℕ
+number_within name least most rows = option_and_then (within least most) (number_at name rows)
+
+abbrev pub panel_asked : List Row → Option Asked
+panel_asked rows = option_map Panel (number_within (codes "nodes") 0 MOST_NODES rows)
+
+-- the limits of a run, where each is in its range
+abbrev pub limits_asked : List Row → Option Limits
+limits_asked rows =
+    option_and_then (λ bits.
+    option_and_then (λ pivots.
+    option_map (λ nodes. record { bits = bits; pivots = pivots; nodes = nodes })
+    (number_within (codes "nodes") 0 MOST_NODES rows))
+    (number_within (codes "pivots") 0 MOST_PIVOTS rows))
+    (number_within (codes "bits") LEAST_BITS MOST_BITS rows)
+
+abbrev pub lottery_asked : List Row → Option Asked
+lottery_asked rows = option_map Lottery (limits_asked rows)
+
+-- the command of a subcommand's name, with its values
+abbrev pub asked_named : Text → List Row → Option Asked
+asked_named name rows =
+    if bytes_eq name (codes "panel") then panel_asked rows
+    else if bytes_eq name (codes "lottery") then lottery_asked rows
+    else None
+
+abbrev pub asked_of : Option (Text × List Row) → Option Asked
+asked_of = option_and_then (λ met. asked_named met.0 met.1)
+
+abbrev pub unless_any : Kinds → Option Asked → Option Asked
+unless_any [] asked = asked
+unless_any (kind ∷ kinds) asked = None
+
+-- what the words ask for, where `clap` refuses nothing in them and each number is in its range; else nothing
+abbrev pub asked : List Text → Option Asked
+asked words = unless_any (fault_of program_app words) (asked_of (subcommand_of program_app words))
+
+-- what reading the words says; want of memory may come at any time
+abbrev pub WordsSay : List Text → Result Asked WordsStop → Type 0
+WordsSay words (Ok it) = asked words ≡ Some it
+WordsSay words (Err (Usage text)) = asked words ≡ None
+WordsSay words (Err OutOfMemory) = ⊤
+
+-- the same of what `clap` made of them, before the numbers were tested for their ranges
+abbrev pub MatchesSay : List Text → Result ArgMatches WordsStop → Type 0
+MatchesSay words (Ok matches) = asked words ≡ asked_of (subcommand_rows_of matches)
+MatchesSay words (Err (Usage text)) = asked words ≡ None
+MatchesSay words (Err OutOfMemory) = ⊤
+
+-- an error of `clap` for want of memory stays one
+abbrev pub StopSays : Error → WordsStop → Type 0
+StopSays error (Usage text) = kind_of error ≢ kind.OutOfMemory
+StopSays error OutOfMemory = ⊤

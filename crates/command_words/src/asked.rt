@@ -1,0 +1,30 @@
+//! What the words of a call ask for.
+
+use run_limits::Limits;
+use thiserror::Error;
+
+/// What the words ask for.
+#[derive(Clone, Copy, Debug)]
+pub enum Asked {
+    /// The first quota panel of a pool, by a search of at most so many visits.
+    Panel {
+        /// From 0 to 1,000,000,000,000.
+        nodes: u64,
+    },
+    /// The lottery over the quota panels of a pool, by a run under these limits.
+    Lottery {
+        /// How wide its numbers may be, and how many pivots and visits it may make.
+        limits: Limits,
+    },
+}
+
+/// Why the words ask for nothing.
+#[derive(Debug, Drop, Error)]
+pub enum WordsStop {
+    /// The words are not of the forms, or ask for help: what `clap` says of them.
+    #[error("{0}")]
+    Usage(String),
+    /// No memory was left.
+    #[error("out of memory")]
+    OutOfMemory,
+}

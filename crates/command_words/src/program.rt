@@ -1,0 +1,90 @@
+//! The program as `clap` knows it: its subcommands and their options.
+
+ghost use Rattle.std.specs.Prelude.{◌≡◌, false, IfOk};
+ghost use Rattle.clap.specs.Words.{app_of, rule_of};
+ghost use Rattle.clap.specs.declared.builder.command.Command.TheViews.{out-Command};
+ghost use Rattle.command_words.specs.Words.{
+  bits_rule,
+  lottery_app,
+  nodes_rule,
+  panel_app,
+  pivots_rule,
+  program_alone as words_of_program_alone,
+  program_app,
+};
+
+use clap::{Arg, Command, value_parser};
+use run_limits::{LEAST_BITS, MOST_BITS, MOST_NODES, MOST_PIVOTS};
+use std::alloc::{AllocError, Global};
+
+/// The program with its subcommands.
+pub(crate) fn program<'a>(alloc: Global) -> Result<Command<'a>, AllocError>
+    ensures { IfOk result (λ program. app_of program ≡ program_app) }
+{
+    program_alone(alloc)?
+        .subcommand(panel(alloc)?)?
+        .subcommand(lottery(alloc)?)
+}
+
+fn program_alone<'a>(alloc: Global) -> Result<Command<'a>, AllocError>
+    ensures { IfOk result (λ program. app_of program ≡ words_of_program_alone) }
+{
+    Command::new(alloc, "sortition")
+        .about("Selects a citizens' assembly by lot")
+        .no_binary_name(true)
+        .subcommand_required(true)
+        .bin_name("sortition")
+}
+
+fn panel<'a>(alloc: Global) -> Result<Command<'a>, AllocError>
+    ensures { IfOk result (λ panel. (app_of panel ≡ panel_app) × ((out-Command panel).has_globals ≡ false)) }
+{
+    Command::new(alloc, "panel")
+        .about("Prints the first quota panel of the pool on standard input")
+        .arg(nodes_option(alloc))
+}
+
+fn lottery<'a>(alloc: Global) -> Result<Command<'a>, AllocError>
+    ensures { IfOk result (λ lottery. (app_of lottery ≡ lottery_app) × ((out-Command lottery).has_globals ≡ false)) }
+{
+    Command::new(alloc, "lottery")
+        .about(
+            "Prints the lottery over the quota panels of the pool on standard input, with its certificate",
+        )
+        .arg(bits_option(alloc))?
+        .arg(pivots_option(alloc))?
+        .arg(nodes_option(alloc))
+}
+
+fn bits_option<'a>(alloc: Global) -> Arg<'a>
+    ensures rule { rule_of result ≡ bits_rule }
+    ensures local { result.global ≡ false }
+{
+    Arg::new(alloc, "bits")
+        .long("bits")
+        .help("The width in bits of the run's numbers")
+        .value_parser(value_parser!(u64).range(LEAST_BITS as i64..=MOST_BITS as i64))
+        .default_value("127")
+}
+
+fn pivots_option<'a>(alloc: Global) -> Arg<'a>
+    ensures rule { rule_of result ≡ pivots_rule }
+    ensures local { result.global ≡ false }
+{
+    Arg::new(alloc, "pivots")
+        .long("pivots")
+        .help("The most pivots that the run may make")
+        .value_parser(value_parser!(u64).range(0..=MOST_PIVOTS as i64))
+        .default_value("100000")
+}
+
+fn nodes_option<'a>(alloc: Global) -> Arg<'a>
+    ensures rule { rule_of result ≡ nodes_rule }
+    ensures local { result.global ≡ false }
+{
+    Arg::new(alloc, "nodes")
+        .long("nodes")
+        .help("The most visits that a search may make")
+        .value_parser(value_parser!(u64).range(0..=MOST_NODES as i64))
+        .default_value("50000000")
+}

@@ -1,0 +1,67 @@
+//! The values of the subcommand that was met, where its numbers are in their ranges.
+
+ghost use Rattle.std.specs.Prelude.{◌≡◌};
+ghost use Rattle.clap.specs.Words.{found_of, rows_of, subcommand_rows_of};
+ghost use Rattle.command_words.specs.Words.{
+  asked_of,
+  limits_asked,
+  lottery_asked,
+  number_at as number_said,
+  number_within as number_said_within,
+  panel_asked,
+};
+
+use crate::asked::Asked;
+use clap::ArgMatches;
+use run_limits::{LEAST_BITS, Limits, MOST_BITS, MOST_NODES, MOST_PIVOTS};
+
+/// What the subcommand that was met asks for, where its numbers are in their ranges.
+pub(crate) fn asked_by(matches: &ArgMatches) -> Option<Asked>
+    ensures { result ≡ asked_of (subcommand_rows_of matches.now) }
+{
+    match matches.subcommand() {
+        Some(("panel", own)) => panel_of(own),
+        Some(("lottery", own)) => lottery_of(own),
+        _ => None,
+    }
+}
+
+fn panel_of(matches: &ArgMatches) -> Option<Asked>
+    ensures { result ≡ panel_asked (rows_of (found_of matches.now)) }
+{
+    let nodes = number_within(matches, "nodes", 0, MOST_NODES)?;
+    Some(Asked::Panel { nodes })
+}
+
+fn lottery_of(matches: &ArgMatches) -> Option<Asked>
+    ensures { result ≡ lottery_asked (rows_of (found_of matches.now)) }
+{
+    let limits = limits_of(matches)?;
+    Some(Asked::Lottery { limits })
+}
+
+/// The limits of a run, where each is in its range.
+fn limits_of(matches: &ArgMatches) -> Option<Limits>
+    ensures { result ≡ limits_asked (rows_of (found_of matches.now)) }
+{
+    let bits = number_within(matches, "bits", u64::from(LEAST_BITS), u64::from(MOST_BITS))?;
+    let pivots = number_within(matches, "pivots", 0, MOST_PIVOTS)?;
+    let nodes = number_within(matches, "nodes", 0, MOST_NODES)?;
+    Limits::new(u32::try_from(bits).ok()?, pivots, nodes)
+}
+
+/// The number that an option has, where it is from `least` to `most`.
+fn number_within(matches: &ArgMatches, name: &str, least: u64, most: u64) -> Option<u64>
+    ensures { result ≡ number_said_within name.now least most (rows_of (found_of matches.now)) }
+{
+    match number_at(matches, name) {
+        Some(number) if least <= number && number <= most => Some(number),
+        _ => None,
+    }
+}
+
+fn number_at(matches: &ArgMatches, name: &str) -> Option<u64>
+    ensures { result ≡ number_said name.now (rows_of (found_of matches.now)) }
+{
+    matches.get_one::<u64>(name)
+}
