@@ -1,0 +1,12 @@
+//! The commands about a pool: `panel` and `lottery`. Each is a function from its arguments and a pool to an answer, whose meaning
+//! stands in `pool_answers`; `OfPool` reads the pool for them. Below stand the searches, the run, and the texts of pools and bundles.
+#![tactic(auto)]
+
+mod lines;
+mod lottery;
+mod of_pool;
+mod panel;
+
+pub use lottery::PoolLottery;
+pub use of_pool::{OfPool, PoolCommand};
+pub use panel::FirstPanel;
