@@ -9,6 +9,8 @@ mod command;
 mod lines;
 mod status;
 mod telling;
+#[cfg(test)]
+mod tests;
 
 pub use answer::Answer;
 pub use calling::call;

@@ -5,6 +5,8 @@
 mod asked;
 mod program;
 mod reading;
+#[cfg(test)]
+mod tests;
 mod values;
 
 pub use asked::{Asked, WordsStop};

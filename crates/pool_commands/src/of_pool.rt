@@ -23,6 +23,7 @@ pub trait PoolCommand {
 }
 
 /// A command about the pool whose text the input is. An input that is none is told with its first fault.
+#[derive(Clone, Copy, Debug)]
 pub struct OfPool<C>(pub C);
 
 impl<C: PoolCommand> Command for OfPool<C> {

@@ -1,10 +1,1 @@
-pub mod Told
-pub mod Lines
-pub mod Words
-pub mod Input
-pub mod Panel
-pub mod Lottery
-pub mod Telling
-pub mod PanelOutcome
-pub mod LotteryOutcome
 pub mod Office

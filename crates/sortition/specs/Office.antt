@@ -1,19 +1,21 @@
 -- What a call of the program may tell, for its words.
-use Rattle.std.specs.Prelude.{◌≡◌, ◌≢◌, ℕ, List, Option, Some, None}
-use Rattle.sortition.specs.declared.words.Command.{Command}
-use Rattle.sortition.specs.declared.words.Command.TheVariants.{Lottery, Panel}
-use Rattle.sortition.specs.Told.{Told, IsUntouched, GainsUnlessFaulted}
-use Rattle.sortition.specs.Lines.{want_of_memory_line}
-use Rattle.sortition.specs.Words.{asked}
-use Rattle.sortition.specs.Lottery.{LotteryIsRight}
-use Rattle.sortition.specs.Panel.{PanelIsRight}
+use Rattle.std.specs.Prelude.{◌≡◌, ◌≢◌, ℕ, List, [], ◌∷◌, codes, Option, Some, None}
+use Rattle.command_shell.specs.Calls.{CallIsRight}
+use Rattle.command_shell.specs.Lines.{line, want_of_memory_line}
+use Rattle.command_shell.specs.Told.{Told, GainsLine, IsUntouched}
+use Rattle.command_words.specs.Words.{asked}
+use Rattle.command_words.specs.declared.asked.Asked.{Asked}
+use Rattle.command_words.specs.declared.asked.Asked.TheVariants.{Lottery, Panel}
+use Rattle.pool_answers.specs.OfPool.{OfPool}
+use Rattle.pool_answers.specs.Lottery.{LotteryIsRight}
+use Rattle.pool_answers.specs.Panel.{PanelMeans}
 
 -- words that are not of the forms, or ask for help
 pub record UsageIsRight (told : Told) : Type 0 where
   -- 2: errs got a text of `clap`
-  pub usage : told.status ≡ 2 → (text : List ℕ) × GainsUnlessFaulted told.errs text
+  pub usage : told.status ≡ 2 → (text : List ℕ) × GainsLine told.errs text
   -- 12: want of memory, which may come at any time
-  pub want_of_memory : told.status ≡ 12 → GainsUnlessFaulted told.errs want_of_memory_line
+  pub want_of_memory : told.status ≡ 12 → GainsLine told.errs want_of_memory_line
   -- no other status
   pub no_other : told.status ≢ 2 → told.status ≡ 12
   -- nothing else was touched
@@ -21,11 +23,15 @@ pub record UsageIsRight (told : Told) : Type 0 where
   pub out : IsUntouched told.out
 
 -- a call that asks for this command, or for nothing, is right
-abbrev pub AnswersRightly : Option Command → Told → Type 0
+abbrev pub AnswersRightly : Option Asked → Told → Type 0
 AnswersRightly None told = UsageIsRight told
-AnswersRightly (Some (Panel nodes)) told = PanelIsRight nodes told
+AnswersRightly (Some (Panel nodes)) told = CallIsRight (OfPool (PanelMeans nodes)) told
 AnswersRightly (Some (Lottery limits)) told = LotteryIsRight limits told
 
 -- a call is right
 abbrev pub OfficeIsRight : List (List ℕ) → Told → Type 0
 OfficeIsRight words told = AnswersRightly (asked words) told
+
+-- what is told where a word isn't UTF-8, which no list of words for a call has
+abbrev pub words_not_utf8_line : List ℕ
+words_not_utf8_line = line (codes "error: invalid UTF-8 was detected in one or more arguments" ∷ [])

@@ -1,14 +1,15 @@
 //! The top call.
 
 ghost use Rattle.std.specs.Prelude.{map, string_bytes, Some};
-ghost use Rattle.sortition.specs.Told.{object, told};
+ghost use Rattle.command_shell.specs.Told.{object, told};
+ghost use Rattle.command_shell.specs.Answers.{number_of};
 ghost use Rattle.sortition.specs.Office.{AnswersRightly, OfficeIsRight};
 
-use crate::answers::{usage, want_memory};
-use crate::lottery::lottery;
-use crate::panel::panel;
-use crate::words::{Command, WordsStop, read_words};
+use command_shell::{Status, call, refuse_words, want_memory};
+use command_words::{Asked, WordsStop, read_words};
 use outside::{Sink, Source};
+use pool_answers::lottery_by_status;
+use pool_commands::{FirstPanel, OfPool, PoolLottery};
 use std::alloc::Global;
 
 /// One call of the program with its words, which do not include its name. The answer is the program's status.
@@ -27,27 +28,30 @@ pub fn office<S: Source, O: Sink, E: Sink>(
         (object (E.written errs.old) (E.written errs.new) (E.faults errs.old) (E.faults errs.new))) }
 {
     match read_words(alloc, words) {
-        Ok(command) => run(alloc, command, source, out, errs),
-        Err(WordsStop::Usage(text)) => usage(errs, text.as_bytes()),
-        Err(WordsStop::OutOfMemory) => want_memory(errs),
+        Ok(asked) => run(alloc, asked, source, out, errs).number(),
+        Err(WordsStop::Usage(text)) => refuse_words(errs, text.as_bytes()).number(),
+        Err(WordsStop::OutOfMemory) => want_memory(errs).number(),
     }
 }
 
 /// One call of a command.
 fn run<S: Source, O: Sink, E: Sink>(
     alloc: Global,
-    command: Command,
+    asked: Asked,
     source: &mut S,
     out: &mut O,
     errs: &mut E,
-) -> u8
-    ensures { AnswersRightly (Some command) (told result
+) -> Status
+    ensures { AnswersRightly (Some asked) (told (number_of result)
         (object (S.left source.old) (S.left source.new) (S.faults source.old) (S.faults source.new))
         (object (O.written out.old) (O.written out.new) (O.faults out.old) (O.faults out.new))
         (object (E.written errs.old) (E.written errs.new) (E.faults errs.old) (E.faults errs.new))) }
 {
-    match command {
-        Command::Panel { nodes } => panel(alloc, nodes, source, out, errs),
-        Command::Lottery { limits } => lottery(alloc, limits, source, out, errs),
+    lottery_by_status();
+    match asked {
+        Asked::Panel { nodes } => call(alloc, &OfPool(FirstPanel { nodes }), source, out, errs),
+        Asked::Lottery { limits } => {
+            call(alloc, &OfPool(PoolLottery { limits }), source, out, errs)
+        }
     }
 }

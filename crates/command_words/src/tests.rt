@@ -1,0 +1,117 @@
+//! Words and what they ask for, and the texts of `clap`.
+
+use crate::{WordsStop, read_words};
+use std::alloc::{AllocError, Global};
+use std::test::Fail;
+
+const USAGE: &str = "usage";
+
+/// Words, and what they ask for, as it prints for debugging.
+const WORDS: &[(&[&str], &str)] = &[
+    (&["panel"], "Panel { nodes: 50000000 }"),
+    (&["panel", "--nodes", "5"], "Panel { nodes: 5 }"),
+    (&["panel", "--nodes=5"], "Panel { nodes: 5 }"),
+    (&["panel", "--nodes", "+5"], "Panel { nodes: 5 }"),
+    (&["panel", "--nodes", "005"], "Panel { nodes: 5 }"),
+    (&["panel", "--nodes", "0"], "Panel { nodes: 0 }"),
+    (
+        &["panel", "--nodes", "1000000000000"],
+        "Panel { nodes: 1000000000000 }",
+    ),
+    (&["panel", "--"], "Panel { nodes: 50000000 }"),
+    (&["panel", "--nodes", "5", "--"], "Panel { nodes: 5 }"),
+    (
+        &["lottery"],
+        "Lottery { limits: Limits { bits: 127, pivots: 100000, nodes: 50000000 } }",
+    ),
+    (
+        &["lottery", "--nodes", "9", "--bits", "1", "--pivots", "0"],
+        "Lottery { limits: Limits { bits: 1, pivots: 0, nodes: 9 } }",
+    ),
+    (
+        &[
+            "lottery",
+            "--pivots=+1000000000",
+            "--bits=00127",
+            "--nodes",
+            "1000000000000",
+        ],
+        "Lottery { limits: Limits { bits: 127, pivots: 1000000000, nodes: 1000000000000 } }",
+    ),
+    (&[], USAGE),
+    (&[""], USAGE),
+    (&["pane"], USAGE),
+    (&["Panel"], USAGE),
+    (&["lottery", "--bits", "0"], USAGE),
+    (&["lottery", "--bits", "128"], USAGE),
+    (&["lottery", "--bits", "4294967297"], USAGE),
+    (&["lottery", "--pivots", "1000000001"], USAGE),
+    (&["lottery", "--pivots", "-1"], USAGE),
+    (&["lottery", "--nodes", "1000000000001"], USAGE),
+    (&["lottery", "--bits", "3", "--bits", "3"], USAGE),
+    (&["lottery", "--workers", "1"], USAGE),
+    (&["lottery", "x"], USAGE),
+    (&["sortition", "panel"], USAGE),
+    (&["--", "panel"], USAGE),
+    (&["--nodes", "5", "panel"], USAGE),
+    (&["panel", "x"], USAGE),
+    (&["panel", "panel"], USAGE),
+    (&["panel", "--", "x"], USAGE),
+    (&["panel", "--nodes"], USAGE),
+    (&["panel", "--nodes="], USAGE),
+    (&["panel", "--nodes", "x"], USAGE),
+    (&["panel", "--nodes", "-0"], USAGE),
+    (&["panel", "--nodes", "5", "--nodes", "5"], USAGE),
+    (&["help"], USAGE),
+    (&["panel", "-h"], USAGE),
+    (&["check"], USAGE),
+];
+
+/// Words, and the text of `clap` about them.
+const TEXTS: &[(&[&str], &str)] = &[
+    (
+        &[],
+        "error: 'sortition' requires a subcommand but one was not provided\n  [subcommands: panel, lottery, help]\n\nUsage: sortition <COMMAND>\n\nFor more information, try '--help'.\n",
+    ),
+    (
+        &["panel", "--nodes", "x"],
+        "error: invalid value 'x' for '--nodes <nodes>': invalid digit found in string\n\nFor more information, try '--help'.\n",
+    ),
+    (
+        &["panel", "--help"],
+        "Prints the first quota panel of the pool on standard input\n\nUsage: sortition panel [OPTIONS]\n\nOptions:\n      --nodes <nodes>  The most visits that a search may make [default: 50000000]\n  -h, --help           Print help\n",
+    ),
+    (
+        &["lottery", "--help"],
+        "Prints the lottery over the quota panels of the pool on standard input, with its certificate\n\nUsage: sortition lottery [OPTIONS]\n\nOptions:\n      --bits <bits>      The width in bits of the run's numbers [default: 127]\n      --pivots <pivots>  The most pivots that the run may make [default: 100000]\n      --nodes <nodes>    The most visits that a search may make [default: 50000000]\n  -h, --help             Print help\n",
+    ),
+];
+
+fn given(alloc: Global, words: &[&str]) -> Result<Vec<String>, AllocError> {
+    let mut given = Vec::new(alloc);
+    for word in words {
+        given.push(String::from_str(alloc, word)?)?;
+    }
+    Ok(given)
+}
+
+#[test]
+fn words_ask_for_commands(rt: HostRuntime) -> Result<(), Fail> {
+    let alloc = rt.alloc();
+    for (words, wanted) in WORDS {
+        let said = match read_words(alloc, &given(alloc, words)?) {
+            Ok(asked) => format!(in alloc; "{asked:?}")?,
+            Err(WordsStop::Usage(_)) => String::from_str(alloc, USAGE)?,
+            Err(WordsStop::OutOfMemory) => String::new(alloc),
+        };
+        assert_eq!(rt; said.as_str(), *wanted, "{words:?}");
+    }
+    for (words, wanted) in TEXTS {
+        let text = match read_words(alloc, &given(alloc, words)?) {
+            Err(WordsStop::Usage(text)) => text,
+            _ => String::new(alloc),
+        };
+        assert_eq!(rt; text.as_str(), *wanted, "{words:?}");
+    }
+    Ok(())
+}
