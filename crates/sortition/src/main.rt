@@ -5,6 +5,8 @@
 
 mod given;
 mod office;
+#[cfg(test)]
+mod tests;
 
 use outside::{StdSink, StdSource};
 use std::process::ExitCode;

@@ -1,0 +1,329 @@
+//! Calls of `office` over the forms in memory: what it answers, and what `out` and `errs` gained.
+
+use crate::given::no_words;
+use crate::office::office;
+use outside::{MemSink, MemSource};
+use std::alloc::{AllocError, Global};
+use std::io;
+use std::test::Fail;
+
+/// Two women and two men, one of each to be chosen. The search makes 5 visits.
+const FOUR: &[u8] =
+    b"pool\t1\nsize\t2\ncategory\tgender\nvalue\tfemale\t1\t1\nvalue\tmale\t1\t1\nvolunteer\ta\tfemale\nvolunteer\tb\tfemale\nvolunteer\tc\tmale\nvolunteer\td\tmale\nend\n";
+
+/// Two women are asked for, and one is there.
+const SHORT: &[u8] =
+    b"pool\t1\nsize\t2\ncategory\tgender\nvalue\tfemale\t2\t2\nvalue\tmale\t0\t2\nvolunteer\ta\tfemale\nvolunteer\tb\tmale\nvolunteer\tc\tmale\nend\n";
+
+/// Of x is only a, who is of q, and of p is only b, who is of y. The search makes 2 visits.
+const CROSSED: &[u8] =
+    b"pool\t1\nsize\t1\ncategory\tone\nvalue\tx\t1\t1\nvalue\ty\t0\t1\ncategory\ttwo\nvalue\tp\t1\t1\nvalue\tq\t0\t1\nvolunteer\ta\tx\tq\nvolunteer\tb\ty\tp\nend\n";
+
+/// The first two volunteers don't fit, nor the first and the third.
+const LATER: &[u8] =
+    b"pool\t1\nsize\t2\ncategory\tone\nvalue\tx\t0\t1\nvalue\ty\t0\t2\ncategory\ttwo\nvalue\tp\t2\t2\nvalue\tq\t0\t0\nvolunteer\ta\tx\tp\nvolunteer\tb\ty\tq\nvolunteer\tc\tx\tp\nvolunteer\td\ty\tp\nend\n";
+
+const NOBODY: &[u8] = b"pool\t1\nsize\t1\nend\n";
+
+/// The bundle of two women and two men.
+const FOUR_BUNDLE: &[u8] =
+    b"bundle\t1\npool\t1\nsize\t2\ncategory\tgender\nvalue\tfemale\t1\t1\nvalue\tmale\t1\t1\nvolunteer\ta\tfemale\nvolunteer\tb\tfemale\nvolunteer\tc\tmale\nvolunteer\td\tmale\nend\ntotal\t2\npanel\t1\t1\t2\npanel\t1\t0\t3\nstage\t1\t1\t1\t0\t0\nstage\t0\t-1\t-1\t1\t1\ndone\n";
+
+/// One woman and three men, one of each to be chosen.
+const ONE_WOMAN: &[u8] =
+    b"pool\t1\nsize\t2\ncategory\tgender\nvalue\tfemale\t1\t1\nvalue\tmale\t1\t1\nvolunteer\tw\tfemale\nvolunteer\tx\tmale\nvolunteer\ty\tmale\nvolunteer\tz\tmale\nend\n";
+
+/// One seat, which the first of three may not have.
+const BARRED: &[u8] =
+    b"pool\t1\nsize\t1\ncategory\tone\nvalue\tx\t0\t0\nvalue\ty\t0\t1\nvolunteer\ta\tx\nvolunteer\tb\ty\nvolunteer\tc\ty\nend\n";
+
+/// One of three and one of two.
+const FIVE: &[u8] =
+    b"pool\t1\nsize\t2\ncategory\tone\nvalue\tx\t1\t1\nvalue\ty\t1\t1\nvolunteer\ta\tx\nvolunteer\tb\tx\nvolunteer\tc\tx\nvolunteer\td\ty\nvolunteer\te\ty\nend\n";
+
+/// One seat for one of two.
+const EITHER: &[u8] =
+    b"pool\t1\nsize\t1\ncategory\tone\nvalue\tx\t0\t1\nvalue\ty\t0\t1\nvolunteer\ta\tx\nvolunteer\tb\ty\nend\n";
+
+/// The bundle of one seat for one of two.
+const EITHER_BUNDLE: &[u8] =
+    b"bundle\t1\npool\t1\nsize\t1\ncategory\tone\nvalue\tx\t0\t1\nvalue\ty\t0\t1\nvolunteer\ta\tx\nvolunteer\tb\ty\nend\ntotal\t2\npanel\t1\t0\npanel\t1\t1\nstage\t1\t1\t1\ndone\n";
+
+/// Two women and two men, of whom one woman dropped out and one man has his seat.
+const REPLACED: &[u8] =
+    b"pool\t1\nsize\t2\ncategory\tgender\nvalue\tfemale\t1\t1\nvalue\tmale\t1\t1\nvolunteer\ta\tfemale\nvolunteer\tb\tfemale\nvolunteer\tc\tmale\nvolunteer\td\tmale\ngone\ta\nseated\tc\nend\n";
+
+/// Both women dropped out.
+const WOMEN_GONE: &[u8] =
+    b"pool\t1\nsize\t2\ncategory\tgender\nvalue\tfemale\t1\t1\nvalue\tmale\t1\t1\nvolunteer\ta\tfemale\nvolunteer\tb\tfemale\nvolunteer\tc\tmale\nvolunteer\td\tmale\ngone\ta\ngone\tb\nseated\tc\nend\n";
+
+/// The lines behind the pool's in the bundle of `REPLACED`.
+const REPLACED_ANSWER: &[u8] =
+    b"total\t1\npanel\t1\t1\t2\nstage\t0\t1\t0\t0\t0\nstage\t0\t-1\t0\t0\t1\nstage\t1\t0\t1\t0\t-1\nstage\t0\t0\t-1\t1\t0\ndone\n";
+
+/// One call: its words, what the source holds, and the calls of each object that fail, counted from 1.
+#[derive(Clone, Copy)]
+struct Call<'a> {
+    words: &'a [&'a str],
+    text: &'a [u8],
+    reads: &'a [u64],
+    puts: &'a [u64],
+    room: usize,
+}
+
+/// A call with these words and no failing object.
+fn asking<'a>(words: &'a [&'a str], text: &'a [u8]) -> Call<'a> {
+    Call {
+        words,
+        text,
+        reads: &[],
+        puts: &[],
+        room: 1000,
+    }
+}
+
+/// What a call told: its status, and what `out` and `errs` gained.
+#[derive(Drop)]
+struct Answer {
+    status: u8,
+    out: MemSink,
+    errs: MemSink,
+}
+
+fn answer_of(alloc: Global, call: &Call<'_>) -> Result<Answer, AllocError> {
+    let mut words = Vec::new(alloc);
+    for word in call.words {
+        words.push(String::from_str(alloc, word)?)?;
+    }
+    let mut source = MemSource::new(alloc, call.text, call.reads)?;
+    let mut out = MemSink::new(alloc, call.room, call.puts)?;
+    let mut errs = MemSink::new(alloc, 1000, &[])?;
+    let status = office(alloc, &words, &mut source, &mut out, &mut errs);
+    Ok(Answer { status, out, errs })
+}
+
+/// Words, a text, and the status, the gain of `out` and the gain of `errs`.
+const ROWS: &[(&[&str], &[u8], u8, &[u8], &[u8])] = &[
+    (&["panel"], FOUR, 0, b"panel\ta\tc\n", b""),
+    (&["panel"], LATER, 0, b"panel\ta\td\n", b""),
+    (&["panel"], SHORT, 1, b"no panel\n", b""),
+    (&["panel"], NOBODY, 1, b"no panel\n", b""),
+    (&["panel", "--nodes", "2"], CROSSED, 1, b"no panel\n", b""),
+    (
+        &["panel", "--nodes", "1"],
+        CROSSED,
+        5,
+        b"",
+        b"spent\tnodes\t1\t0\t0\t0\n",
+    ),
+    (&["panel"], b"", 3, b"", b"input\t1\t12\n"),
+    (
+        &["panel"],
+        b"pool\t1\nsize\t0\nend\n",
+        3,
+        b"",
+        b"input\t2\t2\n",
+    ),
+    (&["lottery"], FOUR, 0, FOUR_BUNDLE, b""),
+    (&["lottery"], WOMEN_GONE, 1, b"no panel\n", b""),
+    (
+        &["lottery", "--bits", "1"],
+        EITHER,
+        4,
+        b"",
+        b"wide\t0\t0\t0\t1\tadd\t1\t1\n",
+    ),
+    (&["lottery", "--bits", "2"], EITHER, 0, EITHER_BUNDLE, b""),
+    (
+        &["lottery", "--pivots", "0"],
+        EITHER,
+        5,
+        b"",
+        b"spent\tpivots\t0\t1\t1\t0\n",
+    ),
+    (
+        &["lottery", "--pivots", "1"],
+        EITHER,
+        5,
+        b"",
+        b"spent\tpivots\t1\t1\t2\t1\n",
+    ),
+    (&["lottery", "--pivots", "2"], EITHER, 0, EITHER_BUNDLE, b""),
+    (
+        &["lottery", "--nodes", "2"],
+        EITHER,
+        5,
+        b"",
+        b"spent\tnodes\t2\t0\t0\t0\n",
+    ),
+    (&["lottery", "--nodes", "3"], EITHER, 0, EITHER_BUNDLE, b""),
+    (
+        &["lottery", "--pivots", "3"],
+        FOUR,
+        5,
+        b"",
+        b"spent\tpivots\t3\t2\t3\t3\n",
+    ),
+    (
+        &["lottery", "--bits", "3"],
+        FIVE,
+        4,
+        b"",
+        b"wide\t1\t4\t3\t4\tadd\t7\t3\n",
+    ),
+    (
+        &["lottery", "--nodes", "8"],
+        FIVE,
+        5,
+        b"",
+        b"spent\tnodes\t8\t1\t2\t2\n",
+    ),
+];
+
+#[test]
+fn calls_are_answered(rt: HostRuntime) -> Result<(), AllocError> {
+    let alloc = rt.alloc();
+    for (words, text, status, out, errs) in ROWS {
+        let told = answer_of(alloc, &asking(words, text))?;
+        assert_eq!(rt; told.status, *status, "{words:?}");
+        assert_eq!(rt; told.out.written(), *out, "{words:?}");
+        assert_eq!(rt; told.errs.written(), *errs, "{words:?}");
+    }
+    let told = answer_of(alloc, &asking(&["lottery"], REPLACED))?;
+    assert!(rt; told.status == 0 && told.out.written().ends_with(REPLACED_ANSWER));
+    let refused = answer_of(alloc, &asking(&["bundle"], FOUR))?;
+    assert!(rt;
+        refused.status == 2
+            && refused.out.written().is_empty()
+            && !refused.errs.written().is_empty()
+    );
+    Ok(())
+}
+
+/// A text that is cut off runs out before its end, after as many lines as are whole; and `out` may fail at each line of a bundle.
+#[test]
+fn each_cut_is_told(rt: HostRuntime) -> Result<(), AllocError> {
+    let alloc = rt.alloc();
+    for length in 0..FOUR.len() {
+        let line = FOUR[..length].split(|byte| *byte == b'\n').count();
+        let errs = format!(in alloc; "input\t{line}\t12\n")?;
+        let told = answer_of(alloc, &asking(&["lottery"], &FOUR[..length]))?;
+        assert!(rt;
+            told.status == 3 && told.errs.written() == errs.as_bytes(),
+            "{length}"
+        );
+    }
+    let bundle = asking(&["lottery"], FOUR);
+    for (puts, room, status, written) in [
+        (&[1_u64], 1000, 8, 0),
+        (&[2], 1000, 8, 9),
+        (&[17], 1000, 8, 213),
+        (&[18], 1000, 0, 218),
+        (&[18], 217, 8, 217),
+        (&[18], 218, 0, 218),
+    ] {
+        let told = answer_of(
+            alloc,
+            &Call {
+                puts,
+                room,
+                ..bundle
+            },
+        )?;
+        assert_eq!(rt; told.status, status, "{puts:?} {room}");
+        assert_eq!(rt;
+            told.out.written(),
+            &FOUR_BUNDLE[..written],
+            "{puts:?} {room}"
+        );
+    }
+    let told = answer_of(
+        alloc,
+        &Call {
+            reads: &[2],
+            ..bundle
+        },
+    )?;
+    assert!(rt; told.status == 7 && told.errs.written() == b"read fault\n".as_slice());
+    Ok(())
+}
+
+#[test]
+fn words_that_cannot_be_had(rt: HostRuntime) -> Result<(), AllocError> {
+    let alloc = rt.alloc();
+    for (kind, status, text) in [
+        (
+            io::ErrorKind::InvalidData,
+            2,
+            b"error: invalid UTF-8 was detected in one or more arguments\n".as_slice(),
+        ),
+        (
+            io::ErrorKind::OutOfMemory,
+            12,
+            b"want of memory\n".as_slice(),
+        ),
+    ] {
+        let mut errs = MemSink::new(alloc, 100, &[])?;
+        assert_eq!(rt; no_words(&mut errs, kind).number(), status);
+        assert_eq!(rt; errs.written(), text);
+    }
+    Ok(())
+}
+
+/// The lines of the answer in a bundle, those behind the pool's.
+fn answer_lines(bundle: &str) -> &str {
+    match bundle.find("\nend\n") {
+        Some(end) => &bundle[end + 5..],
+        None => "",
+    }
+}
+
+/// Each volunteer's count and the total, as the bundle that `lottery` prints has them.
+fn counts(alloc: Global, text: &[u8], volunteers: usize) -> Result<String, AllocError> {
+    let told = answer_of(alloc, &asking(&["lottery"], text))?;
+    let bundle = match std::str::from_utf8(told.out.written()) {
+        Ok(bundle) => bundle,
+        Err(_) => "",
+    };
+    let mut counts = vec![in alloc; 0_u64; volunteers]?;
+    let mut total = 0;
+    for line in answer_lines(bundle).lines() {
+        let mut fields = line.split('\t');
+        let kind = fields.next().unwrap_or("");
+        let number: u64 = number_of(fields.next());
+        if kind == "total" {
+            total = number;
+        }
+        if kind == "panel" {
+            for member in fields {
+                let member = number_of(Some(member)) as usize;
+                if member < counts.len() {
+                    counts[member] = counts[member].wrapping_add(number);
+                }
+            }
+        }
+    }
+    format!(in alloc; "{counts:?} of {total}")
+}
+
+fn number_of(field: Option<&str>) -> u64 {
+    match field {
+        Some(field) => field.parse().unwrap_or(0),
+        None => 0,
+    }
+}
+
+#[test]
+fn pools_have_their_chances(rt: HostRuntime) -> Result<(), Fail> {
+    let alloc = rt.alloc();
+    for (text, volunteers, wanted) in [
+        (FOUR, 4, "[1, 1, 1, 1] of 2"),
+        (ONE_WOMAN, 4, "[3, 1, 1, 1] of 3"),
+        (BARRED, 3, "[0, 1, 1] of 2"),
+        (FIVE, 5, "[2, 2, 2, 3, 3] of 6"),
+        (REPLACED, 4, "[0, 1, 1, 0] of 1"),
+    ] {
+        assert_eq!(rt; counts(alloc, text, volunteers)?.as_str(), wanted);
+    }
+    Ok(())
+}
