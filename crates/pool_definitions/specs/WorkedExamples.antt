@@ -2,7 +2,7 @@
 use Rattle.std.specs.Prelude.{ℕ, List, [], ◌∷◌, ℤ, pos, negsuc, codes}
 use Rattle.pool_definitions.specs.declared.Standing.TheVariants.{Open, Seated, Gone}
 use Rattle.pool_definitions.specs.Pool.{BoundedValue, Category, Volunteer, Pool}
-use Rattle.pool_definitions.specs.Lottery.{Row, Lottery}
+use Rattle.pool_definitions.specs.Lottery.{LotteryRow, Lottery}
 use Rattle.pool_definitions.specs.Certificate.{Stage}
 use Rattle.pool_definitions.specs.Building.{standing_set}
 
@@ -18,7 +18,7 @@ abbrev pub category : List ℕ → List BoundedValue → Category
 category name values = record { name = name; values = values }
 
 -- a panel with its weight
-abbrev pub row : List ℕ → ℕ → Row
+abbrev pub row : List ℕ → ℕ → LotteryRow
 row panel weight = record { panel = panel; weight = weight }
 
 abbrev pub stage : ℤ → List ℤ → Stage

@@ -21,4 +21,4 @@ returns-clause-pool c = record {
 -- the lottery of two panels is above the one of a single panel
 pub returns-clause-single_is_below : goal.returns-clause-single_is_below
 returns-clause-single_is_below c =
-    λ greatest. true≢false (greatest.none_above four_lottery (record { some = refl; panels = refl; different = refl; weights = refl; total = refl }))
+    λ greatest. true≢false (greatest.none_above four_lottery (record { some = refl; panels = refl; different = refl; total_agrees = record { weights = refl; total = refl } }))
