@@ -6,9 +6,11 @@ use Rattle.std.proofs.lemmas.Bool.{false≢true, and_parts, and_from, or_parts, 
 use Rattle.std.proofs.lemmas.Bool.Decides.{same_from_decides}
 use Rattle.std.proofs.lemmas.Slice.Eq.{bytes_eq-Decides}
 use Rattle.std.proofs.lemmas.List.{length_push, map_push, nil_from_length}
-use Rattle.std.proofs.lemmas.List.Folds.{list_all-append, list_any-append}
+use Rattle.std.proofs.lemmas.List.Folds.{list_any-append}
 use Rattle.pool_definitions.specs.declared.Standing.{Standing}
 use Rattle.pool_definitions.specs.declared.Standing.TheVariants.{Open}
+pub use Rattle.basic_laws.proofs.Each.{list_all-push as list_all_push}
+use Rattle.basic_laws.proofs.Each.{list_all-push}
 use Rattle.pool_definitions.specs.Lists.{includes_list, all_different}
 use Rattle.pool_definitions.specs.Pool.{BoundedValue, Category, Volunteer, Pool, keeps_name_limits, is_name, is_size, are_bounds, is_value, is_category, has_values, IsPool}
 use Rattle.pool_definitions.specs.Building.{lowest_kind, category_names, value_names, ids, last_values, with_value, place_of, places_of, are_known, empty_pool, size_kind, category_added, category_kind, value_added, value_kind, volunteer_added, volunteer_kind, with_standing, standing_set}
@@ -38,11 +40,6 @@ all_different_push (ys ∷ yss) xs h k =
     let other : bytes_eq ys xs ≡ false = same_bytes_comm ys xs ∙ apart.0 in
     let none : includes_list (yss ++ xs ∷ []) ys ≡ false = list_any-append (bytes_eq ys) yss (xs ∷ []) ∙ or_from (includes_list yss ys) (bytes_eq ys xs || false) (not-true (includes_list yss ys) parts.0) (or_from (bytes_eq ys xs) false other refl) in
     and_from (not (includes_list (yss ++ xs ∷ []) ys)) (all_different (yss ++ xs ∷ [])) (not_from_false (includes_list (yss ++ xs ∷ []) ys) none) (all_different_push yss xs parts.1 apart.1)
-
--- a test of each element holds of one more
-pub list_all_push : {X : Type 0} (p : X → Bool) (xs : List X) (x : X) → list_all p xs ≡ true → p x ≡ true → list_all p (xs ++ x ∷ []) ≡ true
-list_all_push p xs x h k =
-    list_all-append p xs (x ∷ []) ∙ and_from (list_all p xs) (p x && true) h (and_from (p x) true k refl)
 
 -- the last test of each kind: no such name may be, or too many are there
 limits_and_room : (name : List ℕ) (limit count : ℕ) → (not (keeps_name_limits name) || leb limit count) ≡ false → (keeps_name_limits name ≡ true) × (count < limit)
@@ -88,7 +85,7 @@ IsPool-category_added pool name p kind utf8 =
     record {
       size = p.size;
       few_categories = le-leb (length (pool.categories ++ category ∷ [])) 20 (omega (arith, length_push pool.categories category, fits.room));
-      categories = list_all_push is_category pool.categories category p.categories right;
+      categories = list_all-push is_category pool.categories category p.categories right;
       different_categories = rw (map_push (λ (c : Category). c.name) pool.categories category) (all_different_push (category_names pool.categories) name p.different_categories fits.new);
       few_volunteers = p.few_volunteers;
       ids = p.ids;
@@ -118,7 +115,7 @@ is_category_push category value h good new room =
     let apart : all_different (value_names values) ≡ true = rw (map_push (λ (v : BoundedValue). v.name) category.values value) (all_different_push (value_names category.values) value.name c.1 new) in
     and_from (A && leb (length values) 50 && all_different (value_names values)) (list_all is_value values)
     (and_from (A && leb (length values) 50) (all_different (value_names values)) (and_from A (leb (length values) 50) b.0 few) apart)
-    (list_all_push is_value category.values value d.1 good)
+    (list_all-push is_value category.values value d.1 good)
 
 categories_with_value : (categories : List Category) (value : BoundedValue) → list_all is_category categories ≡ true → is_value value ≡ true → includes_list (value_names (last_values categories)) value.name ≡ false → length (last_values categories) < 50 →
     list_all is_category (with_value categories value) ≡ true
@@ -231,9 +228,9 @@ IsPool-volunteer_added pool id names p kind utf8 =
       categories = p.categories;
       different_categories = p.different_categories;
       few_volunteers = le-leb (length (pool.volunteers ++ volunteer ∷ [])) 400 (omega (arith, length_push pool.volunteers volunteer, fits.room));
-      ids = list_all_push (λ (v : Volunteer). is_name v.id) pool.volunteers volunteer p.ids (and_from (keeps_name_limits id) (is_utf8 id) fits.limits utf8);
+      ids = list_all-push (λ (v : Volunteer). is_name v.id) pool.volunteers volunteer p.ids (and_from (keeps_name_limits id) (is_utf8 id) fits.limits utf8);
       different_ids = rw (map_push (λ (v : Volunteer). v.id) pool.volunteers volunteer) (all_different_push (ids pool.volunteers) id p.different_ids fits.new);
-      values = list_all_push (λ (v : Volunteer). has_values pool.categories v.values) pool.volunteers volunteer p.values (has_values_places pool.categories names fits.known fits.each);
+      values = list_all-push (λ (v : Volunteer). has_values pool.categories v.values) pool.volunteers volunteer p.values (has_values_places pool.categories names fits.known fits.each);
     }
 
 -- another standing of one volunteer changes nothing else

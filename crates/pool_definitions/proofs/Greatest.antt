@@ -3,14 +3,16 @@ use Rattle.std.proofs.Common.{◌≡◌, ℕ, ◌+◌, ◌*◌, ◌≤◌, ◌<�
 use Rattle.std.specs.Prelude.{int_lt, int_le}
 use Rattle.std.specs.Ordering.{int_eq}
 use Rattle.std.specs.List.{AllByRecursion}
-use Rattle.std.proofs.lemmas.Bool.{and_from, or_cases, cases_Bool, eqb-true, leb-true, ltb-true, false≢true}
+use Rattle.std.proofs.lemmas.Bool.{and_from, or_cases, cases_Bool, eqb-true, leb-true, ltb-true, false≢true, not_from_false}
 use Rattle.std.proofs.lemmas.Bool.Decides.{Decides-int_eq}
 use borrow.Author.Differences.{up, down, sum_is_lem, le-true, true_is_le, true_is_lt}
+use Rattle.basic_laws.proofs.Tests.{implied}
+use Rattle.basic_laws.proofs.Sums.{total, sum_by-is-total, total_le, total_same, total_eq, total_ext}
+use Rattle.basic_laws.proofs.Each.{each_from_list_all, each_from_filter, each_map, each_both, each_everywhere}
 use Rattle.pool_definitions.specs.Lists.{includes, rising}
 use Rattle.pool_definitions.specs.Pool.{Pool, everybody, panels, is_quota_panel}
 use Rattle.pool_definitions.specs.Lottery.{LotteryRow, Lottery, IsLottery, LeximinGreatest, count, counts, is_above}
 use Rattle.pool_definitions.specs.Certificate.{Stage, weight_of, is_positive, panel_weight, is_settled, attains, unsettled, settling, StageHolds, StagesHold, Certifies}
-use Rattle.pool_definitions.proofs.Sums.{total, sum_by-is-total, total_le, total_same, total_eq, total_ext, each_map, each_both, each_from_list_all, each_from_filter}
 use Rattle.pool_definitions.proofs.Orders.{at_most, at_most-rising, at_most-map, Rises-rising, NoMoreAtFirst, not_greater, le_one, Known, all_reach}
 use Rattle.pool_definitions.proofs.Weights.{Fits, counted, exchange}
 use Rattle.pool_definitions.proofs.OneStage.{Weighs, cancel, newly_equal, cap_met}
@@ -97,14 +99,6 @@ positive_total pool lottery is =
 
 -- ---- two lotteries over one pool
 
-not_true : (b : Bool) → not b ≡ true → b ≡ false
-not_true true h = sym h
-not_true false h = refl
-
-not_false : (b : Bool) → b ≡ false → not b ≡ true
-not_false true h = sym h
-not_false false h = refl
-
 module _ (pool : Pool) (mine other : Lottery) (is_mine : IsLottery pool mine) (is_other : IsLottery pool other) where
   -- the chances, over the product of the totals
   abbrev x : ℕ → ℕ
@@ -141,7 +135,7 @@ module _ (pool : Pool) (mine other : Lottery) (is_mine : IsLottery pool mine) (i
       low_counts : AllByRecursion (λ i. is_settled earlier i ≡ false → T ≤ count mine i) (everybody pool)
       low_counts =
           each_map (λ i. not (is_settled earlier i) ≡ true → leb T (count mine i) ≡ true) (λ i. is_settled earlier i ≡ false → T ≤ count mine i)
-          (λ i f s. leb-true T (count mine i) (f (not_false (is_settled earlier i) s))) (everybody pool)
+          (λ i f s. leb-true T (count mine i) (f (not_from_false (is_settled earlier i) s))) (everybody pool)
           (each_from_filter (λ i. leb T (count mine i) ≡ true) (λ i. not (is_settled earlier i)) (everybody pool)
           (each_from_list_all (λ i. leb T (count mine i)) (unsettled pool earlier) holds_stage.least_count))
 
@@ -158,7 +152,7 @@ module _ (pool : Pool) (mine other : Lottery) (is_mine : IsLottery pool mine) (i
       no_minus : AllByRecursion (λ i. is_settled earlier i ≡ false → minus stage i ≡ 0) (everybody pool)
       no_minus =
           each_map (λ i. not (is_settled earlier i) ≡ true → int_le (pos 0) (weight_of stage i) ≡ true) (λ i. is_settled earlier i ≡ false → minus stage i ≡ 0)
-          (λ i f s. no_down (weight_of stage i) (f (not_false (is_settled earlier i) s))) (everybody pool)
+          (λ i f s. no_down (weight_of stage i) (f (not_from_false (is_settled earlier i) s))) (everybody pool)
           (each_from_filter (λ i. int_le (pos 0) (weight_of stage i) ≡ true) (λ i. not (is_settled earlier i)) (everybody pool)
           (each_from_list_all (λ i. int_le (pos 0) (weight_of stage i)) (unsettled pool earlier) holds_stage.none_negative))
         where
@@ -169,7 +163,7 @@ module _ (pool : Pool) (mine other : Lottery) (is_mine : IsLottery pool mine) (i
       at_level : AllByRecursion (λ i. is_settled earlier i ≡ false → 0 < plus stage i → x i ≡ level) (everybody pool)
       at_level =
           each_map (λ i. not (is_settled earlier i) ≡ true → is_positive stage i ≡ true → eqb (count mine i) T ≡ true) (λ i. is_settled earlier i ≡ false → 0 < plus stage i → x i ≡ level)
-          (λ i f s p. ap (λ z. z * other.total) (eqb-true (count mine i) T (f (not_false (is_settled earlier i) s) (up_positive (weight_of stage i) p)))) (everybody pool)
+          (λ i f s p. ap (λ z. z * other.total) (eqb-true (count mine i) T (f (not_from_false (is_settled earlier i) s) (up_positive (weight_of stage i) p)))) (everybody pool)
           (each_from_filter (λ i. is_positive stage i ≡ true → eqb (count mine i) T ≡ true) (λ i. not (is_settled earlier i)) (everybody pool)
           (each_from_filter (λ i. eqb (count mine i) T ≡ true) (is_positive stage) (unsettled pool earlier)
           (each_from_list_all (λ i. eqb (count mine i) T) (settling pool earlier stage) holds_stage.same_count)))
@@ -199,13 +193,9 @@ module _ (pool : Pool) (mine other : Lottery) (is_mine : IsLottery pool mine) (i
           (each_both (λ row. is_quota_panel pool row.panel ≡ true) (λ row. attains earlier row.panel ≡ true) other.rows
           (each_from_list_all (λ row. is_quota_panel pool row.panel) other.rows is_other.panels) agrees.attained)
         where
-          second_part : (b c : Bool) → (not b || c) ≡ true → b ≡ true → c ≡ true
-          second_part true c h e = h
-          second_part false c h e = absurd (false≢true e)
-
           under : (panel : List ℕ) → is_quota_panel pool panel ≡ true → attains earlier panel ≡ true → int_le (panel_weight stage panel) stage.cap ≡ true
           under panel q a =
-              second_part (attains earlier panel) (int_le (panel_weight stage panel) stage.cap)
+              implied (attains earlier panel) (int_le (panel_weight stage panel) stage.cap)
               (each_panel (λ panel. (not (attains earlier panel) || int_le (panel_weight stage panel) stage.cap) ≡ true) pool
               (each_from_list_all (λ panel. not (attains earlier panel) || int_le (panel_weight stage panel) stage.cap) (panels pool) holds_stage.capped) panel q) a
 
@@ -287,13 +277,9 @@ module _ (pool : Pool) (mine other : Lottery) (is_mine : IsLottery pool mine) (i
 
     at_start : Agrees []
     at_start = record {
-      equal = every (everybody pool) (λ i h. absurd (false≢true h));
-      attained = every other.rows (λ row. refl);
+      equal = each_everywhere (λ i. is_settled [] i ≡ true → x i ≡ y i) (λ i h. absurd (false≢true h)) (everybody pool);
+      attained = each_everywhere (λ row. attains [] row.panel ≡ true) (λ row. refl) other.rows;
     }
-      where
-        every : {A : Type 0} {P : A → Type 0} (xs : List A) → ((a : A) → P a) → AllByRecursion P xs
-        every [] f = tt
-        every (a ∷ xs) f = (f a, every xs f)
 
     so_not_above : (stages : List Stage) → StagesHold pool mine [] stages → is_above pool other mine ≡ false
     so_not_above stages hold =

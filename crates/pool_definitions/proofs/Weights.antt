@@ -2,9 +2,9 @@
 use Rattle.std.proofs.Common.{◌≡◌, ℕ, zero, suc, ◌+◌, ◌*◌, ◌≤◌, ◌<◌, Bool, true, false, cond, ◌||◌, eqb, ltb, List, [], ◌∷◌, refl, sym, ap, ◌∙◌, arith, true≢false}
 use Rattle.std.specs.List.{list_all, AllByRecursion, range_with_len}
 use Rattle.std.proofs.lemmas.Bool.{and_parts, eqb-true, ne_eqb, eq-eqb, ltb-true}
+use Rattle.basic_laws.proofs.Sums.{total, total_ext, total-add, total-scaled, total-zero}
 use Rattle.pool_definitions.specs.Lists.{includes, is_increasing}
 use Rattle.pool_definitions.specs.Lottery.{LotteryRow}
-use Rattle.pool_definitions.proofs.Sums.{total, total_ext, total-add, total-scaled, total-zero}
 
 no_member : (f : ℕ → ℕ) (x first count : ℕ) → x < first → total (λ i. cond (eqb x i) (f i) 0) (range_with_len first count) ≡ 0
 no_member f x first zero h = refl

@@ -1,5 +1,5 @@
 //! The words of sortition by lottery: pools and quota panels, lotteries and their order, certificates, and what may be
-//! added to a pool. They stand in `specs/`, and the contracts of the other crates cite them. No crate of ours stands below.
+//! added to a pool. They stand in `specs/`, and the contracts of the other crates cite them. Below stand the laws of `basic_laws`.
 //!
 //! The functions here have no body: their contracts are laws over the definitions. Worked examples stand in `worked_examples`.
 #![tactic(auto)]

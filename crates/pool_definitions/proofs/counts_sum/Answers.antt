@@ -1,12 +1,13 @@
 -- Each panel of the pool's size adds its weight to so many counts.
-use Rattle.std.proofs.Common.{◌≡◌, ℕ, ◌*◌, true, ◌&&◌, eqb, ltb, List, [], ◌∷◌, length, refl, ap, ◌∙◌, arith}
+use Rattle.std.proofs.Common.{◌≡◌, ℕ, ◌*◌, true, ◌&&◌, eqb, ltb, List, length, ap, ◌∙◌, arith}
 use Rattle.std.specs.List.{list_all}
 use Rattle.std.proofs.lemmas.Bool.{and_parts, eqb-true}
 use Rattle.std.proofs.lemmas.List.Sums.{sum-map}
+use Rattle.basic_laws.proofs.Sums.{total, sum_by-is-total, total_eq, total_ext, total-scaled, total-ones}
+use Rattle.basic_laws.proofs.Each.{each_from_list_all, each_map}
 use Rattle.pool_definitions.specs.Lists.{is_increasing}
 use Rattle.pool_definitions.specs.Pool.{Pool, everybody, is_of_size}
 use Rattle.pool_definitions.specs.Lottery.{LotteryRow, count}
-use Rattle.pool_definitions.proofs.Sums.{total, sum_by-is-total, total_eq, total_ext, total-scaled, each_map, each_from_list_all}
 use Rattle.pool_definitions.proofs.Weights.{Fits, counted, exchange}
 use Rattle.pool_definitions.proofs.Greatest.{count-is}
 use Rattle.pool_definitions.proofs.counts_sum.Goals as goal
@@ -22,10 +23,6 @@ of_size pool panel h =
     let c = and_parts (A && is_increasing panel) (list_all (λ i. ltb i (length pool.volunteers)) panel) h in
     let b = and_parts A (is_increasing panel) c.0 in
     record { fits = record { up = b.1; below = c.1 }; size = eqb-true (length panel) pool.size b.0 }
-
-total-ones : (panel : List ℕ) → total (λ i. 1) panel ≡ length panel
-total-ones [] = refl
-total-ones (i ∷ panel) = omega (arith, total-ones panel)
 
 pub returns : goal.returns
 returns c pool lottery agrees sizes =
