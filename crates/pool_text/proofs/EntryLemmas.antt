@@ -11,9 +11,10 @@ use Rattle.pool_definitions.specs.declared.Standing.{Standing}
 use Rattle.pool_definitions.specs.declared.Standing.TheVariants.{Seated, Gone}
 use Rattle.pool_definitions.specs.Pool.{Pool}
 use Rattle.pool_definitions.proofs.Sums.{each_map}
-use Rattle.text_definitions.specs.Lines.{fields_of}
-use Rattle.text_definitions.specs.PoolReading.{Unknown, category_entry, value_entry, volunteer_entry, standing_entry, end_entry, entry_of, entry_kind, encoding_kind, kind_or}
-use Rattle.text_definitions.proofs.LineLemmas.{each_field_is_utf8, line_of-fields_of}
+use Rattle.line_definitions.specs.Lines.{fields_of}
+use Rattle.text_definitions.specs.PoolReading.{Unknown, category_entry, value_entry, volunteer_entry, standing_entry, end_entry, entry_of, entry_kind, line_kind, Inside}
+use Rattle.text_definitions.proofs.LowestKinds.{kind_or, encoding_kind, line_kind_of}
+use Rattle.line_definitions.proofs.LineLemmas.{each_field_is_utf8, line_of-fields_of}
 use Rattle.pool_text.specs.Entries.{IsText}
 
 text_category : (fields : List (List ℕ)) → AllByRecursion IsUtf8 fields → IsText (category_entry fields)
@@ -63,11 +64,11 @@ line_says_text line h =
     entry_is_text (fields_of line) (each_map (λ field. is_utf8 field ≡ true) IsUtf8 IsUtf8-from_is_utf8 (fields_of line) each)
 
 -- the kind of a line whose entry is right
-pub kind_of_text : (pool : Pool) (passed : ℕ) (line : List ℕ) → entry_kind pool passed (entry_of (fields_of line)) ≡ None → is_utf8 line ≡ true → kind_or (entry_kind pool passed (entry_of (fields_of line))) (encoding_kind line) ≡ None
-kind_of_text pool passed line h text = ap (λ kind. kind_or kind (encoding_kind line)) h ∙ ap (λ test. cond (not test) (Some 11) None) text
+pub kind_of_text : (pool : Pool) (passed : ℕ) (line : List ℕ) → entry_kind pool passed (entry_of (fields_of line)) ≡ None → is_utf8 line ≡ true → line_kind (Inside pool passed) line ≡ None
+kind_of_text pool passed line h text = line_kind_of pool passed line ∙ ap (λ kind. kind_or kind (encoding_kind line)) h ∙ ap (λ test. cond (not test) (Some 11) None) text
 
-pub kind_of_no_text : (pool : Pool) (passed : ℕ) (line : List ℕ) → entry_kind pool passed (entry_of (fields_of line)) ≡ None → is_utf8 line ≡ false → kind_or (entry_kind pool passed (entry_of (fields_of line))) (encoding_kind line) ≡ Some 11
-kind_of_no_text pool passed line h text = ap (λ kind. kind_or kind (encoding_kind line)) h ∙ ap (λ test. cond (not test) (Some 11) None) text
+pub kind_of_no_text : (pool : Pool) (passed : ℕ) (line : List ℕ) → entry_kind pool passed (entry_of (fields_of line)) ≡ None → is_utf8 line ≡ false → line_kind (Inside pool passed) line ≡ Some 11
+kind_of_no_text pool passed line h text = line_kind_of pool passed line ∙ ap (λ kind. kind_or kind (encoding_kind line)) h ∙ ap (λ test. cond (not test) (Some 11) None) text
 
 -- names behind references
 pub each_name_is_text : (names : List (Bor (List ℕ))) → AllByRecursion IsUtf8 (map (λ name. name.now) names) → All (λ name. IsUtf8 name.now) names

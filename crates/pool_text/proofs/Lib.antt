@@ -1,4 +1,3 @@
-pub mod NumberLemmas
 pub mod EntryLemmas
 pub mod LineByLine
 pub mod WritingLemmas

@@ -1,7 +1,7 @@
 -- What reading a text answers.
 use Rattle.std.specs.Prelude.{◌≡◌, ℕ, Result, Ok, Err, ⊤}
 use Rattle.pool_definitions.specs.Pool.{Pool}
-use Rattle.text_definitions.specs.Lines.{Fault}
+use Rattle.line_definitions.specs.Lines.{Fault}
 use Rattle.pool_model.specs.declared.building.BuildStop.{BuildStop}
 use Rattle.pool_model.specs.declared.building.BuildStop.TheVariants.{Kind, OutOfMemory as NoMemory}
 use Rattle.pool_text.specs.declared.faults.PoolFault.{PoolFault}

@@ -4,23 +4,20 @@ ghost use Rattle.std.specs.Prelude.{◌≡◌, ◌<◌, length, map, IfOk, IfSom
 ghost use Rattle.std.specs.List.{All};
 ghost use Rattle.std.specs.Str.{IsUtf8, is_utf8};
 ghost use Rattle.pool_model.specs.Answers.{Answers};
-ghost use Rattle.text_definitions.specs.Lines.{fields_of as fields_in};
 ghost use Rattle.text_definitions.specs.PoolReading.{Inside, line_kind, after_line, after_entry, after_standing, value_entry as value_in, standing_entry as standing_in, entry_of as entry_in, entry_kind as kind_in, number_of as number_in, bound_of as bound_in};
 ghost use Rattle.pool_text.specs.Entries.{said, IsText};
 ghost use Rattle.pool_text.specs.Progress.{with_pool};
 
-use crate::numbers::number_up_to;
 use pool_model::{BuildStop, Name, Pool, Standing, Volunteer};
 use std::alloc::{AllocError, Global};
 use std::str;
+use text_lines::{fields, number_up_to};
 
 /// The greatest bound.
 const MAX_BOUND: usize = 999;
 
 /// What no bound may be.
 const NO_BOUND: usize = 1000;
-
-const TAB: u8 = 9;
 
 /// The kind of a line that is of no form that may stand there.
 pub(crate) const FORM: u8 = 1;
@@ -52,13 +49,6 @@ pub(crate) enum Entry<'a> {
     Standing(Standing, &'a [u8]),
     End,
     Unknown,
-}
-
-/// The fields of a line, parted by TAB.
-pub(crate) fn fields_of(alloc: Global, line: &[u8]) -> Result<Vec<&[u8]>, AllocError>
-    ensures { IfOk result (λ v. map (λ field. field.now) v.items ≡ fields_in line.now) }
-{
-    line.split(|byte| *byte == TAB).collect(alloc)
 }
 
 fn bound_of(field: &[u8]) -> usize
@@ -126,7 +116,7 @@ pub(crate) fn read_entry(
     ensures kind { Answers (line_kind (Inside pool.old passed) line.now) result }
     ensures ok { IfOk result (λ next. after_line (Inside pool.old passed) line.now ≡ with_pool pool.new next) }
 {
-    let fields = fields_of(alloc, line)?;
+    let fields = fields(alloc, line)?;
     let entry = entry_of(&fields);
     if let Some(kind) = entry_kind(pool, passed, &entry) {
         return Err(BuildStop::Kind(kind));

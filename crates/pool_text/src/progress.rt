@@ -2,14 +2,14 @@
 
 ghost use Rattle.std.specs.Prelude.{◌≡◌, map, IfOk};
 ghost use Rattle.pool_model.specs.Answers.{Answers};
-ghost use Rattle.text_definitions.specs.Lines.{fields_of as fields_in};
+ghost use Rattle.line_definitions.specs.Lines.{fields_of as fields_in};
 ghost use Rattle.text_definitions.specs.PoolReading.{line_kind, after_line, size_of as size_in};
 ghost use Rattle.pool_text.specs.Progress.{seen};
 
-use crate::entries::{FORM, fields_of, read_entry};
-use crate::numbers::number_up_to;
+use crate::entries::{FORM, read_entry};
 use pool_model::{BuildStop, Pool};
 use std::alloc::{AllocError, Global};
+use text_lines::{fields, number_up_to};
 
 /// The greatest size of a panel.
 const MAX_SIZE: usize = 200;
@@ -65,8 +65,7 @@ pub(crate) fn after(alloc: Global, progress: Progress, line: &[u8]) -> Result<Pr
 fn size_of(alloc: Global, line: &[u8]) -> Result<usize, AllocError>
     ensures { IfOk result (λ size. size ≡ size_in (fields_in line.now)) }
 {
-    let fields = fields_of(alloc, line)?;
-    Ok(size_said(&fields))
+    Ok(size_said(&fields(alloc, line)?))
 }
 
 fn size_said(fields: &[&[u8]]) -> usize

@@ -1,7 +1,6 @@
 //! Reading the text of a pool, line by line.
 
-ghost use Rattle.std.specs.Prelude.{◌≡◌, ◌<◌, [], ◌∷◌, ◌==◌, length, position, Ok, IfOk, IfSome, IfNone};
-ghost use Rattle.text_definitions.specs.Lines.{pieces_of};
+ghost use Rattle.std.specs.Prelude.{◌≡◌, Ok, IfOk};
 ghost use Rattle.pool_definitions.specs.Pool.{Pool as Words};
 ghost use Rattle.text_definitions.specs.PoolText.{HasText, spelling};
 ghost use Rattle.text_definitions.specs.PoolReading.{read, at_last};
@@ -13,8 +12,7 @@ use crate::faults::{PoolFault, ReadPool};
 use crate::progress::{Progress, after};
 use pool_model::{BuildStop, Pool};
 use std::alloc::Global;
-
-const LINE_FEED: u8 = 10;
+use text_lines::next_line;
 
 /// The kind of a text whose lines run out before its end.
 const MISSING_END: u8 = 12;
@@ -47,25 +45,6 @@ fn read_lines(alloc: Global, bytes: &[u8]) -> Result<Pool, ReadPool>
         rest = later;
     }
     last(progress, number, rest)
-}
-
-/// The next line and what stands behind its LF.
-fn next_line(bytes: &[u8]) -> Option<(&[u8], &[u8])>
-    ensures some { IfSome result (λ (line, later). pieces_of bytes.now ≡ line.now ∷ pieces_of later.now) }
-    ensures shorter { IfSome result (λ (line, later). length later.now < length bytes.now) }
-    ensures none { IfNone result (pieces_of bytes.now ≡ bytes.now ∷ []) }
-{
-    match line_end(bytes) {
-        Some(end) => Some((&bytes[..end], &bytes[end + 1..])),
-        None => None,
-    }
-}
-
-/// The place of the first LF.
-fn line_end(bytes: &[u8]) -> Option<usize>
-    ensures { result ≡ position (λ byte. byte == 10) bytes.now }
-{
-    bytes.iter().position(|byte| *byte == LINE_FEED)
 }
 
 /// A stop of the builder at a line.

@@ -11,16 +11,19 @@ use Rattle.std.proofs.lemmas.List.Quantifiers.{position-Some}
 use Rattle.pool_definitions.specs.Pool.{Pool, BoundedValue, Category, Volunteer, are_bounds}
 use Rattle.pool_definitions.specs.Lists.{stands}
 use Rattle.pool_definitions.specs.Building.{value_names, size_kind, with_value, place_of, places_of, are_known, volunteer_kind, with_standing, standing_set}
-use Rattle.text_definitions.specs.Lines.{line_feed, line_of, text_of, fields_of, pieces_of, number_up_to}
+use Rattle.line_definitions.specs.Lines.{line_feed, line_of, text_of, fields_of, pieces_of}
+use Rattle.line_definitions.specs.Numbers.{number_up_to}
 use Rattle.text_definitions.specs.PoolText.{version_line, size_line, value_line, category_lines, names_at, volunteer_line, standing_line, standing_lines, end_line, lines_before_end, spelling, HasText}
-use Rattle.text_definitions.specs.PoolReading.{Progress, Begun, Versioned, Inside, Ended, Entry, OfCategory, OfValue, OfVolunteer, OfStanding, TheEnd, Unknown, category_entry, bound_of, value_entry, volunteer_entry, standing_entry, end_entry, entry_of, number_of, is_ahead, entry_kind, size_of, encoding_kind, kind_or, line_kind, after_entry, after_line, at_last, fault_or, read_lines, read}
+use Rattle.text_definitions.specs.PoolReading.{Progress, Begun, Versioned, Inside, Ended, Entry, OfCategory, OfValue, OfVolunteer, OfStanding, TheEnd, Unknown, category_entry, bound_of, value_entry, volunteer_entry, standing_entry, end_entry, entry_of, number_of, is_ahead, entry_kind, size_of, line_kind, after_entry, after_line, at_last, fault_or, read_lines, read}
 use Rattle.pool_definitions.specs.declared.Standing.{Standing}
 use Rattle.pool_definitions.specs.declared.Standing.TheVariants.{Open, Seated, Gone}
 use Rattle.std.specs.Str.{IsUtf8}
 use Rattle.std.proofs.lemmas.Str.{IsUtf8-from_is_utf8}
 use Rattle.std.proofs.lemmas.List.Splits.{join_with_byte-slice_split}
 use Rattle.pool_definitions.proofs.BuildingLemmas.{no_kind, list_all_push, category_fits, value_fits, volunteer_fits, place_at, IsPool-empty_pool, IsPool-category_added, IsPool-value_added, IsPool-volunteer_added, IsPool-standing_set}
-use Rattle.text_definitions.proofs.LineLemmas.{bytes_are, each_field_is_utf8, number_spelled, line_of-fields_of}
+use Rattle.line_definitions.proofs.LineLemmas.{each_field_is_utf8, line_of-fields_of}
+use Rattle.line_definitions.proofs.NumberLemmas.{bytes_are, number_spelled}
+use Rattle.text_definitions.proofs.LowestKinds.{kind_or, encoding_kind, line_kind_of}
 
 -- neither of two kinds
 pub neither : (first second : Option ℕ) → kind_or first second ≡ None → (first ≡ None) × (second ≡ None)
@@ -396,7 +399,7 @@ line_adds Versioned line right h =
     let spelled = sym (line_of-fields_of line) ∙ size_spelled (fields_of line) h in
     (record { has_text = IsPool-empty_pool (size_of (fields_of line)) h; ahead = refl }, ap (λ l. version_line ∷ l ∷ []) (sym spelled))
 line_adds (Inside pool passed) line right h =
-    let kinds = neither (entry_kind pool passed (entry_of (fields_of line))) (encoding_kind line) h in
+    let kinds = neither (entry_kind pool passed (entry_of (fields_of line))) (encoding_kind line) (sym (line_kind_of pool passed line) ∙ h) in
     let same = line_of-fields_of line in
     let text = not-false (is_utf8 line) (no_kind (not (is_utf8 line)) 11 None kinds.1).0 in
     let utf8 = each_field_is_utf8 (fields_of line) (subst IsUtf8 (sym same) (IsUtf8-from_is_utf8 line text)) in (

@@ -1,11 +1,12 @@
 -- What a list of bytes says as the text of a pool: the pool, or the first faulty line and in it the lowest kind.
-use Rattle.std.specs.Prelude.{ℕ, ◌+◌, nat_lt, nat_le, if◌then◌else◌, Bool, false, not, List, [], ◌∷◌, bytes_eq, codes, Option, Some, None, Result, Ok, Err, unwrap_or, position}
+use Rattle.std.specs.Prelude.{ℕ, ◌+◌, nat_lt, nat_le, if◌then◌else◌, Bool, true, false, not, List, [], ◌∷◌, ◌++◌, bytes_eq, codes, Option, Some, None, Result, Ok, Err, unwrap_or, position}
 use Rattle.std.specs.Str.{is_utf8}
 use Rattle.pool_definitions.specs.declared.Standing.{Standing}
 use Rattle.pool_definitions.specs.declared.Standing.TheVariants.{Seated, Gone}
 use Rattle.pool_definitions.specs.Pool.{Pool, BoundedValue, Volunteer}
-use Rattle.pool_definitions.specs.Building.{lowest_kind, size_kind, empty_pool, category_kind, category_added, value_kind, value_added, volunteer_kinds, volunteer_added, standing_set}
-use Rattle.text_definitions.specs.Lines.{Fault, fields_of, pieces_of, number_up_to}
+use Rattle.pool_definitions.specs.Building.{lowest_kind, size_kinds, empty_pool, category_kinds, category_added, value_kinds, value_added, volunteer_kinds, volunteer_added, standing_set}
+use Rattle.line_definitions.specs.Lines.{Fault, fields_of, pieces_of}
+use Rattle.line_definitions.specs.Numbers.{number_up_to}
 use Rattle.text_definitions.specs.PoolText.{version_line}
 
 -- what right lines make of a text so far
@@ -72,37 +73,36 @@ abbrev pub is_ahead : ℕ → Option ℕ → Bool
 is_ahead passed None = false
 is_ahead passed (Some number) = nat_le passed number
 
--- the lowest kind of fault of an entry, given the pool that stood before and how many standing lines have passed. 1: it may
--- not stand there, as a volunteer behind a standing line; 9: the id isn't that of a volunteer after the one of the standing
--- line before
+-- the kinds of fault that an entry may have, rising, each with whether it holds, given the pool that stood before and how many
+-- standing lines have passed. 1: it may not stand there, as a volunteer behind a standing line; 9: the id isn't that of a
+-- volunteer after the one of the standing line before
+abbrev pub entry_kinds : Pool → ℕ → Entry → List (ℕ × Bool)
+entry_kinds pool passed (OfCategory name) = category_kinds pool name
+entry_kinds pool passed (OfValue value) = value_kinds pool value
+entry_kinds pool passed (OfVolunteer id names) = (1, nat_lt 0 passed) ∷ volunteer_kinds pool id names
+entry_kinds pool passed (OfStanding standing id) = (9, not (is_ahead passed (number_of pool.volunteers id))) ∷ []
+entry_kinds pool passed TheEnd = []
+entry_kinds pool passed Unknown = (1, true) ∷ []
+
 abbrev pub entry_kind : Pool → ℕ → Entry → Option ℕ
-entry_kind pool passed (OfCategory name) = category_kind pool name
-entry_kind pool passed (OfValue value) = value_kind pool value
-entry_kind pool passed (OfVolunteer id names) = lowest_kind ((1, nat_lt 0 passed) ∷ volunteer_kinds pool id names)
-entry_kind pool passed (OfStanding standing id) = lowest_kind ((9, not (is_ahead passed (number_of pool.volunteers id))) ∷ [])
-entry_kind pool passed TheEnd = None
-entry_kind pool passed Unknown = Some 1
+entry_kind pool passed entry = lowest_kind (entry_kinds pool passed entry)
 
 -- the size that the fields of the second line give, or 0, which no size may be
 abbrev pub size_of : List (List ℕ) → ℕ
 size_of (first ∷ field ∷ []) = if bytes_eq first (codes "size") then unwrap_or (number_up_to 200 field) 0 else 0
 size_of _ = 0
 
--- 11: the line isn't UTF-8
-abbrev pub encoding_kind : List ℕ → Option ℕ
-encoding_kind line = lowest_kind ((11, not (is_utf8 line)) ∷ [])
+-- the kinds of fault that a line may have, rising, each with whether it holds, given what stood before. 1: another first line,
+-- or a line after the end; 2: no size; 11: the line isn't UTF-8
+abbrev pub line_kinds : Progress → List ℕ → List (ℕ × Bool)
+line_kinds Begun line = (1, not (bytes_eq line version_line)) ∷ []
+line_kinds Versioned line = size_kinds (size_of (fields_of line))
+line_kinds (Inside pool passed) line = entry_kinds pool passed (entry_of (fields_of line)) ++ (11, not (is_utf8 line)) ∷ []
+line_kinds (Ended pool) line = (1, true) ∷ []
 
--- the first of two kinds
-abbrev pub kind_or : Option ℕ → Option ℕ → Option ℕ
-kind_or None other = other
-kind_or (Some kind) other = Some kind
-
--- the lowest kind of fault of a line, given what stood before. 1: another first line, or a line after the end; 2: no size
+-- the lowest kind of fault of a line
 abbrev pub line_kind : Progress → List ℕ → Option ℕ
-line_kind Begun line = lowest_kind ((1, not (bytes_eq line version_line)) ∷ [])
-line_kind Versioned line = size_kind (size_of (fields_of line))
-line_kind (Inside pool passed) line = kind_or (entry_kind pool passed (entry_of (fields_of line))) (encoding_kind line)
-line_kind (Ended pool) line = Some 1
+line_kind progress line = lowest_kind (line_kinds progress line)
 
 -- what stands after the standing line of the volunteer of a number
 abbrev pub after_standing : Pool → ℕ → Standing → Progress

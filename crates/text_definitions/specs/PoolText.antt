@@ -6,7 +6,7 @@ use Rattle.pool_definitions.specs.declared.Standing.{Standing}
 use Rattle.pool_definitions.specs.declared.Standing.TheVariants.{Open, Seated, Gone}
 use Rattle.pool_definitions.specs.Pool.{BoundedValue, Category, Volunteer, Pool, IsPool}
 use Rattle.pool_definitions.specs.Building.{value_names}
-use Rattle.text_definitions.specs.Lines.{line_of, text_of}
+use Rattle.line_definitions.specs.Lines.{line_of, text_of}
 
 abbrev pub version_line : List ℕ
 version_line = line_of (codes "pool" ∷ codes "1" ∷ [])

@@ -1,5 +1,5 @@
 use Rattle.std.specs.Prelude.{Err}
-use Rattle.text_definitions.specs.Lines.{pieces_of}
+use Rattle.line_definitions.specs.Lines.{pieces_of}
 use Rattle.std.proofs.Common.{◌≡◌, ◌∷◌, arith, sym, subst, ap, ◌∙◌}
 use Rattle.text_definitions.specs.PoolReading.{read, read_lines}
 use Rattle.pool_text.specs.Answers.{Reads}

@@ -1,5 +1,5 @@
 use Rattle.std.proofs.Common.{◌≡◌, ◌+◌, ◌≤◌, length}
-use Rattle.text_definitions.specs.Lines.{pieces_of}
+use Rattle.line_definitions.specs.Lines.{pieces_of}
 use Rattle.text_definitions.specs.PoolReading.{read, read_lines}
 use Rattle.pool_text.specs.Progress.{seen}
 use Rattle.pool_text.proofs.reading.read_lines.Given as goal
