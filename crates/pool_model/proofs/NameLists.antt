@@ -21,6 +21,15 @@ are_known-zip [] names = refl
 are_known-zip (category ∷ categories) [] = refl
 are_known-zip (category ∷ categories) (name ∷ names) = ap (λ b. stands (value_names category.values) name.now && b) (are_known-zip categories names)
 
+-- the same where the name isn't lent
+abbrev pub has_name : Category × List ℕ → Bool
+has_name pair = stands (value_names pair.0.values) pair.1
+
+pub are_named-zip : (categories : List Category) (names : List (List ℕ)) → are_known categories names ≡ list_all has_name (zip categories names)
+are_named-zip [] names = refl
+are_named-zip (category ∷ categories) [] = refl
+are_named-zip (category ∷ categories) (name ∷ names) = ap (λ b. stands (value_names category.values) name && b) (are_named-zip categories names)
+
 -- the place in a category of the value whose name is beside it
 abbrev pub place_beside : Category × Bor (List ℕ) → ℕ
 place_beside pair = unwrap_or (place_of pair.0.values pair.1.now) 0

@@ -31,7 +31,7 @@ text_value (name ∷ lower ∷ upper ∷ other ∷ fields) h = tt
 
 text_volunteer : (fields : List (List ℕ)) → AllByRecursion IsUtf8 fields → IsText (volunteer_entry fields)
 text_volunteer [] h = tt
-text_volunteer (id ∷ names) h = h
+text_volunteer (id ∷ names) h = h.0
 
 text_standing : (standing : Standing) (fields : List (List ℕ)) → IsText (standing_entry standing fields)
 text_standing standing [] = tt
@@ -69,11 +69,3 @@ kind_of_text pool passed line h text = line_kind_of pool passed line ∙ ap (λ 
 
 pub kind_of_no_text : (pool : Pool) (passed : ℕ) (line : List ℕ) → entry_kind pool passed (entry_of (fields_of line)) ≡ None → is_utf8 line ≡ false → line_kind (Inside pool passed) line ≡ Some 11
 kind_of_no_text pool passed line h text = line_kind_of pool passed line ∙ ap (λ kind. kind_or kind (encoding_kind line)) h ∙ ap (λ test. cond (not test) (Some 11) None) text
-
--- names behind references
-pub each_name_is_text : (names : List (Bor (List ℕ))) → AllByRecursion IsUtf8 (map (λ name. name.now) names) → All (λ name. IsUtf8 name.now) names
-each_name_is_text names h = All-from_recursion (λ name. IsUtf8 name.now) names (behind names h)
-  where
-    behind : (names : List (Bor (List ℕ))) → AllByRecursion IsUtf8 (map (λ name. name.now) names) → AllByRecursion (λ name. IsUtf8 name.now) names
-    behind [] h = tt
-    behind (name ∷ names) h = (h.0, behind names h.1)

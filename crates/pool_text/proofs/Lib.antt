@@ -1,3 +1,4 @@
 pub mod EntryLemmas
 pub mod LineByLine
 pub mod WritingLemmas
+pub mod SizeLine

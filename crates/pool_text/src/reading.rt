@@ -1,10 +1,12 @@
 //! Reading the text of a pool, line by line.
 
-ghost use Rattle.std.specs.Prelude.{◌≡◌, Ok, IfOk};
+ghost use Rattle.std.specs.Prelude.{◌≡◌, ◌≢◌, ◌<◌, length, Ok, Err, IfOk};
 ghost use Rattle.pool_definitions.specs.Pool.{Pool as Words};
 ghost use Rattle.text_definitions.specs.PoolText.{HasText, spelling};
 ghost use Rattle.text_definitions.specs.PoolReading.{read, at_last};
-ghost use Rattle.pool_text.specs.Answers.{Reads, stopped};
+ghost use Rattle.pool_text.specs.Answers.{Reads, IsRightBefore, stopped};
+ghost use Rattle.pool_text.specs.declared.faults.ReadPool.TheVariants.{OutOfMemory};
+ghost use Rattle.line_definitions.specs.Lines.{pieces_of};
 ghost use Rattle.pool_text.specs.Progress.{seen};
 
 use crate::entries::FORM;
@@ -26,12 +28,15 @@ pub fn read_pool(alloc: Global, bytes: &[u8]) -> Result<Pool, ReadPool>
     ensures read { (pool : Words) → HasText pool → bytes.now ≡ spelling pool → Reads (Ok pool) result }
     // Which fault it is.
     ensures exact { Reads (read bytes.now) result }
+    // Memory is wanted only where the first two lines are right and a third is finished.
+    ensures memory { result ≡ Err OutOfMemory → IsRightBefore 3 (read bytes.now) × (3 < length (pieces_of bytes.now)) }
 {
     read_lines(alloc, bytes)
 }
 
 fn read_lines(alloc: Global, bytes: &[u8]) -> Result<Pool, ReadPool>
-    ensures { Reads (read bytes.now) result }
+    ensures exact { Reads (read bytes.now) result }
+    ensures memory { result ≡ Err OutOfMemory → IsRightBefore 3 (read bytes.now) × (3 < length (pieces_of bytes.now)) }
 {
     let mut progress = Progress::Begun;
     let mut number = 1;
@@ -59,7 +64,8 @@ fn stop_at(line: usize, stop: BuildStop) -> ReadPool
 
 /// What the text comes to, where `rest` stands behind its last LF.
 fn last(progress: Progress, line: usize, rest: &[u8]) -> Result<Pool, ReadPool>
-    ensures { Reads (at_last line (seen progress) rest.now) result }
+    ensures exact { Reads (at_last line (seen progress) rest.now) result }
+    ensures memory { result ≢ Err OutOfMemory }
 {
     match progress {
         Progress::Ended(pool) if rest.is_empty() => Ok(pool),

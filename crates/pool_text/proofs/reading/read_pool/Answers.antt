@@ -14,7 +14,7 @@ spelled bytes (Ok pool) h = read_is_spelled bytes pool h
 spelled bytes (Err stop) h = tt
 
 pub returns-clause-spelled : goal.returns-clause-spelled
-returns-clause-spelled c = spelled c.args.bytes.now c.read_lines.result c.read_lines.ensures
+returns-clause-spelled c = spelled c.args.bytes.now c.read_lines.result c.read_lines.ensures.exact
 
 pub returns-clause-read : goal.returns-clause-read
-returns-clause-read c pool has same = subst (λ said. Reads said c.read_lines.result) (ap read same ∙ spelled_is_read pool has) c.read_lines.ensures
+returns-clause-read c pool has same = subst (λ said. Reads said c.read_lines.result) (ap read same ∙ spelled_is_read pool has) c.read_lines.ensures.exact

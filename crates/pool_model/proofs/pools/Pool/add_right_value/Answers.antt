@@ -3,7 +3,7 @@ use Rattle.std.proofs.lemmas.Str.{is_utf8-from_IsUtf8}
 use Rattle.pool_definitions.specs.Pool.{Pool, BoundedValue}
 use Rattle.pool_definitions.specs.Building.{value_kind}
 use Rattle.pool_definitions.proofs.BuildingLemmas.{IsPool-value_added}
-use Rattle.pool_model.proofs.pools.Pool.add_value.Goals as goal
+use Rattle.pool_model.proofs.pools.Pool.add_right_value.Goals as goal
 
 pub invariant_of-self-2 : goal.invariant_of-self-2
 invariant_of-self-2 c =
@@ -11,5 +11,5 @@ invariant_of-self-2 c =
     let name = c.args.name.now in
     let named : List ℕ → BoundedValue = λ n. record { name = n; lower = c.args.lower; upper = c.args.upper } in
     let none : value_kind pool (named name) ≡ None =
-    ap (λ p. value_kind p (named name)) c.self.view_is ∙ ap (λ n. value_kind c.args.self.now (named n)) (sym c.as_bytes.ensures.value) ∙ sym c.value_kind.ensures ∙ c.in_default.is in
-    rw (c.in_ok-add_to_last.ensures.ok, c.new-2.ensures, c.in_ok-name.ensures) (IsPool-value_added pool (named name) c.self.invariant none (is_utf8-from_IsUtf8 name c.utf8.name))
+    ap (λ p. value_kind p (named name)) c.self.view_is ∙ c.requires in
+    rw (c.in_ok-add_to_last.ensures.ok, c.new-value.ensures, c.in_ok-name.ensures) (IsPool-value_added pool (named name) c.self.invariant none (is_utf8-from_IsUtf8 name c.utf8.name))
