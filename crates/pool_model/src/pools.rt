@@ -1,7 +1,7 @@
 //! Pools: a size of panels, categories, and volunteers.
 
 ghost use Rattle.std.specs.Prelude.{◌≡◌, ◌≢◌, ◌<◌, ◌==◌, ◌||◌, nat_le, not, [], ◌∷◌, length, map, None, Err, OnOk, OnErr, IfOk, vec_len};
-ghost use Rattle.pool_definitions.specs.Lists.{stands};
+ghost use Rattle.pool_definitions.specs.Lists.{includes_list};
 ghost use Rattle.pool_definitions.specs.Pool.{IsPool, keeps_name_limits as keeps_limits};
 ghost use Rattle.pool_definitions.specs.Building.{lowest_kind, ids, size_kind, category_kind, value_kind, volunteer_kind, empty_pool, category_added, value_added, volunteer_added, with_value, last_values as values_of_last, with_standing, standing_set};
 ghost use Rattle.pool_model.specs.Answers.{Answers};
@@ -214,7 +214,7 @@ impl Pool {
         ensures { result ≡ lowest_kind (
             (6, not known) ∷
             (7, not (count == length self.now.categories)) ∷
-            (8, stands (ids self.now.volunteers) id.now) ∷
+            (8, includes_list (ids self.now.volunteers) id.now) ∷
             (10, not (keeps_limits id.now) || nat_le 400 (length self.now.volunteers)) ∷ []) }
     {
         if !known {

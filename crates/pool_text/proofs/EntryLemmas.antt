@@ -10,7 +10,7 @@ use Rattle.std.proofs.lemmas.Str.{IsUtf8-from_is_utf8}
 use Rattle.pool_definitions.specs.declared.Standing.{Standing}
 use Rattle.pool_definitions.specs.declared.Standing.TheVariants.{Seated, Gone}
 use Rattle.pool_definitions.specs.Pool.{Pool}
-use Rattle.pool_definitions.proofs.Sums.{each_map}
+use Rattle.basic_laws.proofs.Each.{each_map}
 use Rattle.line_definitions.specs.Lines.{fields_of}
 use Rattle.text_definitions.specs.PoolReading.{Unknown, category_entry, value_entry, volunteer_entry, standing_entry, end_entry, entry_of, entry_kind, line_kind, Inside}
 use Rattle.text_definitions.proofs.LowestKinds.{kind_or, encoding_kind, line_kind_of}

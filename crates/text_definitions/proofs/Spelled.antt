@@ -9,7 +9,7 @@ use Rattle.std.proofs.lemmas.Grind.{flat_map-append}
 use Rattle.std.proofs.lemmas.List.{append-nil, map-append}
 use Rattle.std.proofs.lemmas.List.Quantifiers.{position-Some}
 use Rattle.pool_definitions.specs.Pool.{Pool, BoundedValue, Category, Volunteer, are_bounds}
-use Rattle.pool_definitions.specs.Lists.{stands}
+use Rattle.pool_definitions.specs.Lists.{includes_list}
 use Rattle.pool_definitions.specs.Building.{value_names, size_kind, with_value, place_of, places_of, are_known, volunteer_kind, with_standing, standing_set}
 use Rattle.line_definitions.specs.Lines.{line_feed, line_of, text_of, fields_of, pieces_of}
 use Rattle.line_definitions.specs.Numbers.{number_up_to}
@@ -20,7 +20,8 @@ use Rattle.pool_definitions.specs.declared.Standing.TheVariants.{Open, Seated, G
 use Rattle.std.specs.Str.{IsUtf8}
 use Rattle.std.proofs.lemmas.Str.{IsUtf8-from_is_utf8}
 use Rattle.std.proofs.lemmas.List.Splits.{join_with_byte-slice_split}
-use Rattle.pool_definitions.proofs.BuildingLemmas.{no_kind, list_all_push, category_fits, value_fits, volunteer_fits, place_at, IsPool-empty_pool, IsPool-category_added, IsPool-value_added, IsPool-volunteer_added, IsPool-standing_set}
+use Rattle.basic_laws.proofs.Each.{list_all-push}
+use Rattle.pool_definitions.proofs.BuildingLemmas.{no_kind, category_fits, value_fits, volunteer_fits, place_at, IsPool-empty_pool, IsPool-category_added, IsPool-value_added, IsPool-volunteer_added, IsPool-standing_set}
 use Rattle.line_definitions.proofs.LineLemmas.{each_field_is_utf8, line_of-fields_of}
 use Rattle.line_definitions.proofs.NumberLemmas.{bytes_are, number_spelled}
 use Rattle.text_definitions.proofs.LowestKinds.{kind_or, encoding_kind, line_kind_of}
@@ -141,7 +142,7 @@ flat_map-with_value (category ∷ next ∷ later) value some =
     ∙ sym (append_assoc (category_lines category) (flat_map category_lines (next ∷ later)) (value_line value ∷ []))
 
 -- the name that stands at the place of a known name is that name
-name_at_place : (values : List BoundedValue) (name : List ℕ) → stands (value_names values) name ≡ true → get_or (value_names values) (unwrap_or (place_of values name) 0) [] ≡ name
+name_at_place : (values : List BoundedValue) (name : List ℕ) → includes_list (value_names values) name ≡ true → get_or (value_names values) (unwrap_or (place_of values name) 0) [] ≡ name
 name_at_place values name h =
     let known = place_at values name h in
     ap (λ place. get_or (value_names values) (unwrap_or place 0) []) known.1 ∙ known.3
@@ -152,7 +153,7 @@ names_at-places_of [] [] known e = refl
 names_at-places_of [] (name ∷ names) known e = absurd (omega arith)
 names_at-places_of (category ∷ categories) [] known e = absurd (omega arith)
 names_at-places_of (category ∷ categories) (name ∷ names) known e =
-    let parts = and_parts (stands (value_names category.values) name) (are_known categories names) known in
+    let parts = and_parts (includes_list (value_names category.values) name) (are_known categories names) known in
     let rest = names_at-places_of categories names parts.1 (omega arith) in
     let here = name_at_place category.values name parts.0 in cc
 
@@ -277,7 +278,7 @@ entry_adds pool passed (OfVolunteer id names) right h =
     let before = flat_map category_lines pool.categories in
     let all_open : open_from 0 pool.volunteers ≡ true = subst (λ n. open_from n pool.volunteers ≡ true) parts.0 right.ahead in
     let none = no_lines pool.volunteers all_open in
-    let none_after = no_lines (pool.volunteers ++ one ∷ []) (list_all_push (λ (volunteer : Volunteer). is_open volunteer.standing) pool.volunteers one all_open refl) in
+    let none_after = no_lines (pool.volunteers ++ one ∷ []) (list_all-push (λ (volunteer : Volunteer). is_open volunteer.standing) pool.volunteers one all_open refl) in
     let spelled : line one ≡ line_of (codes "volunteer" ∷ id ∷ names) = ap (λ fields. line_of (codes "volunteer" ∷ id ∷ fields)) (names_at-places_of pool.categories names fits.known fits.each) in
     ap (λ lines. version_line ∷ size_line pool.size ∷ lines)
     (ap (λ lines. (before ++ map line (pool.volunteers ++ one ∷ [])) ++ lines) none_after
@@ -351,7 +352,7 @@ module _ (pool : Pool) (passed : ℕ) (right : IsRight (Inside pool passed)) whe
       record {
         has_text = IsPool-volunteer_added pool id names right.has_text parts.1 utf8.0;
         ahead = subst (λ n. open_from n (pool.volunteers ++ one ∷ []) ≡ true) (sym parts.0)
-            (list_all_push (λ (volunteer : Volunteer). is_open volunteer.standing) pool.volunteers one all_open refl);
+            (list_all-push (λ (volunteer : Volunteer). is_open volunteer.standing) pool.volunteers one all_open refl);
       }
 
   keeps_standing : (standing : Standing) (fields : List (List ℕ)) → Keeps (standing_entry standing fields)

@@ -22,18 +22,18 @@ lines_before fault bytes = take (fault.line - 1) (pieces_of bytes)
 abbrev pub lines_up_to : Fault → List ℕ → List (List ℕ)
 lines_up_to fault bytes = take fault.line (pieces_of bytes)
 
--- a kind is among these and holds
-abbrev pub holds_among : List (ℕ × Bool) → ℕ → Bool
-holds_among kinds kind = list_any (λ one. (one.0 == kind) && one.1) kinds
+-- a kind is among these and applies
+abbrev pub applies_among : List (ℕ × Bool) → ℕ → Bool
+applies_among kinds kind = list_any (λ one. (one.0 == kind) && one.1) kinds
 
--- a kind is the lowest of those that hold
+-- a kind is the lowest of those that apply
 abbrev pub IsLowest : List (ℕ × Bool) → ℕ → Type 0
-IsLowest kinds kind = IsTrue (holds_among kinds kind) × ((other : ℕ) → IsTrue (holds_among kinds other) → kind ≤ other)
+IsLowest kinds kind = IsTrue (applies_among kinds kind) × ((other : ℕ) → IsTrue (applies_among kinds other) → kind ≤ other)
 
 -- what lines make of a text so far
 abbrev pub after_lines : Progress → List (List ℕ) → Progress
 after_lines progress lines = fold after_line progress lines
 
--- the kinds that the faulty line may have, each with whether it holds
+-- the kinds that the faulty line may have, each with whether it applies
 abbrev pub kinds_at : Fault → List ℕ → List (ℕ × Bool)
 kinds_at fault bytes = line_kinds (after_lines Begun (lines_before fault bytes)) (slice_index_or (pieces_of bytes) (fault.line - 1) [])

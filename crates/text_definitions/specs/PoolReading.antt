@@ -73,7 +73,7 @@ abbrev pub is_ahead : ℕ → Option ℕ → Bool
 is_ahead passed None = false
 is_ahead passed (Some number) = nat_le passed number
 
--- the kinds of fault that an entry may have, rising, each with whether it holds, given the pool that stood before and how many
+-- the kinds of fault that an entry may have, rising, each with whether it applies, given the pool that stood before and how many
 -- standing lines have passed. 1: it may not stand there, as a volunteer behind a standing line; 9: the id isn't that of a
 -- volunteer after the one of the standing line before
 abbrev pub entry_kinds : Pool → ℕ → Entry → List (ℕ × Bool)
@@ -92,7 +92,7 @@ abbrev pub size_of : List (List ℕ) → ℕ
 size_of (first ∷ field ∷ []) = if bytes_eq first (codes "size") then unwrap_or (number_up_to 200 field) 0 else 0
 size_of _ = 0
 
--- the kinds of fault that a line may have, rising, each with whether it holds, given what stood before. 1: another first line,
+-- the kinds of fault that a line may have, rising, each with whether it applies, given what stood before. 1: another first line,
 -- or a line after the end; 2: no size; 11: the line isn't UTF-8
 abbrev pub line_kinds : Progress → List ℕ → List (ℕ × Bool)
 line_kinds Begun line = (1, not (bytes_eq line version_line)) ∷ []

@@ -42,7 +42,7 @@ pub fn first_fault_is_first()
     ensures missing_end { (bytes : List ℕ) (fault : Fault) → read bytes ≡ Err fault → fault.kind ≡ 12 → length (pieces_of bytes) ≡ fault.line }
 {}
 
-/// The kinds that a line may have are one rising list, and the first fault's kind is the lowest of those that hold in its line.
+/// The kinds that a line may have are one rising list, and the first fault's kind is the lowest of those that apply in its line.
 pub fn first_fault_is_lowest()
     ensures lowest { (kinds : List (ℕ × Bool)) (kind : ℕ) → IsTrue (is_increasing (map (λ one. one.0) kinds)) → lowest_kind kinds ≡ Some kind → IsLowest kinds kind }
     ensures rising { (progress : Progress) (line : List ℕ) → IsTrue (is_increasing (map (λ one. one.0) (line_kinds progress line))) }
