@@ -3,7 +3,7 @@
 ghost use Rattle.std.specs.Prelude.{◌≡◌, ◌<◌, length, map, IfOk, IfSome, IsSome, None, Option, unwrap_or};
 ghost use Rattle.std.specs.Str.{IsUtf8, is_utf8};
 ghost use Rattle.pool_text.specs.Answers.{Tells};
-ghost use Rattle.text_definitions.specs.PoolReading.{Inside, line_kind, after_line, after_entry, after_standing, value_entry as value_in, standing_entry as standing_in, entry_of as entry_in, entry_kind as kind_in, number_of as number_in, bound_of as bound_in};
+ghost use Rattle.text_definitions.specs.PoolReading.{Inside, line_kind, after_line, after_entry, after_standing, ValueWord, StandingWord, entry_of_word, entry_of as entry_in, entry_kind as kind_in, number_of as number_in, bound_of as bound_in};
 ghost use Rattle.pool_text.specs.Entries.{said, IsText};
 ghost use Rattle.pool_text.specs.Progress.{with_pool};
 
@@ -87,7 +87,7 @@ fn entry_of<'a>(fields: &'a [&'a [u8]]) -> Entry<'a>
 }
 
 fn value_entry<'a>(rest: &'a [&'a [u8]]) -> Entry<'a>
-    ensures { said result ≡ value_in (map (λ field. field.now) rest.now) }
+    ensures { said result ≡ entry_of_word ValueWord (map (λ field. field.now) rest.now) }
 {
     if rest.len() != 3 {
         return Entry::Unknown;
@@ -96,7 +96,7 @@ fn value_entry<'a>(rest: &'a [&'a [u8]]) -> Entry<'a>
 }
 
 fn standing_entry<'a>(standing: Standing, rest: &'a [&'a [u8]]) -> Entry<'a>
-    ensures { said result ≡ standing_in standing (map (λ field. field.now) rest.now) }
+    ensures { said result ≡ entry_of_word (StandingWord standing) (map (λ field. field.now) rest.now) }
 {
     match rest {
         [id] => Entry::Standing(standing, id),

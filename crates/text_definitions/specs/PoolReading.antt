@@ -30,39 +30,46 @@ pub data Entry : Type 0 where
   TheEnd : Entry
   Unknown : Entry
 
-abbrev pub category_entry : List (List ℕ) → Entry
-category_entry (name ∷ []) = OfCategory name
-category_entry _ = Unknown
+-- the words with which such a line may begin
+pub data Word : Type 0 where
+  CategoryWord : Word
+  ValueWord : Word
+  VolunteerWord : Word
+  StandingWord : (standing : Standing) → Word
+  EndWord : Word
+
+abbrev pub words : List (List ℕ × Word)
+words =
+    (codes "category", CategoryWord) ∷ (codes "value", ValueWord) ∷ (codes "volunteer", VolunteerWord)
+    ∷ (codes "seated", StandingWord Seated) ∷ (codes "gone", StandingWord Gone) ∷ (codes "end", EndWord) ∷ []
+
+-- the word, of these, that a field is
+abbrev pub word_among : List (List ℕ × Word) → List ℕ → Option Word
+word_among [] field = None
+word_among ((spelled, word) ∷ later) field = if bytes_eq field spelled then Some word else word_among later field
 
 -- a bound that a field spells, or 1000, which no bound may be
 abbrev pub bound_of : List ℕ → ℕ
 bound_of field = unwrap_or (number_up_to 999 field) 1000
 
-abbrev pub value_entry : List (List ℕ) → Entry
-value_entry (name ∷ lower ∷ upper ∷ []) = OfValue (record { name = name; lower = bound_of lower; upper = bound_of upper })
-value_entry _ = Unknown
+-- what a word and the fields behind it say
+abbrev pub entry_of_word : Word → List (List ℕ) → Entry
+entry_of_word CategoryWord (name ∷ []) = OfCategory name
+entry_of_word ValueWord (name ∷ lower ∷ upper ∷ []) = OfValue (record { name = name; lower = bound_of lower; upper = bound_of upper })
+entry_of_word VolunteerWord (id ∷ names) = OfVolunteer id names
+entry_of_word (StandingWord standing) (id ∷ []) = OfStanding standing id
+entry_of_word EndWord [] = TheEnd
+entry_of_word _ _ = Unknown
 
-abbrev pub volunteer_entry : List (List ℕ) → Entry
-volunteer_entry [] = Unknown
-volunteer_entry (id ∷ names) = OfVolunteer id names
+-- what fields say behind a word, if there is one
+abbrev pub entry_behind : Option Word → List (List ℕ) → Entry
+entry_behind None fields = Unknown
+entry_behind (Some word) fields = entry_of_word word fields
 
-abbrev pub standing_entry : Standing → List (List ℕ) → Entry
-standing_entry standing (id ∷ []) = OfStanding standing id
-standing_entry standing _ = Unknown
-
-abbrev pub end_entry : List (List ℕ) → Entry
-end_entry [] = TheEnd
-end_entry _ = Unknown
-
+-- what the fields of a line say
 abbrev pub entry_of : List (List ℕ) → Entry
 entry_of [] = Unknown
-entry_of (first ∷ fields) =
-    if bytes_eq first (codes "category") then category_entry fields
-    else (if bytes_eq first (codes "value") then value_entry fields
-    else (if bytes_eq first (codes "volunteer") then volunteer_entry fields
-    else (if bytes_eq first (codes "seated") then standing_entry Seated fields
-    else (if bytes_eq first (codes "gone") then standing_entry Gone fields
-    else (if bytes_eq first (codes "end") then end_entry fields else Unknown)))))
+entry_of (first ∷ fields) = entry_behind (word_among words first) fields
 
 -- the number of the volunteer of an id
 abbrev pub number_of : List Volunteer → List ℕ → Option ℕ
