@@ -269,7 +269,7 @@ impl Pool {
 }
 
 /// The kind of fault of a size: 2 exactly where it is not from 1 to 200.
-pub fn size_kind(size: usize) -> Option<u8>
+fn size_kind(size: usize) -> Option<u8>
     ensures { result ≡ size_kind size }
 {
     if 1 <= size && size <= MAX_SIZE {

@@ -5,7 +5,7 @@ ghost use Rattle.pool_definitions.specs.Lottery.{TotalAgrees};
 
 use crate::{
     Answer, BuildStop, Certificate, Lottery, LotteryRow, Name, Panel, Pool, Stage, Standing,
-    chances, fits, size_kind,
+    chances, fits,
 };
 use std::alloc::{AllocError, Global};
 use std::process::Abort;
@@ -259,7 +259,6 @@ fn tells_an_answer(rt: HostRuntime) -> Result<(), Fail> {
 fn tests_sizes_and_names(rt: HostRuntime) -> Result<(), Fail> {
     let alloc = rt.alloc();
     for (size, want) in [(0, Some(2)), (1, None), (200, None), (201, Some(2))] {
-        assert_eq!(rt; size_kind(size), want, "at {size}");
         let answer = Pool::new(alloc, size).map(|_pool| ());
         assert_eq!(rt; told(answer), want, "at {size}");
     }

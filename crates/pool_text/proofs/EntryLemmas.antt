@@ -1,5 +1,5 @@
 -- What a line of fields that are text says is text, and a line that isn't UTF-8 has that kind.
-use Rattle.std.proofs.Common.{◌≡◌, ℕ, true, false, not, cond, List, [], ◌∷◌, map, sym, ◌∙◌, ap, subst, Some, None}
+use Rattle.std.proofs.Common.{◌≡◌, ℕ, true, false, not, cond, List, [], ◌∷◌, map, sym, ◌∙◌, ap, subst, Option, Some, None}
 use Rattle.std.proofs.Common.{Bor}
 use Rattle.std.specs.Prelude.{bytes_eq, codes}
 use Rattle.std.specs.List.{All, AllByRecursion}
@@ -12,7 +12,7 @@ use Rattle.pool_definitions.specs.declared.Standing.TheVariants.{Seated, Gone}
 use Rattle.pool_definitions.specs.Pool.{Pool}
 use Rattle.basic_laws.proofs.Each.{each_map}
 use Rattle.line_definitions.specs.Lines.{fields_of}
-use Rattle.text_definitions.specs.PoolReading.{Word, CategoryWord, ValueWord, VolunteerWord, StandingWord, EndWord, words, word_among, entry_of_word, entry_behind, entry_of, entry_kind, line_kind, Inside}
+use Rattle.text_definitions.specs.PoolReading.{Entry, Word, CategoryWord, ValueWord, VolunteerWord, StandingWord, EndWord, words, word_among, entry_of_word, entry_behind, entry_of, entry_kind, line_kind, Inside}
 use Rattle.text_definitions.proofs.LowestKinds.{kind_or, encoding_kind, line_kind_of}
 use Rattle.line_definitions.proofs.LineLemmas.{each_field_is_utf8, line_of-fields_of}
 use Rattle.pool_text.specs.Entries.{IsText}
@@ -55,3 +55,13 @@ kind_of_text pool passed line h text = line_kind_of pool passed line ∙ ap (λ 
 
 pub kind_of_no_text : (pool : Pool) (passed : ℕ) (line : List ℕ) → entry_kind pool passed (entry_of (fields_of line)) ≡ None → is_utf8 line ≡ false → line_kind (Inside pool passed) line ≡ Some 11
 kind_of_no_text pool passed line h text = line_kind_of pool passed line ∙ ap (λ kind. kind_or kind (encoding_kind line)) h ∙ ap (λ test. cond (not test) (Some 11) None) text
+
+-- what the fields that were taken from a line say is what the line says
+pub says : (entry : Entry) (lent taken : List (Bor (List ℕ))) (line : List ℕ) → entry ≡ entry_of (map (λ field. field.now) lent) → lent ≡ taken → map (λ field. field.now) taken ≡ fields_of line →
+    entry ≡ entry_of (fields_of line)
+says entry lent taken line h same is = h ∙ (ap (λ fields. entry_of (map (λ field. field.now) fields)) same ∙ ap entry_of is)
+
+-- an entry in which no kind was found
+pub is_right : (pool : Pool) (passed : ℕ) (entry : Entry) (line : List ℕ) (found : Option ℕ) → entry ≡ entry_of (fields_of line) → found ≡ entry_kind pool passed entry → found ≡ None →
+    entry_kind pool passed (entry_of (fields_of line)) ≡ None
+is_right pool passed entry line found same is none = ap (entry_kind pool passed) (sym same) ∙ (sym is ∙ none)

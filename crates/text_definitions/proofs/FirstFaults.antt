@@ -5,12 +5,12 @@ use Rattle.std.specs.List.{AllByRecursion}
 use Rattle.std.proofs.Math.Seq.{get_or-append_seam, take-append_seam}
 use Rattle.std.proofs.lemmas.Grind.{flat_map-append}
 use Rattle.std.proofs.lemmas.List.{append-nil}
-use Rattle.pool_definitions.specs.Pool.{Pool}
+use Rattle.pool_definitions.specs.Pool.{Pool, IsPool}
 use Rattle.pool_definitions.specs.Building.{empty_pool}
 use Rattle.pool_definitions.proofs.BuildingLemmas.{IsPool-empty_pool}
 use Rattle.line_definitions.specs.Lines.{Fault, line_feed, pieces_of, text_of}
 use Rattle.line_definitions.proofs.LineLemmas.{Lacks, pieces_lack, some_piece, pieces_of-text_of_then}
-use Rattle.text_definitions.specs.PoolText.{HasText, version_line, size_line, end_line, lines_before_end, spelling}
+use Rattle.text_definitions.specs.PoolText.{version_line, size_line, end_line, lines_before_end, spelling}
 use Rattle.text_definitions.specs.PoolReading.{Progress, Begun, Versioned, Inside, Ended, line_kind, line_kinds, after_line, at_last, fault_or, read_lines, read}
 use Rattle.text_definitions.specs.FirstFault.{IsPoolText, BeginsPoolText, lines_before, lines_up_to, IsLowest, after_lines, kinds_at}
 use Rattle.text_definitions.proofs.LowestKinds.{not_the_end, lowest_is, line_kinds_rise}
@@ -32,14 +32,14 @@ passed progress (line ∷ lines) right h =
     (rest.0, rest.1 ∙ (ap (λ stood. stood ++ lines) step.1 ∙ append_assoc (lines_so_far progress) (line ∷ []) lines))
 
 -- a pool's text begins with its first lines
-begins : (pool : Pool) (lines rest : List (List ℕ)) → HasText pool → lines_before_end pool ++ end_line ∷ [] ≡ lines ++ rest → BeginsPoolText lines
+begins : (pool : Pool) (lines rest : List (List ℕ)) → IsPool pool → lines_before_end pool ++ end_line ∷ [] ≡ lines ++ rest → BeginsPoolText lines
 begins pool lines rest has same = (pool, text_of rest, has, ap text_of same ∙ flat_map-append (λ line. line ++ line_feed ∷ []) lines rest)
 
 -- what stands begins some pool's text
 stands : (progress : Progress) → IsRight progress → BeginsPoolText (lines_so_far progress)
 stands Begun right = begins (empty_pool 1) [] (lines_before_end (empty_pool 1) ++ end_line ∷ []) (IsPool-empty_pool 1 refl) refl
 stands Versioned right = begins (empty_pool 1) (version_line ∷ []) (size_line 1 ∷ end_line ∷ []) (IsPool-empty_pool 1 refl) refl
-stands (Inside pool passed) right = begins pool (lines_before_end pool) (end_line ∷ []) right.has_text refl
+stands (Inside pool passed) right = begins pool (lines_before_end pool) (end_line ∷ []) right.is_pool refl
 stands (Ended pool) right = begins pool (lines_before_end pool ++ end_line ∷ []) [] right (sym (append-nil (lines_before_end pool ++ end_line ∷ [])))
 
 -- after the second line what stands is a pool's text, or lacks the end alone
@@ -47,7 +47,7 @@ closed : (progress : Progress) → IsRight progress → 1 < length (lines_so_far
     IsPoolText (text_of (lines_so_far progress)) ⊎ IsPoolText (text_of (lines_so_far progress ++ end_line ∷ []))
 closed Begun right more = absurd (omega arith)
 closed Versioned right more = absurd (omega arith)
-closed (Inside pool passed) right more = inr (pool, right.has_text, refl)
+closed (Inside pool passed) right more = inr (pool, right.is_pool, refl)
 closed (Ended pool) right more = inl (pool, right, refl)
 
 -- the first fault of pieces: right lines, and one at which the reading stops

@@ -14,12 +14,12 @@ use Rattle.std.proofs.lemmas.Str.{is_utf8-from_IsUtf8}
 use Rattle.pool_definitions.specs.declared.Standing.{Standing}
 use Rattle.pool_definitions.specs.declared.Standing.TheVariants.{Open, Seated, Gone}
 use Rattle.pool_definitions.specs.Lists.{includes_list, all_different}
-use Rattle.pool_definitions.specs.Pool.{BoundedValue, Category, Volunteer, Pool, is_name, is_value, is_category, are_bounds, has_values, keeps_name_limits}
+use Rattle.pool_definitions.specs.Pool.{BoundedValue, Category, Volunteer, Pool, is_name, is_value, is_category, are_bounds, has_values, keeps_name_limits, IsPool}
 use Rattle.pool_definitions.specs.Building.{category_names, value_names, ids, last_values, with_value, place_of, places_of, are_known, empty_pool, size_kind, category_kind, value_kind, volunteer_kind, volunteer_added, with_standing}
 use Rattle.pool_definitions.proofs.BuildingLemmas.{same_bytes_comm}
 use Rattle.basic_laws.proofs.Each.{each_map}
 use Rattle.line_definitions.specs.Lines.{tab, line_feed, line_of, fields_of}
-use Rattle.text_definitions.specs.PoolText.{size_line, value_line, category_lines, names_at, volunteer_line, standing_line, standing_lines, end_line, lines_before_end, spelling, HasText}
+use Rattle.text_definitions.specs.PoolText.{size_line, value_line, category_lines, names_at, volunteer_line, standing_line, standing_lines, end_line, lines_before_end, spelling}
 use Rattle.text_definitions.specs.PoolReading.{Progress, Begun, Inside, Ended, Entry, OfCategory, OfValue, OfVolunteer, OfStanding, TheEnd, bound_of, entry_of, number_of, is_ahead, entry_kind, size_of, line_kind, after_standing, after_entry, after_line, at_last, fault_or, read_lines, read}
 use Rattle.line_definitions.proofs.LineLemmas.{Lacks, fields_of-line_of, line_is_utf8, pieces_of-text_of}
 use Rattle.line_definitions.proofs.FieldLemmas.{IsField, plain_field, decimal_field, line_lacks_feed}
@@ -348,7 +348,7 @@ module _ (size : ℕ) (categories : List Category) where
       ]) refl
 
 -- the lines of a pool lead to its end
-pool_runs : (pool : Pool) → HasText pool → Runs Begun (lines_before_end pool ++ end_line ∷ []) (Ended pool)
+pool_runs : (pool : Pool) → IsPool pool → Runs Begun (lines_before_end pool ++ end_line ∷ []) (Ended pool)
 pool_runs pool right =
     let is = right in
     let size = pool.size in
@@ -379,7 +379,7 @@ pool_runs pool right =
     )
 
 -- what is spelled is read
-pub spelled_is_read : (pool : Pool) → HasText pool → read (spelling pool) ≡ Ok pool
+pub spelled_is_read : (pool : Pool) → IsPool pool → read (spelling pool) ≡ Ok pool
 spelled_is_read pool right =
     let lines = lines_before_end pool ++ end_line ∷ [] in
     let runs = pool_runs pool right in

@@ -8,12 +8,12 @@ use Rattle.std.proofs.lemmas.Bool.{and_parts, cond_both, leb-true, ltb-false, no
 use Rattle.std.proofs.lemmas.Grind.{flat_map-append}
 use Rattle.std.proofs.lemmas.List.{append-nil, map-append}
 use Rattle.std.proofs.lemmas.List.Quantifiers.{position-Some}
-use Rattle.pool_definitions.specs.Pool.{Pool, BoundedValue, Category, Volunteer, are_bounds}
+use Rattle.pool_definitions.specs.Pool.{Pool, BoundedValue, Category, Volunteer, are_bounds, IsPool}
 use Rattle.pool_definitions.specs.Lists.{includes_list}
 use Rattle.pool_definitions.specs.Building.{value_names, size_kind, with_value, place_of, places_of, are_known, volunteer_kind, with_standing, standing_set}
 use Rattle.line_definitions.specs.Lines.{line_feed, line_of, text_of, fields_of, pieces_of}
 use Rattle.line_definitions.specs.Numbers.{number_up_to}
-use Rattle.text_definitions.specs.PoolText.{version_line, size_line, value_line, category_lines, names_at, volunteer_line, standing_line, standing_lines, end_line, lines_before_end, spelling, HasText}
+use Rattle.text_definitions.specs.PoolText.{version_line, size_line, value_line, category_lines, names_at, volunteer_line, standing_line, standing_lines, end_line, lines_before_end, spelling}
 use Rattle.text_definitions.specs.PoolReading.{Progress, Begun, Versioned, Inside, Ended, Entry, OfCategory, OfValue, OfVolunteer, OfStanding, TheEnd, Unknown, Word, CategoryWord, ValueWord, VolunteerWord, StandingWord, EndWord, words, word_among, bound_of, entry_of_word, entry_behind, entry_of, number_of, is_ahead, entry_kind, size_of, line_kind, after_entry, after_line, at_last, fault_or, read_lines, read}
 use Rattle.pool_definitions.specs.declared.Standing.{Standing}
 use Rattle.pool_definitions.specs.declared.Standing.TheVariants.{Open, Seated, Gone}
@@ -240,7 +240,7 @@ volunteer_parts pool passed id names h =
 
 -- those from a number on are open, and all keep the limits
 pub record IsRightInside (pool : Pool) (passed : ℕ) : Type 0 where
-  pub has_text : HasText pool
+  pub is_pool : IsPool pool
   pub ahead : open_from passed pool.volunteers ≡ true
 
 -- what stands is right: the pool, where there is one, has a text, and those whom standing lines have not passed are open
@@ -248,7 +248,7 @@ abbrev pub IsRight : Progress → Type 0
 IsRight Begun = Unit {0}
 IsRight Versioned = Unit {0}
 IsRight (Inside pool passed) = IsRightInside pool passed
-IsRight (Ended pool) = HasText pool
+IsRight (Ended pool) = IsPool pool
 
 -- what a right entry leaves has one line more: the entry's
 pub entry_adds : (pool : Pool) (passed : ℕ) (entry : Entry) → IsRight (Inside pool passed) → entry_kind pool passed entry ≡ None → lines_so_far (after_entry pool passed entry) ≡ lines_before_end pool ++ entry_lines entry
@@ -324,14 +324,14 @@ module _ (pool : Pool) (passed : ℕ) (right : IsRight (Inside pool passed)) whe
   keeps : (word : Word) (fields : List (List ℕ)) → AllByRecursion (λ field. is_utf8 field ≡ true) fields → Keeps (entry_of_word word fields)
   unfolding Keeps
   keeps CategoryWord [] utf8 h = cc
-  keeps CategoryWord (name ∷ []) utf8 h = record { has_text = IsPool-category_added pool name right.has_text h utf8.0; ahead = right.ahead }
+  keeps CategoryWord (name ∷ []) utf8 h = record { is_pool = IsPool-category_added pool name right.is_pool h utf8.0; ahead = right.ahead }
   keeps CategoryWord (name ∷ other ∷ fields) utf8 h = cc
   keeps ValueWord [] utf8 h = cc
   keeps ValueWord (name ∷ []) utf8 h = cc
   keeps ValueWord (name ∷ lower ∷ []) utf8 h = cc
   keeps ValueWord (name ∷ lower ∷ upper ∷ []) utf8 h =
       let value : BoundedValue = record { name = name; lower = bound_of lower; upper = bound_of upper } in
-      record { has_text = IsPool-value_added pool value right.has_text h utf8.0; ahead = right.ahead }
+      record { is_pool = IsPool-value_added pool value right.is_pool h utf8.0; ahead = right.ahead }
   keeps ValueWord (name ∷ lower ∷ upper ∷ other ∷ fields) utf8 h = cc
   keeps VolunteerWord [] utf8 h = cc
   keeps VolunteerWord (id ∷ names) utf8 h =
@@ -339,7 +339,7 @@ module _ (pool : Pool) (passed : ℕ) (right : IsRight (Inside pool passed)) whe
       let one : Volunteer = record { id = id; values = places_of pool.categories names; standing = Open } in
       let all_open : open_from 0 pool.volunteers ≡ true = subst (λ n. open_from n pool.volunteers ≡ true) parts.0 right.ahead in
       record {
-        has_text = IsPool-volunteer_added pool id names right.has_text parts.1 utf8.0;
+        is_pool = IsPool-volunteer_added pool id names right.is_pool parts.1 utf8.0;
         ahead = subst (λ n. open_from n (pool.volunteers ++ one ∷ []) ≡ true) (sym parts.0)
             (list_all-push (λ (volunteer : Volunteer). is_open volunteer.standing) pool.volunteers one all_open refl);
       }
@@ -349,12 +349,12 @@ module _ (pool : Pool) (passed : ℕ) (right : IsRight (Inside pool passed)) whe
       let place : unwrap_or (number_of pool.volunteers id) 0 ≡ fits.number = ap (λ o. unwrap_or o 0) fits.found in
       let behind = open_behind pool.volunteers passed fits.number standing right.ahead fits.ahead in
       let at_number : IsRight (Inside (standing_set pool fits.number standing) (fits.number + 1)) = record {
-        has_text = IsPool-standing_set pool fits.number standing right.has_text;
+        is_pool = IsPool-standing_set pool fits.number standing right.is_pool;
         ahead = subst (λ n. open_from n (with_standing pool.volunteers fits.number standing) ≡ true) (sym (add-one fits.number)) behind;
       } in
       subst (λ n. IsRight (Inside (standing_set pool n standing) (n + 1))) (sym place) at_number
   keeps (StandingWord standing) (id ∷ other ∷ fields) utf8 h = cc
-  keeps EndWord [] utf8 h = right.has_text
+  keeps EndWord [] utf8 h = right.is_pool
   keeps EndWord (other ∷ fields) utf8 h = cc
 
   pub entry_keeps : (fields : List (List ℕ)) → AllByRecursion (λ field. is_utf8 field ≡ true) fields → entry_kind pool passed (entry_of fields) ≡ None → IsRight (after_entry pool passed (entry_of fields))
@@ -374,7 +374,7 @@ line_adds Begun line right h =
     (tt, ap (λ l. l ∷ []) (sym (bytes_are line version_line (not-false (bytes_eq line version_line) fails.0))))
 line_adds Versioned line right h =
     let spelled = sym (line_of-fields_of line) ∙ size_spelled (fields_of line) h in
-    (record { has_text = IsPool-empty_pool (size_of (fields_of line)) h; ahead = refl }, ap (λ l. version_line ∷ l ∷ []) (sym spelled))
+    (record { is_pool = IsPool-empty_pool (size_of (fields_of line)) h; ahead = refl }, ap (λ l. version_line ∷ l ∷ []) (sym spelled))
 line_adds (Inside pool passed) line right h =
     let kinds = neither (entry_kind pool passed (entry_of (fields_of line))) (encoding_kind line) (sym (line_kind_of pool passed line) ∙ h) in
     let same = line_of-fields_of line in
@@ -388,25 +388,25 @@ line_adds (Ended pool) line right h = cc
 
 -- a text that ends with its last line is the text of the pool that is read
 last_is_spelled : (number : ℕ) (progress : Progress) (bytes : List ℕ) (pool : Pool) → IsRight progress → at_last number progress bytes ≡ Ok pool →
-    HasText pool × (text_of (lines_so_far progress) ++ bytes ≡ spelling pool)
+    IsPool pool × (text_of (lines_so_far progress) ++ bytes ≡ spelling pool)
 last_is_spelled number Begun bytes pool right h = cc
 last_is_spelled number Versioned bytes pool right h = cc
 last_is_spelled number (Inside other passed) bytes pool right h = cc
 last_is_spelled number (Ended other) (byte ∷ bytes) pool right h = cc
 last_is_spelled number (Ended other) [] pool right h =
     let same : other ≡ pool = cc in
-    (subst HasText same right, append-nil (spelling other) ∙ ap spelling same)
+    (subst IsPool same right, append-nil (spelling other) ∙ ap spelling same)
 
 -- what the pieces say, after right lines: the lines up to now and the pieces are the text of the pool that is read
 pub rest_is_spelled : (number : ℕ) (progress : Progress) (pieces : List (List ℕ)) (pool : Pool) → IsRight progress → read_lines number progress pieces ≡ Ok pool →
-    HasText pool × (text_of (lines_so_far progress) ++ join_with_byte line_feed pieces ≡ spelling pool)
+    IsPool pool × (text_of (lines_so_far progress) ++ join_with_byte line_feed pieces ≡ spelling pool)
 rest_is_spelled number progress [] pool right h = last_is_spelled number progress [] pool right h
 rest_is_spelled number progress (bytes ∷ []) pool right h = last_is_spelled number progress bytes pool right h
 rest_is_spelled number progress (line ∷ next ∷ later) pool right h =
     let rest = read_lines (number + 1) (after_line progress line) (next ∷ later) in
     let behind = join_with_byte line_feed (next ∷ later) in
     let stood = lines_so_far progress in
-    (elim (line_kind progress line) as (λ k. line_kind progress line ≡ k → fault_or k number rest ≡ Ok pool → HasText pool × (text_of stood ++ (line ++ (line_feed ∷ behind)) ≡ spelling pool)) [
+    (elim (line_kind progress line) as (λ k. line_kind progress line ≡ k → fault_or k number rest ≡ Ok pool → IsPool pool × (text_of stood ++ (line ++ (line_feed ∷ behind)) ≡ spelling pool)) [
       | Some kind ↦ λ e k. cc
       | None ↦ λ e k.
           let step = line_adds progress line right e in
@@ -417,7 +417,7 @@ rest_is_spelled number progress (line ∷ next ∷ later) pool right h =
     ]) refl h
 
 -- what is read is spelled so, each byte of it
-pub read_is_spelled : (bytes : List ℕ) (pool : Pool) → read bytes ≡ Ok pool → HasText pool × (bytes ≡ spelling pool)
+pub read_is_spelled : (bytes : List ℕ) (pool : Pool) → read bytes ≡ Ok pool → IsPool pool × (bytes ≡ spelling pool)
 read_is_spelled bytes pool h =
     let all = rest_is_spelled 1 Begun (pieces_of bytes) pool tt h in
     (all.0, sym (join_with_byte-slice_split line_feed bytes) ∙ all.1)

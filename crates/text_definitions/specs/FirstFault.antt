@@ -1,18 +1,18 @@
 -- The first fault of a text, said without reading line after line.
 use Rattle.std.specs.Prelude.{◌≡◌, ℕ, ◌-◌, ◌==◌, ◌≤◌, Bool, ◌&&◌, IsTrue, List, [], ◌++◌, take, slice_index_or}
 use Rattle.std.specs.List.{fold, list_any}
-use Rattle.pool_definitions.specs.Pool.{Pool}
+use Rattle.pool_definitions.specs.Pool.{Pool, IsPool}
 use Rattle.line_definitions.specs.Lines.{Fault, pieces_of, text_of}
-use Rattle.text_definitions.specs.PoolText.{HasText, spelling}
+use Rattle.text_definitions.specs.PoolText.{spelling}
 use Rattle.text_definitions.specs.PoolReading.{Progress, Begun, after_line, line_kinds}
 
 -- the bytes are the text of some pool
 abbrev pub IsPoolText : List ℕ → Type 0
-IsPoolText bytes = (pool : Pool) × HasText pool × (bytes ≡ spelling pool)
+IsPoolText bytes = (pool : Pool) × IsPool pool × (bytes ≡ spelling pool)
 
 -- the text of some pool begins with these lines
 abbrev pub BeginsPoolText : List (List ℕ) → Type 0
-BeginsPoolText lines = (pool : Pool) × (rest : List ℕ) × HasText pool × (spelling pool ≡ text_of lines ++ rest)
+BeginsPoolText lines = (pool : Pool) × (rest : List ℕ) × IsPool pool × (spelling pool ≡ text_of lines ++ rest)
 
 -- the lines before the faulty one
 abbrev pub lines_before : Fault → List ℕ → List (List ℕ)

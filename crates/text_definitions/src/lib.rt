@@ -5,30 +5,30 @@
 #![tactic(auto)]
 
 ghost use Rattle.std.specs.Prelude.{◌≡◌, ◌≢◌, ◌<◌, ◌⊎◌, [], ◌∷◌, ◌++◌, codes, Bool, List, length, map, take, ℕ, IsTrue, Some, Ok, Err, MatchResult};
-ghost use Rattle.pool_definitions.specs.Pool.{Pool};
+ghost use Rattle.pool_definitions.specs.Pool.{Pool, IsPool};
 ghost use Rattle.pool_definitions.specs.WorkedExamples.{four, after_dropout, nobody};
 ghost use Rattle.pool_definitions.specs.Lists.{is_increasing};
 ghost use Rattle.pool_definitions.specs.Building.{lowest_kind};
 ghost use Rattle.line_definitions.specs.Lines.{Fault, line_of, text_of, pieces_of};
-ghost use Rattle.text_definitions.specs.PoolText.{HasText, lines_before_end, end_line, spelling};
+ghost use Rattle.text_definitions.specs.PoolText.{lines_before_end, end_line, spelling};
 ghost use Rattle.text_definitions.specs.PoolReading.{Progress, line_kinds, read};
 ghost use Rattle.text_definitions.specs.FirstFault.{IsPoolText, BeginsPoolText, lines_before, lines_up_to, IsLowest, kinds_at};
 
 /// A list of bytes is the text of a pool, which is then read, or has a first fault and is the text of none.
 pub fn pool_or_fault()
     ensures { (bytes : List ℕ) → MatchResult (read bytes)
-        (λ pool. HasText pool × (bytes ≡ spelling pool))
-        (λ fault. (pool : Pool) → HasText pool → bytes ≢ spelling pool) }
+        (λ pool. IsPool pool × (bytes ≡ spelling pool))
+        (λ fault. (pool : Pool) → IsPool pool → bytes ≢ spelling pool) }
 {}
 
 /// The text of a pool is read again.
 pub fn text_is_read()
-    ensures { (pool : Pool) → HasText pool → read (spelling pool) ≡ Ok pool }
+    ensures { (pool : Pool) → IsPool pool → read (spelling pool) ≡ Ok pool }
 {}
 
 /// Pools of one text are one pool.
 pub fn one_pool_per_text()
-    ensures { (first second : Pool) → HasText first → HasText second → spelling first ≡ spelling second → first ≡ second }
+    ensures { (first second : Pool) → IsPool first → IsPool second → spelling first ≡ spelling second → first ≡ second }
 {}
 
 /// The first fault stands in the first line with which the lines are no longer the beginning of a pool's text, or, of kind 12,
