@@ -4,7 +4,7 @@ use Rattle.std.specs.Fmt.{decimal, signed_decimal}
 use Rattle.pool_definitions.specs.Pool.{Pool}
 use Rattle.pool_definitions.specs.Lottery.{LotteryRow}
 use Rattle.pool_definitions.specs.Certificate.{Stage, Answer}
-use Rattle.text_definitions.specs.Lines.{line_of, text_of}
+use Rattle.line_definitions.specs.Lines.{line_of, text_of}
 use Rattle.text_definitions.specs.PoolText.{lines_before_end, end_line}
 
 abbrev pub bundle_line : List ℕ

@@ -7,7 +7,7 @@
 ghost use Rattle.std.specs.Prelude.{◌≡◌, [], ◌∷◌, ◌+◌, ◌-◌, ◌^◌, true, false, map, length, drop, codes, pos, negsuc};
 ghost use Rattle.std.specs.Fmt.{signed_decimal};
 ghost use Rattle.pool_definitions.specs.WorkedExamples.{four, after_dropout, row, stage};
-ghost use Rattle.text_definitions.specs.Lines.{line_of};
+ghost use Rattle.line_definitions.specs.Lines.{line_of};
 ghost use Rattle.bundle_definitions.specs.Ranges.{IsInRanges, is_row, is_stage};
 ghost use Rattle.bundle_definitions.specs.BundleText.{bundle_text, lines_before_done};
 ghost use Rattle.bundle_definitions.specs.WorkedExamples.{four_answer, dropout_answer, widest_answer};

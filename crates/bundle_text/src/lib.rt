@@ -1,5 +1,5 @@
 //! The text of a bundle, which is a pool with its answer: a lottery, and the stages that certify it. Below stand `pool_text`,
-//! which writes the pool, and the words of `bundle_definitions`.
+//! which writes the pool, `text_lines` and the words of `bundle_definitions`.
 #![tactic(auto)]
 
 mod ranges;

@@ -1,50 +1,48 @@
 //! Writing the text of a bundle, line by line into one growing buffer.
 
-ghost use Rattle.std.specs.Prelude.{◌≡◌, ◌++◌, ◌∷◌, [], map, string_bytes, IfOk, OnOk};
-ghost use Rattle.std.specs.Fmt.{decimal, signed_decimal};
-ghost use Rattle.text_definitions.specs.Lines.{text_of};
+ghost use Rattle.std.specs.Prelude.{◌≡◌, ◌++◌, ◌∷◌, [], map, IfOk, OnOk};
+ghost use Rattle.line_definitions.specs.Lines.{text_of};
 ghost use Rattle.bundle_definitions.specs.Ranges.{IsInRanges};
 ghost use Rattle.bundle_definitions.specs.BundleText.{total_line, panel_line, stage_line, done_line, answer_lines, bundle_text};
-ghost use Rattle.text_definitions.specs.Lines.{tabbed};
 
 use pool_model::{Answer, Lottery, LotteryRow, Pool, Stage};
-use pool_text::write_pool;
+use pool_text::push_pool;
 use std::alloc::{AllocError, Global};
+use text_lines::{end_line, push_line, push_numbers, push_signed, push_signed_numbers};
 
 /// The text of the pool with this answer, whose numbers keep the ranges of a bundle.
 pub fn write_bundle(alloc: Global, pool: &Pool, answer: &Answer) -> Result<Vec<u8>, AllocError>
     requires { IsInRanges pool.now answer.now }
     ensures { IfOk result (λ bytes. bytes.items ≡ bundle_text pool.now answer.now) }
 {
-    let mut bytes = b"bundle\t1\n".to_vec(alloc)?;
-    bytes.extend_from_slice(&write_pool(alloc, pool)?)?;
-    bytes.extend_from_slice(answer_text(alloc, answer)?.as_bytes())?;
-    Ok(bytes)
-}
-
-/// The lines behind those of the pool.
-fn answer_text(alloc: Global, answer: &Answer) -> Result<String, AllocError>
-    ensures { IfOk result (λ text. string_bytes text ≡ text_of (answer_lines answer.now ++ done_line ∷ [])) }
-{
-    let lottery = answer.lottery();
-    let mut text = String::new(alloc);
-    push_total(&mut text, lottery)?;
-    push_rows(&mut text, lottery.rows())?;
-    push_stages(&mut text, answer.certificate().stages())?;
-    text.push_str("done\n")?;
+    let mut text = Vec::new(alloc);
+    push_line(&mut text, b"bundle", &[b"1"])?;
+    push_pool(&mut text, pool)?;
+    push_answer(&mut text, answer)?;
     Ok(text)
 }
 
-fn push_total(text: &mut String, lottery: &Lottery) -> Result<(), AllocError>
-    ensures { OnOk result (string_bytes text.new ≡ string_bytes text.old ++ text_of (total_line lottery.now.total ∷ [])) }
+/// Adds the lines behind those of the pool.
+fn push_answer(text: &mut Vec<u8>, answer: &Answer) -> Result<(), AllocError>
+    ensures { OnOk result (text.new.items ≡ text.old.items ++ text_of (answer_lines answer.now ++ done_line ∷ [])) }
 {
-    text.push_str("total")?;
-    push_number(text, lottery.total())?;
-    text.push_str("\n")
+    let lottery = answer.lottery();
+    push_total(text, lottery)?;
+    push_rows(text, lottery.rows())?;
+    push_stages(text, answer.certificate().stages())?;
+    push_line(text, b"done", &[])
 }
 
-fn push_rows(text: &mut String, rows: &[LotteryRow]) -> Result<(), AllocError>
-    ensures { OnOk result (string_bytes text.new ≡ string_bytes text.old ++ text_of (map panel_line rows.now)) }
+fn push_total(text: &mut Vec<u8>, lottery: &Lottery) -> Result<(), AllocError>
+    ensures { OnOk result (text.new.items ≡ text.old.items ++ text_of (total_line lottery.now.total ∷ [])) }
+{
+    text.extend_from_slice(b"total")?;
+    push_signed(text, lottery.total())?;
+    end_line(text)
+}
+
+fn push_rows(text: &mut Vec<u8>, rows: &[LotteryRow]) -> Result<(), AllocError>
+    ensures { OnOk result (text.new.items ≡ text.old.items ++ text_of (map panel_line rows.now)) }
 {
     for row in rows {
         push_row(text, row)?;
@@ -53,17 +51,17 @@ fn push_rows(text: &mut String, rows: &[LotteryRow]) -> Result<(), AllocError>
 }
 
 /// Adds a panel's line: its weight, and the numbers of its members.
-fn push_row(text: &mut String, row: &LotteryRow) -> Result<(), AllocError>
-    ensures { OnOk result (string_bytes text.new ≡ string_bytes text.old ++ text_of (panel_line row.now ∷ [])) }
+fn push_row(text: &mut Vec<u8>, row: &LotteryRow) -> Result<(), AllocError>
+    ensures { OnOk result (text.new.items ≡ text.old.items ++ text_of (panel_line row.now ∷ [])) }
 {
-    text.push_str("panel")?;
-    push_number(text, row.weight())?;
-    push_members(text, row.panel().members())?;
-    text.push_str("\n")
+    text.extend_from_slice(b"panel")?;
+    push_signed(text, row.weight())?;
+    push_numbers(text, row.panel().members())?;
+    end_line(text)
 }
 
-fn push_stages(text: &mut String, stages: &[Stage]) -> Result<(), AllocError>
-    ensures { OnOk result (string_bytes text.new ≡ string_bytes text.old ++ text_of (map stage_line stages.now)) }
+fn push_stages(text: &mut Vec<u8>, stages: &[Stage]) -> Result<(), AllocError>
+    ensures { OnOk result (text.new.items ≡ text.old.items ++ text_of (map stage_line stages.now)) }
 {
     for stage in stages {
         push_stage(text, stage)?;
@@ -72,36 +70,11 @@ fn push_stages(text: &mut String, stages: &[Stage]) -> Result<(), AllocError>
 }
 
 /// Adds a stage's line: its cap, and the weight of each volunteer.
-fn push_stage(text: &mut String, stage: &Stage) -> Result<(), AllocError>
-    ensures { OnOk result (string_bytes text.new ≡ string_bytes text.old ++ text_of (stage_line stage.now ∷ [])) }
+fn push_stage(text: &mut Vec<u8>, stage: &Stage) -> Result<(), AllocError>
+    ensures { OnOk result (text.new.items ≡ text.old.items ++ text_of (stage_line stage.now ∷ [])) }
 {
-    text.push_str("stage")?;
-    push_number(text, stage.cap())?;
-    push_weights(text, stage.weights())?;
-    text.push_str("\n")
-}
-
-fn push_members(text: &mut String, members: &[usize]) -> Result<(), AllocError>
-    ensures { OnOk result (string_bytes text.new ≡ string_bytes text.old ++ tabbed (map decimal members.now)) }
-{
-    for member in members {
-        write!(text, "\t{member}")?;
-    }
-    Ok(())
-}
-
-fn push_weights(text: &mut String, weights: &[i128]) -> Result<(), AllocError>
-    ensures { OnOk result (string_bytes text.new ≡ string_bytes text.old ++ tabbed (map signed_decimal weights.now)) }
-{
-    for weight in weights {
-        push_number(text, *weight)?;
-    }
-    Ok(())
-}
-
-/// Adds a TAB and a number.
-fn push_number(text: &mut String, number: i128) -> Result<(), AllocError>
-    ensures { OnOk result (string_bytes text.new ≡ string_bytes text.old ++ (9 ∷ signed_decimal number)) }
-{
-    write!(text, "\t{number}")
+    text.extend_from_slice(b"stage")?;
+    push_signed(text, stage.cap())?;
+    push_signed_numbers(text, stage.weights())?;
+    end_line(text)
 }

@@ -3,7 +3,7 @@ use Rattle.std.proofs.Common.{◌≡◌, ℕ, suc, ◌+◌, Bool, true, false, c
 use Rattle.std.specs.List.{list_all, list_any, zip, position_or_len}
 use Rattle.std.specs.Str.{bytes_eq}
 use Rattle.std.proofs.lemmas.Bool.{lt-ltb}
-use Rattle.std.proofs.lemmas.Bool.Decides.{nat_tests}
+use Rattle.basic_laws.proofs.Tests.{ltb-more}
 use Rattle.pool_definitions.specs.Lists.{includes_list}
 use Rattle.pool_definitions.specs.Pool.{BoundedValue, Category}
 use Rattle.pool_definitions.specs.Building.{value_names, place_of, places_of, are_known}
@@ -21,6 +21,15 @@ are_known-zip [] names = refl
 are_known-zip (category ∷ categories) [] = refl
 are_known-zip (category ∷ categories) (name ∷ names) = ap (λ b. includes_list (value_names category.values) name.now && b) (are_known-zip categories names)
 
+-- the same where the name isn't lent
+abbrev pub has_name : Category × List ℕ → Bool
+has_name pair = includes_list (value_names pair.0.values) pair.1
+
+pub are_named-zip : (categories : List Category) (names : List (List ℕ)) → are_known categories names ≡ list_all has_name (zip categories names)
+are_named-zip [] names = refl
+are_named-zip (category ∷ categories) [] = refl
+are_named-zip (category ∷ categories) (name ∷ names) = ap (λ b. includes_list (value_names category.values) name && b) (are_named-zip categories names)
+
 -- the place in a category of the value whose name is beside it
 abbrev pub place_beside : Category × Bor (List ℕ) → ℕ
 place_beside pair = unwrap_or (place_of pair.0.values pair.1.now) 0
@@ -35,9 +44,6 @@ shifted : (b : Bool) (n : ℕ) → option_map (λ p. p + 1) (cond b (Some n) Non
 shifted true n = let e : n + 1 ≡ 1 + n = omega arith in ap Some e
 shifted false n = refl
 
-one_less : (n m : ℕ) → ltb (1 + n) (suc m) ≡ ltb n m
-one_less n m = grind (arith, nat_tests)
-
 pub place_of-is_position : (values : List BoundedValue) (name : List ℕ) → place_of values name ≡ position (λ value. bytes_eq name value.name) values
 place_of-is_position [] name = refl
 place_of-is_position (value ∷ values) name =
@@ -45,5 +51,5 @@ place_of-is_position (value ∷ values) name =
       | true ↦ rw (lt-ltb 0 (suc (length values)) (omega arith)) refl
       | false ↦
           let n = position_or_len (λ (v : BoundedValue). bytes_eq name v.name) values in
-          rw (place_of-is_position values name, shifted (ltb n (length values)) n, one_less n (length values)) refl
+          rw (place_of-is_position values name, shifted (ltb n (length values)) n, ltb-more n (length values)) refl
     ])

@@ -22,5 +22,5 @@ pub use lotteries::{Lottery, LotteryRow};
 pub use panels::Panel;
 pub use parts::{Bound, BoundedValue, Category, Name, Volunteer};
 pub use pool_definitions::Standing;
-pub use pools::{Pool, size_kind};
+pub use pools::Pool;
 pub use quotas::fits;

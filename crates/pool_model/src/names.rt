@@ -56,6 +56,16 @@ pub(crate) fn are_known(categories: &[Category], names: &[&[u8]]) -> bool
         .all(|(category, name)| is_value(category.values(), name))
 }
 
+/// The same for names that a caller owns.
+pub(crate) fn are_named(categories: &[Category], names: &[Name]) -> bool
+    ensures { result ≡ each_is_known categories.now names.now }
+{
+    categories.iter().zip(names).all(|(category, name)| is_value(
+        category.values(),
+        name.as_bytes(),
+    ))
+}
+
 /// The place of the value of this name.
 fn place(values: &[BoundedValue], name: &[u8]) -> Option<usize>
     ensures { result ≡ place_of values.now name.now }

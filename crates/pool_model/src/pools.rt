@@ -1,13 +1,15 @@
 //! Pools: a size of panels, categories, and volunteers.
 
-ghost use Rattle.std.specs.Prelude.{◌≡◌, ◌<◌, length, map, OnOk, OnErr, IfOk, vec_len};
-ghost use Rattle.pool_definitions.specs.Pool.{IsPool};
-ghost use Rattle.pool_definitions.specs.Building.{size_kind, category_kind, value_kind, volunteer_kind, empty_pool, category_added, value_added, volunteer_added, with_value, last_values as values_of_last, with_standing, standing_set};
+ghost use Rattle.std.specs.Prelude.{◌≡◌, ◌≢◌, ◌<◌, ◌==◌, ◌||◌, nat_le, not, [], ◌∷◌, length, map, None, Err, OnOk, OnErr, IfOk, vec_len};
+ghost use Rattle.pool_definitions.specs.Lists.{includes_list};
+ghost use Rattle.pool_definitions.specs.Pool.{IsPool, keeps_name_limits as keeps_limits};
+ghost use Rattle.pool_definitions.specs.Building.{lowest_kind, ids, size_kind, category_kind, value_kind, volunteer_kind, empty_pool, category_added, value_added, volunteer_added, with_value, last_values as values_of_last, with_standing, standing_set};
 ghost use Rattle.pool_model.specs.Answers.{Answers};
+ghost use Rattle.pool_model.specs.declared.building.BuildStop.TheVariants.{OutOfMemory};
 
 use crate::building::BuildStop;
 use crate::names::{
-    are_known, bytes_of, is_category, is_value, is_volunteer, keeps_name_limits, places,
+    are_known, are_named, bytes_of, is_category, is_value, is_volunteer, keeps_name_limits, places,
 };
 use crate::parts::{Bound, BoundedValue, Category, Name, Volunteer};
 use pool_definitions::Standing;
@@ -90,9 +92,10 @@ impl Pool {
 impl Pool {
     /// A pool with no category and no volunteer. Its panels have `size` members.
     ///
-    /// Stops with kind 2 exactly where the size is not from 1 to 200.
+    /// Stops with kind 2 exactly where the size is not from 1 to 200, and never for want of memory.
     pub fn new(alloc: Global, size: usize) -> Result<Pool, BuildStop>
         ensures kind { Answers (size_kind size) result }
+        ensures memory { result ≢ Err OutOfMemory }
         ensures ok { IfOk result (λ pool. pool ≡ empty_pool size) }
     {
         if let Some(kind) = size_kind(size) {
@@ -130,6 +133,16 @@ impl Pool {
         if let Some(kind) = self.category_kind(name.as_bytes()) {
             return Err(BuildStop::Kind(kind));
         }
+        self.add_right_category(name)?;
+        Ok(())
+    }
+
+    /// Adds a category for which `category_kind` tells no fault.
+    pub fn add_right_category(&mut self, name: &str) -> Result<(), AllocError>
+        requires { category_kind self.old name.now ≡ None }
+        ensures ok { OnOk result (self.new ≡ category_added self.old name.now) }
+        ensures err { OnErr result (self.new ≡ self.old) }
+    {
         let category = Category::new(*self.categories.allocator(), name)?;
         self.categories.push(category)?;
         Ok(())
@@ -165,11 +178,24 @@ impl Pool {
         if let Some(kind) = self.value_kind(name.as_bytes(), lower, upper) {
             return Err(BuildStop::Kind(kind));
         }
+        self.add_right_value(name, lower, upper)?;
+        Ok(())
+    }
+
+    /// Adds a value for which `value_kind` tells no fault.
+    pub fn add_right_value(
+        &mut self,
+        name: &str,
+        lower: usize,
+        upper: usize,
+    ) -> Result<(), AllocError>
+        requires { value_kind self.old (record { name = name.now; lower = lower; upper = upper }) ≡ None }
+        ensures ok { OnOk result (self.new ≡ value_added self.old (record { name = name.now; lower = lower; upper = upper })) }
+        ensures err { OnErr result (self.new ≡ self.old) }
+    {
         let name = Name::new(*self.categories.allocator(), name)?;
-        add_to_last(
-            &mut self.categories,
-            BoundedValue::new(name, Bound { lower, upper }),
-        )?;
+        let value = BoundedValue::new(name, Bound { lower, upper });
+        add_to_last(&mut self.categories, value)?;
         Ok(())
     }
 
@@ -179,9 +205,21 @@ impl Pool {
     pub fn volunteer_kind(&self, id: &[u8], values: &[&[u8]]) -> Option<u8>
         ensures { result ≡ volunteer_kind self.now id.now (map (λ name. name.now) values.now) }
     {
-        if !are_known(&self.categories, values) {
+        let known = are_known(&self.categories, values);
+        self.volunteer_fault(id, known, values.len())
+    }
+
+    // The same, where it was tested whether each name given for a category is one of its values, and with the number of names.
+    fn volunteer_fault(&self, id: &[u8], known: bool, count: usize) -> Option<u8>
+        ensures { result ≡ lowest_kind (
+            (6, not known) ∷
+            (7, not (count == length self.now.categories)) ∷
+            (8, includes_list (ids self.now.volunteers) id.now) ∷
+            (10, not (keeps_limits id.now) || nat_le 400 (length self.now.volunteers)) ∷ []) }
+    {
+        if !known {
             Some(6)
-        } else if values.len() != self.categories.len() {
+        } else if count != self.categories.len() {
             Some(7)
         } else if is_volunteer(&self.volunteers, id) {
             Some(8)
@@ -199,12 +237,23 @@ impl Pool {
         ensures ok { OnOk result (self.new ≡ volunteer_added self.old id.now values.now) }
         ensures err { OnErr result (self.new ≡ self.old) }
     {
-        let alloc = *self.volunteers.allocator();
-        let names = bytes_of(alloc, values)?;
-        if let Some(kind) = self.volunteer_kind(id.as_bytes(), &names) {
+        let known = are_named(&self.categories, values);
+        if let Some(kind) = self.volunteer_fault(id.as_bytes(), known, values.len()) {
             return Err(BuildStop::Kind(kind));
         }
-        let places = places(alloc, &self.categories, &names)?;
+        let names = bytes_of(*self.volunteers.allocator(), values)?;
+        self.add_right_volunteer(id, &names)?;
+        Ok(())
+    }
+
+    /// Adds a volunteer for whom `volunteer_kind` tells no fault.
+    pub fn add_right_volunteer(&mut self, id: &str, values: &[&[u8]]) -> Result<(), AllocError>
+        requires { volunteer_kind self.old id.now (map (λ name. name.now) values.now) ≡ None }
+        ensures ok { OnOk result (self.new ≡ volunteer_added self.old id.now (map (λ name. name.now) values.now)) }
+        ensures err { OnErr result (self.new ≡ self.old) }
+    {
+        let alloc = *self.volunteers.allocator();
+        let places = places(alloc, &self.categories, values)?;
         let volunteer = Volunteer::new(Name::new(alloc, id)?, places);
         self.volunteers.push(volunteer)?;
         Ok(())
@@ -220,7 +269,7 @@ impl Pool {
 }
 
 /// The kind of fault of a size: 2 exactly where it is not from 1 to 200.
-pub fn size_kind(size: usize) -> Option<u8>
+fn size_kind(size: usize) -> Option<u8>
     ensures { result ≡ size_kind size }
 {
     if 1 <= size && size <= MAX_SIZE {

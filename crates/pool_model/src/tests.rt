@@ -5,7 +5,7 @@ ghost use Rattle.pool_definitions.specs.Lottery.{TotalAgrees};
 
 use crate::{
     Answer, BuildStop, Certificate, Lottery, LotteryRow, Name, Panel, Pool, Stage, Standing,
-    chances, fits, size_kind,
+    chances, fits,
 };
 use std::alloc::{AllocError, Global};
 use std::process::Abort;
@@ -198,12 +198,6 @@ fn keeps_standings(rt: HostRuntime) -> Result<(), Fail> {
         );
     }
     assert_eq!(rt; shown(rt.alloc(), &pool)?, before);
-    Ok(())
-}
-
-#[test]
-fn copies_a_pool(rt: HostRuntime) -> Result<(), Fail> {
-    let mut pool = four(rt.alloc())?;
     set(&rt, &mut pool, 0, Standing::Gone);
     let copy = pool.copy()?;
     assert_eq!(rt; shown(rt.alloc(), &copy)?, shown(rt.alloc(), &pool)?);
@@ -224,16 +218,6 @@ fn three_panels(alloc: Global) -> Result<Lottery, Fail>
     Ok(Lottery::new(6, rows))
 }
 
-#[test]
-fn counts_chances(rt: HostRuntime) -> Result<(), Fail> {
-    let pool = four(rt.alloc())?;
-    let lottery = three_panels(rt.alloc())?;
-    assert_eq!(rt; lottery.total(), 6);
-    let counts = chances(rt.alloc(), &pool, &lottery)?;
-    assert_eq!(rt; counts.as_slice(), [5, 1, 3, 3].as_slice());
-    Ok(())
-}
-
 /// The lottery of three panels, with a stage that has these weights, -1, 0, 1 and 0.
 fn answer(alloc: Global, cap: i128) -> Result<Answer, Fail> {
     let mut weights = Vec::new(alloc);
@@ -251,7 +235,11 @@ fn told_by(alloc: Global, answer: &Answer) -> Result<String, AllocError> {
 }
 
 #[test]
-fn lends_its_parts(rt: HostRuntime) -> Result<(), Fail> {
+fn tells_an_answer(rt: HostRuntime) -> Result<(), Fail> {
+    let pool = four(rt.alloc())?;
+    let lottery = three_panels(rt.alloc())?;
+    let counts = chances(rt.alloc(), &pool, &lottery)?;
+    assert_eq!(rt; counts.as_slice(), [5, 1, 3, 3].as_slice());
     let answer = answer(rt.alloc(), -2)?;
     assert_eq!(rt; answer.lottery().total(), 6);
     for row in answer.lottery().rows() {
@@ -262,29 +250,18 @@ fn lends_its_parts(rt: HostRuntime) -> Result<(), Fail> {
         assert_eq!(rt; stage.cap(), -2);
         assert_eq!(rt; stage.weights().len(), 4);
     }
-    Ok(())
-}
-
-#[test]
-fn copies_an_answer(rt: HostRuntime) -> Result<(), Fail> {
-    let answer = answer(rt.alloc(), -2)?;
     let copy = answer.copy()?;
     assert_eq!(rt; told_by(rt.alloc(), &copy)?, told_by(rt.alloc(), &answer)?);
     Ok(())
 }
 
 #[test]
-fn tests_sizes(rt: HostRuntime) {
+fn tests_sizes_and_names(rt: HostRuntime) -> Result<(), Fail> {
+    let alloc = rt.alloc();
     for (size, want) in [(0, Some(2)), (1, None), (200, None), (201, Some(2))] {
-        assert_eq!(rt; size_kind(size), want, "at {size}");
-        let answer = Pool::new(rt.alloc(), size).map(|_pool| ());
+        let answer = Pool::new(alloc, size).map(|_pool| ());
         assert_eq!(rt; told(answer), want, "at {size}");
     }
-}
-
-#[test]
-fn tests_names(rt: HostRuntime) -> Result<(), Fail> {
-    let alloc = rt.alloc();
     let longest = repeated(alloc, "n", 200)?;
     let too_long = repeated(alloc, "n", 201)?;
     let two_bytes_each = repeated(alloc, "é", 101)?;
@@ -309,49 +286,50 @@ fn tests_names(rt: HostRuntime) -> Result<(), Fail> {
     Ok(())
 }
 
-#[test]
-fn tests_bounds_and_repeats(rt: HostRuntime) -> Result<(), Fail> {
-    let mut pool = Pool::new(rt.alloc(), 1)?;
-    for (step, want) in [
-        (Step::Value("a", 0, 1), Some(1)),
-        (Step::Category("first"), None),
-        (Step::Category("first"), Some(3)),
-        (Step::Value("a", 0, 0), None),
-        (Step::Value("b", 0, 999), None),
-        (Step::Value("c", 999, 999), None),
-        (Step::Value("d", 0, 1000), Some(5)),
-        (Step::Value("d", 1000, 1000), Some(5)),
-        (Step::Value("d", 2, 1), Some(5)),
-        (Step::Value("a", 0, 1), Some(4)),
-        (Step::Value("a", 2, 1), Some(4)),
-        (Step::Value("", 2, 1), Some(5)),
-        (Step::Category("second"), None),
-        (Step::Value("a", 0, 1), None),
-    ] {
-        take(&rt, rt.alloc(), &mut pool, step, want)?;
-    }
-    Ok(())
-}
+/// Steps on an empty pool, of which those without a kind are taken.
+const FIRST_STEPS: [(Step<'static>, Option<u8>); 14] = [
+    (Step::Value("a", 0, 1), Some(1)),
+    (Step::Category("first"), None),
+    (Step::Category("first"), Some(3)),
+    (Step::Value("a", 0, 0), None),
+    (Step::Value("b", 0, 999), None),
+    (Step::Value("c", 999, 999), None),
+    (Step::Value("d", 0, 1000), Some(5)),
+    (Step::Value("d", 1000, 1000), Some(5)),
+    (Step::Value("d", 2, 1), Some(5)),
+    (Step::Value("a", 0, 1), Some(4)),
+    (Step::Value("a", 2, 1), Some(4)),
+    (Step::Value("", 2, 1), Some(5)),
+    (Step::Category("second"), None),
+    (Step::Value("a", 0, 1), None),
+];
+
+/// Steps behind the four volunteers.
+const LATE_STEPS: [(Step<'static>, Option<u8>); 13] = [
+    (Step::Volunteer("e", &["other"]), Some(6)),
+    (Step::Volunteer("e", &[]), Some(7)),
+    (Step::Volunteer("e", &["male", "male"]), Some(7)),
+    (Step::Volunteer("a", &["male"]), Some(8)),
+    (Step::Volunteer("", &["male"]), Some(10)),
+    (Step::Volunteer("e", &["other", "male"]), Some(6)),
+    (Step::Volunteer("a", &["Male"]), Some(6)),
+    (Step::Volunteer("a", &[]), Some(7)),
+    (Step::Category("age"), Some(1)),
+    (Step::Category("gender"), Some(1)),
+    (Step::Category(""), Some(1)),
+    (Step::Value("other", 0, 1), Some(1)),
+    (Step::Value("male", 0, 1000), Some(1)),
+];
 
 #[test]
-fn tests_volunteers(rt: HostRuntime) -> Result<(), Fail> {
-    let mut pool = four(rt.alloc())?;
-    for (step, want) in [
-        (Step::Volunteer("e", &["other"]), 6),
-        (Step::Volunteer("e", &[]), 7),
-        (Step::Volunteer("e", &["male", "male"]), 7),
-        (Step::Volunteer("a", &["male"]), 8),
-        (Step::Volunteer("", &["male"]), 10),
-        (Step::Volunteer("e", &["other", "male"]), 6),
-        (Step::Volunteer("a", &["Male"]), 6),
-        (Step::Volunteer("a", &[]), 7),
-        (Step::Category("age"), 1),
-        (Step::Category("gender"), 1),
-        (Step::Category(""), 1),
-        (Step::Value("other", 0, 1), 1),
-        (Step::Value("male", 0, 1000), 1),
-    ] {
-        take(&rt, rt.alloc(), &mut pool, step, Some(want))?;
+fn tests_steps(rt: HostRuntime) -> Result<(), Fail> {
+    let mut pool = Pool::new(rt.alloc(), 1)?;
+    for (step, want) in FIRST_STEPS {
+        take(&rt, rt.alloc(), &mut pool, step, want)?;
+    }
+    pool = four(rt.alloc())?;
+    for (step, want) in LATE_STEPS {
+        take(&rt, rt.alloc(), &mut pool, step, want)?;
     }
     Ok(())
 }

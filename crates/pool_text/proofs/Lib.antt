@@ -1,4 +1,4 @@
-pub mod NumberLemmas
 pub mod EntryLemmas
 pub mod LineByLine
 pub mod WritingLemmas
+pub mod SizeLine

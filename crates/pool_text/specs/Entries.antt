@@ -1,6 +1,5 @@
 -- What a line says, without where it lies in memory.
 use Rattle.std.specs.Prelude.{map}
-use Rattle.std.specs.List.{AllByRecursion}
 use Rattle.std.specs.Str.{IsUtf8}
 use Rattle.text_definitions.specs.PoolReading as words
 use Rattle.pool_text.specs.declared.entries.Entry.{Entry}
@@ -14,11 +13,11 @@ said (Standing standing id) = words.OfStanding standing id.now
 said End = words.TheEnd
 said Unknown = words.Unknown
 
--- the names in an entry are text
+-- a new name in an entry is text
 abbrev pub IsText : words.Entry → Type 0
 IsText (words.OfCategory name) = IsUtf8 name
 IsText (words.OfValue value) = IsUtf8 value.name
-IsText (words.OfVolunteer id names) = IsUtf8 id × AllByRecursion IsUtf8 names
+IsText (words.OfVolunteer id names) = IsUtf8 id
 IsText (words.OfStanding standing id) = Unit {0}
 IsText words.TheEnd = Unit {0}
 IsText words.Unknown = Unit {0}

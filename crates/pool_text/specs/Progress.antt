@@ -11,6 +11,13 @@ seen Versioned = words.Versioned
 seen (Inside pool passed) = words.Inside pool passed
 seen (Ended pool) = words.Ended pool
 
+-- the least line that is due then
+abbrev pub line_due : words.Progress → ℕ
+line_due words.Begun = 1
+line_due words.Versioned = 2
+line_due (words.Inside pool passed) = 3
+line_due (words.Ended pool) = 4
+
 -- a pool of whose volunteers standing lines have passed so many, or at the end
 abbrev pub with_pool : Pool → Option ℕ → words.Progress
 with_pool pool (Some passed) = words.Inside pool passed

@@ -1,26 +1,22 @@
 //! The lines between the size and the end: what one says, and what it adds to the pool.
 
 ghost use Rattle.std.specs.Prelude.{◌≡◌, ◌<◌, length, map, IfOk, IfSome, IsSome, None, Option, unwrap_or};
-ghost use Rattle.std.specs.List.{All};
 ghost use Rattle.std.specs.Str.{IsUtf8, is_utf8};
-ghost use Rattle.pool_model.specs.Answers.{Answers};
-ghost use Rattle.text_definitions.specs.Lines.{fields_of as fields_in};
-ghost use Rattle.text_definitions.specs.PoolReading.{Inside, line_kind, after_line, after_entry, after_standing, value_entry as value_in, standing_entry as standing_in, entry_of as entry_in, entry_kind as kind_in, number_of as number_in, bound_of as bound_in};
+ghost use Rattle.pool_text.specs.Answers.{Tells};
+ghost use Rattle.text_definitions.specs.PoolReading.{Inside, line_kind, after_line, after_entry, after_standing, ValueWord, StandingWord, entry_of_word, entry_of as entry_in, entry_kind as kind_in, number_of as number_in, bound_of as bound_in};
 ghost use Rattle.pool_text.specs.Entries.{said, IsText};
 ghost use Rattle.pool_text.specs.Progress.{with_pool};
 
-use crate::numbers::number_up_to;
-use pool_model::{BuildStop, Name, Pool, Standing, Volunteer};
+use pool_model::{BuildStop, Pool, Standing, Volunteer};
 use std::alloc::{AllocError, Global};
 use std::str;
+use text_lines::{fields, number_up_to};
 
 /// The greatest bound.
 const MAX_BOUND: usize = 999;
 
 /// What no bound may be.
 const NO_BOUND: usize = 1000;
-
-const TAB: u8 = 9;
 
 /// The kind of a line that is of no form that may stand there.
 pub(crate) const FORM: u8 = 1;
@@ -52,13 +48,6 @@ pub(crate) enum Entry<'a> {
     Standing(Standing, &'a [u8]),
     End,
     Unknown,
-}
-
-/// The fields of a line, parted by TAB.
-pub(crate) fn fields_of(alloc: Global, line: &[u8]) -> Result<Vec<&[u8]>, AllocError>
-    ensures { IfOk result (λ v. map (λ field. field.now) v.items ≡ fields_in line.now) }
-{
-    line.split(|byte| *byte == TAB).collect(alloc)
 }
 
 fn bound_of(field: &[u8]) -> usize
@@ -98,7 +87,7 @@ fn entry_of<'a>(fields: &'a [&'a [u8]]) -> Entry<'a>
 }
 
 fn value_entry<'a>(rest: &'a [&'a [u8]]) -> Entry<'a>
-    ensures { said result ≡ value_in (map (λ field. field.now) rest.now) }
+    ensures { said result ≡ entry_of_word ValueWord (map (λ field. field.now) rest.now) }
 {
     if rest.len() != 3 {
         return Entry::Unknown;
@@ -107,7 +96,7 @@ fn value_entry<'a>(rest: &'a [&'a [u8]]) -> Entry<'a>
 }
 
 fn standing_entry<'a>(standing: Standing, rest: &'a [&'a [u8]]) -> Entry<'a>
-    ensures { said result ≡ standing_in standing (map (λ field. field.now) rest.now) }
+    ensures { said result ≡ entry_of_word (StandingWord standing) (map (λ field. field.now) rest.now) }
 {
     match rest {
         [id] => Entry::Standing(standing, id),
@@ -123,10 +112,10 @@ pub(crate) fn read_entry(
     passed: usize,
     line: &[u8],
 ) -> Result<Option<usize>, BuildStop>
-    ensures kind { Answers (line_kind (Inside pool.old passed) line.now) result }
+    ensures kind { Tells (line_kind (Inside pool.old passed) line.now) result }
     ensures ok { IfOk result (λ next. after_line (Inside pool.old passed) line.now ≡ with_pool pool.new next) }
 {
-    let fields = fields_of(alloc, line)?;
+    let fields = fields(alloc, line)?;
     let entry = entry_of(&fields);
     if let Some(kind) = entry_kind(pool, passed, &entry) {
         return Err(BuildStop::Kind(kind));
@@ -134,7 +123,7 @@ pub(crate) fn read_entry(
     if !is_text(line) {
         return Err(BuildStop::Kind(NOT_UTF8));
     }
-    add_entry(alloc, pool, passed, &entry)
+    Ok(add_entry(pool, passed, &entry)?)
 }
 
 fn is_text(line: &[u8]) -> bool
@@ -171,25 +160,16 @@ fn number_of(volunteers: &[Volunteer], id: &[u8]) -> Option<usize>
         .position(|volunteer| id == volunteer.id().as_bytes())
 }
 
-/// Adds a right entry, whose fields are text. The answer is that of `read_entry`.
-fn add_entry(
-    alloc: Global,
-    pool: &mut Pool,
-    passed: usize,
-    entry: &Entry<'_>,
-) -> Result<Option<usize>, BuildStop>
+/// Adds a right entry, whose new name is text. The answer is that of `read_entry`.
+fn add_entry(pool: &mut Pool, passed: usize, entry: &Entry<'_>) -> Result<Option<usize>, AllocError>
     requires right { kind_in pool.old passed (said entry.now) ≡ None }
     requires text { IsText (said entry.now) }
-    ensures kind { Answers None result }
     ensures ok { IfOk result (λ next. after_entry pool.old passed (said entry.now) ≡ with_pool pool.new next) }
 {
     match entry {
-        Entry::Category(name) => pool.add_category(text_of(name))?,
-        Entry::Value(name, lower, upper) => pool.add_value(text_of(name), *lower, *upper)?,
-        Entry::Volunteer(id, values) => {
-            let names = names_of(alloc, values)?;
-            pool.add_volunteer(text_of(id), &names)?
-        }
+        Entry::Category(name) => pool.add_right_category(text_of(name))?,
+        Entry::Value(name, lower, upper) => pool.add_right_value(text_of(name), *lower, *upper)?,
+        Entry::Volunteer(id, values) => pool.add_right_volunteer(text_of(id), values)?,
         Entry::Standing(standing, id) => return Ok(Some(add_standing(pool, *standing, id))),
         Entry::End => return Ok(None),
         Entry::Unknown => {}
@@ -219,15 +199,4 @@ fn text_of(field: &[u8]) -> &str
         Ok(text) => text,
         Err(_) => unreachable!(),
     }
-}
-
-fn names_of(alloc: Global, fields: &[&[u8]]) -> Result<Vec<Name>, AllocError>
-    requires { All (λ field. IsUtf8 field.now) fields.now }
-    ensures { IfOk result (λ v. v.items ≡ map (λ field. field.now) fields.now) }
-{
-    let mut names = Vec::new(alloc);
-    for field in fields {
-        names.push(Name::new(alloc, text_of(field))?)?;
-    }
-    Ok(names)
 }

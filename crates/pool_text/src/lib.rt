@@ -1,10 +1,9 @@
 //! The text of a pool: what a city writes, read into a pool or answered with its first fault; and a pool written as its text.
-//! Below stand `pool_model`, whose builder and kinds of fault it uses, and the words of `text_definitions`.
+//! Below stand `pool_model`, whose builder and kinds of fault it uses, `text_lines` and the words of `text_definitions`.
 #![tactic(auto)]
 
 mod entries;
 mod faults;
-mod numbers;
 mod progress;
 mod reading;
 #[cfg(test)]
@@ -13,4 +12,4 @@ mod writing;
 
 pub use faults::{PoolFault, ReadPool};
 pub use reading::read_pool;
-pub use writing::write_pool;
+pub use writing::{push_pool, write_pool};

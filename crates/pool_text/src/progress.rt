@@ -1,15 +1,16 @@
 //! What the lines that were read make of a text so far, and what one more makes of it.
 
-ghost use Rattle.std.specs.Prelude.{◌≡◌, map, IfOk};
-ghost use Rattle.pool_model.specs.Answers.{Answers};
-ghost use Rattle.text_definitions.specs.Lines.{fields_of as fields_in};
+ghost use Rattle.std.specs.Prelude.{◌≡◌, ◌≤◌, Err, IfOk};
+ghost use Rattle.pool_model.specs.declared.building.BuildStop.TheVariants.{OutOfMemory};
+ghost use Rattle.pool_text.specs.Answers.{Tells};
+ghost use Rattle.line_definitions.specs.Lines.{fields_of as fields_in};
 ghost use Rattle.text_definitions.specs.PoolReading.{line_kind, after_line, size_of as size_in};
-ghost use Rattle.pool_text.specs.Progress.{seen};
+ghost use Rattle.pool_text.specs.Progress.{seen, line_due};
 
-use crate::entries::{FORM, fields_of, read_entry};
-use crate::numbers::number_up_to;
+use crate::entries::{FORM, read_entry};
 use pool_model::{BuildStop, Pool};
-use std::alloc::{AllocError, Global};
+use std::alloc::Global;
+use text_lines::number_up_to;
 
 /// The greatest size of a panel.
 const MAX_SIZE: usize = 200;
@@ -19,7 +20,8 @@ const NO_SIZE: usize = 0;
 
 const VERSION_LINE: &[u8] = b"pool\t1";
 
-const SIZE: &[u8] = b"size";
+/// How the second line begins.
+const SIZE: &[u8] = b"size\t";
 
 /// What right lines make of a text so far.
 #[derive(Drop)]
@@ -36,8 +38,9 @@ pub(crate) enum Progress {
 
 /// What one more line makes of it. Stops with the lowest kind of fault that the line has.
 pub(crate) fn after(alloc: Global, progress: Progress, line: &[u8]) -> Result<Progress, BuildStop>
-    ensures kind { Answers (line_kind (seen progress) line.now) result }
+    ensures kind { Tells (line_kind (seen progress) line.now) result }
     ensures ok { IfOk result (λ next. seen next ≡ after_line (seen progress) line.now) }
+    ensures memory { result ≡ Err OutOfMemory → 3 ≤ line_due (seen progress) }
 {
     match progress {
         Progress::Begun => {
@@ -47,10 +50,7 @@ pub(crate) fn after(alloc: Global, progress: Progress, line: &[u8]) -> Result<Pr
                 Err(BuildStop::Kind(FORM))
             }
         }
-        Progress::Versioned => {
-            let size = size_of(alloc, line)?;
-            Ok(Progress::Inside(Pool::new(alloc, size)?, 0))
-        }
+        Progress::Versioned => Ok(Progress::Inside(Pool::new(alloc, size_of(line))?, 0)),
         Progress::Inside(mut pool, passed) => {
             match read_entry(alloc, &mut pool, passed, line)? {
                 Some(passed) => Ok(Progress::Inside(pool, passed)),
@@ -62,26 +62,11 @@ pub(crate) fn after(alloc: Global, progress: Progress, line: &[u8]) -> Result<Pr
 }
 
 /// The size that the second line gives, or what no size may be.
-fn size_of(alloc: Global, line: &[u8]) -> Result<usize, AllocError>
-    ensures { IfOk result (λ size. size ≡ size_in (fields_in line.now)) }
+fn size_of(line: &[u8]) -> usize
+    ensures { result ≡ size_in (fields_in line.now) }
 {
-    let fields = fields_of(alloc, line)?;
-    Ok(size_said(&fields))
-}
-
-fn size_said(fields: &[&[u8]]) -> usize
-    ensures { result ≡ size_in (map (λ field. field.now) fields.now) }
-{
-    let Some((first, rest)) = fields.split_first() else {
-        return NO_SIZE;
-    };
-    let first = *first;
-    if first == SIZE {
-        match rest {
-            [field] => number_up_to(MAX_SIZE, field).unwrap_or(NO_SIZE),
-            _ => NO_SIZE,
-        }
-    } else {
-        NO_SIZE
+    match line.strip_prefix(SIZE) {
+        Some(field) => number_up_to(MAX_SIZE, field).unwrap_or(NO_SIZE),
+        None => NO_SIZE,
     }
 }

@@ -1,11 +1,12 @@
 //! Reading the text of a pool, line by line.
 
-ghost use Rattle.std.specs.Prelude.{◌≡◌, ◌<◌, [], ◌∷◌, ◌==◌, length, position, Ok, IfOk, IfSome, IfNone};
-ghost use Rattle.text_definitions.specs.Lines.{pieces_of};
-ghost use Rattle.pool_definitions.specs.Pool.{Pool as Words};
-ghost use Rattle.text_definitions.specs.PoolText.{HasText, spelling};
+ghost use Rattle.std.specs.Prelude.{◌≡◌, ◌≢◌, ◌<◌, length, Ok, Err, IfOk};
+ghost use Rattle.pool_definitions.specs.Pool.{Pool as Words, IsPool};
+ghost use Rattle.text_definitions.specs.PoolText.{spelling};
 ghost use Rattle.text_definitions.specs.PoolReading.{read, at_last};
-ghost use Rattle.pool_text.specs.Answers.{Reads, stopped};
+ghost use Rattle.pool_text.specs.Answers.{Reads, IsRightBefore, stopped};
+ghost use Rattle.pool_text.specs.declared.faults.ReadPool.TheVariants.{OutOfMemory};
+ghost use Rattle.line_definitions.specs.Lines.{pieces_of};
 ghost use Rattle.pool_text.specs.Progress.{seen};
 
 use crate::entries::FORM;
@@ -13,8 +14,7 @@ use crate::faults::{PoolFault, ReadPool};
 use crate::progress::{Progress, after};
 use pool_model::{BuildStop, Pool};
 use std::alloc::Global;
-
-const LINE_FEED: u8 = 10;
+use text_lines::next_line;
 
 /// The kind of a text whose lines run out before its end.
 const MISSING_END: u8 = 12;
@@ -23,17 +23,20 @@ const MISSING_END: u8 = 12;
 /// has a fault, and the lowest kind in it.
 pub fn read_pool(alloc: Global, bytes: &[u8]) -> Result<Pool, ReadPool>
     // What is read is spelled so, each byte of it.
-    ensures spelled { IfOk result (λ pool. HasText pool × (bytes.now ≡ spelling pool)) }
+    ensures spelled { IfOk result (λ pool. IsPool pool × (bytes.now ≡ spelling pool)) }
     // What is spelled so is read, unless memory runs out.
-    ensures read { (pool : Words) → HasText pool → bytes.now ≡ spelling pool → Reads (Ok pool) result }
+    ensures read { (pool : Words) → IsPool pool → bytes.now ≡ spelling pool → Reads (Ok pool) result }
     // Which fault it is.
     ensures exact { Reads (read bytes.now) result }
+    // Memory is wanted only where the first two lines are right and a third is finished.
+    ensures memory { result ≡ Err OutOfMemory → IsRightBefore 3 (read bytes.now) × (3 < length (pieces_of bytes.now)) }
 {
     read_lines(alloc, bytes)
 }
 
 fn read_lines(alloc: Global, bytes: &[u8]) -> Result<Pool, ReadPool>
-    ensures { Reads (read bytes.now) result }
+    ensures exact { Reads (read bytes.now) result }
+    ensures memory { result ≡ Err OutOfMemory → IsRightBefore 3 (read bytes.now) × (3 < length (pieces_of bytes.now)) }
 {
     let mut progress = Progress::Begun;
     let mut number = 1;
@@ -49,25 +52,6 @@ fn read_lines(alloc: Global, bytes: &[u8]) -> Result<Pool, ReadPool>
     last(progress, number, rest)
 }
 
-/// The next line and what stands behind its LF.
-fn next_line(bytes: &[u8]) -> Option<(&[u8], &[u8])>
-    ensures some { IfSome result (λ (line, later). pieces_of bytes.now ≡ line.now ∷ pieces_of later.now) }
-    ensures shorter { IfSome result (λ (line, later). length later.now < length bytes.now) }
-    ensures none { IfNone result (pieces_of bytes.now ≡ bytes.now ∷ []) }
-{
-    match line_end(bytes) {
-        Some(end) => Some((&bytes[..end], &bytes[end + 1..])),
-        None => None,
-    }
-}
-
-/// The place of the first LF.
-fn line_end(bytes: &[u8]) -> Option<usize>
-    ensures { result ≡ position (λ byte. byte == 10) bytes.now }
-{
-    bytes.iter().position(|byte| *byte == LINE_FEED)
-}
-
 /// A stop of the builder at a line.
 fn stop_at(line: usize, stop: BuildStop) -> ReadPool
     ensures { result ≡ stopped line stop }
@@ -80,7 +64,8 @@ fn stop_at(line: usize, stop: BuildStop) -> ReadPool
 
 /// What the text comes to, where `rest` stands behind its last LF.
 fn last(progress: Progress, line: usize, rest: &[u8]) -> Result<Pool, ReadPool>
-    ensures { Reads (at_last line (seen progress) rest.now) result }
+    ensures exact { Reads (at_last line (seen progress) rest.now) result }
+    ensures memory { result ≢ Err OutOfMemory }
 {
     match progress {
         Progress::Ended(pool) if rest.is_empty() => Ok(pool),

@@ -199,12 +199,6 @@ const STARTS: [(usize, u8, &[u8]); 49] = [
     (3, 1, b"pool 1/size 2/end /"),
 ];
 
-#[test]
-fn tests_the_first_lines(rt: HostRuntime) -> Result<(), Fail> {
-    tell(&rt, rt.alloc(), b"", &STARTS)?;
-    Ok(())
-}
-
 const CATEGORIES: [(usize, u8, &[u8]); 65] = [
     (0, 0, b"end/"),
     (0, 0, b"category a/end/"),
@@ -276,13 +270,6 @@ const CATEGORIES: [(usize, u8, &[u8]); 65] = [
     (5, 1, b"category a/end/category b/"),
     (4, 3, b"category a/category a/other/"),
 ];
-
-#[test]
-fn tests_categories(rt: HostRuntime) -> Result<(), Fail> {
-    let start = spelled(rt.alloc(), SIZED)?;
-    tell(&rt, rt.alloc(), &start, &CATEGORIES)?;
-    Ok(())
-}
 
 const VOLUNTEERS: [(usize, u8, &[u8]); 53] = [
     (0, 0, b"end/"),
@@ -356,13 +343,6 @@ const VOLUNTEERS: [(usize, u8, &[u8]); 53] = [
     (6, 7, b"volunteer a/volunteer/end/end/"),
 ];
 
-#[test]
-fn tests_volunteers(rt: HostRuntime) -> Result<(), Fail> {
-    let start = spelled(rt.alloc(), GENDERS)?;
-    tell(&rt, rt.alloc(), &start, &VOLUNTEERS)?;
-    Ok(())
-}
-
 const STANDINGS: [(usize, u8, &[u8]); 30] = [
     (0, 0, b"end/"),
     (0, 0, b"gone d/end/"),
@@ -396,10 +376,19 @@ const STANDINGS: [(usize, u8, &[u8]); 30] = [
     (12, 1, b"seated a/end/gone b"),
 ];
 
+/// Lines of a text, of which each table has the lines behind a start.
 #[test]
-fn tests_standings(rt: HostRuntime) -> Result<(), Fail> {
-    let start = spelled(rt.alloc(), FOUR)?;
-    tell(&rt, rt.alloc(), &start, &STANDINGS)?;
+fn tells_first_faults(rt: HostRuntime) -> Result<(), Fail> {
+    let tables: [(&[u8], &[(usize, u8, &[u8])]); 4] = [
+        (b"", &STARTS),
+        (SIZED, &CATEGORIES),
+        (GENDERS, &VOLUNTEERS),
+        (FOUR, &STANDINGS),
+    ];
+    for (start, rows) in tables {
+        let start = spelled(rt.alloc(), start)?;
+        tell(&rt, rt.alloc(), &start, rows)?;
+    }
     Ok(())
 }
 

@@ -1,4 +1,5 @@
-pub mod LineLemmas
-pub mod Spelled
-pub mod FieldLemmas
+pub mod NameFields
+pub mod LowestKinds
 pub mod ReadAgain
+pub mod Spelled
+mod FirstFaults

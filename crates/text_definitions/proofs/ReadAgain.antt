@@ -14,15 +14,18 @@ use Rattle.std.proofs.lemmas.Str.{is_utf8-from_IsUtf8}
 use Rattle.pool_definitions.specs.declared.Standing.{Standing}
 use Rattle.pool_definitions.specs.declared.Standing.TheVariants.{Open, Seated, Gone}
 use Rattle.pool_definitions.specs.Lists.{includes_list, all_different}
-use Rattle.pool_definitions.specs.Pool.{BoundedValue, Category, Volunteer, Pool, is_name, is_value, is_category, are_bounds, has_values, keeps_name_limits}
+use Rattle.pool_definitions.specs.Pool.{BoundedValue, Category, Volunteer, Pool, is_name, is_value, is_category, are_bounds, has_values, keeps_name_limits, IsPool}
 use Rattle.pool_definitions.specs.Building.{category_names, value_names, ids, last_values, with_value, place_of, places_of, are_known, empty_pool, size_kind, category_kind, value_kind, volunteer_kind, volunteer_added, with_standing}
 use Rattle.pool_definitions.proofs.BuildingLemmas.{same_bytes_comm}
-use Rattle.pool_definitions.proofs.Sums.{each_map}
-use Rattle.text_definitions.specs.Lines.{tab, line_feed, line_of, fields_of}
-use Rattle.text_definitions.specs.PoolText.{size_line, value_line, category_lines, names_at, volunteer_line, standing_line, standing_lines, end_line, lines_before_end, spelling, HasText}
-use Rattle.text_definitions.specs.PoolReading.{Progress, Begun, Inside, Ended, Entry, OfCategory, OfValue, OfVolunteer, OfStanding, TheEnd, bound_of, entry_of, number_of, is_ahead, entry_kind, size_of, encoding_kind, kind_or, line_kind, after_standing, after_entry, after_line, at_last, fault_or, read_lines, read}
-use Rattle.text_definitions.proofs.LineLemmas.{Lacks, bytes_same, fields_of-line_of, line_is_utf8, pieces_of-text_of}
-use Rattle.text_definitions.proofs.FieldLemmas.{IsField, plain_field, name_field, decimal_field, number_again, line_lacks_feed}
+use Rattle.basic_laws.proofs.Each.{each_map}
+use Rattle.line_definitions.specs.Lines.{tab, line_feed, line_of, fields_of}
+use Rattle.text_definitions.specs.PoolText.{size_line, value_line, category_lines, names_at, volunteer_line, standing_line, standing_lines, end_line, lines_before_end, spelling}
+use Rattle.text_definitions.specs.PoolReading.{Progress, Begun, Inside, Ended, Entry, OfCategory, OfValue, OfVolunteer, OfStanding, TheEnd, bound_of, entry_of, number_of, is_ahead, entry_kind, size_of, line_kind, after_standing, after_entry, after_line, at_last, fault_or, read_lines, read}
+use Rattle.line_definitions.proofs.LineLemmas.{Lacks, fields_of-line_of, line_is_utf8, pieces_of-text_of}
+use Rattle.line_definitions.proofs.FieldLemmas.{IsField, plain_field, decimal_field, line_lacks_feed}
+use Rattle.line_definitions.proofs.NumberLemmas.{bytes_same, number_again}
+use Rattle.text_definitions.proofs.NameFields.{name_field}
+use Rattle.text_definitions.proofs.LowestKinds.{kind_or, encoding_kind, line_kind_of}
 
 -- lines without LF lead from one progress to another with no fault
 abbrev pub Runs : Progress → List (List ℕ) → Progress → Type 0
@@ -54,7 +57,7 @@ run_entry pool passed field fields entry lines after are e none rest =
     let same : entry_of (fields_of line) ≡ entry = ap entry_of (fields_of-line_of field fields (each_map IsField (Lacks tab) (λ f is. is.no_tab) all are)) ∙ e in
     let text : is_utf8 line ≡ true = is_utf8-from_IsUtf8 line (line_is_utf8 all (each_map IsField (λ f. is_utf8 f ≡ true) (λ f is. is.utf8) all are)) in (
       line_lacks_feed all are,
-      ap (λ said. kind_or (entry_kind pool passed said) (encoding_kind line)) same
+      line_kind_of pool passed line ∙ ap (λ said. kind_or (entry_kind pool passed said) (encoding_kind line)) same
           ∙ (ap (λ kind. kind_or kind (encoding_kind line)) none ∙ ap (λ test. cond (not test) (Some 11) None) text),
       subst (λ said. Runs (after_entry pool passed said) lines after) (sym same) rest,
     )
@@ -122,7 +125,7 @@ values_run size before name done (value ∷ todo) are different few =
     let rest_to = subst (λ values. Runs (Inside (made size (before ++ named name (done ++ value ∷ []) ∷ []) []) 0) (map value_line todo) (Inside (made size (before ++ named name values ∷ []) []) 0)) regrouped rest in
     let said : entry_of (codes "value" ∷ fields) ≡ OfValue value = ap (λ lower. OfValue (record { name = value.name; lower = lower; upper = bound_of (decimal value.upper) })) lower_again ∙ ap (λ upper. OfValue (record { name = value.name; lower = value.lower; upper = upper })) upper_again in
     run_entry pool 0 (codes "value") fields (OfValue value) (map value_line todo) after
-    (plain_field (codes "value") refl, (name_field value.name is.0, (decimal_field value.lower (omega arith), (decimal_field value.upper upper_le, tt))))
+    (plain_field (codes "value") refl, (name_field value.name is.0, (decimal_field value.lower (omega arith), (decimal_field value.upper (omega arith), tt))))
     said (value_is_new size before name done value new parts.0 (omega (arith, sizes)))
     (subst (λ categories. Runs (Inside (made size categories []) 0) (map value_line todo) after) (sym (with_value-push before (named name done) value)) rest_to)
 
@@ -345,7 +348,7 @@ module _ (size : ℕ) (categories : List Category) where
       ]) refl
 
 -- the lines of a pool lead to its end
-pool_runs : (pool : Pool) → HasText pool → Runs Begun (lines_before_end pool ++ end_line ∷ []) (Ended pool)
+pool_runs : (pool : Pool) → IsPool pool → Runs Begun (lines_before_end pool ++ end_line ∷ []) (Ended pool)
 pool_runs pool right =
     let is = right in
     let size = pool.size in
@@ -376,7 +379,7 @@ pool_runs pool right =
     )
 
 -- what is spelled is read
-pub spelled_is_read : (pool : Pool) → HasText pool → read (spelling pool) ≡ Ok pool
+pub spelled_is_read : (pool : Pool) → IsPool pool → read (spelling pool) ≡ Ok pool
 spelled_is_read pool right =
     let lines = lines_before_end pool ++ end_line ∷ [] in
     let runs = pool_runs pool right in

@@ -8,19 +8,23 @@ use Rattle.std.proofs.lemmas.Bool.{and_parts, cond_both, leb-true, ltb-false, no
 use Rattle.std.proofs.lemmas.Grind.{flat_map-append}
 use Rattle.std.proofs.lemmas.List.{append-nil, map-append}
 use Rattle.std.proofs.lemmas.List.Quantifiers.{position-Some}
-use Rattle.pool_definitions.specs.Pool.{Pool, BoundedValue, Category, Volunteer, are_bounds}
+use Rattle.pool_definitions.specs.Pool.{Pool, BoundedValue, Category, Volunteer, are_bounds, IsPool}
 use Rattle.pool_definitions.specs.Lists.{includes_list}
 use Rattle.pool_definitions.specs.Building.{value_names, size_kind, with_value, place_of, places_of, are_known, volunteer_kind, with_standing, standing_set}
-use Rattle.text_definitions.specs.Lines.{line_feed, line_of, text_of, fields_of, pieces_of, number_up_to}
-use Rattle.text_definitions.specs.PoolText.{version_line, size_line, value_line, category_lines, names_at, volunteer_line, standing_line, standing_lines, end_line, lines_before_end, spelling, HasText}
-use Rattle.text_definitions.specs.PoolReading.{Progress, Begun, Versioned, Inside, Ended, Entry, OfCategory, OfValue, OfVolunteer, OfStanding, TheEnd, Unknown, category_entry, bound_of, value_entry, volunteer_entry, standing_entry, end_entry, entry_of, number_of, is_ahead, entry_kind, size_of, encoding_kind, kind_or, line_kind, after_entry, after_line, at_last, fault_or, read_lines, read}
+use Rattle.line_definitions.specs.Lines.{line_feed, line_of, text_of, fields_of, pieces_of}
+use Rattle.line_definitions.specs.Numbers.{number_up_to}
+use Rattle.text_definitions.specs.PoolText.{version_line, size_line, value_line, category_lines, names_at, volunteer_line, standing_line, standing_lines, end_line, lines_before_end, spelling}
+use Rattle.text_definitions.specs.PoolReading.{Progress, Begun, Versioned, Inside, Ended, Entry, OfCategory, OfValue, OfVolunteer, OfStanding, TheEnd, Unknown, Word, CategoryWord, ValueWord, VolunteerWord, StandingWord, EndWord, words, word_among, bound_of, entry_of_word, entry_behind, entry_of, number_of, is_ahead, entry_kind, size_of, line_kind, after_entry, after_line, at_last, fault_or, read_lines, read}
 use Rattle.pool_definitions.specs.declared.Standing.{Standing}
 use Rattle.pool_definitions.specs.declared.Standing.TheVariants.{Open, Seated, Gone}
 use Rattle.std.specs.Str.{IsUtf8}
 use Rattle.std.proofs.lemmas.Str.{IsUtf8-from_is_utf8}
 use Rattle.std.proofs.lemmas.List.Splits.{join_with_byte-slice_split}
-use Rattle.pool_definitions.proofs.BuildingLemmas.{no_kind, list_all_push, category_fits, value_fits, volunteer_fits, place_at, IsPool-empty_pool, IsPool-category_added, IsPool-value_added, IsPool-volunteer_added, IsPool-standing_set}
-use Rattle.text_definitions.proofs.LineLemmas.{bytes_are, each_field_is_utf8, number_spelled, line_of-fields_of}
+use Rattle.basic_laws.proofs.Each.{list_all-push}
+use Rattle.pool_definitions.proofs.BuildingLemmas.{no_kind, category_fits, value_fits, volunteer_fits, place_at, IsPool-empty_pool, IsPool-category_added, IsPool-value_added, IsPool-volunteer_added, IsPool-standing_set}
+use Rattle.line_definitions.proofs.LineLemmas.{each_field_is_utf8, line_of-fields_of}
+use Rattle.line_definitions.proofs.NumberLemmas.{bytes_are, number_spelled}
+use Rattle.text_definitions.proofs.LowestKinds.{kind_or, encoding_kind, line_kind_of}
 
 -- neither of two kinds
 pub neither : (first second : Option ℕ) → kind_or first second ≡ None → (first ≡ None) × (second ≡ None)
@@ -56,73 +60,68 @@ bounds_in_range lower upper h =
     let parts = and_parts (leb lower upper) (leb upper 999) h in
     let a = leb-true lower upper parts.0 in let b = leb-true upper 999 parts.1 in (omega arith, omega arith)
 
+-- how a word is spelled
+abbrev IsWord : List ℕ → Word → Type 0
+IsWord first CategoryWord = first ≡ codes "category"
+IsWord first ValueWord = first ≡ codes "value"
+IsWord first VolunteerWord = first ≡ codes "volunteer"
+IsWord first (StandingWord Open) = ⊥
+IsWord first (StandingWord Seated) = first ≡ codes "seated"
+IsWord first (StandingWord Gone) = first ≡ codes "gone"
+IsWord first EndWord = first ≡ codes "end"
+
+is_word : (first : List ℕ) (word : Word) → word_among words first ≡ Some word → IsWord first word
+is_word first word h =
+    among (codes "category") CategoryWord _ (λ e. e) (among (codes "value") ValueWord _ (λ e. e) (among (codes "volunteer") VolunteerWord _ (λ e. e)
+    (among (codes "seated") (StandingWord Seated) _ (λ e. e) (among (codes "gone") (StandingWord Gone) _ (λ e. e) (among (codes "end") EndWord _ (λ e. e) (λ k. cc)))))) h
+  where
+    among : (spelled : List ℕ) (one : Word) (later : Option Word) → (first ≡ spelled → IsWord first one) → (later ≡ Some word → IsWord first word) →
+        cond (bytes_eq first spelled) (Some one) later ≡ Some word → IsWord first word
+    among spelled one later is rest k =
+        cond_both (bytes_eq first spelled) (Some one) later (λ o. o ≡ Some word → IsWord first word)
+        (λ e l. subst (IsWord first) (same one l) (is (bytes_are first spelled e))) (λ _ l. rest l) k
+      where
+        same : (one : Word) → Some one ≡ Some word → one ≡ word
+        same one l = cc
+
 -- the line of fields that say a right entry is the entry's line
 module _ (pool : Pool) (passed : ℕ) where
   Spells : List (List ℕ) → Entry → Type 0
   Spells fields entry = entry_kind pool passed entry ≡ None → line_of fields ∷ [] ≡ entry_lines entry
 
-  of_category : (first : List ℕ) (fields : List (List ℕ)) → first ≡ codes "category" → Spells (first ∷ fields) (category_entry fields)
+  spells : (word : Word) (first : List ℕ) (fields : List (List ℕ)) → IsWord first word → Spells (first ∷ fields) (entry_of_word word fields)
   unfolding Spells
-  of_category first [] e h = cc
-  of_category first (name ∷ []) e h = ap (λ word. line_of (word ∷ name ∷ []) ∷ []) e
-  of_category first (name ∷ other ∷ fields) e h = cc
-
-  of_value : (first : List ℕ) (fields : List (List ℕ)) → first ≡ codes "value" → Spells (first ∷ fields) (value_entry fields)
-  unfolding Spells
-  of_value first [] e h = cc
-  of_value first (name ∷ []) e h = cc
-  of_value first (name ∷ lower ∷ []) e h = cc
-  of_value first (name ∷ lower ∷ upper ∷ []) e h =
+  spells CategoryWord first [] e h = cc
+  spells CategoryWord first (name ∷ []) e h = ap (λ word. line_of (word ∷ name ∷ []) ∷ []) e
+  spells CategoryWord first (name ∷ other ∷ fields) e h = cc
+  spells ValueWord first [] e h = cc
+  spells ValueWord first (name ∷ []) e h = cc
+  spells ValueWord first (name ∷ lower ∷ []) e h = cc
+  spells ValueWord first (name ∷ lower ∷ upper ∷ []) e h =
       let value : BoundedValue = record { name = name; lower = bound_of lower; upper = bound_of upper } in
       let range = bounds_in_range (bound_of lower) (bound_of upper) (value_fits pool value h).bounds in
       ap (λ word. line_of (word ∷ name ∷ lower ∷ upper ∷ []) ∷ []) e
       ∙ (ap (λ field. line_of (codes "value" ∷ name ∷ field ∷ upper ∷ []) ∷ []) (sym (bound_spelled lower range.0))
       ∙ ap (λ field. line_of (codes "value" ∷ name ∷ decimal (bound_of lower) ∷ field ∷ []) ∷ []) (sym (bound_spelled upper range.1)))
-  of_value first (name ∷ lower ∷ upper ∷ other ∷ fields) e h = cc
-
-  of_volunteer : (first : List ℕ) (fields : List (List ℕ)) → first ≡ codes "volunteer" → Spells (first ∷ fields) (volunteer_entry fields)
-  unfolding Spells
-  of_volunteer first [] e h = cc
-  of_volunteer first (id ∷ names) e h = ap (λ word. line_of (word ∷ id ∷ names) ∷ []) e
-
-  of_seated : (first : List ℕ) (fields : List (List ℕ)) → first ≡ codes "seated" → Spells (first ∷ fields) (standing_entry Seated fields)
-  unfolding Spells
-  of_seated first [] e h = cc
-  of_seated first (id ∷ []) e h = ap (λ word. line_of (word ∷ id ∷ []) ∷ []) e
-  of_seated first (id ∷ other ∷ fields) e h = cc
-
-  of_gone : (first : List ℕ) (fields : List (List ℕ)) → first ≡ codes "gone" → Spells (first ∷ fields) (standing_entry Gone fields)
-  unfolding Spells
-  of_gone first [] e h = cc
-  of_gone first (id ∷ []) e h = ap (λ word. line_of (word ∷ id ∷ []) ∷ []) e
-  of_gone first (id ∷ other ∷ fields) e h = cc
-
-  of_end : (first : List ℕ) (fields : List (List ℕ)) → first ≡ codes "end" → Spells (first ∷ fields) (end_entry fields)
-  unfolding Spells
-  of_end first [] e h = ap (λ word. word ∷ []) e
-  of_end first (other ∷ fields) e h = cc
+  spells ValueWord first (name ∷ lower ∷ upper ∷ other ∷ fields) e h = cc
+  spells VolunteerWord first [] e h = cc
+  spells VolunteerWord first (id ∷ names) e h = ap (λ word. line_of (word ∷ id ∷ names) ∷ []) e
+  spells (StandingWord standing) first [] e h = cc
+  spells (StandingWord Open) first (id ∷ []) e h = absurd e
+  spells (StandingWord Seated) first (id ∷ []) e h = ap (λ word. line_of (word ∷ id ∷ []) ∷ []) e
+  spells (StandingWord Gone) first (id ∷ []) e h = ap (λ word. line_of (word ∷ id ∷ []) ∷ []) e
+  spells (StandingWord standing) first (id ∷ other ∷ fields) e h = cc
+  spells EndWord first [] e h = ap (λ word. word ∷ []) e
+  spells EndWord first (other ∷ fields) e h = cc
 
   pub entry_spelled : (fields : List (List ℕ)) → entry_kind pool passed (entry_of fields) ≡ None → line_of fields ∷ [] ≡ entry_lines (entry_of fields)
   unfolding Spells
   entry_spelled [] h = cc
   entry_spelled (first ∷ fields) h =
-      let is_end = bytes_eq first (codes "end") in
-      let ending = cond is_end (end_entry fields) Unknown in
-      let is_gone = bytes_eq first (codes "gone") in
-      let from_gone = cond is_gone (standing_entry Gone fields) ending in
-      let is_seated = bytes_eq first (codes "seated") in
-      let from_seated = cond is_seated (standing_entry Seated fields) from_gone in
-      let is_volunteer = bytes_eq first (codes "volunteer") in
-      let from_volunteer = cond is_volunteer (volunteer_entry fields) from_seated in
-      let is_value = bytes_eq first (codes "value") in
-      let from_value = cond is_value (value_entry fields) from_volunteer in
-      let all = first ∷ fields in
-      cond_both (bytes_eq first (codes "category")) (category_entry fields) from_value (Spells all) (λ e. of_category first fields (bytes_are first (codes "category") e))
-      (λ _. cond_both is_value (value_entry fields) from_volunteer (Spells all) (λ e. of_value first fields (bytes_are first (codes "value") e))
-      (λ _. cond_both is_volunteer (volunteer_entry fields) from_seated (Spells all) (λ e. of_volunteer first fields (bytes_are first (codes "volunteer") e))
-      (λ _. cond_both is_seated (standing_entry Seated fields) from_gone (Spells all) (λ e. of_seated first fields (bytes_are first (codes "seated") e))
-      (λ _. cond_both is_gone (standing_entry Gone fields) ending (Spells all) (λ e. of_gone first fields (bytes_are first (codes "gone") e))
-      (λ _. cond_both is_end (end_entry fields) Unknown (Spells all) (λ e. of_end first fields (bytes_are first (codes "end") e)) (λ _ k. cc)))))) h
+      (elim (word_among words first) as (λ o. word_among words first ≡ o → Spells (first ∷ fields) (entry_behind o fields)) [
+        | None ↦ λ _ k. cc
+        | Some word ↦ λ e. spells word first fields (is_word first word e)
+      ]) refl h
 
 -- the lines of a category that gets one more value
 flat_map-with_value : (categories : List Category) (value : BoundedValue) → (length categories ≡ 0 → ⊥) →
@@ -241,7 +240,7 @@ volunteer_parts pool passed id names h =
 
 -- those from a number on are open, and all keep the limits
 pub record IsRightInside (pool : Pool) (passed : ℕ) : Type 0 where
-  pub has_text : HasText pool
+  pub is_pool : IsPool pool
   pub ahead : open_from passed pool.volunteers ≡ true
 
 -- what stands is right: the pool, where there is one, has a text, and those whom standing lines have not passed are open
@@ -249,7 +248,7 @@ abbrev pub IsRight : Progress → Type 0
 IsRight Begun = Unit {0}
 IsRight Versioned = Unit {0}
 IsRight (Inside pool passed) = IsRightInside pool passed
-IsRight (Ended pool) = HasText pool
+IsRight (Ended pool) = IsPool pool
 
 -- what a right entry leaves has one line more: the entry's
 pub entry_adds : (pool : Pool) (passed : ℕ) (entry : Entry) → IsRight (Inside pool passed) → entry_kind pool passed entry ≡ None → lines_so_far (after_entry pool passed entry) ≡ lines_before_end pool ++ entry_lines entry
@@ -274,7 +273,7 @@ entry_adds pool passed (OfVolunteer id names) right h =
     let before = flat_map category_lines pool.categories in
     let all_open : open_from 0 pool.volunteers ≡ true = subst (λ n. open_from n pool.volunteers ≡ true) parts.0 right.ahead in
     let none = no_lines pool.volunteers all_open in
-    let none_after = no_lines (pool.volunteers ++ one ∷ []) (list_all_push (λ (volunteer : Volunteer). is_open volunteer.standing) pool.volunteers one all_open refl) in
+    let none_after = no_lines (pool.volunteers ++ one ∷ []) (list_all-push (λ (volunteer : Volunteer). is_open volunteer.standing) pool.volunteers one all_open refl) in
     let spelled : line one ≡ line_of (codes "volunteer" ∷ id ∷ names) = ap (λ fields. line_of (codes "volunteer" ∷ id ∷ fields)) (names_at-places_of pool.categories names fits.known fits.each) in
     ap (λ lines. version_line ∷ size_line pool.size ∷ lines)
     (ap (λ lines. (before ++ map line (pool.volunteers ++ one ∷ [])) ++ lines) none_after
@@ -322,69 +321,50 @@ module _ (pool : Pool) (passed : ℕ) (right : IsRight (Inside pool passed)) whe
   Keeps : Entry → Type 0
   Keeps entry = entry_kind pool passed entry ≡ None → IsRight (after_entry pool passed entry)
 
-  keeps_category : (fields : List (List ℕ)) → AllByRecursion (λ field. is_utf8 field ≡ true) fields → Keeps (category_entry fields)
+  keeps : (word : Word) (fields : List (List ℕ)) → AllByRecursion (λ field. is_utf8 field ≡ true) fields → Keeps (entry_of_word word fields)
   unfolding Keeps
-  keeps_category [] utf8 h = cc
-  keeps_category (name ∷ []) utf8 h = record { has_text = IsPool-category_added pool name right.has_text h utf8.0; ahead = right.ahead }
-  keeps_category (name ∷ other ∷ fields) utf8 h = cc
-
-  keeps_value : (fields : List (List ℕ)) → AllByRecursion (λ field. is_utf8 field ≡ true) fields → Keeps (value_entry fields)
-  unfolding Keeps
-  keeps_value [] utf8 h = cc
-  keeps_value (name ∷ []) utf8 h = cc
-  keeps_value (name ∷ lower ∷ []) utf8 h = cc
-  keeps_value (name ∷ lower ∷ upper ∷ []) utf8 h =
+  keeps CategoryWord [] utf8 h = cc
+  keeps CategoryWord (name ∷ []) utf8 h = record { is_pool = IsPool-category_added pool name right.is_pool h utf8.0; ahead = right.ahead }
+  keeps CategoryWord (name ∷ other ∷ fields) utf8 h = cc
+  keeps ValueWord [] utf8 h = cc
+  keeps ValueWord (name ∷ []) utf8 h = cc
+  keeps ValueWord (name ∷ lower ∷ []) utf8 h = cc
+  keeps ValueWord (name ∷ lower ∷ upper ∷ []) utf8 h =
       let value : BoundedValue = record { name = name; lower = bound_of lower; upper = bound_of upper } in
-      record { has_text = IsPool-value_added pool value right.has_text h utf8.0; ahead = right.ahead }
-  keeps_value (name ∷ lower ∷ upper ∷ other ∷ fields) utf8 h = cc
-
-  keeps_volunteer : (fields : List (List ℕ)) → AllByRecursion (λ field. is_utf8 field ≡ true) fields → Keeps (volunteer_entry fields)
-  unfolding Keeps
-  keeps_volunteer [] utf8 h = cc
-  keeps_volunteer (id ∷ names) utf8 h =
+      record { is_pool = IsPool-value_added pool value right.is_pool h utf8.0; ahead = right.ahead }
+  keeps ValueWord (name ∷ lower ∷ upper ∷ other ∷ fields) utf8 h = cc
+  keeps VolunteerWord [] utf8 h = cc
+  keeps VolunteerWord (id ∷ names) utf8 h =
       let parts = volunteer_parts pool passed id names h in
       let one : Volunteer = record { id = id; values = places_of pool.categories names; standing = Open } in
       let all_open : open_from 0 pool.volunteers ≡ true = subst (λ n. open_from n pool.volunteers ≡ true) parts.0 right.ahead in
       record {
-        has_text = IsPool-volunteer_added pool id names right.has_text parts.1 utf8.0;
+        is_pool = IsPool-volunteer_added pool id names right.is_pool parts.1 utf8.0;
         ahead = subst (λ n. open_from n (pool.volunteers ++ one ∷ []) ≡ true) (sym parts.0)
-            (list_all_push (λ (volunteer : Volunteer). is_open volunteer.standing) pool.volunteers one all_open refl);
+            (list_all-push (λ (volunteer : Volunteer). is_open volunteer.standing) pool.volunteers one all_open refl);
       }
-
-  keeps_standing : (standing : Standing) (fields : List (List ℕ)) → Keeps (standing_entry standing fields)
-  unfolding Keeps
-  keeps_standing standing [] h = cc
-  keeps_standing standing (id ∷ []) h =
+  keeps (StandingWord standing) [] utf8 h = cc
+  keeps (StandingWord standing) (id ∷ []) utf8 h =
       let fits = standing_fits pool passed standing id h in
       let place : unwrap_or (number_of pool.volunteers id) 0 ≡ fits.number = ap (λ o. unwrap_or o 0) fits.found in
       let behind = open_behind pool.volunteers passed fits.number standing right.ahead fits.ahead in
       let at_number : IsRight (Inside (standing_set pool fits.number standing) (fits.number + 1)) = record {
-        has_text = IsPool-standing_set pool fits.number standing right.has_text;
+        is_pool = IsPool-standing_set pool fits.number standing right.is_pool;
         ahead = subst (λ n. open_from n (with_standing pool.volunteers fits.number standing) ≡ true) (sym (add-one fits.number)) behind;
       } in
       subst (λ n. IsRight (Inside (standing_set pool n standing) (n + 1))) (sym place) at_number
-  keeps_standing standing (id ∷ other ∷ fields) h = cc
-
-  keeps_end : (fields : List (List ℕ)) → Keeps (end_entry fields)
-  unfolding Keeps
-  keeps_end [] h = right.has_text
-  keeps_end (other ∷ fields) h = cc
+  keeps (StandingWord standing) (id ∷ other ∷ fields) utf8 h = cc
+  keeps EndWord [] utf8 h = right.is_pool
+  keeps EndWord (other ∷ fields) utf8 h = cc
 
   pub entry_keeps : (fields : List (List ℕ)) → AllByRecursion (λ field. is_utf8 field ≡ true) fields → entry_kind pool passed (entry_of fields) ≡ None → IsRight (after_entry pool passed (entry_of fields))
   unfolding Keeps
   entry_keeps [] utf8 h = cc
   entry_keeps (first ∷ fields) utf8 h =
-      let ending = cond (bytes_eq first (codes "end")) (end_entry fields) Unknown in
-      let from_gone = cond (bytes_eq first (codes "gone")) (standing_entry Gone fields) ending in
-      let from_seated = cond (bytes_eq first (codes "seated")) (standing_entry Seated fields) from_gone in
-      let from_volunteer = cond (bytes_eq first (codes "volunteer")) (volunteer_entry fields) from_seated in
-      let from_value = cond (bytes_eq first (codes "value")) (value_entry fields) from_volunteer in
-      cond_both (bytes_eq first (codes "category")) (category_entry fields) from_value Keeps (λ _. keeps_category fields utf8.1)
-      (λ _. cond_both (bytes_eq first (codes "value")) (value_entry fields) from_volunteer Keeps (λ _. keeps_value fields utf8.1)
-      (λ _. cond_both (bytes_eq first (codes "volunteer")) (volunteer_entry fields) from_seated Keeps (λ _. keeps_volunteer fields utf8.1)
-      (λ _. cond_both (bytes_eq first (codes "seated")) (standing_entry Seated fields) from_gone Keeps (λ _. keeps_standing Seated fields)
-      (λ _. cond_both (bytes_eq first (codes "gone")) (standing_entry Gone fields) ending Keeps (λ _. keeps_standing Gone fields)
-      (λ _. cond_both (bytes_eq first (codes "end")) (end_entry fields) Unknown Keeps (λ _. keeps_end fields) (λ _ k. cc)))))) h
+      (elim (word_among words first) as (λ o. Keeps (entry_behind o fields)) [
+        | None ↦ λ k. cc
+        | Some word ↦ keeps word fields utf8.1
+      ]) h
 
 -- a right line is one line more, and what stands stays right
 pub line_adds : (progress : Progress) (line : List ℕ) → IsRight progress → line_kind progress line ≡ None →
@@ -394,9 +374,9 @@ line_adds Begun line right h =
     (tt, ap (λ l. l ∷ []) (sym (bytes_are line version_line (not-false (bytes_eq line version_line) fails.0))))
 line_adds Versioned line right h =
     let spelled = sym (line_of-fields_of line) ∙ size_spelled (fields_of line) h in
-    (record { has_text = IsPool-empty_pool (size_of (fields_of line)) h; ahead = refl }, ap (λ l. version_line ∷ l ∷ []) (sym spelled))
+    (record { is_pool = IsPool-empty_pool (size_of (fields_of line)) h; ahead = refl }, ap (λ l. version_line ∷ l ∷ []) (sym spelled))
 line_adds (Inside pool passed) line right h =
-    let kinds = neither (entry_kind pool passed (entry_of (fields_of line))) (encoding_kind line) h in
+    let kinds = neither (entry_kind pool passed (entry_of (fields_of line))) (encoding_kind line) (sym (line_kind_of pool passed line) ∙ h) in
     let same = line_of-fields_of line in
     let text = not-false (is_utf8 line) (no_kind (not (is_utf8 line)) 11 None kinds.1).0 in
     let utf8 = each_field_is_utf8 (fields_of line) (subst IsUtf8 (sym same) (IsUtf8-from_is_utf8 line text)) in (
@@ -408,25 +388,25 @@ line_adds (Ended pool) line right h = cc
 
 -- a text that ends with its last line is the text of the pool that is read
 last_is_spelled : (number : ℕ) (progress : Progress) (bytes : List ℕ) (pool : Pool) → IsRight progress → at_last number progress bytes ≡ Ok pool →
-    HasText pool × (text_of (lines_so_far progress) ++ bytes ≡ spelling pool)
+    IsPool pool × (text_of (lines_so_far progress) ++ bytes ≡ spelling pool)
 last_is_spelled number Begun bytes pool right h = cc
 last_is_spelled number Versioned bytes pool right h = cc
 last_is_spelled number (Inside other passed) bytes pool right h = cc
 last_is_spelled number (Ended other) (byte ∷ bytes) pool right h = cc
 last_is_spelled number (Ended other) [] pool right h =
     let same : other ≡ pool = cc in
-    (subst HasText same right, append-nil (spelling other) ∙ ap spelling same)
+    (subst IsPool same right, append-nil (spelling other) ∙ ap spelling same)
 
 -- what the pieces say, after right lines: the lines up to now and the pieces are the text of the pool that is read
 pub rest_is_spelled : (number : ℕ) (progress : Progress) (pieces : List (List ℕ)) (pool : Pool) → IsRight progress → read_lines number progress pieces ≡ Ok pool →
-    HasText pool × (text_of (lines_so_far progress) ++ join_with_byte line_feed pieces ≡ spelling pool)
+    IsPool pool × (text_of (lines_so_far progress) ++ join_with_byte line_feed pieces ≡ spelling pool)
 rest_is_spelled number progress [] pool right h = last_is_spelled number progress [] pool right h
 rest_is_spelled number progress (bytes ∷ []) pool right h = last_is_spelled number progress bytes pool right h
 rest_is_spelled number progress (line ∷ next ∷ later) pool right h =
     let rest = read_lines (number + 1) (after_line progress line) (next ∷ later) in
     let behind = join_with_byte line_feed (next ∷ later) in
     let stood = lines_so_far progress in
-    (elim (line_kind progress line) as (λ k. line_kind progress line ≡ k → fault_or k number rest ≡ Ok pool → HasText pool × (text_of stood ++ (line ++ (line_feed ∷ behind)) ≡ spelling pool)) [
+    (elim (line_kind progress line) as (λ k. line_kind progress line ≡ k → fault_or k number rest ≡ Ok pool → IsPool pool × (text_of stood ++ (line ++ (line_feed ∷ behind)) ≡ spelling pool)) [
       | Some kind ↦ λ e k. cc
       | None ↦ λ e k.
           let step = line_adds progress line right e in
@@ -437,7 +417,7 @@ rest_is_spelled number progress (line ∷ next ∷ later) pool right h =
     ]) refl h
 
 -- what is read is spelled so, each byte of it
-pub read_is_spelled : (bytes : List ℕ) (pool : Pool) → read bytes ≡ Ok pool → HasText pool × (bytes ≡ spelling pool)
+pub read_is_spelled : (bytes : List ℕ) (pool : Pool) → read bytes ≡ Ok pool → IsPool pool × (bytes ≡ spelling pool)
 read_is_spelled bytes pool h =
     let all = rest_is_spelled 1 Begun (pieces_of bytes) pool tt h in
     (all.0, sym (join_with_byte-slice_split line_feed bytes) ∙ all.1)

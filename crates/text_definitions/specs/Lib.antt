@@ -1,3 +1,3 @@
-pub mod Lines
 pub mod PoolText
 pub mod PoolReading
+pub mod FirstFault

@@ -1,11 +1,12 @@
 -- What a list of bytes says as the text of a pool: the pool, or the first faulty line and in it the lowest kind.
-use Rattle.std.specs.Prelude.{ℕ, ◌+◌, nat_lt, nat_le, if◌then◌else◌, Bool, false, not, List, [], ◌∷◌, bytes_eq, codes, Option, Some, None, Result, Ok, Err, unwrap_or, position}
+use Rattle.std.specs.Prelude.{ℕ, ◌+◌, nat_lt, nat_le, if◌then◌else◌, Bool, true, false, not, List, [], ◌∷◌, ◌++◌, bytes_eq, codes, Option, Some, None, Result, Ok, Err, unwrap_or, position}
 use Rattle.std.specs.Str.{is_utf8}
 use Rattle.pool_definitions.specs.declared.Standing.{Standing}
 use Rattle.pool_definitions.specs.declared.Standing.TheVariants.{Seated, Gone}
 use Rattle.pool_definitions.specs.Pool.{Pool, BoundedValue, Volunteer}
-use Rattle.pool_definitions.specs.Building.{lowest_kind, size_kind, empty_pool, category_kind, category_added, value_kind, value_added, volunteer_kinds, volunteer_added, standing_set}
-use Rattle.text_definitions.specs.Lines.{Fault, fields_of, pieces_of, number_up_to}
+use Rattle.pool_definitions.specs.Building.{lowest_kind, size_kinds, empty_pool, category_kinds, category_added, value_kinds, value_added, volunteer_kinds, volunteer_added, standing_set}
+use Rattle.line_definitions.specs.Lines.{Fault, fields_of, pieces_of}
+use Rattle.line_definitions.specs.Numbers.{number_up_to}
 use Rattle.text_definitions.specs.PoolText.{version_line}
 
 -- what right lines make of a text so far
@@ -29,39 +30,46 @@ pub data Entry : Type 0 where
   TheEnd : Entry
   Unknown : Entry
 
-abbrev pub category_entry : List (List ℕ) → Entry
-category_entry (name ∷ []) = OfCategory name
-category_entry _ = Unknown
+-- the words with which such a line may begin
+pub data Word : Type 0 where
+  CategoryWord : Word
+  ValueWord : Word
+  VolunteerWord : Word
+  StandingWord : (standing : Standing) → Word
+  EndWord : Word
+
+abbrev pub words : List (List ℕ × Word)
+words =
+    (codes "category", CategoryWord) ∷ (codes "value", ValueWord) ∷ (codes "volunteer", VolunteerWord)
+    ∷ (codes "seated", StandingWord Seated) ∷ (codes "gone", StandingWord Gone) ∷ (codes "end", EndWord) ∷ []
+
+-- the word, of these, that a field is
+abbrev pub word_among : List (List ℕ × Word) → List ℕ → Option Word
+word_among [] field = None
+word_among ((spelled, word) ∷ later) field = if bytes_eq field spelled then Some word else word_among later field
 
 -- a bound that a field spells, or 1000, which no bound may be
 abbrev pub bound_of : List ℕ → ℕ
 bound_of field = unwrap_or (number_up_to 999 field) 1000
 
-abbrev pub value_entry : List (List ℕ) → Entry
-value_entry (name ∷ lower ∷ upper ∷ []) = OfValue (record { name = name; lower = bound_of lower; upper = bound_of upper })
-value_entry _ = Unknown
+-- what a word and the fields behind it say
+abbrev pub entry_of_word : Word → List (List ℕ) → Entry
+entry_of_word CategoryWord (name ∷ []) = OfCategory name
+entry_of_word ValueWord (name ∷ lower ∷ upper ∷ []) = OfValue (record { name = name; lower = bound_of lower; upper = bound_of upper })
+entry_of_word VolunteerWord (id ∷ names) = OfVolunteer id names
+entry_of_word (StandingWord standing) (id ∷ []) = OfStanding standing id
+entry_of_word EndWord [] = TheEnd
+entry_of_word _ _ = Unknown
 
-abbrev pub volunteer_entry : List (List ℕ) → Entry
-volunteer_entry [] = Unknown
-volunteer_entry (id ∷ names) = OfVolunteer id names
+-- what fields say behind a word, if there is one
+abbrev pub entry_behind : Option Word → List (List ℕ) → Entry
+entry_behind None fields = Unknown
+entry_behind (Some word) fields = entry_of_word word fields
 
-abbrev pub standing_entry : Standing → List (List ℕ) → Entry
-standing_entry standing (id ∷ []) = OfStanding standing id
-standing_entry standing _ = Unknown
-
-abbrev pub end_entry : List (List ℕ) → Entry
-end_entry [] = TheEnd
-end_entry _ = Unknown
-
+-- what the fields of a line say
 abbrev pub entry_of : List (List ℕ) → Entry
 entry_of [] = Unknown
-entry_of (first ∷ fields) =
-    if bytes_eq first (codes "category") then category_entry fields
-    else (if bytes_eq first (codes "value") then value_entry fields
-    else (if bytes_eq first (codes "volunteer") then volunteer_entry fields
-    else (if bytes_eq first (codes "seated") then standing_entry Seated fields
-    else (if bytes_eq first (codes "gone") then standing_entry Gone fields
-    else (if bytes_eq first (codes "end") then end_entry fields else Unknown)))))
+entry_of (first ∷ fields) = entry_behind (word_among words first) fields
 
 -- the number of the volunteer of an id
 abbrev pub number_of : List Volunteer → List ℕ → Option ℕ
@@ -72,37 +80,36 @@ abbrev pub is_ahead : ℕ → Option ℕ → Bool
 is_ahead passed None = false
 is_ahead passed (Some number) = nat_le passed number
 
--- the lowest kind of fault of an entry, given the pool that stood before and how many standing lines have passed. 1: it may
--- not stand there, as a volunteer behind a standing line; 9: the id isn't that of a volunteer after the one of the standing
--- line before
+-- the kinds of fault that an entry may have, rising, each with whether it applies, given the pool that stood before and how many
+-- standing lines have passed. 1: it may not stand there, as a volunteer behind a standing line; 9: the id isn't that of a
+-- volunteer after the one of the standing line before
+abbrev pub entry_kinds : Pool → ℕ → Entry → List (ℕ × Bool)
+entry_kinds pool passed (OfCategory name) = category_kinds pool name
+entry_kinds pool passed (OfValue value) = value_kinds pool value
+entry_kinds pool passed (OfVolunteer id names) = (1, nat_lt 0 passed) ∷ volunteer_kinds pool id names
+entry_kinds pool passed (OfStanding standing id) = (9, not (is_ahead passed (number_of pool.volunteers id))) ∷ []
+entry_kinds pool passed TheEnd = []
+entry_kinds pool passed Unknown = (1, true) ∷ []
+
 abbrev pub entry_kind : Pool → ℕ → Entry → Option ℕ
-entry_kind pool passed (OfCategory name) = category_kind pool name
-entry_kind pool passed (OfValue value) = value_kind pool value
-entry_kind pool passed (OfVolunteer id names) = lowest_kind ((1, nat_lt 0 passed) ∷ volunteer_kinds pool id names)
-entry_kind pool passed (OfStanding standing id) = lowest_kind ((9, not (is_ahead passed (number_of pool.volunteers id))) ∷ [])
-entry_kind pool passed TheEnd = None
-entry_kind pool passed Unknown = Some 1
+entry_kind pool passed entry = lowest_kind (entry_kinds pool passed entry)
 
 -- the size that the fields of the second line give, or 0, which no size may be
 abbrev pub size_of : List (List ℕ) → ℕ
 size_of (first ∷ field ∷ []) = if bytes_eq first (codes "size") then unwrap_or (number_up_to 200 field) 0 else 0
 size_of _ = 0
 
--- 11: the line isn't UTF-8
-abbrev pub encoding_kind : List ℕ → Option ℕ
-encoding_kind line = lowest_kind ((11, not (is_utf8 line)) ∷ [])
+-- the kinds of fault that a line may have, rising, each with whether it applies, given what stood before. 1: another first line,
+-- or a line after the end; 2: no size; 11: the line isn't UTF-8
+abbrev pub line_kinds : Progress → List ℕ → List (ℕ × Bool)
+line_kinds Begun line = (1, not (bytes_eq line version_line)) ∷ []
+line_kinds Versioned line = size_kinds (size_of (fields_of line))
+line_kinds (Inside pool passed) line = entry_kinds pool passed (entry_of (fields_of line)) ++ (11, not (is_utf8 line)) ∷ []
+line_kinds (Ended pool) line = (1, true) ∷ []
 
--- the first of two kinds
-abbrev pub kind_or : Option ℕ → Option ℕ → Option ℕ
-kind_or None other = other
-kind_or (Some kind) other = Some kind
-
--- the lowest kind of fault of a line, given what stood before. 1: another first line, or a line after the end; 2: no size
+-- the lowest kind of fault of a line
 abbrev pub line_kind : Progress → List ℕ → Option ℕ
-line_kind Begun line = lowest_kind ((1, not (bytes_eq line version_line)) ∷ [])
-line_kind Versioned line = size_kind (size_of (fields_of line))
-line_kind (Inside pool passed) line = kind_or (entry_kind pool passed (entry_of (fields_of line))) (encoding_kind line)
-line_kind (Ended pool) line = Some 1
+line_kind progress line = lowest_kind (line_kinds progress line)
 
 -- what stands after the standing line of the volunteer of a number
 abbrev pub after_standing : Pool → ℕ → Standing → Progress

@@ -6,7 +6,7 @@ use Rattle.pool_definitions.specs.declared.Standing.{Standing}
 use Rattle.pool_definitions.specs.declared.Standing.TheVariants.{Open, Seated, Gone}
 use Rattle.pool_definitions.specs.Pool.{BoundedValue, Category, Volunteer, Pool, IsPool}
 use Rattle.pool_definitions.specs.Building.{value_names}
-use Rattle.text_definitions.specs.Lines.{line_of, text_of}
+use Rattle.line_definitions.specs.Lines.{line_of, text_of}
 
 abbrev pub version_line : List ℕ
 version_line = line_of (codes "pool" ∷ codes "1" ∷ [])
@@ -55,6 +55,6 @@ lines_before_end pool =
 abbrev pub spelling : Pool → List ℕ
 spelling pool = text_of (lines_before_end pool ++ end_line ∷ [])
 
--- the pools that have a text: all that keep the limits
+-- the pools that have a text: all that keep the limits.
 abbrev pub HasText : Pool → Type 0
 HasText pool = IsPool pool

@@ -1,31 +1,52 @@
-//! The words of texts: lines and fields, the spelling of a pool, and the first fault of bytes that spell none. They stand
-//! in `specs/`, over the words of `pool_definitions`.
+//! The words of the text of a pool: its spelling, and the first fault of bytes that spell none. They stand in `specs/`, over
+//! the words of `pool_definitions` and `line_definitions`.
 //!
 //! The functions here have no body: their contracts are laws over the definitions, and worked examples.
 #![tactic(auto)]
 
-ghost use Rattle.std.specs.Prelude.{◌≡◌, ◌≢◌, [], ◌∷◌, ◌++◌, codes, List, length, take, ℕ, Ok, Err, MatchResult};
-ghost use Rattle.pool_definitions.specs.Pool.{Pool};
+ghost use Rattle.std.specs.Prelude.{◌≡◌, ◌≢◌, ◌<◌, ◌⊎◌, [], ◌∷◌, ◌++◌, codes, Bool, List, length, map, take, ℕ, IsTrue, Some, Ok, Err, MatchResult};
+ghost use Rattle.pool_definitions.specs.Pool.{Pool, IsPool};
 ghost use Rattle.pool_definitions.specs.WorkedExamples.{four, after_dropout, nobody};
-ghost use Rattle.text_definitions.specs.Lines.{line_of, text_of};
-ghost use Rattle.text_definitions.specs.PoolText.{HasText, lines_before_end, spelling};
-ghost use Rattle.text_definitions.specs.PoolReading.{read};
+ghost use Rattle.pool_definitions.specs.Lists.{is_increasing};
+ghost use Rattle.pool_definitions.specs.Building.{lowest_kind};
+ghost use Rattle.line_definitions.specs.Lines.{Fault, line_of, text_of, pieces_of};
+ghost use Rattle.text_definitions.specs.PoolText.{lines_before_end, end_line, spelling};
+ghost use Rattle.text_definitions.specs.PoolReading.{Progress, line_kinds, read};
+ghost use Rattle.text_definitions.specs.FirstFault.{IsPoolText, BeginsPoolText, lines_before, lines_up_to, IsLowest, kinds_at};
 
 /// A list of bytes is the text of a pool, which is then read, or has a first fault and is the text of none.
 pub fn pool_or_fault()
     ensures { (bytes : List ℕ) → MatchResult (read bytes)
-        (λ pool. HasText pool × (bytes ≡ spelling pool))
-        (λ fault. (pool : Pool) → HasText pool → bytes ≢ spelling pool) }
+        (λ pool. IsPool pool × (bytes ≡ spelling pool))
+        (λ fault. (pool : Pool) → IsPool pool → bytes ≢ spelling pool) }
 {}
 
 /// The text of a pool is read again.
 pub fn text_is_read()
-    ensures { (pool : Pool) → HasText pool → read (spelling pool) ≡ Ok pool }
+    ensures { (pool : Pool) → IsPool pool → read (spelling pool) ≡ Ok pool }
 {}
 
 /// Pools of one text are one pool.
-pub fn one_spelling()
-    ensures { (first second : Pool) → HasText first → HasText second → spelling first ≡ spelling second → first ≡ second }
+pub fn one_pool_per_text()
+    ensures { (first second : Pool) → IsPool first → IsPool second → spelling first ≡ spelling second → first ≡ second }
+{}
+
+/// The first fault stands in the first line with which the lines are no longer the beginning of a pool's text, or, of kind 12,
+/// behind the finished lines where these are such a beginning. Behind the second line the lines before it, closed by the end,
+/// are the text of a pool, or are so already.
+pub fn first_fault_is_first()
+    ensures before { (bytes : List ℕ) (fault : Fault) → read bytes ≡ Err fault → BeginsPoolText (lines_before fault bytes) }
+    ensures closed { (bytes : List ℕ) (fault : Fault) → read bytes ≡ Err fault → 2 < fault.line →
+        IsPoolText (text_of (lines_before fault bytes)) ⊎ IsPoolText (text_of (lines_before fault bytes ++ end_line ∷ [])) }
+    ensures up_to { (bytes : List ℕ) (fault : Fault) → read bytes ≡ Err fault → fault.kind ≢ 12 → ¬ BeginsPoolText (lines_up_to fault bytes) }
+    ensures missing_end { (bytes : List ℕ) (fault : Fault) → read bytes ≡ Err fault → fault.kind ≡ 12 → length (pieces_of bytes) ≡ fault.line }
+{}
+
+/// The kinds that a line may have are one rising list, and the first fault's kind is the lowest of those that apply in its line.
+pub fn first_fault_is_lowest()
+    ensures lowest { (kinds : List (ℕ × Bool)) (kind : ℕ) → IsTrue (is_increasing (map (λ one. one.0) kinds)) → lowest_kind kinds ≡ Some kind → IsLowest kinds kind }
+    ensures rising { (progress : Progress) (line : List ℕ) → IsTrue (is_increasing (map (λ one. one.0) (line_kinds progress line))) }
+    ensures fault { (bytes : List ℕ) (fault : Fault) → read bytes ≡ Err fault → fault.kind ≢ 12 → IsLowest (kinds_at fault bytes) fault.kind }
 {}
 
 /// The texts of two women and two men, of the same after a dropout, and of nobody, and bytes that are no text.

@@ -9,7 +9,7 @@ use mir.Syntax.{w128}
 use Rattle.pool_definitions.specs.Lists.{includes}
 use Rattle.pool_definitions.specs.Pool.{everybody}
 use Rattle.pool_definitions.specs.Lottery.{LotteryRow, count}
-use Rattle.pool_definitions.proofs.Sums.{total, sum_by-is-total}
+use Rattle.basic_laws.proofs.Sums.{total, sum_by-is-total}
 use Rattle.pool_definitions.proofs.Weights.{counted}
 use Rattle.pool_definitions.proofs.Greatest.{count-is}
 use Rattle.pool_model.proofs.counting.chances.Goals as goal

@@ -1,5 +1,5 @@
-use Rattle.pool_text.proofs.EntryLemmas.{each_name_is_text}
+use Rattle.pool_definitions.proofs.BuildingLemmas.{no_kind}
 use Rattle.pool_text.proofs.entries.add_entry.Goals as goal
 
-pub names_of-requires : goal.names_of-requires
-names_of-requires c = each_name_is_text c.in-Volunteer.values.now (rw c.in-Volunteer.is at c.requires.text).1
+pub add_right_volunteer-requires : goal.add_right_volunteer-requires
+add_right_volunteer-requires c = rw c.text_of-in-Volunteer.ensures (no_kind _ _ _ (rw c.in-Volunteer.is at c.requires.right)).1

@@ -1,11 +1,11 @@
 use Rattle.std.proofs.Common.{◌≡◌, ℕ, List, [], ◌∷◌, length, get_or, map, arith, refl}
 use Rattle.std.proofs.Common.{Bor}
 use Rattle.std.proofs.lemmas.List.{length-map}
-use Rattle.text_definitions.specs.PoolReading.{OfValue, Unknown, bound_of, value_entry}
+use Rattle.text_definitions.specs.PoolReading.{OfValue, Unknown, ValueWord, bound_of, entry_of_word}
 use Rattle.pool_text.proofs.entries.value_entry.Goals as goal
 
 -- other than three fields are no value
-not_three : (fields : List (List ℕ)) → (length fields ≡ 3 → ⊥) → Unknown ≡ value_entry fields
+not_three : (fields : List (List ℕ)) → (length fields ≡ 3 → ⊥) → Unknown ≡ entry_of_word ValueWord fields
 not_three [] h = refl
 not_three (name ∷ []) h = refl
 not_three (name ∷ lower ∷ []) h = refl
@@ -20,7 +20,7 @@ returns-then-rest-ne3 c =
 -- three fields are a value
 three : (fields : List (Bor (List ℕ))) (none : Bor (List ℕ)) (lower upper : ℕ) → length fields ≡ 3 →
     lower ≡ bound_of (get_or fields 1 none).now → upper ≡ bound_of (get_or fields 2 none).now →
-    OfValue (record { name = (get_or fields 0 none).now; lower = lower; upper = upper }) ≡ value_entry (map (λ field. field.now) fields)
+    OfValue (record { name = (get_or fields 0 none).now; lower = lower; upper = upper }) ≡ entry_of_word ValueWord (map (λ field. field.now) fields)
 three [] none lower upper h e f = absurd (omega arith)
 three (a ∷ []) none lower upper h e f = absurd (omega arith)
 three (a ∷ b ∷ []) none lower upper h e f = absurd (omega arith)

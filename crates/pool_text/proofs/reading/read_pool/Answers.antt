@@ -1,7 +1,7 @@
 use Rattle.std.proofs.Common.{◌≡◌, ℕ, List, ◌∙◌, subst, ap}
 use Rattle.std.specs.Prelude.{Result, Ok, Err, IfOk}
-use Rattle.pool_definitions.specs.Pool.{Pool}
-use Rattle.text_definitions.specs.PoolText.{HasText, spelling}
+use Rattle.pool_definitions.specs.Pool.{Pool, IsPool}
+use Rattle.text_definitions.specs.PoolText.{spelling}
 use Rattle.text_definitions.specs.PoolReading.{read}
 use Rattle.text_definitions.proofs.ReadAgain.{spelled_is_read}
 use Rattle.text_definitions.proofs.Spelled.{read_is_spelled}
@@ -9,12 +9,12 @@ use Rattle.pool_text.specs.declared.faults.ReadPool.{ReadPool}
 use Rattle.pool_text.specs.Answers.{Reads}
 use Rattle.pool_text.proofs.reading.read_pool.Goals as goal
 
-spelled : (bytes : List ℕ) (r : Result Pool ReadPool) → Reads (read bytes) r → IfOk r (λ pool. HasText pool × (bytes ≡ spelling pool))
+spelled : (bytes : List ℕ) (r : Result Pool ReadPool) → Reads (read bytes) r → IfOk r (λ pool. IsPool pool × (bytes ≡ spelling pool))
 spelled bytes (Ok pool) h = read_is_spelled bytes pool h
 spelled bytes (Err stop) h = tt
 
 pub returns-clause-spelled : goal.returns-clause-spelled
-returns-clause-spelled c = spelled c.args.bytes.now c.read_lines.result c.read_lines.ensures
+returns-clause-spelled c = spelled c.args.bytes.now c.read_lines.result c.read_lines.ensures.exact
 
 pub returns-clause-read : goal.returns-clause-read
-returns-clause-read c pool has same = subst (λ said. Reads said c.read_lines.result) (ap read same ∙ spelled_is_read pool has) c.read_lines.ensures
+returns-clause-read c pool has same = subst (λ said. Reads said c.read_lines.result) (ap read same ∙ spelled_is_read pool has) c.read_lines.ensures.exact

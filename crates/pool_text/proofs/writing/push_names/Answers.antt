@@ -1,11 +1,10 @@
 use Rattle.std.proofs.Common.{◌≡◌, ◌+◌, List, [], ◌∷◌, ◌++◌, length, length-append, take, get_or, ap, sym, ◌∙◌, append_assoc, arith, rules}
-use Rattle.std.specs.Prelude.{string_bytes}
 use Rattle.std.proofs.lemmas.List.{take_all}
 use Rattle.std.proofs.lemmas.Slice.Zip.{zip_turn, zip_end}
 use Rattle.pool_definitions.specs.Pool.{Category}
 use Rattle.pool_definitions.specs.Building.{value_names}
 use Rattle.text_definitions.specs.PoolText.{names_at}
-use Rattle.text_definitions.specs.Lines.{tabbed}
+use Rattle.line_definitions.specs.Lines.{tabbed}
 use Rattle.pool_text.proofs.WritingLemmas.{place_inside, as_many, tabbed_more}
 use Rattle.pool_text.proofs.writing.push_names.Goals as goal
 
@@ -29,7 +28,7 @@ loop-category-preserved c =
     let turn = zip_turn categories places yielded c.into_iter-category-iterator.result c.loop-category.category-iterator c.next.new.self c.next.result (search rules) (search rules) c.loop-category.yielded_by (c.in-Some.category, c.in-Some.place) c.in-Some.is c.next.ensures.steps in
     let size : length (yielded ++ (c.in-Some.category, c.in-Some.place) ∷ []) ≡ i + 1 = length-append yielded ((c.in-Some.category, c.in-Some.place) ∷ []) in
     let more = tabbed_more categories places i category turn.0 turn.1 in
-    let text = string_bytes c.args.text.now in
+    let text = c.args.text.now.items in
     let name : c.name_at.result.now ≡ get_or (value_names (get_or categories i category).values) (get_or places i 0) [] =
     c.name_at.ensures ∙ (ap (λ vs. get_or (value_names vs) c.in-Some.place.now []) (c.values.ensures ∙ ap (λ (k : Category). k.values) (turn.2 category))
     ∙ ap (λ place. get_or (value_names (get_or categories i category).values) place []) (turn.3 0)) in
@@ -50,4 +49,4 @@ returns c =
     let same = as_many categories places c.requires in
     let first : take (length yielded) categories ≡ categories = take_all (length yielded) categories (omega arith) in
     let second : take (length yielded) places ≡ places = take_all (length yielded) places (omega arith) in
-    c.loop-category.invariant ∙ ap (λ fields. string_bytes c.args.text.now ++ tabbed fields) (ap (λ cs. names_at cs (take (length yielded) places)) first ∙ ap (names_at categories) second)
+    c.loop-category.invariant ∙ ap (λ fields. c.args.text.now.items ++ tabbed fields) (ap (λ cs. names_at cs (take (length yielded) places)) first ∙ ap (names_at categories) second)

@@ -1,8 +1,7 @@
 use Rattle.std.proofs.Common.{◌≡◌, ◌++◌, map, take}
-use Rattle.std.specs.Prelude.{string_bytes}
-use Rattle.text_definitions.specs.Lines.{text_of}
+use Rattle.line_definitions.specs.Lines.{text_of}
 use Rattle.text_definitions.specs.PoolText.{value_line}
 use Rattle.pool_text.proofs.writing.push_values.Given as goal
 
 abbrev pub invariant-loop-value : goal.invariant-loop-value
-invariant-loop-value l = string_bytes l.text ≡ string_bytes l.fn.text ++ text_of (map value_line (take l.value-index l.values))
+invariant-loop-value l = l.text.items ≡ l.fn.text.items ++ text_of (map value_line (take l.value-index l.values))

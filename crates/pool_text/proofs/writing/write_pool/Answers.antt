@@ -7,5 +7,5 @@ use Rattle.pool_text.proofs.writing.write_pool.Goals as goal
 
 pub returns-clause-read : goal.returns-clause-read
 returns-clause-read c =
-    let spelled : c.into_bytes.result.items ≡ spelling c.args.pool.now = grind (arith, common_steps) in
+    let spelled : c.push_pool.new.text.items ≡ spelling c.args.pool.now = grind (arith, common_steps) in
     ap read spelled ∙ spelled_is_read c.args.pool.now c.facts.ensures

@@ -1,0 +1,37 @@
+-- The second line, read without taking it apart.
+use Rattle.std.proofs.Common.{◌≡◌, ℕ, ◌+◌, ◌^◌, true, eqb, List, [], ◌∷◌, ◌++◌, length, take, drop, sym, ◌∙◌, ap, subst, arith, Some, None, unwrap_or, refl}
+use Rattle.std.specs.Prelude.{bytes_eq, codes}
+use Rattle.std.specs.Fmt.{decimal}
+use Rattle.std.proofs.lemmas.List.{take-append-drop}
+use Rattle.std.proofs.lemmas.List.Splits.{slice_split_at}
+use Rattle.line_definitions.specs.Lines.{tab, line_of, fields_of}
+use Rattle.line_definitions.specs.Numbers.{number_up_to}
+use Rattle.line_definitions.proofs.LineLemmas.{fields_of-line_of, line_of-fields_of}
+use Rattle.line_definitions.proofs.FieldLemmas.{plain_field, decimal_field}
+use Rattle.line_definitions.proofs.NumberLemmas.{bytes_are, number_spelled}
+use Rattle.text_definitions.specs.PoolReading.{size_of}
+
+-- a number has no TAB
+no_number : (field : List ℕ) (fields : List (List ℕ)) → fields_of field ≡ fields → (length fields ≡ 1 → ⊥) → number_up_to 200 field ≡ None
+no_number field fields e apart =
+    (elim (number_up_to 200 field) as (λ o. number_up_to 200 field ≡ o → o ≡ None) [
+      | None ↦ λ _. refl
+      | Some n ↦ λ k.
+          let spelled = number_spelled 200 n field k in
+          let whole : fields_of (decimal n) ≡ decimal n ∷ [] = fields_of-line_of (decimal n) [] ((decimal_field n (omega (arith, spelled.1))).no_tab, tt) in
+          let one : fields ≡ decimal n ∷ [] = sym e ∙ (ap fields_of (sym spelled.0) ∙ whole) in
+          absurd (apart (ap (λ (fs : List (List ℕ)). length fs) one))
+    ]) refl
+
+-- behind the word one field is a size
+one_field : (field : List ℕ) (fields : List (List ℕ)) → fields_of field ≡ fields → unwrap_or (number_up_to 200 field) 0 ≡ size_of (codes "size" ∷ fields)
+one_field field [] e = ap (λ o. unwrap_or o 0) (no_number field [] e (λ h. omega arith))
+one_field field (x ∷ []) e = ap (λ f. unwrap_or (number_up_to 200 f) 0) (sym (line_of-fields_of field) ∙ ap line_of e)
+one_field field (x ∷ y ∷ fields) e = ap (λ o. unwrap_or o 0) (no_number field (x ∷ y ∷ fields) e (λ h. omega arith))
+
+-- a line that begins with the word and a TAB
+pub size_behind : (line field : List ℕ) → bytes_eq (take 5 line) (codes "size" ++ 9 ∷ []) ≡ true → field ≡ drop 5 line → unwrap_or (number_up_to 200 field) 0 ≡ size_of (fields_of line)
+size_behind line field h e =
+    let parts : line ≡ (codes "size" ++ 9 ∷ []) ++ field = sym (take-append-drop 5 line) ∙ (ap (λ front. front ++ drop 5 line) (bytes_are (take 5 line) (codes "size" ++ 9 ∷ []) h) ∙ ap (λ rest. (codes "size" ++ 9 ∷ []) ++ rest) (sym e)) in
+    let split : fields_of line ≡ codes "size" ∷ fields_of field = ap fields_of parts ∙ slice_split_at (λ b. eqb b tab) (codes "size") tab field (plain_field (codes "size") refl).no_tab refl in
+    one_field field (fields_of field) refl ∙ ap size_of (sym split)

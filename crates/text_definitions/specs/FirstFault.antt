@@ -1,0 +1,39 @@
+-- The first fault of a text, said without reading line after line.
+use Rattle.std.specs.Prelude.{◌≡◌, ℕ, ◌-◌, ◌==◌, ◌≤◌, Bool, ◌&&◌, IsTrue, List, [], ◌++◌, take, slice_index_or}
+use Rattle.std.specs.List.{fold, list_any}
+use Rattle.pool_definitions.specs.Pool.{Pool, IsPool}
+use Rattle.line_definitions.specs.Lines.{Fault, pieces_of, text_of}
+use Rattle.text_definitions.specs.PoolText.{spelling}
+use Rattle.text_definitions.specs.PoolReading.{Progress, Begun, after_line, line_kinds}
+
+-- the bytes are the text of some pool
+abbrev pub IsPoolText : List ℕ → Type 0
+IsPoolText bytes = (pool : Pool) × IsPool pool × (bytes ≡ spelling pool)
+
+-- the text of some pool begins with these lines
+abbrev pub BeginsPoolText : List (List ℕ) → Type 0
+BeginsPoolText lines = (pool : Pool) × (rest : List ℕ) × IsPool pool × (spelling pool ≡ text_of lines ++ rest)
+
+-- the lines before the faulty one
+abbrev pub lines_before : Fault → List ℕ → List (List ℕ)
+lines_before fault bytes = take (fault.line - 1) (pieces_of bytes)
+
+-- the lines up to and with the faulty one
+abbrev pub lines_up_to : Fault → List ℕ → List (List ℕ)
+lines_up_to fault bytes = take fault.line (pieces_of bytes)
+
+-- a kind is among these and applies
+abbrev pub applies_among : List (ℕ × Bool) → ℕ → Bool
+applies_among kinds kind = list_any (λ one. (one.0 == kind) && one.1) kinds
+
+-- a kind is the lowest of those that apply
+abbrev pub IsLowest : List (ℕ × Bool) → ℕ → Type 0
+IsLowest kinds kind = IsTrue (applies_among kinds kind) × ((other : ℕ) → IsTrue (applies_among kinds other) → kind ≤ other)
+
+-- what lines make of a text so far
+abbrev pub after_lines : Progress → List (List ℕ) → Progress
+after_lines progress lines = fold after_line progress lines
+
+-- the kinds that the faulty line may have, each with whether it applies
+abbrev pub kinds_at : Fault → List ℕ → List (ℕ × Bool)
+kinds_at fault bytes = line_kinds (after_lines Begun (lines_before fault bytes)) (slice_index_or (pieces_of bytes) (fault.line - 1) [])

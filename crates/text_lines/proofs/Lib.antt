@@ -1,0 +1,2 @@
+pub mod ParsedNumbers
+pub mod LineByLine

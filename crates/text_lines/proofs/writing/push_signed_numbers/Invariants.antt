@@ -1,0 +1,7 @@
+use Rattle.std.proofs.Common.{◌≡◌, ◌++◌, map, take}
+use Rattle.std.specs.Fmt.{signed_decimal}
+use Rattle.line_definitions.specs.Lines.{tabbed}
+use Rattle.text_lines.proofs.writing.push_signed_numbers.Given as goal
+
+abbrev pub invariant-loop-number : goal.invariant-loop-number
+invariant-loop-number l = l.text.items ≡ l.fn.text.items ++ tabbed (map signed_decimal (take l.number-index l.numbers))

@@ -1,0 +1,75 @@
+//! Adding lines to a growing text, field by field. Numbers take no memory of their own.
+
+ghost use Rattle.std.specs.Prelude.{◌≡◌, ◌++◌, ◌∷◌, [], map, OnOk};
+ghost use Rattle.std.specs.Fmt.{decimal, signed_decimal};
+ghost use Rattle.line_definitions.specs.Lines.{tab, line_feed, tabbed, line_of, text_of};
+
+use itoa::Buffer;
+use std::alloc::AllocError;
+
+const TAB: u8 = 9;
+
+const LINE_FEED: u8 = 10;
+
+/// Adds a TAB and a field.
+pub fn push_field(text: &mut Vec<u8>, field: &[u8]) -> Result<(), AllocError>
+    ensures { OnOk result (text.new.items ≡ text.old.items ++ (tab ∷ field.now)) }
+{
+    text.push(TAB)?;
+    text.extend_from_slice(field)
+}
+
+/// Adds a TAB and a number.
+pub fn push_number(text: &mut Vec<u8>, number: usize) -> Result<(), AllocError>
+    ensures { OnOk result (text.new.items ≡ text.old.items ++ (tab ∷ decimal number)) }
+{
+    let mut digits = Buffer::new();
+    push_field(text, digits.format(number).as_bytes())
+}
+
+/// Adds a TAB and a number, with its sign where it is below 0.
+pub fn push_signed(text: &mut Vec<u8>, number: i128) -> Result<(), AllocError>
+    ensures { OnOk result (text.new.items ≡ text.old.items ++ (tab ∷ signed_decimal number)) }
+{
+    let mut digits = Buffer::new();
+    push_field(text, digits.format(number).as_bytes())
+}
+
+/// Adds numbers, each behind a TAB.
+pub fn push_numbers(text: &mut Vec<u8>, numbers: &[usize]) -> Result<(), AllocError>
+    ensures { OnOk result (text.new.items ≡ text.old.items ++ tabbed (map decimal numbers.now)) }
+{
+    for number in numbers {
+        push_number(text, *number)?;
+    }
+    Ok(())
+}
+
+/// Adds numbers with their signs, each behind a TAB.
+pub fn push_signed_numbers(text: &mut Vec<u8>, numbers: &[i128]) -> Result<(), AllocError>
+    ensures { OnOk result (text.new.items ≡ text.old.items ++ tabbed (map signed_decimal numbers.now)) }
+{
+    for number in numbers {
+        push_signed(text, *number)?;
+    }
+    Ok(())
+}
+
+/// Adds the LF that ends a line.
+pub fn end_line(text: &mut Vec<u8>) -> Result<(), AllocError>
+    ensures { OnOk result (text.new.items ≡ text.old.items ++ line_feed ∷ []) }
+{
+    text.push(LINE_FEED)?;
+    Ok(())
+}
+
+/// Adds a line of a word and fields.
+pub fn push_line(text: &mut Vec<u8>, word: &[u8], fields: &[&[u8]]) -> Result<(), AllocError>
+    ensures { OnOk result (text.new.items ≡ text.old.items ++ text_of (line_of (word.now ∷ map (λ field. field.now) fields.now) ∷ [])) }
+{
+    text.extend_from_slice(word)?;
+    for field in fields {
+        push_field(text, field)?;
+    }
+    end_line(text)
+}
