@@ -1,10 +1,10 @@
 -- Compositions: how many of each class are taken.
-use Rattle.std.specs.Prelude.{ℕ, zero, suc, ◌+◌, ◌-◌, ◌==◌, nat_le, if◌then◌else◌, Bool, true, false, ◌&&◌, ◌||◌, List, [], ◌∷◌, map, length, count_by, filter, slice_get, slice_index, take, ℤ, pos, ◌+ℤ◌, ◌*ℤ◌, int_lt, int_le, Option, Some, None, unwrap_or, sum_by}
+use Rattle.std.specs.Prelude.{ℕ, zero, suc, ◌+◌, ◌-◌, ◌==◌, nat_le, if◌then◌else◌, Bool, true, false, ◌&&◌, ◌||◌, List, [], ◌∷◌, map, length, count_by, filter, slice_get, slice_index, take, ℤ, pos, ◌+ℤ◌, ◌*ℤ◌, int_lt, int_le, Option, Some, None, unwrap_or}
 use Rattle.std.specs.List.{list_all, flat_map, enumerate_from, range_with_len}
 use Rattle.pool_definitions.specs.Lists.{holds}
 use Rattle.row_definitions.specs.Row.{Row}
 use Rattle.search_definitions.specs.declared.Bounds.{Bounds}
-use Rattle.search_definitions.specs.Classes.{Class, Classes}
+use Rattle.search_definitions.specs.Classes.{Class, Classes, volunteer_count}
 
 -- the counts from the greatest, so many above the least, down to the least
 abbrev pub counts_down : ℕ → ℕ → List ℕ
@@ -61,7 +61,7 @@ is_taken (class ∷ classes) (c ∷ counts) i = holds (take c class.members) i |
 
 -- the first members of each class, as many as a composition takes, in number order
 abbrev pub first_panel : Classes → List ℕ → List ℕ
-first_panel all counts = filter (is_taken all.classes counts) (range_with_len 0 (sum_by (λ class. length class.members) all.classes))
+first_panel all counts = filter (is_taken all.classes counts) (range_with_len 0 (volunteer_count all))
 
 -- how many members of a panel are of each class
 abbrev pub composition_of : Classes → List ℕ → List ℕ
