@@ -21,6 +21,7 @@ pub struct Limits {
 }
 
 impl Model for Limits {
+    ghost use Rattle.std.specs.Prelude.{◌≤◌};
     ghost use Rattle.run_definitions.specs.Run.{Limits as Seen};
     ghost use Rattle.run_definitions.specs.Keeps.{AreLimits};
 
@@ -28,7 +29,7 @@ impl Model for Limits {
 
     ghost view = { λ l. record { bits = l.bits; pivots = l.pivots; nodes = l.nodes } };
 
-    ghost invariant = { λ l. AreLimits (record { bits = l.bits; pivots = l.pivots; nodes = l.nodes }) };
+    ghost invariant = { λ l. AreLimits (record { bits = l.bits; pivots = l.pivots; nodes = l.nodes }) × (l.nodes ≤ 1000000000000) };
 
     ghost inverse = { λ l. record { bits = l.bits; pivots = l.pivots; nodes = l.nodes } };
 }
@@ -69,6 +70,7 @@ impl Limits {
     /// How many visits each of its searches may take.
     pub fn nodes(self) -> u64
         ensures value { result ≡ self.nodes }
+        ensures few { self.nodes ≤ 1000000000000 }
         ensures ranges { AreLimits self }
     {
         self.nodes

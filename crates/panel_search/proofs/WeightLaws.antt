@@ -11,7 +11,7 @@ use Rattle.row_definitions.specs.Row.{Row, sum_of_sizes}
 use Rattle.row_definitions.proofs.SumLaws.{abs_sum_le}
 use Rattle.search_definitions.specs.Classes.{Class, Classes, KeepsLimits}
 use Rattle.search_definitions.specs.Compositions.{weight_in}
-use Rattle.search_definitions.specs.Fronts.{sizes_of, is_live, size_reachable, values_reachable, taken_by, units, greatest_sum, optimistic}
+use Rattle.search_definitions.specs.Fronts.{sizes_of, is_reachable, size_reachable, values_reachable, taken_by, units, greatest_sum, optimistic}
 use Rattle.panel_search.specs.Weights.{at, cell_of, AreNarrow, AreWithin, HoldsSums, Weighs}
 use Rattle.panel_search.specs.declared.weighing.Weighing.{Weighing}
 use Rattle.panel_search.proofs.UnitSums.{width, greatest_width, units_width, each_of}
@@ -148,7 +148,7 @@ optimistic_none all row weighing weighs =
 
 -- ---- live fronts
 
-pub taken_few : (all : Classes) (front : List ℕ) → is_live all front ≡ true → taken_by all front ≤ all.size
+pub taken_few : (all : Classes) (front : List ℕ) → is_reachable all front ≡ true → taken_by all front ≤ all.size
 taken_few all front live =
     let parts = and_parts (size_reachable all front) (values_reachable all front) live in
     leb-true (taken_by all front) all.size (and_parts (leb (taken_by all front) all.size) _ parts.0).0

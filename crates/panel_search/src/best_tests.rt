@@ -77,7 +77,7 @@ fn numbers(
 }
 
 // May the front still come to a quota panel?
-fn is_live(given: &Given<'_>, front: &[usize]) -> bool {
+fn is_reachable(given: &Given<'_>, front: &[usize]) -> bool {
     let (held, later) = numbers(given.volunteers, front, None);
     if given.size < held || held.wrapping_add(later) < given.size {
         return false;
@@ -133,7 +133,7 @@ fn plainly(
         let Some(front) = stack.pop() else {
             break;
         };
-        let mut enters = is_live(given, &front)
+        let mut enters = is_reachable(given, &front)
             && floor < optimistic(alloc, given, row.entries(), &front)?;
         for other in closed {
             enters = enters && other.side() <= optimistic(alloc, given, other.entries(), &front)?;

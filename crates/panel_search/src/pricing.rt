@@ -8,7 +8,7 @@ ghost use Rattle.panel_search.specs.Pricing.{StandsAt, Moves, Ends, told, CanTak
 ghost use Rattle.panel_search.specs.Steps.{counts_at};
 ghost use Rattle.panel_search.specs.Weights.{AreNarrow, AreWithin, EachNarrow, Weighs, WeighEach};
 ghost use Rattle.search_definitions.specs.Compositions.{price, weight_in};
-ghost use Rattle.search_definitions.specs.Fronts.{HaveEntries, HaveReach, is_live, optimistic};
+ghost use Rattle.search_definitions.specs.Fronts.{HaveEntries, HaveReach, is_reachable, optimistic};
 ghost use Rattle.search_definitions.specs.Visits.{best_search, enter_best};
 
 use crate::rows::Row;
@@ -175,7 +175,7 @@ impl BestSearch {
         requires narrow { AreNarrow classes.now row.now.a }
         requires closed_narrow { EachNarrow classes.now closed.now }
         requires below { depth < length classes.now.classes }
-        requires live { is_live classes.now (take depth self.old.counts.items ++ count ∷ []) ≡ true }
+        requires live { is_reachable classes.now (take depth self.old.counts.items ++ count ∷ []) ≡ true }
         requires can_take { CanTake classes.now depth count }
         requires stands { StandsAt classes.now closed.now row.now depth (drop (depth + 1) classes.now.classes) self.old }
         ensures value { result ≡ (list_all (λ r. int_le r.b (optimistic classes.now r (take depth self.old.counts.items ++ count ∷ []))) closed.now

@@ -1,6 +1,6 @@
 -- Each step of a run keeps what its tables keep.
 use Rattle.std.proofs.Common.{◌≡◌, ℕ, zero, suc, ◌+◌, ◌-◌, ◌^◌, ◌<◌, ◌≤◌, Bool, true, false, cond, leb, ltb, List, [], ◌∷◌, ◌++◌, length, length-append, map, take, Option, Some, None, Result, Ok, Err, refl, sym, ap, ap₂, ◌∙◌, subst, arith, inl, inr, ◌⊎◌}
-use Rattle.std.specs.Prelude.{◌==◌, slice_index, slice_get, slice_set, sum, Contains}
+use Rattle.std.specs.Prelude.{◌==◌, slice_index, slice_set, sum, Contains}
 use Rattle.std.specs.List.{All, AllByRecursion}
 use Rattle.std.proofs.lemmas.Bool.{cases_lt, eqb-true, and_parts, leb-false, ltb-true}
 use Rattle.std.proofs.lemmas.List.{get_or_append_left, get_or_push, map-append, take-append-le, length-map}
@@ -23,12 +23,12 @@ use Rattle.row_definitions.proofs.StepsKeep.{add-keeps, close-keeps, enter-keeps
 use Rattle.search_definitions.specs.Classes.{Class, Classes, KeepsLimits}
 use Rattle.search_definitions.specs.Compositions.{all_counts, compositions, first_composition, is_composition, meets_bounds, price, taken_of}
 use Rattle.search_definitions.specs.Fronts.{sizes_of}
-use Rattle.search_definitions.specs.Visits.{best_search, first_search}
+use Rattle.search_definitions.specs.Visits.{first_search}
+use Rattle.search_definitions.proofs.Contained.{each_contains, each_itself, filtered, first_there}
 use Rattle.search_definitions.proofs.Listed.{each_mapped}
-use Rattle.run_definitions.specs.Run.{Limits, Next, GoOn, Ended, NodesSpent, PivotsSpent, closed_rows, answered, follow, opened, opening, parts_of, pivoted, priced, started, step, step_in_stage}
-use Rattle.run_definitions.specs.Keeps.{AreLimits, IsPriced, IsReached, KeepsRun}
+use Rattle.run_definitions.specs.Run.{RunLimits, Next, GoOn, Ended, NodesSpent, PivotsSpent, closed_rows, answered, follow, opened, opening, parts_of, pivoted, priced, pricing_visits, started, step, step_in_stage}
+use Rattle.run_definitions.specs.Keeps.{AreRunLimits, IsPriced, IsReached, KeepsRun}
 use Rattle.spread_definitions.specs.Spreading.{spread}
-use Rattle.run_definitions.proofs.Found.{contains_first, each_contains, each_itself, filtered}
 use Rattle.run_definitions.proofs.Priced.{FitsSizes, better, composition_fits, may_be_added}
 
 map_same : {X Y : Type 0} (f g : X → Y) (xs : List X) → AllByRecursion (λ x. f x ≡ g x) xs → map f xs ≡ map g xs
@@ -49,7 +49,7 @@ closed_rows_stay table h open_now r v chosen made e =
 
 -- ---- one step
 
-module _ (all : Classes) (limits : Limits) (table : Table) (keeps : KeepsRun all limits table) where
+module _ (all : Classes) (limits : RunLimits) (table : Table) (keeps : KeepsRun all limits table) where
   pub entered_kept : table.in_stage ≡ false → settled_count table < length table.sizes → KeepsRun all limits (enter_stage table)
   unfolding enter_stage
   entered_kept shut some = record {
@@ -167,7 +167,7 @@ module _ (all : Classes) (limits : Limits) (table : Table) (keeps : KeepsRun all
 
       in_stage : table.in_stage ≡ true → (chosen : Option (ℕ × Var)) → choice table ≡ chosen → step_in_stage all limits table chosen ≡ GoOn made → KeepsRun all limits made
       in_stage open_now (Some (r, v)) c f = within r v open_now c (leb limits.pivots table.pivots) refl f
-      in_stage open_now None c f = budget open_now c (ltb limits.nodes (best_search all (closed_rows table) (row_at table (open_row table))).visits) f
+      in_stage open_now None c f = budget open_now c (ltb limits.pricing (pricing_visits all (closed_rows table) (row_at table (open_row table)))) f
 
       between : table.in_stage ≡ false → (b : Bool) → ltb (settled_count table) (length table.sizes) ≡ b →
           cond b (GoOn (enter_stage table)) (Ended (answered all table (spread all (parts_of table)))) ≡ GoOn made → KeepsRun all limits made
@@ -184,10 +184,6 @@ module _ (all : Classes) (limits : Limits) (table : Table) (keeps : KeepsRun all
 some_taken : (p : Class → Bool) (classes : List Class) (counts : List ℕ) → 0 < taken_of p classes counts → 0 < length (map (λ class. length class.members) classes)
 some_taken p [] counts l = absurd (omega arith)
 some_taken p (class ∷ classes) counts l = omega arith
-
-pub first_there : (xs : List (List ℕ)) (first : List ℕ) → slice_get xs 0 ≡ Some first → Contains xs first
-first_there [] first e = absurd cc
-first_there (x ∷ xs) first e = let same : x ≡ first = cc in subst (Contains (x ∷ xs)) same (contains_first x xs)
 
 -- what the first table needs
 pub record MayBegin (all : Classes) (first : List ℕ) : Type 0 where
@@ -218,7 +214,7 @@ first_table_is sizes first bits made e =
     let parts = after-Ok_parts (in_turn (reach_operations (most_of bits) sizes) 0 (first_rows first)) (λ reaches. Ok (first_table sizes first bits)) made e in
     let last : ◌≡◌ {A = Result Table Pass} (Ok (first_table sizes first bits)) (Ok made) = parts.2 in cc
 
-module _ (all : Classes) (limits : Limits) (limited : KeepsLimits all) (ranges : AreLimits limits) where
+module _ (all : Classes) (limits : RunLimits) (limited : KeepsLimits all) (ranges : AreRunLimits limits) where
   started_kept : (first : List ℕ) → Contains (compositions all) first → (made : Table) → start (sizes_of all) first limits.bits ≡ Ok made → KeepsRun all limits made
   started_kept first there made e =
       let may = may_begin all limited first there in
@@ -232,9 +228,9 @@ module _ (all : Classes) (limits : Limits) (limited : KeepsLimits all) (ranges :
         priced_out = λ k l. absurd (omega (arith, l, ap (λ t. length t.closed) same));
       }
 
-  opening_kept : (made : Table) → opening all limits ≡ GoOn made → KeepsRun all limits made
+  pub opening_kept : (made : Table) → opening all limits ≡ GoOn made → KeepsRun all limits made
   unfolding opening
-  opening_kept made e = by (ltb limits.nodes (first_search all).visits) e
+  opening_kept made e = by (ltb limits.opening (first_search all).visits) e
     where
       of_start : (first : List ℕ) → Contains (compositions all) first → (tried : Result Table Pass) → start (sizes_of all) first limits.bits ≡ tried → started tried ≡ GoOn made → KeepsRun all limits made
       of_start first there (Err pass) p f = absurd cc

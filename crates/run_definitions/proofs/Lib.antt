@@ -1,5 +1,5 @@
-pub mod Ends
-pub mod Found
+pub mod Following
 pub mod Priced
 pub mod Kept
 pub mod Parts
+pub mod Work

@@ -9,31 +9,31 @@ use Rattle.row_definitions.specs.Pivot.{start, pivot}
 use Rattle.row_definitions.specs.Steps.{enter_stage, open_row}
 use Rattle.row_definitions.specs.Table.{Table, row_at}
 use Rattle.run_definitions.specs.Keeps.{IsReached}
-use Rattle.run_definitions.specs.Run.{Ending, Limits, Next, GoOn, Ended, NoPanel, Found, TooWide, TotalPasses, PivotsSpent, NodesSpent, answered, closed_rows, follow, opened, opening, parts_of, pivoted, priced, started, step, step_in_stage}
+use Rattle.run_definitions.specs.Run.{Ending, RunLimits, Next, GoOn, Ended, NoPanel, Found, TooWide, TotalPasses, PivotsSpent, NodesSpent, answered, closed_rows, follow, opened, opening, parts_of, pivoted, priced, pricing_visits, started, step, step_in_stage}
 use Rattle.search_definitions.specs.Classes.{Classes}
 use Rattle.search_definitions.specs.Compositions.{first_composition, price}
 use Rattle.search_definitions.specs.Fronts.{sizes_of}
-use Rattle.search_definitions.specs.Visits.{best_search, first_search}
+use Rattle.search_definitions.specs.Visits.{first_search}
 use Rattle.spread_definitions.specs.Spreading.{spread}
 
 -- a run is refused a step by the width, the pivots or the visits
 abbrev pub is_refused : Ending → Bool
 is_refused NoPanel = false
-is_refused (Found answer) = false
+is_refused (Found last answer) = false
 is_refused (TooWide stood pass) = true
 is_refused (TotalPasses stood pass) = false
 is_refused (PivotsSpent stood) = true
 is_refused (NodesSpent stood) = true
 
 -- a run that comes to a table ends with its next step
-pub record EndsAt (all : Classes) (limits : Limits) (ending : Ending) : Type 0 where
+pub record EndsAt (all : Classes) (limits : RunLimits) (ending : Ending) : Type 0 where
   pub last : Table
   pub reached : IsReached all limits last
   pub step_is : step all limits last ≡ Ended ending
 
 -- ---- the step with which a run ends
 
-module _ (all : Classes) (limits : Limits) where
+module _ (all : Classes) (limits : RunLimits) where
   -- a table so many steps from a start, whose next step ends the run
   record LastStep (next : Next) (ending : Ending) : Type 0 where
     table : Table
@@ -62,23 +62,23 @@ module _ (all : Classes) (limits : Limits) where
   -- the opening finds no composition
   pub record FindsNone (ending : Ending) : Type 0 where
     pub none : first_composition all ≡ None
-    pub within : ltb limits.nodes (first_search all).visits ≡ false
+    pub within : ltb limits.opening (first_search all).visits ≡ false
     pub is : ending ≡ NoPanel
 
   pub opening_tells : (ending : Ending) → opening all limits ≡ Ended ending → FindsNone ending ⊎ (is_refused ending ≡ true)
   unfolding opening
-  opening_tells ending e = by (ltb limits.nodes (first_search all).visits) refl e
+  opening_tells ending e = by (ltb limits.opening (first_search all).visits) refl e
     where
       of_start : (tried : Result Table Pass) → started tried ≡ Ended ending → FindsNone ending ⊎ (is_refused ending ≡ true)
       of_start (Ok table) f = absurd cc
       of_start (Err pass) f = let same : TooWide None pass ≡ ending = cc in inr (ap is_refused (sym same))
 
-      of_first : (found : Option (List ℕ)) → ltb limits.nodes (first_search all).visits ≡ false → first_composition all ≡ found → opened all limits found ≡ Ended ending →
+      of_first : (found : Option (List ℕ)) → ltb limits.opening (first_search all).visits ≡ false → first_composition all ≡ found → opened all limits found ≡ Ended ending →
           FindsNone ending ⊎ (is_refused ending ≡ true)
       of_first None w p f = let same : NoPanel ≡ ending = cc in inl (record { none = p; within = w; is = sym same })
       of_first (Some first) w p f = of_start (start (sizes_of all) first limits.bits) f
 
-      by : (b : Bool) → ltb limits.nodes (first_search all).visits ≡ b → cond b (Ended (NodesSpent None)) (opened all limits (first_composition all)) ≡ Ended ending →
+      by : (b : Bool) → ltb limits.opening (first_search all).visits ≡ b → cond b (Ended (NodesSpent None)) (opened all limits (first_composition all)) ≡ Ended ending →
           FindsNone ending ⊎ (is_refused ending ≡ true)
       by true w f = let same : NodesSpent None ≡ ending = cc in inr (ap is_refused (sym same))
       by false w f = of_first (first_composition all) w refl f
@@ -113,7 +113,7 @@ module _ (all : Classes) (limits : Limits) where
 
       in_stage : (chosen : Option (ℕ × Var)) → step_in_stage all limits table chosen ≡ Ended ending → is_refused ending ≡ true
       in_stage (Some (r, v)) f = within r v (leb limits.pivots table.pivots) f
-      in_stage None f = budget (ltb limits.nodes (best_search all (closed_rows table) (row_at table (open_row table))).visits) f
+      in_stage None f = budget (ltb limits.pricing (pricing_visits all (closed_rows table) (row_at table (open_row table)))) f
 
       between : table.in_stage ≡ false → (b : Bool) → ltb (settled_count table) (length table.sizes) ≡ b →
           cond b (GoOn (enter_stage table)) (Ended (answered all table (spread all (parts_of table)))) ≡ Ended ending → IsAnswered table ending ⊎ (is_refused ending ≡ true)

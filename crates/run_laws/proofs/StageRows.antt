@@ -1,5 +1,5 @@
 -- Where each volunteer is a class alone, a stage's weights are its row's entries, and its row is that row again.
-use Rattle.std.proofs.Common.{◌≡◌, ℕ, zero, suc, ◌+◌, ◌<◌, Bool, true, false, cond, ◌||◌, ltb, eqb, List, [], ◌∷◌, map, length, get_or, sum_by, Some, None, pos, refl, sym, ap, ap₂, ◌∙◌, arith}
+use Rattle.std.proofs.Common.{◌≡◌, ℕ, zero, suc, ◌+◌, ◌<◌, Bool, true, false, cond, ◌||◌, ltb, eqb, List, [], ◌∷◌, map, length, get_or, Some, None, pos, refl, sym, ap, ap₂, ◌∙◌, arith}
 use Rattle.std.specs.Prelude.{unwrap_or}
 use Rattle.std.specs.List.{position_or_len, range_with_len}
 use Rattle.std.proofs.lemmas.Bool.{eqb-true, eq-eqb, ne_eqb, lt-ltb}
@@ -9,7 +9,7 @@ use Rattle.pool_definitions.specs.Certificate.{Stage, weight_of}
 use Rattle.pool_definitions.specs.Lists.{holds}
 use Rattle.pool_definitions.specs.Pool.{Pool}
 use Rattle.row_definitions.specs.Row.{Row, entry}
-use Rattle.search_definitions.specs.Classes.{Class, Classes, are_alike, classes_of, leaders}
+use Rattle.search_definitions.specs.Classes.{Class, Classes, are_alike, classes_of, leaders, volunteer_count}
 use Rattle.search_definitions.specs.Stages.{WeighAlike, row_of}
 use Rattle.search_definitions.proofs.Listed.{each_everywhere}
 use Rattle.spread_definitions.specs.Singles.{AreAlone, single}
@@ -64,7 +64,7 @@ module _ (pool : Pool) where
   pub class_count : length all.classes ≡ count
   class_count = ap length (classes_alone pool) ∙ length-map-range_with_len (single pool.volunteers) 0 count
 
-  pub member_count : sum_by (λ class. length class.members) all.classes ≡ count
+  pub member_count : volunteer_count all ≡ count
   member_count = as_many 0 all.classes (pool_alone pool) ∙ class_count
 
   weights_are : (row : Row) → (stage_of all row).weights ≡ map (λ i. entry row (class_number all.classes i)) (range_with_len 0 count)

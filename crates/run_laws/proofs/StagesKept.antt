@@ -13,13 +13,13 @@ use Rattle.row_definitions.proofs.SettledKeep.{add-keeps_stages, close-keeps_sta
 use Rattle.search_definitions.specs.Classes.{Classes, KeepsLimits}
 use Rattle.search_definitions.specs.Compositions.{first_composition, price}
 use Rattle.search_definitions.specs.Fronts.{sizes_of}
-use Rattle.search_definitions.specs.Visits.{best_search, first_search}
+use Rattle.search_definitions.specs.Visits.{first_search}
 use Rattle.spread_definitions.specs.Spreading.{spread}
-use Rattle.run_definitions.specs.Keeps.{AreLimits, IsReached, KeepsRun}
-use Rattle.run_definitions.specs.Run.{Limits, Next, GoOn, Ended, NodesSpent, PivotsSpent, answered, closed_rows, follow, opened, opening, parts_of, pivoted, priced, started, step, step_in_stage}
+use Rattle.run_definitions.specs.Keeps.{AreRunLimits, IsReached, KeepsRun}
+use Rattle.run_definitions.specs.Run.{RunLimits, Next, GoOn, Ended, NodesSpent, PivotsSpent, answered, closed_rows, follow, opened, opening, parts_of, pivoted, priced, pricing_visits, started, step, step_in_stage}
 use Rattle.run_definitions.proofs.Kept.{step_kept, reached_kept}
 
-module _ (all : Classes) (limits : Limits) (table : Table) (keeps : KeepsRun all limits table) (stages : KeepsStages table) where
+module _ (all : Classes) (limits : RunLimits) (table : Table) (keeps : KeepsRun all limits table) (stages : KeepsStages table) where
   -- a step that goes on
   pub step_stages : (made : Table) → step all limits table ≡ GoOn made → KeepsStages made
   unfolding step
@@ -49,7 +49,7 @@ module _ (all : Classes) (limits : Limits) (table : Table) (keeps : KeepsRun all
 
       in_stage : table.in_stage ≡ true → (chosen : Option (ℕ × Var)) → choice table ≡ chosen → step_in_stage all limits table chosen ≡ GoOn made → KeepsStages made
       in_stage open_now (Some (r, v)) c f = within r v open_now c (leb limits.pivots table.pivots) f
-      in_stage open_now None c f = budget open_now c (ltb limits.nodes (best_search all (closed_rows table) (row_at table (open_row table))).visits) f
+      in_stage open_now None c f = budget open_now c (ltb limits.pricing (pricing_visits all (closed_rows table) (row_at table (open_row table)))) f
 
       between : table.in_stage ≡ false → (b : Bool) → ltb (settled_count table) (length table.sizes) ≡ b →
           cond b (GoOn (enter_stage table)) (Ended (answered all table (spread all (parts_of table)))) ≡ GoOn made → KeepsStages made
@@ -62,10 +62,10 @@ module _ (all : Classes) (limits : Limits) (table : Table) (keeps : KeepsRun all
       by true s f = in_stage s (choice table) refl f
       by false s f = between s (ltb (settled_count table) (length table.sizes)) refl f
 
-module _ (all : Classes) (limits : Limits) (limited : KeepsLimits all) (ranges : AreLimits limits) where
+module _ (all : Classes) (limits : RunLimits) (limited : KeepsLimits all) (ranges : AreRunLimits limits) where
   opening_stages : (made : Table) → opening all limits ≡ GoOn made → KeepsStages made
   unfolding opening
-  opening_stages made e = by (ltb limits.nodes (first_search all).visits) e
+  opening_stages made e = by (ltb limits.opening (first_search all).visits) e
     where
       of_start : (first : List ℕ) (tried : Result Table Pass) → start (sizes_of all) first limits.bits ≡ tried → started tried ≡ GoOn made → KeepsStages made
       of_start first (Err pass) p f = absurd cc

@@ -1,8 +1,8 @@
 -- Pricing finds the best composition, and none exactly where none qualifies.
-use Rattle.std.proofs.Common.{◌≡◌, ℕ, Bool, true, false, cond, List, [], ◌∷◌, ◌++◌, filter, Option, Some, None, ℤ, refl, sym, ap, ◌∙◌, subst, arith}
+use Rattle.std.proofs.Common.{◌≡◌, ℕ, Bool, true, false, cond, List, [], ◌∷◌, ◌++◌, filter, Option, Some, None, ℤ, refl, sym, ap, subst, arith}
 use Rattle.std.specs.Prelude.{int_le, int_lt, Contains, unwrap_or, ◌↔◌}
 use Rattle.std.specs.List.{AllByRecursion}
-use borrow.Author.Differences.{le-true, lt-true, lt-false, true_is_le, true_is_lt}
+use borrow.Author.Differences.{lt-true, lt-false, true_is_le, true_is_lt}
 use Rattle.pool_definitions.proofs.Sums.{each_map}
 use Rattle.row_definitions.specs.Row.{Row}
 use Rattle.search_definitions.specs.Best.{IsBest, Qualifies, comes_before}

@@ -1,8 +1,8 @@
 -- Compositions: how many of each class are taken.
-use Rattle.std.specs.Prelude.{ℕ, zero, suc, ◌+◌, ◌-◌, ◌==◌, nat_le, if◌then◌else◌, Bool, true, false, ◌&&◌, ◌||◌, List, [], ◌∷◌, map, length, count_by, filter, slice_get, slice_index, take, ℤ, pos, ◌+ℤ◌, ◌*ℤ◌, int_lt, int_le, Option, Some, None, unwrap_or}
+use Rattle.std.specs.Prelude.{ℕ, zero, suc, ◌+◌, ◌-◌, ◌==◌, nat_le, if◌then◌else◌, Bool, true, false, ◌&&◌, ◌||◌, List, [], ◌∷◌, map, count_by, filter, slice_get, slice_index, take, ℤ, int_lt, int_le, Option, Some, None, unwrap_or}
 use Rattle.std.specs.List.{list_all, flat_map, enumerate_from, range_with_len}
 use Rattle.pool_definitions.specs.Lists.{holds}
-use Rattle.row_definitions.specs.Row.{Row}
+use Rattle.row_definitions.specs.Row.{Row, sum_of_products}
 use Rattle.search_definitions.specs.declared.Bounds.{Bounds}
 use Rattle.search_definitions.specs.Classes.{Class, Classes, volunteer_count}
 
@@ -69,9 +69,7 @@ composition_of all panel = map (λ class. count_by (holds class.members) panel) 
 
 -- a composition's weight in a row: the sum of count times entry
 abbrev pub weight_in : List ℤ → List ℕ → ℤ
-weight_in [] counts = pos 0
-weight_in (x ∷ xs) [] = pos 0
-weight_in (x ∷ xs) (c ∷ counts) = pos c *ℤ x +ℤ weight_in xs counts
+weight_in entries counts = sum_of_products counts entries
 
 -- a composition's weight in each closed row is at least that row's right side
 abbrev pub attains : List Row → List ℕ → Bool
