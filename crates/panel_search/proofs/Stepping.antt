@@ -211,13 +211,3 @@ at_child all depth items front count tally l e tracks =
 pub child_due : (all : Classes) (later : List Class) (child child' : List ℕ) → is_reachable all child ≡ true → child' ≡ child → child_first all later child ≡ enter_first all later child'
 child_due all later child child' live e =
     ap (λ b. cond b (enter_first all later child) (record { visits = 0; found = None })) live ∙ ap (enter_first all later) (sym e)
-
--- ---- a whole search
-
-pub finds_true : (due : Due) (left : ℕ) (found : Bool) (after : Search) → Finds due left (Ok found) after → found ≡ true → due.found ≡ Some after.counts.items
-finds_true due left true after finds e = finds.1
-finds_true due left false after finds e = cc
-
-pub finds_false : (due : Due) (left : ℕ) (found : Bool) (after : Search) → Finds due left (Ok found) after → found ≡ false → due.found ≡ None
-finds_false due left true after finds e = cc
-finds_false due left false after finds e = finds.1

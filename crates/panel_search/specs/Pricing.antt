@@ -47,6 +47,6 @@ Moves all closed row depth rest due front nodes (Ok done) after =
 Moves all closed row depth rest due front nodes (Err spent) after = nodes < due.visits
 
 -- what a whole search comes to
-abbrev pub Ends : Pricing → ℕ → Result (Unit {0}) BudgetSpent → BestSearch → Type 0
-Ends due nodes (Ok done) after = (told after ≡ due) × (due.visits ≤ nodes)
-Ends due nodes (Err spent) after = nodes < due.visits
+abbrev pub EndsWithin : Pricing → ℕ → Result (Unit {0}) BudgetSpent → BestSearch → Type 0
+EndsWithin due nodes (Ok done) after = (told after ≡ due) × (due.visits ≤ nodes)
+EndsWithin due nodes (Err spent) after = nodes < due.visits
