@@ -1,18 +1,18 @@
 -- Who is taken, as a chain over classes and counts tests it.
 use Rattle.std.proofs.Common.{◌≡◌, ℕ, Bool, ◌||◌, List, [], ◌∷◌, take, filter, refl, ap, ◌∙◌}
 use Rattle.std.specs.List.{list_any, zip, range_with_len}
-use Rattle.pool_definitions.specs.Lists.{holds}
+use Rattle.pool_definitions.specs.Lists.{includes}
 use Rattle.search_definitions.specs.Classes.{Class, Classes, volunteer_count}
 use Rattle.search_definitions.specs.Compositions.{is_taken, first_panel}
 
 -- the first members of the class, as many as the count beside it, hold the volunteer
 abbrev pub gives : ℕ → Class × ℕ → Bool
-gives volunteer pair = holds (take pair.1 pair.0.members) volunteer
+gives volunteer pair = includes (take pair.1 pair.0.members) volunteer
 
 pub is_taken-zip : (volunteer : ℕ) (classes : List Class) (counts : List ℕ) → is_taken classes counts volunteer ≡ list_any (gives volunteer) (zip classes counts)
 is_taken-zip volunteer [] counts = refl
 is_taken-zip volunteer (class ∷ classes) [] = refl
-is_taken-zip volunteer (class ∷ classes) (c ∷ counts) = ap (λ b. holds (take c class.members) volunteer || b) (is_taken-zip volunteer classes counts)
+is_taken-zip volunteer (class ∷ classes) (c ∷ counts) = ap (λ b. includes (take c class.members) volunteer || b) (is_taken-zip volunteer classes counts)
 
 -- who is taken of these classes, in number order, are the first panel
 pub members_are : (all : Classes) (composition : List ℕ) (classes : List Class) (counts : List ℕ) (volunteers : ℕ) → classes ≡ all.classes → counts ≡ composition →

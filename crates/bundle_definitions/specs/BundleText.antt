@@ -2,7 +2,7 @@
 use Rattle.std.specs.Prelude.{ℕ, List, [], ◌∷◌, ◌++◌, map, codes}
 use Rattle.std.specs.Fmt.{decimal, signed_decimal}
 use Rattle.pool_definitions.specs.Pool.{Pool}
-use Rattle.pool_definitions.specs.Lottery.{Row}
+use Rattle.pool_definitions.specs.Lottery.{LotteryRow}
 use Rattle.pool_definitions.specs.Certificate.{Stage, Answer}
 use Rattle.text_definitions.specs.Lines.{line_of, text_of}
 use Rattle.text_definitions.specs.PoolText.{lines_before_end, end_line}
@@ -18,7 +18,7 @@ abbrev pub total_line : ℕ → List ℕ
 total_line total = line_of (codes "total" ∷ decimal total ∷ [])
 
 -- a panel's line: its weight, and the numbers of its members
-abbrev pub panel_line : Row → List ℕ
+abbrev pub panel_line : LotteryRow → List ℕ
 panel_line row = line_of (codes "panel" ∷ decimal row.weight ∷ map decimal row.panel)
 
 -- a stage's line: its cap, and the weight of each volunteer. A negative number has `-` before its digits

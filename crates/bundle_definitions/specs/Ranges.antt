@@ -3,7 +3,7 @@ use Rattle.std.specs.Prelude.{ℕ, ◌+◌, ◌-◌, ◌^◌, ◌==◌, nat_lt, 
 use Rattle.std.specs.List.{list_all}
 use Rattle.pool_definitions.specs.Lists.{is_increasing}
 use Rattle.pool_definitions.specs.Pool.{Pool}
-use Rattle.pool_definitions.specs.Lottery.{Row}
+use Rattle.pool_definitions.specs.Lottery.{LotteryRow}
 use Rattle.pool_definitions.specs.Certificate.{Stage, Answer}
 
 -- a weight of a panel, or their total: from 1 to 10^38
@@ -14,7 +14,7 @@ is_weight weight = nat_le 1 weight && nat_le weight (10 ^ 38)
 abbrev pub is_group : ℕ → List ℕ → Bool
 is_group volunteers panel = nat_lt 0 (length panel) && is_increasing panel && list_all (λ i. nat_lt i volunteers) panel
 
-abbrev pub is_row : ℕ → Row → Bool
+abbrev pub is_row : ℕ → LotteryRow → Bool
 is_row volunteers row = is_weight row.weight && is_group volunteers row.panel
 
 -- how far sums of a stage's weights and its cap may reach: the sum of the absolute values

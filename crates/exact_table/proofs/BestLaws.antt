@@ -2,11 +2,13 @@
 use Rattle.std.proofs.Common.{◌≡◌, ◌≢◌, ℕ, zero, suc, ◌+◌, ◌-◌, ◌<◌, ◌≤◌, Bool, true, false, cond, not, ◌&&◌, ◌||◌, List, [], ◌∷◌, ◌++◌, map, length, Option, Some, None, pos, ◌≤ℤ◌, refl, sym, ap, ◌∙◌, subst, arith, inl, inr, ⊎_elim}
 use Rattle.std.specs.List.{find, list_all, range_with_len}
 use Rattle.std.proofs.lemmas.Bool.{cases_eq, and_parts}
+use Rattle.basic_laws.proofs.Integers.{lt-tested}
+use Rattle.basic_laws.proofs.Each.{each_from_list_all}
 use Rattle.row_definitions.specs.declared.Var.{Var}
 use Rattle.row_definitions.specs.declared.Var.TheVariants.{Slack}
 use Rattle.row_definitions.specs.Table.{Table, coefficient_at, row_at, basic_at, row_numbers}
 use Rattle.row_definitions.specs.Choice.{may_leave, leaves_before, is_least, leaving}
-use Rattle.row_definitions.proofs.Chosen.{row_each, each_from_all, lt-tested}
+use Rattle.row_definitions.proofs.Chosen.{row_each}
 use Rattle.row_definitions.proofs.Ratios.{IsCandidate, before-other}
 use Rattle.row_definitions.proofs.Leaving.{IsBest, IsBest-takes, IsBest-keeps, IsBest-first, best_is_least}
 use Rattle.exact_table.specs.Parts.{AreDifferent}
@@ -93,7 +95,7 @@ module _ (table : Table) (v : Var) (sides : (i : ℕ) → i < length table.rows 
         let in_range = h.before in
         let parts = and_parts (may_leave table v k) (list_all (λ j. not (may_leave table v j) || not (leaves_before table v j k)) (row_numbers table)) e in
         let there : (not (may_leave table v b) || not (leaves_before table v b k)) ≡ true =
-        row_each table (λ j. (not (may_leave table v j) || not (leaves_before table v j k)) ≡ true) b (each_from_all (λ j. not (may_leave table v j) || not (leaves_before table v j k)) (row_numbers table) parts.1) in_range in
+        row_each table (λ j. (not (may_leave table v j) || not (leaves_before table v j k)) ≡ true) b (each_from_list_all (λ j. not (may_leave table v j) || not (leaves_before table v j k)) (row_numbers table) parts.1) in_range in
         let after : leaves_before table v b k ≡ false = denied (may_leave table v b) (leaves_before table v b k) h.may there in
         let other : basic_at table b ≢ basic_at table k = λ f. absurd (omega (arith, different b k (Slack (length table.sizes)) (omega arith) (omega arith) f)) in
         let before : leaves_before table v k b ≡ true =

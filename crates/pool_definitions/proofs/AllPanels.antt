@@ -1,22 +1,10 @@
 -- What holds of all quota panels of a pool holds of each.
-use Rattle.std.proofs.Common.{◌≡◌, ℕ, zero, suc, ◌+◌, ◌≤◌, ◌<◌, true, ◌&&◌, eqb, ltb, List, [], ◌∷◌, ◌++◌, map, length, sym, ⊎_elim, arith, subst}
+use Rattle.std.proofs.Common.{◌≡◌, ℕ, zero, suc, ◌+◌, ◌≤◌, ◌<◌, true, ◌&&◌, eqb, ltb, List, [], ◌∷◌, map, length, sym, ⊎_elim, arith, subst}
 use Rattle.std.specs.List.{list_all, AllByRecursion, range_with_len}
 use Rattle.std.proofs.lemmas.Bool.{and_parts, cases_eq, eqb-true, ltb-true}
+use Rattle.basic_laws.proofs.Each.{each_from_list_all, each_from_filter, each_map, each_left, each_of_map, each_right}
 use Rattle.pool_definitions.specs.Lists.{choices, is_increasing}
 use Rattle.pool_definitions.specs.Pool.{Pool, everybody, is_quota_panel, panels, keeps_standings, meets_quotas}
-use Rattle.pool_definitions.proofs.Sums.{each_from_filter, each_from_list_all, each_map}
-
-each_of_map : (P : List ℕ → Type 0) (x : ℕ) (xss : List (List ℕ)) → AllByRecursion P (map (λ xs. x ∷ xs) xss) → AllByRecursion (λ xs. P (x ∷ xs)) xss
-each_of_map P x [] h = tt
-each_of_map P x (xs ∷ xss) h = (h.0, each_of_map P x xss h.1)
-
-each_left : (P : List ℕ → Type 0) (xss yss : List (List ℕ)) → AllByRecursion P (xss ++ yss) → AllByRecursion P xss
-each_left P [] yss h = tt
-each_left P (xs ∷ xss) yss h = (h.0, each_left P xss yss h.1)
-
-each_right : (P : List ℕ → Type 0) (xss yss : List (List ℕ)) → AllByRecursion P (xss ++ yss) → AllByRecursion P yss
-each_right P [] yss h = h
-each_right P (xs ∷ xss) yss h = each_right P xss yss h.1
 
 -- an increasing list with numbers from `first` on, so many at most, is among the choices
 pub chosen : (P : List ℕ → Type 0) (first count : ℕ) (xs : List ℕ) → is_increasing xs ≡ true → AllByRecursion (λ x. first ≤ x) xs → AllByRecursion (λ x. x < first + count) xs →
@@ -34,7 +22,7 @@ chosen P first (suc count) (x ∷ xs) up low high each =
     let with = each_left P (map (λ ys. first ∷ ys) (choices (length xs) (range_with_len (first + 1) count))) (choices (suc (length xs)) (range_with_len (first + 1) count)) each in
     let without = each_right P (map (λ ys. first ∷ ys) (choices (length xs) (range_with_len (first + 1) count))) (choices (suc (length xs)) (range_with_len (first + 1) count)) each in
     ⊎_elim (λ (e : first ≡ x). subst (λ z. P (z ∷ xs)) e
-    (chosen (λ ys. P (first ∷ ys)) (first + 1) count xs ups.1 lows below (each_of_map P first (choices (length xs) (range_with_len (first + 1) count)) with)))
+    (chosen (λ ys. P (first ∷ ys)) (first + 1) count xs ups.1 lows below (each_of_map P (λ ys. first ∷ ys) (choices (length xs) (range_with_len (first + 1) count)) with)))
     (λ (ne : first ≡ x → ⊥). chosen P (first + 1) count (x ∷ xs) up (omega arith, lows) (omega arith, below) without)
     (cases_eq first x)
 

@@ -6,10 +6,12 @@ use Rattle.std.proofs.lemmas.Bool.{false≢true, and_parts, and_from, or_parts, 
 use Rattle.std.proofs.lemmas.Bool.Decides.{same_from_decides}
 use Rattle.std.proofs.lemmas.Slice.Eq.{bytes_eq-Decides}
 use Rattle.std.proofs.lemmas.List.{length_push, map_push, nil_from_length}
-use Rattle.std.proofs.lemmas.List.Folds.{list_all-append, list_any-append}
+use Rattle.std.proofs.lemmas.List.Folds.{list_any-append}
 use Rattle.pool_definitions.specs.declared.Standing.{Standing}
 use Rattle.pool_definitions.specs.declared.Standing.TheVariants.{Open}
-use Rattle.pool_definitions.specs.Lists.{stands, all_different}
+pub use Rattle.basic_laws.proofs.Each.{list_all-push as list_all_push}
+use Rattle.basic_laws.proofs.Each.{list_all-push}
+use Rattle.pool_definitions.specs.Lists.{includes_list, all_different}
 use Rattle.pool_definitions.specs.Pool.{BoundedValue, Category, Volunteer, Pool, keeps_name_limits, is_name, is_size, are_bounds, is_value, is_category, has_values, IsPool}
 use Rattle.pool_definitions.specs.Building.{lowest_kind, category_names, value_names, ids, last_values, with_value, place_of, places_of, are_known, empty_pool, size_kind, category_added, category_kind, value_added, value_kind, volunteer_added, volunteer_kind, with_standing, standing_set}
 
@@ -30,19 +32,14 @@ same_bytes_comm xs ys =
     same_from_decides (bytes_eq xs ys) (bytes_eq ys xs) (bytes_eq-Decides xs ys) (λ e. sym (there.0 e), λ e. there.1 (sym e))
 
 -- a list that does not stand among different lists may follow them
-pub all_different_push : (xss : List (List ℕ)) (xs : List ℕ) → all_different xss ≡ true → stands xss xs ≡ false → all_different (xss ++ xs ∷ []) ≡ true
+pub all_different_push : (xss : List (List ℕ)) (xs : List ℕ) → all_different xss ≡ true → includes_list xss xs ≡ false → all_different (xss ++ xs ∷ []) ≡ true
 all_different_push [] xs h k = refl
 all_different_push (ys ∷ yss) xs h k =
-    let parts = and_parts (not (stands yss ys)) (all_different yss) h in
-    let apart = or_parts (bytes_eq xs ys) (stands yss xs) k in
+    let parts = and_parts (not (includes_list yss ys)) (all_different yss) h in
+    let apart = or_parts (bytes_eq xs ys) (includes_list yss xs) k in
     let other : bytes_eq ys xs ≡ false = same_bytes_comm ys xs ∙ apart.0 in
-    let none : stands (yss ++ xs ∷ []) ys ≡ false = list_any-append (bytes_eq ys) yss (xs ∷ []) ∙ or_from (stands yss ys) (bytes_eq ys xs || false) (not-true (stands yss ys) parts.0) (or_from (bytes_eq ys xs) false other refl) in
-    and_from (not (stands (yss ++ xs ∷ []) ys)) (all_different (yss ++ xs ∷ [])) (not_from_false (stands (yss ++ xs ∷ []) ys) none) (all_different_push yss xs parts.1 apart.1)
-
--- a test of each element holds of one more
-pub list_all_push : {X : Type 0} (p : X → Bool) (xs : List X) (x : X) → list_all p xs ≡ true → p x ≡ true → list_all p (xs ++ x ∷ []) ≡ true
-list_all_push p xs x h k =
-    list_all-append p xs (x ∷ []) ∙ and_from (list_all p xs) (p x && true) h (and_from (p x) true k refl)
+    let none : includes_list (yss ++ xs ∷ []) ys ≡ false = list_any-append (bytes_eq ys) yss (xs ∷ []) ∙ or_from (includes_list yss ys) (bytes_eq ys xs || false) (not-true (includes_list yss ys) parts.0) (or_from (bytes_eq ys xs) false other refl) in
+    and_from (not (includes_list (yss ++ xs ∷ []) ys)) (all_different (yss ++ xs ∷ [])) (not_from_false (includes_list (yss ++ xs ∷ []) ys) none) (all_different_push yss xs parts.1 apart.1)
 
 -- the last test of each kind: no such name may be, or too many are there
 limits_and_room : (name : List ℕ) (limit count : ℕ) → (not (keeps_name_limits name) || leb limit count) ≡ false → (keeps_name_limits name ≡ true) × (count < limit)
@@ -66,7 +63,7 @@ IsPool-empty_pool size h = record {
 -- what no kind says of a category
 pub record CategoryFits (pool : Pool) (name : List ℕ) : Type 0 where
   pub nobody : pool.volunteers ≡ []
-  pub new : stands (category_names pool.categories) name ≡ false
+  pub new : includes_list (category_names pool.categories) name ≡ false
   pub limits : keeps_name_limits name ≡ true
   pub room : length pool.categories < 20
 
@@ -88,7 +85,7 @@ IsPool-category_added pool name p kind utf8 =
     record {
       size = p.size;
       few_categories = le-leb (length (pool.categories ++ category ∷ [])) 20 (omega (arith, length_push pool.categories category, fits.room));
-      categories = list_all_push is_category pool.categories category p.categories right;
+      categories = list_all-push is_category pool.categories category p.categories right;
       different_categories = rw (map_push (λ (c : Category). c.name) pool.categories category) (all_different_push (category_names pool.categories) name p.different_categories fits.new);
       few_volunteers = p.few_volunteers;
       ids = p.ids;
@@ -108,7 +105,7 @@ category_names-with_value (category ∷ []) value = refl
 category_names-with_value (category ∷ (next ∷ later)) value = ap (λ names. category.name ∷ names) (category_names-with_value (next ∷ later) value)
 
 -- one more value, of a new name, in a category
-is_category_push : (category : Category) (value : BoundedValue) → is_category category ≡ true → is_value value ≡ true → stands (value_names category.values) value.name ≡ false → length category.values < 50 →
+is_category_push : (category : Category) (value : BoundedValue) → is_category category ≡ true → is_value value ≡ true → includes_list (value_names category.values) value.name ≡ false → length category.values < 50 →
     is_category (record category { values = category.values ++ value ∷ [] }) ≡ true
 is_category_push category value h good new room =
     let A = is_name category.name in let B = leb (length category.values) 50 in let C = all_different (value_names category.values) in let D = list_all is_value category.values in
@@ -118,9 +115,9 @@ is_category_push category value h good new room =
     let apart : all_different (value_names values) ≡ true = rw (map_push (λ (v : BoundedValue). v.name) category.values value) (all_different_push (value_names category.values) value.name c.1 new) in
     and_from (A && leb (length values) 50 && all_different (value_names values)) (list_all is_value values)
     (and_from (A && leb (length values) 50) (all_different (value_names values)) (and_from A (leb (length values) 50) b.0 few) apart)
-    (list_all_push is_value category.values value d.1 good)
+    (list_all-push is_value category.values value d.1 good)
 
-categories_with_value : (categories : List Category) (value : BoundedValue) → list_all is_category categories ≡ true → is_value value ≡ true → stands (value_names (last_values categories)) value.name ≡ false → length (last_values categories) < 50 →
+categories_with_value : (categories : List Category) (value : BoundedValue) → list_all is_category categories ≡ true → is_value value ≡ true → includes_list (value_names (last_values categories)) value.name ≡ false → length (last_values categories) < 50 →
     list_all is_category (with_value categories value) ≡ true
 categories_with_value [] value h good new room = refl
 categories_with_value (category ∷ []) value h good new room =
@@ -134,7 +131,7 @@ categories_with_value (category ∷ (next ∷ later)) value h good new room =
 pub record ValueFits (pool : Pool) (value : BoundedValue) : Type 0 where
   pub some : 0 < length pool.categories
   pub nobody : pool.volunteers ≡ []
-  pub new : stands (value_names (last_values pool.categories)) value.name ≡ false
+  pub new : includes_list (value_names (last_values pool.categories)) value.name ≡ false
   pub bounds : are_bounds value.lower value.upper ≡ true
   pub limits : keeps_name_limits value.name ≡ true
   pub room : length (last_values pool.categories) < 50
@@ -176,11 +173,11 @@ IsPool-value_added pool value p kind utf8 =
     }
 
 -- a name that stands among the values of a category has a place there
-pub place_at : (values : List BoundedValue) (name : List ℕ) → stands (value_names values) name ≡ true →
+pub place_at : (values : List BoundedValue) (name : List ℕ) → includes_list (value_names values) name ≡ true →
     (place : ℕ) × (place_of values name ≡ Some place) × (place < length values) × (get_or (value_names values) place [] ≡ name)
 place_at [] name h = absurd (false≢true h)
 place_at (value ∷ values) name h =
-    (elim (bytes_eq name value.name) as (λ b. bytes_eq name value.name ≡ b → (b || stands (value_names values) name) ≡ true →
+    (elim (bytes_eq name value.name) as (λ b. bytes_eq name value.name ≡ b → (b || includes_list (value_names values) name) ≡ true →
     (place : ℕ) × (cond b (Some 0) (option_map (λ p. p + 1) (place_of values name)) ≡ Some place) × (place < suc (length values)) × (get_or (value_names (value ∷ values)) place [] ≡ name)) [
       | true ↦ λ e k. (0, refl, omega arith, sym ((bytes_eq-Decides name value.name).0 e))
       | false ↦ λ e k.
@@ -193,7 +190,7 @@ has_values_places : (categories : List Category) (names : List (List ℕ)) → a
 has_values_places [] names h k = refl
 has_values_places (category ∷ categories) [] h k = absurd (omega arith)
 has_values_places (category ∷ categories) (name ∷ names) h k =
-    let parts = and_parts (stands (value_names category.values) name) (are_known categories names) h in
+    let parts = and_parts (includes_list (value_names category.values) name) (are_known categories names) h in
     let found = place_at category.values name parts.0 in
     let here : ltb (unwrap_or (place_of category.values name) 0) (length category.values) ≡ true = rw found.1 (lt-ltb found.0 (length category.values) found.2) in
     and_from (ltb (unwrap_or (place_of category.values name) 0) (length category.values)) (has_values categories (places_of categories names)) here (has_values_places categories names parts.1 (omega arith))
@@ -202,7 +199,7 @@ has_values_places (category ∷ categories) (name ∷ names) h k =
 pub record VolunteerFits (pool : Pool) (id : List ℕ) (names : List (List ℕ)) : Type 0 where
   pub known : are_known pool.categories names ≡ true
   pub each : length names ≡ length pool.categories
-  pub new : stands (ids pool.volunteers) id ≡ false
+  pub new : includes_list (ids pool.volunteers) id ≡ false
   pub limits : keeps_name_limits id ≡ true
   pub room : length pool.volunteers < 400
 
@@ -231,9 +228,9 @@ IsPool-volunteer_added pool id names p kind utf8 =
       categories = p.categories;
       different_categories = p.different_categories;
       few_volunteers = le-leb (length (pool.volunteers ++ volunteer ∷ [])) 400 (omega (arith, length_push pool.volunteers volunteer, fits.room));
-      ids = list_all_push (λ (v : Volunteer). is_name v.id) pool.volunteers volunteer p.ids (and_from (keeps_name_limits id) (is_utf8 id) fits.limits utf8);
+      ids = list_all-push (λ (v : Volunteer). is_name v.id) pool.volunteers volunteer p.ids (and_from (keeps_name_limits id) (is_utf8 id) fits.limits utf8);
       different_ids = rw (map_push (λ (v : Volunteer). v.id) pool.volunteers volunteer) (all_different_push (ids pool.volunteers) id p.different_ids fits.new);
-      values = list_all_push (λ (v : Volunteer). has_values pool.categories v.values) pool.volunteers volunteer p.values (has_values_places pool.categories names fits.known fits.each);
+      values = list_all-push (λ (v : Volunteer). has_values pool.categories v.values) pool.volunteers volunteer p.values (has_values_places pool.categories names fits.known fits.each);
     }
 
 -- another standing of one volunteer changes nothing else

@@ -3,14 +3,16 @@ use Rattle.std.proofs.Common.{◌≡◌, ℕ, ◌+◌, ◌*◌, ◌≤◌, ◌<�
 use Rattle.std.specs.Prelude.{int_lt, int_le}
 use Rattle.std.specs.Ordering.{int_eq}
 use Rattle.std.specs.List.{AllByRecursion}
-use Rattle.std.proofs.lemmas.Bool.{and_from, or_cases, cases_Bool, eqb-true, leb-true, ltb-true, false≢true}
+use Rattle.std.proofs.lemmas.Bool.{and_from, or_cases, cases_Bool, eqb-true, leb-true, ltb-true, false≢true, not_from_false}
 use Rattle.std.proofs.lemmas.Bool.Decides.{Decides-int_eq}
 use borrow.Author.Differences.{up, down, sum_is_lem, le-true, true_is_le, true_is_lt}
-use Rattle.pool_definitions.specs.Lists.{holds, rising}
+use Rattle.basic_laws.proofs.Tests.{implied}
+use Rattle.basic_laws.proofs.Sums.{total, sum_by-is-total, total_le, total_same, total_eq, total_ext}
+use Rattle.basic_laws.proofs.Each.{each_from_list_all, each_from_filter, each_map, each_both, each_everywhere}
+use Rattle.pool_definitions.specs.Lists.{includes, rising}
 use Rattle.pool_definitions.specs.Pool.{Pool, everybody, panels, is_quota_panel}
-use Rattle.pool_definitions.specs.Lottery.{Row, Lottery, IsLottery, LeximinGreatest, count, counts, is_above}
-use Rattle.pool_definitions.specs.Certificate.{Stage, weight_of, is_positive, panel_weight, is_settled, attains, unsettled, settling, common_count, StageHolds, StagesHold, Certifies}
-use Rattle.pool_definitions.proofs.Sums.{total, sum_by-is-total, total_le, total_same, total_eq, total_ext, each_map, each_both, each_from_list_all, each_from_filter}
+use Rattle.pool_definitions.specs.Lottery.{LotteryRow, Lottery, IsLottery, LeximinGreatest, count, counts, is_above}
+use Rattle.pool_definitions.specs.Certificate.{Stage, weight_of, is_positive, panel_weight, is_settled, attains, unsettled, settling, StageHolds, StagesHold, Certifies}
 use Rattle.pool_definitions.proofs.Orders.{at_most, at_most-rising, at_most-map, Rises-rising, NoMoreAtFirst, not_greater, le_one, Known, all_reach}
 use Rattle.pool_definitions.proofs.Weights.{Fits, counted, exchange}
 use Rattle.pool_definitions.proofs.OneStage.{Weighs, cancel, newly_equal, cap_met}
@@ -53,17 +55,17 @@ test_from_equal stage panel h = sym (true_is_le stage.cap (panel_weight stage pa
 
 -- ---- a lottery's sums
 
-total-filter : (i : ℕ) (rows : List Row) → total (λ row. row.weight) (filter (λ row. holds row.panel i) rows) ≡ counted rows i
+total-filter : (i : ℕ) (rows : List LotteryRow) → total (λ row. row.weight) (filter (λ row. includes row.panel i) rows) ≡ counted rows i
 total-filter i [] = refl
 total-filter i (row ∷ rows) =
     let rest = total-filter i rows in
-    elim (holds row.panel i) as (λ b. total (λ row. row.weight) (cond b (row ∷ filter (λ row. holds row.panel i) rows) (filter (λ row. holds row.panel i) rows)) ≡ cond b row.weight 0 + counted rows i) [
+    elim (includes row.panel i) as (λ b. total (λ row. row.weight) (cond b (row ∷ filter (λ row. includes row.panel i) rows) (filter (λ row. includes row.panel i) rows)) ≡ cond b row.weight 0 + counted rows i) [
       | true ↦ ap (λ z. row.weight + z) rest
       | false ↦ omega (arith, rest)
     ]
 
 pub count-is : (lottery : Lottery) (i : ℕ) → count lottery i ≡ counted lottery.rows i
-count-is lottery i = sum_by-is-total (λ row. row.weight) (filter (λ row. holds row.panel i) lottery.rows) ∙ total-filter i lottery.rows
+count-is lottery i = sum_by-is-total (λ row. row.weight) (filter (λ row. includes row.panel i) lottery.rows) ∙ total-filter i lottery.rows
 
 all_fit : (pool : Pool) (lottery : Lottery) → IsLottery pool lottery → AllByRecursion (λ row. Fits (length pool.volunteers) row.panel) lottery.rows
 all_fit pool lottery is =
@@ -71,7 +73,7 @@ all_fit pool lottery is =
     (λ row h. let q = quota_parts pool row.panel h in record { up = q.up; below = q.below }) lottery.rows
     (each_from_list_all (λ row. is_quota_panel pool row.panel) lottery.rows is.panels)
 
-total-weight : (rows : List Row) (f : List ℕ → ℕ) (k : ℕ) → total (λ row. (f row.panel + k) * row.weight) rows ≡ total (λ row. f row.panel * row.weight) rows + k * total (λ row. row.weight) rows
+total-weight : (rows : List LotteryRow) (f : List ℕ → ℕ) (k : ℕ) → total (λ row. (f row.panel + k) * row.weight) rows ≡ total (λ row. f row.panel * row.weight) rows + k * total (λ row. row.weight) rows
 total-weight [] f k = omega arith
 total-weight (row ∷ rows) f k = omega (arith, total-weight rows f k)
 
@@ -82,28 +84,20 @@ by_members pool lottery is f k =
     let n = length pool.volunteers in
     let ex = exchange f n lottery.rows (all_fit pool lottery is) in
     let same = total_ext (λ i. f i * counted lottery.rows i) (λ i. f i * count lottery i) (λ i. ap (λ z. f i * z) (sym (count-is lottery i))) (everybody pool) in
-    let tot : lottery.total ≡ total (λ row. row.weight) lottery.rows = is.total ∙ sum_by-is-total (λ row. row.weight) lottery.rows in
+    let tot : lottery.total ≡ total (λ row. row.weight) lottery.rows = is.total_agrees.total ∙ sum_by-is-total (λ row. row.weight) lottery.rows in
     let times : k * lottery.total ≡ k * total (λ row. row.weight) lottery.rows = ap (λ z. k * z) tot in
     omega (arith, total-weight lottery.rows (total f) k, ex, same, times)
 
-positive_sum : (rows : List Row) → ltb 0 (length rows) ≡ true → AllByRecursion (λ row. leb 1 row.weight ≡ true) rows → 0 < total (λ row. row.weight) rows
+positive_sum : (rows : List LotteryRow) → ltb 0 (length rows) ≡ true → AllByRecursion (λ row. leb 1 row.weight ≡ true) rows → 0 < total (λ row. row.weight) rows
 positive_sum [] h k = let l = ltb-true 0 0 h in absurd (omega arith)
 positive_sum (row ∷ rows) h k = let l = leb-true 1 row.weight k.0 in omega arith
 
 positive_total : (pool : Pool) (lottery : Lottery) → IsLottery pool lottery → 0 < lottery.total
 positive_total pool lottery is =
-    let tot : lottery.total ≡ total (λ row. row.weight) lottery.rows = is.total ∙ sum_by-is-total (λ row. row.weight) lottery.rows in
-    let p = positive_sum lottery.rows is.some (each_from_list_all (λ row. leb 1 row.weight) lottery.rows is.weights) in omega arith
+    let tot : lottery.total ≡ total (λ row. row.weight) lottery.rows = is.total_agrees.total ∙ sum_by-is-total (λ row. row.weight) lottery.rows in
+    let p = positive_sum lottery.rows is.some (each_from_list_all (λ row. leb 1 row.weight) lottery.rows is.total_agrees.weights) in omega arith
 
 -- ---- two lotteries over one pool
-
-not_true : (b : Bool) → not b ≡ true → b ≡ false
-not_true true h = sym h
-not_true false h = refl
-
-not_false : (b : Bool) → b ≡ false → not b ≡ true
-not_false true h = sym h
-not_false false h = refl
 
 module _ (pool : Pool) (mine other : Lottery) (is_mine : IsLottery pool mine) (is_other : IsLottery pool other) where
   -- the chances, over the product of the totals
@@ -133,7 +127,7 @@ module _ (pool : Pool) (mine other : Lottery) (is_mine : IsLottery pool mine) (i
   module _ (above : is_above pool other mine ≡ true) where
     module _ (earlier : List Stage) (stage : Stage) (holds_stage : StageHolds pool mine earlier stage) (agrees : Agrees earlier) where
       abbrev T : ℕ
-      T = common_count pool mine earlier stage
+      T = holds_stage.common_count
 
       abbrev level : ℕ
       level = T * other.total
@@ -141,7 +135,7 @@ module _ (pool : Pool) (mine other : Lottery) (is_mine : IsLottery pool mine) (i
       low_counts : AllByRecursion (λ i. is_settled earlier i ≡ false → T ≤ count mine i) (everybody pool)
       low_counts =
           each_map (λ i. not (is_settled earlier i) ≡ true → leb T (count mine i) ≡ true) (λ i. is_settled earlier i ≡ false → T ≤ count mine i)
-          (λ i f s. leb-true T (count mine i) (f (not_false (is_settled earlier i) s))) (everybody pool)
+          (λ i f s. leb-true T (count mine i) (f (not_from_false (is_settled earlier i) s))) (everybody pool)
           (each_from_filter (λ i. leb T (count mine i) ≡ true) (λ i. not (is_settled earlier i)) (everybody pool)
           (each_from_list_all (λ i. leb T (count mine i)) (unsettled pool earlier) holds_stage.least_count))
 
@@ -158,7 +152,7 @@ module _ (pool : Pool) (mine other : Lottery) (is_mine : IsLottery pool mine) (i
       no_minus : AllByRecursion (λ i. is_settled earlier i ≡ false → minus stage i ≡ 0) (everybody pool)
       no_minus =
           each_map (λ i. not (is_settled earlier i) ≡ true → int_le (pos 0) (weight_of stage i) ≡ true) (λ i. is_settled earlier i ≡ false → minus stage i ≡ 0)
-          (λ i f s. no_down (weight_of stage i) (f (not_false (is_settled earlier i) s))) (everybody pool)
+          (λ i f s. no_down (weight_of stage i) (f (not_from_false (is_settled earlier i) s))) (everybody pool)
           (each_from_filter (λ i. int_le (pos 0) (weight_of stage i) ≡ true) (λ i. not (is_settled earlier i)) (everybody pool)
           (each_from_list_all (λ i. int_le (pos 0) (weight_of stage i)) (unsettled pool earlier) holds_stage.none_negative))
         where
@@ -169,7 +163,7 @@ module _ (pool : Pool) (mine other : Lottery) (is_mine : IsLottery pool mine) (i
       at_level : AllByRecursion (λ i. is_settled earlier i ≡ false → 0 < plus stage i → x i ≡ level) (everybody pool)
       at_level =
           each_map (λ i. not (is_settled earlier i) ≡ true → is_positive stage i ≡ true → eqb (count mine i) T ≡ true) (λ i. is_settled earlier i ≡ false → 0 < plus stage i → x i ≡ level)
-          (λ i f s p. ap (λ z. z * other.total) (eqb-true (count mine i) T (f (not_false (is_settled earlier i) s) (up_positive (weight_of stage i) p)))) (everybody pool)
+          (λ i f s p. ap (λ z. z * other.total) (eqb-true (count mine i) T (f (not_from_false (is_settled earlier i) s) (up_positive (weight_of stage i) p)))) (everybody pool)
           (each_from_filter (λ i. is_positive stage i ≡ true → eqb (count mine i) T ≡ true) (λ i. not (is_settled earlier i)) (everybody pool)
           (each_from_filter (λ i. eqb (count mine i) T ≡ true) (is_positive stage) (unsettled pool earlier)
           (each_from_list_all (λ i. eqb (count mine i) T) (settling pool earlier stage) holds_stage.same_count)))
@@ -199,20 +193,16 @@ module _ (pool : Pool) (mine other : Lottery) (is_mine : IsLottery pool mine) (i
           (each_both (λ row. is_quota_panel pool row.panel ≡ true) (λ row. attains earlier row.panel ≡ true) other.rows
           (each_from_list_all (λ row. is_quota_panel pool row.panel) other.rows is_other.panels) agrees.attained)
         where
-          second_part : (b c : Bool) → (not b || c) ≡ true → b ≡ true → c ≡ true
-          second_part true c h e = h
-          second_part false c h e = absurd (false≢true e)
-
           under : (panel : List ℕ) → is_quota_panel pool panel ≡ true → attains earlier panel ≡ true → int_le (panel_weight stage panel) stage.cap ≡ true
           under panel q a =
-              second_part (attains earlier panel) (int_le (panel_weight stage panel) stage.cap)
+              implied (attains earlier panel) (int_le (panel_weight stage panel) stage.cap)
               (each_panel (λ panel. (not (attains earlier panel) || int_le (panel_weight stage panel) stage.cap) ≡ true) pool
               (each_from_list_all (λ panel. not (attains earlier panel) || int_le (panel_weight stage panel) stage.cap) (panels pool) holds_stage.capped) panel q) a
 
-      weighted_heavy : Row → ℕ
+      weighted_heavy : LotteryRow → ℕ
       weighted_heavy row = heavy stage row.panel * row.weight
 
-      weighted_light : Row → ℕ
+      weighted_light : LotteryRow → ℕ
       weighted_light row = light stage row.panel * row.weight
 
       first_sum : total (λ i. plus stage i * count mine i) (everybody pool) + down stage.cap * mine.total ≡ up stage.cap * mine.total + total (λ i. minus stage i * count mine i) (everybody pool)
@@ -255,7 +245,7 @@ module _ (pool : Pool) (mine other : Lottery) (is_mine : IsLottery pool mine) (i
           each_map (λ row. (leb 1 row.weight ≡ true) × (heavy stage row.panel * row.weight ≡ light stage row.panel * row.weight)) (λ row. int_le stage.cap (panel_weight stage row.panel) ≡ true)
           (λ row p. test_from_equal stage row.panel (cancel (heavy stage row.panel) (light stage row.panel) row.weight (leb-true 1 row.weight p.0) p.1)) other.rows
           (each_both (λ row. leb 1 row.weight ≡ true) (λ row. heavy stage row.panel * row.weight ≡ light stage row.panel * row.weight) other.rows
-          (each_from_list_all (λ row. leb 1 row.weight) other.rows is_other.weights) same)
+          (each_from_list_all (λ row. leb 1 row.weight) other.rows is_other.total_agrees.weights) same)
 
       -- after the stage the two lotteries agree on more
       agree_after : Agrees (stage ∷ earlier)
@@ -287,13 +277,9 @@ module _ (pool : Pool) (mine other : Lottery) (is_mine : IsLottery pool mine) (i
 
     at_start : Agrees []
     at_start = record {
-      equal = every (everybody pool) (λ i h. absurd (false≢true h));
-      attained = every other.rows (λ row. refl);
+      equal = each_everywhere (λ i. is_settled [] i ≡ true → x i ≡ y i) (λ i h. absurd (false≢true h)) (everybody pool);
+      attained = each_everywhere (λ row. attains [] row.panel ≡ true) (λ row. refl) other.rows;
     }
-      where
-        every : {A : Type 0} {P : A → Type 0} (xs : List A) → ((a : A) → P a) → AllByRecursion P xs
-        every [] f = tt
-        every (a ∷ xs) f = (f a, every xs f)
 
     so_not_above : (stages : List Stage) → StagesHold pool mine [] stages → is_above pool other mine ≡ false
     so_not_above stages hold =

@@ -1,7 +1,8 @@
 -- One stage, in numbers: what the weighted sums of two lotteries say of their chances.
 use Rattle.std.proofs.Common.{◌≡◌, ℕ, ◌+◌, ◌*◌, ◌≤◌, ◌<◌, Bool, true, false, List, [], ◌∷◌, refl, sym, ap, ◌∙◌, ⊎_elim, arith, mul-le-mul_right, mul-le-mul_left, le_of_mul-le-mul_right, le_antisymm, le_of_eq, mul_comm, eq-zero-or-pos}
 use Rattle.std.specs.List.{AllByRecursion}
-use Rattle.pool_definitions.proofs.Sums.{total, total_le, total_same, total-add, each_map, each_both}
+use Rattle.basic_laws.proofs.Sums.{total, total_le, total_same, total-add}
+use Rattle.basic_laws.proofs.Each.{each_map, each_both}
 use Rattle.pool_definitions.proofs.Orders.{Known}
 
 pub cancel : (a b k : ℕ) → 0 < k → a * k ≡ b * k → a ≡ b

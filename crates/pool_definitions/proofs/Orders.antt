@@ -2,9 +2,10 @@
 use Rattle.std.proofs.Common.{◌≡◌, ℕ, zero, suc, ◌+◌, ◌*◌, ◌≤◌, ◌<◌, Bool, true, false, cond, leb, ltb, eqb, List, [], ◌∷◌, map, refl, sym, ap, ◌∙◌, ⊎_elim, true≢false, arith, le_refl, le_of_lt, le_of_eq, mul-le-mul_right}
 use Rattle.std.specs.List.{AllByRecursion}
 use Rattle.std.proofs.lemmas.Bool.{leb-true, leb-false, le-leb, lt-leb, cases_lt, le-ltb, eqb-true}
+use Rattle.basic_laws.proofs.Sums.{total, total_same, total_eq}
+use Rattle.basic_laws.proofs.Each.{each_map, each_both}
 use Rattle.pool_definitions.specs.Lists.{put_in_order, rising}
 use Rattle.pool_definitions.specs.Lottery.{first_is_greater}
-use Rattle.pool_definitions.proofs.Sums.{each_map, each_both, total, total_eq, total_same}
 
 -- 1 where a * k is at most t
 abbrev pub one_at : ℕ → ℕ → ℕ → ℕ

@@ -2,9 +2,9 @@
 use Rattle.std.proofs.Common.{◌≡◌, ℕ, zero, suc, ◌+◌, ◌*◌, ◌≤◌, ◌<◌, Bool, true, false, cond, ◌||◌, eqb, ltb, List, [], ◌∷◌, refl, sym, ap, ◌∙◌, arith, true≢false}
 use Rattle.std.specs.List.{list_all, AllByRecursion, range_with_len}
 use Rattle.std.proofs.lemmas.Bool.{and_parts, eqb-true, ne_eqb, eq-eqb, ltb-true}
-use Rattle.pool_definitions.specs.Lists.{holds, is_increasing}
-use Rattle.pool_definitions.specs.Lottery.{Row}
-use Rattle.pool_definitions.proofs.Sums.{total, total_ext, total-add, total-scaled, total-zero}
+use Rattle.basic_laws.proofs.Sums.{total, total_ext, total-add, total-scaled, total-zero}
+use Rattle.pool_definitions.specs.Lists.{includes, is_increasing}
+use Rattle.pool_definitions.specs.Lottery.{LotteryRow}
 
 no_member : (f : ℕ → ℕ) (x first count : ℕ) → x < first → total (λ i. cond (eqb x i) (f i) 0) (range_with_len first count) ≡ 0
 no_member f x first zero h = refl
@@ -22,7 +22,7 @@ one_member f x first (suc count) h k =
           omega (arith, one_member f x (first + 1) count (omega arith) (omega arith))
     ]) refl
 
-not_held : (x : ℕ) (xs : List ℕ) → list_all (λ y. ltb x y) xs ≡ true → holds xs x ≡ false
+not_held : (x : ℕ) (xs : List ℕ) → list_all (λ y. ltb x y) xs ≡ true → includes xs x ≡ false
 not_held x [] h = refl
 not_held x (y ∷ ys) h =
     let parts = and_parts (ltb x y) (list_all (λ y. ltb x y) ys) h in
@@ -35,7 +35,7 @@ either false c v h = omega arith
 
 -- a sum over a panel is a sum over everybody
 pub total_panel : (f : ℕ → ℕ) (count : ℕ) (panel : List ℕ) → is_increasing panel ≡ true → list_all (λ i. ltb i count) panel ≡ true →
-    total f panel ≡ total (λ i. cond (holds panel i) (f i) 0) (range_with_len 0 count)
+    total f panel ≡ total (λ i. cond (includes panel i) (f i) 0) (range_with_len 0 count)
 total_panel f count [] up below = sym (total-zero (λ i. 0) (λ i. refl) (range_with_len 0 count))
 total_panel f count (x ∷ xs) up below =
     let ups = and_parts (list_all (λ y. ltb x y) xs) (is_increasing xs) up in
@@ -44,9 +44,9 @@ total_panel f count (x ∷ xs) up below =
     let here : total (λ i. cond (eqb x i) (f i) 0) (range_with_len 0 count) ≡ f x = one_member f x 0 count (omega arith) (omega arith) in
     let rest = total_panel f count xs ups.1 belows.1 in
     let not_twice = not_held x xs ups.0 in
-    let split = total_ext (λ i. cond (eqb x i || holds xs i) (f i) 0) (λ i. cond (eqb x i) (f i) 0 + cond (holds xs i) (f i) 0)
-    (λ i. either (eqb x i) (holds xs i) (f i) (λ e. ap (holds xs) (sym (eqb-true x i e)) ∙ not_twice)) (range_with_len 0 count) in
-    omega (arith, split, here, rest, total-add (λ i. cond (eqb x i) (f i) 0) (λ i. cond (holds xs i) (f i) 0) (range_with_len 0 count))
+    let split = total_ext (λ i. cond (eqb x i || includes xs i) (f i) 0) (λ i. cond (eqb x i) (f i) 0 + cond (includes xs i) (f i) 0)
+    (λ i. either (eqb x i) (includes xs i) (f i) (λ e. ap (includes xs) (sym (eqb-true x i e)) ∙ not_twice)) (range_with_len 0 count) in
+    omega (arith, split, here, rest, total-add (λ i. cond (eqb x i) (f i) 0) (λ i. cond (includes xs i) (f i) 0) (range_with_len 0 count))
 
 -- an increasing list of numbers below a number
 pub record Fits (count : ℕ) (panel : List ℕ) : Type 0 where
@@ -54,24 +54,24 @@ pub record Fits (count : ℕ) (panel : List ℕ) : Type 0 where
   pub below : list_all (λ i. ltb i count) panel ≡ true
 
 -- a volunteer's count, as a sum by recursion
-abbrev pub counted : List Row → ℕ → ℕ
-counted rows i = total (λ row. cond (holds row.panel i) row.weight 0) rows
+abbrev pub counted : List LotteryRow → ℕ → ℕ
+counted rows i = total (λ row. cond (includes row.panel i) row.weight 0) rows
 
 spread_out : (b : Bool) (f m c : ℕ) → f * (cond b m 0 + c) ≡ cond b f 0 * m + f * c
 spread_out true f m c = omega arith
 spread_out false f m c = omega arith
 
 -- a sum over panels and their members, by members
-pub exchange : (f : ℕ → ℕ) (count : ℕ) (rows : List Row) → AllByRecursion (λ row. Fits count row.panel) rows →
+pub exchange : (f : ℕ → ℕ) (count : ℕ) (rows : List LotteryRow) → AllByRecursion (λ row. Fits count row.panel) rows →
     total (λ row. total f row.panel * row.weight) rows ≡ total (λ i. f i * counted rows i) (range_with_len 0 count)
 exchange f count [] h = sym (total-zero (λ i. f i * 0) (λ i. omega arith) (range_with_len 0 count))
 exchange f count (row ∷ rows) h =
     let rest = exchange f count rows h.1 in
     let here = total_panel f count row.panel h.0.up h.0.below in
     let everybody = range_with_len 0 count in
-    let split = total_ext (λ i. f i * (cond (holds row.panel i) row.weight 0 + counted rows i)) (λ i. cond (holds row.panel i) (f i) 0 * row.weight + f i * counted rows i)
-    (λ i. spread_out (holds row.panel i) (f i) row.weight (counted rows i)) everybody in
-    let added = total-add (λ i. cond (holds row.panel i) (f i) 0 * row.weight) (λ i. f i * counted rows i) everybody in
-    let scaled = total-scaled (λ i. cond (holds row.panel i) (f i) 0) row.weight everybody in
-    let first : total f row.panel * row.weight ≡ total (λ i. cond (holds row.panel i) (f i) 0) everybody * row.weight = ap (λ z. z * row.weight) here in
+    let split = total_ext (λ i. f i * (cond (includes row.panel i) row.weight 0 + counted rows i)) (λ i. cond (includes row.panel i) (f i) 0 * row.weight + f i * counted rows i)
+    (λ i. spread_out (includes row.panel i) (f i) row.weight (counted rows i)) everybody in
+    let added = total-add (λ i. cond (includes row.panel i) (f i) 0 * row.weight) (λ i. f i * counted rows i) everybody in
+    let scaled = total-scaled (λ i. cond (includes row.panel i) (f i) 0) row.weight everybody in
+    let first : total f row.panel * row.weight ≡ total (λ i. cond (includes row.panel i) (f i) 0) everybody * row.weight = ap (λ z. z * row.weight) here in
     omega (arith, split, added, scaled, first, rest)

@@ -1,15 +1,15 @@
 -- Building a pool step by step: what each step adds, and which kinds of fault a step may have. The numbers of the kinds
--- are those of a faulty pool text. Of several kinds that hold the lowest is the answer.
+-- are those of a faulty pool text. Of several kinds that apply the lowest is the answer.
 use Rattle.std.specs.Prelude.{ℕ, zero, suc, ◌+◌, ◌==◌, nat_lt, nat_le, if◌then◌else◌, Bool, true, not, ◌&&◌, ◌||◌, List, [], ◌∷◌, ◌++◌, map, length, bytes_eq, Option, Some, None, unwrap_or, option_map}
 use Rattle.pool_definitions.specs.declared.Standing.{Standing}
 use Rattle.pool_definitions.specs.declared.Standing.TheVariants.{Open}
-use Rattle.pool_definitions.specs.Lists.{stands}
+use Rattle.pool_definitions.specs.Lists.{includes_list}
 use Rattle.pool_definitions.specs.Pool.{Pool, Category, BoundedValue, Volunteer, is_size, are_bounds, keeps_name_limits}
 
--- the lowest kind that holds, of kinds in rising order
+-- the lowest kind that applies, of kinds in rising order
 abbrev pub lowest_kind : List (ℕ × Bool) → Option ℕ
 lowest_kind [] = None
-lowest_kind ((kind, holds) ∷ rest) = if holds then Some kind else lowest_kind rest
+lowest_kind ((kind, applies) ∷ rest) = if applies then Some kind else lowest_kind rest
 
 abbrev pub category_names : List Category → List (List ℕ)
 category_names categories = map (λ category. category.name) categories
@@ -47,7 +47,7 @@ places_of (category ∷ categories) (name ∷ names) = unwrap_or (place_of categ
 abbrev pub are_known : List Category → List (List ℕ) → Bool
 are_known [] names = true
 are_known (category ∷ categories) [] = true
-are_known (category ∷ categories) (name ∷ names) = stands (value_names category.values) name && are_known categories names
+are_known (category ∷ categories) (name ∷ names) = includes_list (value_names category.values) name && are_known categories names
 
 -- a pool before anything is added
 abbrev pub empty_pool : ℕ → Pool
@@ -67,7 +67,7 @@ category_added pool name = record pool { categories = pool.categories ++ record 
 abbrev pub category_kinds : Pool → List ℕ → List (ℕ × Bool)
 category_kinds pool name =
     (1, nat_lt 0 (length pool.volunteers))
-    ∷ (3, stands (category_names pool.categories) name)
+    ∷ (3, includes_list (category_names pool.categories) name)
     ∷ (10, not (keeps_name_limits name) || nat_le 20 (length pool.categories))
     ∷ []
 
@@ -82,7 +82,7 @@ value_added pool value = record pool { categories = with_value pool.categories v
 abbrev pub value_kinds : Pool → BoundedValue → List (ℕ × Bool)
 value_kinds pool value =
     (1, length pool.categories == 0 || nat_lt 0 (length pool.volunteers))
-    ∷ (4, stands (value_names (last_values pool.categories)) value.name)
+    ∷ (4, includes_list (value_names (last_values pool.categories)) value.name)
     ∷ (5, not (are_bounds value.lower value.upper))
     ∷ (10, not (keeps_name_limits value.name) || nat_le 50 (length (last_values pool.categories)))
     ∷ []
@@ -101,7 +101,7 @@ abbrev pub volunteer_kinds : Pool → List ℕ → List (List ℕ) → List (ℕ
 volunteer_kinds pool id names =
     (6, not (are_known pool.categories names))
     ∷ (7, not (length names == length pool.categories))
-    ∷ (8, stands (ids pool.volunteers) id)
+    ∷ (8, includes_list (ids pool.volunteers) id)
     ∷ (10, not (keeps_name_limits id) || nat_le 400 (length pool.volunteers))
     ∷ []
 

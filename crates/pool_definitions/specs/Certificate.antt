@@ -1,5 +1,5 @@
 -- Stages, and when they certify a lottery.
-use Rattle.std.specs.Prelude.{◌≡◌, ℕ, nat_lt, nat_le, ◌==◌, Bool, not, ◌||◌, IsTrue, List, [], ◌∷◌, length, filter, fold, ℤ, pos, ◌+ℤ◌, int_lt, int_le, slice_index, slice_index_or}
+use Rattle.std.specs.Prelude.{◌≡◌, ℕ, nat_lt, nat_le, ◌==◌, Bool, not, ◌||◌, IsTrue, List, [], ◌∷◌, length, filter, fold, ℤ, pos, ◌+ℤ◌, int_lt, int_le, slice_index_or}
 use Rattle.std.specs.Ordering.{int_eq}
 use Rattle.std.specs.List.{list_all, list_any}
 use Rattle.pool_definitions.specs.Pool.{Pool, everybody, panels}
@@ -38,10 +38,6 @@ unsettled pool earlier = filter (λ i. not (is_settled earlier i)) (everybody po
 abbrev pub settling : Pool → List Stage → Stage → List ℕ
 settling pool earlier stage = filter (is_positive stage) (unsettled pool earlier)
 
--- the count of the first of these
-abbrev pub common_count : Pool → Lottery → List Stage → Stage → ℕ
-common_count pool lottery earlier stage = count lottery (slice_index (settling pool earlier stage) 0)
-
 -- no quota panel that attains the earlier caps weighs more than the cap
 abbrev pub is_capped : Pool → List Stage → Stage → Bool
 is_capped pool earlier stage = list_all (λ panel. not (attains earlier panel) || int_le (panel_weight stage panel) stage.cap) (panels pool)
@@ -55,9 +51,10 @@ pub record StageHolds (pool : Pool) (lottery : Lottery) (earlier : List Stage) (
   -- somebody who is unsettled has a weight above 0
   pub some_positive : IsTrue (nat_lt 0 (length (settling pool earlier stage)))
   -- these have one count
-  pub same_count : IsTrue (list_all (λ i. count lottery i == common_count pool lottery earlier stage) (settling pool earlier stage))
+  pub common_count : ℕ
+  pub same_count : IsTrue (list_all (λ i. count lottery i == common_count) (settling pool earlier stage))
   -- nobody who is unsettled has a count below it
-  pub least_count : IsTrue (list_all (λ i. nat_le (common_count pool lottery earlier stage) (count lottery i)) (unsettled pool earlier))
+  pub least_count : IsTrue (list_all (λ i. nat_le common_count (count lottery i)) (unsettled pool earlier))
   -- no quota panel that attains the earlier caps weighs more than the cap
   pub capped : IsTrue (is_capped pool earlier stage)
   -- each panel of the lottery weighs the cap

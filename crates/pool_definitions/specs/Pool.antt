@@ -4,7 +4,7 @@ use Rattle.std.specs.List.{list_all, enumerate_from, range_with_len}
 use Rattle.std.specs.Str.{is_utf8}
 use Rattle.pool_definitions.specs.declared.Standing.{Standing}
 use Rattle.pool_definitions.specs.declared.Standing.TheVariants.{Open, Seated, Gone}
-use Rattle.pool_definitions.specs.Lists.{choices, holds, is_increasing, all_different}
+use Rattle.pool_definitions.specs.Lists.{choices, includes, is_increasing, all_different}
 
 -- a value of a category, and how many of a panel may have it
 pub record BoundedValue : Type 0 where
@@ -82,20 +82,20 @@ everybody pool = range_with_len 0 (length pool.volunteers)
 abbrev pub volunteer : List Volunteer → ℕ → Volunteer
 volunteer volunteers i = slice_index_or volunteers i (record { id = []; values = []; standing = Gone })
 
--- how many members of a panel have a value of a category
+-- how many members of a panel have the value of a place in the category of a place
 abbrev pub members_with : List Volunteer → List ℕ → ℕ → ℕ → ℕ
-members_with volunteers panel category value =
-    count_by (λ i. slice_index (volunteer volunteers i).values category == value) panel
+members_with volunteers panel category_place value_place =
+    count_by (λ i. slice_index (volunteer volunteers i).values category_place == value_place) panel
 
 -- the number of those who have a value lies within its bounds
 abbrev pub is_within : BoundedValue → ℕ → Bool
-is_within value count = nat_le value.lower count && nat_le count value.upper
+is_within value number = nat_le value.lower number && nat_le number value.upper
 
 -- for each value the number of members who have it lies within its bounds
 abbrev pub meets_quotas : List Category → List Volunteer → List ℕ → Bool
 meets_quotas categories volunteers panel =
-    list_all (λ (c, category).
-    list_all (λ (v, value). is_within value (members_with volunteers panel c v)) (enumerate_from 0 category.values))
+    list_all (λ (category_place, category).
+    list_all (λ (value_place, value). is_within value (members_with volunteers panel category_place value_place)) (enumerate_from 0 category.values))
     (enumerate_from 0 categories)
 
 -- a standing allows that one is in the panel, or that one is not
@@ -107,7 +107,7 @@ allows Gone is_in = not is_in
 -- the panel holds every seated and no gone volunteer
 abbrev pub keeps_standings : List Volunteer → List ℕ → Bool
 keeps_standings volunteers panel =
-    list_all (λ (i, volunteer). allows volunteer.standing (holds panel i)) (enumerate_from 0 volunteers)
+    list_all (λ (i, volunteer). allows volunteer.standing (includes panel i)) (enumerate_from 0 volunteers)
 
 -- an increasing list of numbers of volunteers, of the pool's size
 abbrev pub is_of_size : Pool → List ℕ → Bool

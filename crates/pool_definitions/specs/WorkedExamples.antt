@@ -2,7 +2,7 @@
 use Rattle.std.specs.Prelude.{ℕ, List, [], ◌∷◌, ℤ, pos, negsuc, codes}
 use Rattle.pool_definitions.specs.declared.Standing.TheVariants.{Open, Seated, Gone}
 use Rattle.pool_definitions.specs.Pool.{BoundedValue, Category, Volunteer, Pool}
-use Rattle.pool_definitions.specs.Lottery.{Row, Lottery}
+use Rattle.pool_definitions.specs.Lottery.{LotteryRow, Lottery}
 use Rattle.pool_definitions.specs.Certificate.{Stage}
 use Rattle.pool_definitions.specs.Building.{standing_set}
 
@@ -18,7 +18,7 @@ abbrev pub category : List ℕ → List BoundedValue → Category
 category name values = record { name = name; values = values }
 
 -- a panel with its weight
-abbrev pub row : List ℕ → ℕ → Row
+abbrev pub row : List ℕ → ℕ → LotteryRow
 row panel weight = record { panel = panel; weight = weight }
 
 abbrev pub stage : ℤ → List ℤ → Stage
@@ -40,10 +40,6 @@ four_stages =
     stage (pos 1) (pos 1 ∷ pos 1 ∷ pos 0 ∷ pos 0 ∷ []) ∷
     stage (pos 0) (negsuc 0 ∷ negsuc 0 ∷ pos 1 ∷ pos 1 ∷ []) ∷ []
 
--- one panel of the four
-abbrev pub four_single : Lottery
-four_single = record { total = 1; rows = row (0 ∷ 2 ∷ []) 1 ∷ [] }
-
 -- the four after a and c were drawn and a dropped out: c keeps the seat
 abbrev pub after_dropout : Pool
 after_dropout = standing_set (standing_set four 0 Gone) 2 Seated
@@ -57,30 +53,6 @@ dropout_stages =
     stage (pos 0) (negsuc 0 ∷ pos 0 ∷ pos 0 ∷ pos 1 ∷ []) ∷
     stage (pos 1) (pos 0 ∷ pos 1 ∷ pos 0 ∷ negsuc 0 ∷ []) ∷
     stage (pos 0) (pos 0 ∷ negsuc 0 ∷ pos 1 ∷ pos 0 ∷ []) ∷ []
-
--- one seat, which a may not have
-abbrev pub barred : Pool
-barred = record {
-  size = 1;
-  categories = category (codes "value") (bounded (codes "x") 0 0 ∷ bounded (codes "y") 0 1 ∷ []) ∷ [];
-  volunteers = person (codes "a") (0 ∷ []) ∷ person (codes "b") (1 ∷ []) ∷ person (codes "c") (1 ∷ []) ∷ [];
-}
-
-abbrev pub barred_lottery : Lottery
-barred_lottery = record { total = 2; rows = row (1 ∷ []) 1 ∷ row (2 ∷ []) 1 ∷ [] }
-
-abbrev pub barred_stages : List Stage
-barred_stages =
-    stage (pos 0) (pos 1 ∷ pos 0 ∷ pos 0 ∷ []) ∷
-    stage (pos 1) (negsuc 1 ∷ pos 1 ∷ pos 1 ∷ []) ∷ []
-
--- two women are asked for, and one is there
-abbrev pub short : Pool
-short = record {
-  size = 2;
-  categories = category (codes "gender") (bounded (codes "female") 2 2 ∷ bounded (codes "male") 0 2 ∷ []) ∷ [];
-  volunteers = person (codes "a") (0 ∷ []) ∷ person (codes "b") (1 ∷ []) ∷ person (codes "c") (1 ∷ []) ∷ [];
-}
 
 -- one seat, for which one category asks for a and the other for b
 abbrev pub crossed : Pool
@@ -97,19 +69,3 @@ nobody = record {
   categories = [];
   volunteers = [];
 }
-
--- two seats for two volunteers
-abbrev pub pair : Pool
-pair = record {
-  size = 2;
-  categories = category (codes "gender") (bounded (codes "female") 0 2 ∷ bounded (codes "male") 0 2 ∷ []) ∷ [];
-  volunteers = person (codes "a") (0 ∷ []) ∷ person (codes "b") (1 ∷ []) ∷ [];
-}
-
-abbrev pub pair_lottery : Lottery
-pair_lottery = record { total = 1; rows = row (0 ∷ 1 ∷ []) 1 ∷ [] }
-
-abbrev pub pair_stages : List Stage
-pair_stages =
-    stage (pos 1) (pos 1 ∷ pos 0 ∷ []) ∷
-    stage (pos 0) (negsuc 0 ∷ pos 1 ∷ []) ∷ []

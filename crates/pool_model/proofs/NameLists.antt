@@ -4,7 +4,7 @@ use Rattle.std.specs.List.{list_all, list_any, zip, position_or_len}
 use Rattle.std.specs.Str.{bytes_eq}
 use Rattle.std.proofs.lemmas.Bool.{lt-ltb}
 use Rattle.std.proofs.lemmas.Bool.Decides.{nat_tests}
-use Rattle.pool_definitions.specs.Lists.{stands}
+use Rattle.pool_definitions.specs.Lists.{includes_list}
 use Rattle.pool_definitions.specs.Pool.{BoundedValue, Category}
 use Rattle.pool_definitions.specs.Building.{value_names, place_of, places_of, are_known}
 
@@ -14,12 +14,12 @@ list_any-map p f (x ∷ xs) = ap (λ b. p (f x) || b) (list_any-map p f xs)
 
 -- a category's value has the name beside it
 abbrev pub knows : Category × Bor (List ℕ) → Bool
-knows pair = stands (value_names pair.0.values) pair.1.now
+knows pair = includes_list (value_names pair.0.values) pair.1.now
 
 pub are_known-zip : (categories : List Category) (names : List (Bor (List ℕ))) → are_known categories (map (λ name. name.now) names) ≡ list_all knows (zip categories names)
 are_known-zip [] names = refl
 are_known-zip (category ∷ categories) [] = refl
-are_known-zip (category ∷ categories) (name ∷ names) = ap (λ b. stands (value_names category.values) name.now && b) (are_known-zip categories names)
+are_known-zip (category ∷ categories) (name ∷ names) = ap (λ b. includes_list (value_names category.values) name.now && b) (are_known-zip categories names)
 
 -- the place in a category of the value whose name is beside it
 abbrev pub place_beside : Category × Bor (List ℕ) → ℕ

@@ -2,7 +2,7 @@
 
 ghost use Rattle.std.specs.Prelude.{◌≡◌, ◌<◌, ℕ, map, length, pos, ◌+ℤ◌, IfOk, IsTrue, FitsSigned, if◌then◌else◌, slice_index_or};
 ghost use Rattle.std.specs.Int.{w128};
-ghost use Rattle.pool_definitions.specs.Lists.{is_increasing, holds};
+ghost use Rattle.pool_definitions.specs.Lists.{is_increasing, includes};
 ghost use Rattle.pool_definitions.specs.Lottery.{TotalAgrees, counts};
 
 use crate::lotteries::Lottery;
@@ -28,7 +28,7 @@ fn add_weight(chances: &mut [i128], members: &[usize], weight: i128)
     requires increasing { IsTrue (is_increasing members.now) }
     requires room { (i : ℕ) → i < length chances.old → FitsSigned w128 (slice_index_or chances.old i (pos 0) +ℤ weight) }
     ensures { (i : ℕ) → i < length chances.old → slice_index_or chances.new i (pos 0)
-        ≡ (if holds members.now i then slice_index_or chances.old i (pos 0) +ℤ weight else slice_index_or chances.old i (pos 0)) }
+        ≡ (if includes members.now i then slice_index_or chances.old i (pos 0) +ℤ weight else slice_index_or chances.old i (pos 0)) }
 {
     for i in members {
         if *i < chances.len() {

@@ -15,7 +15,7 @@ pub struct LotteryRow {
 
 impl Model for LotteryRow {
     ghost use Rattle.std.specs.Prelude.{◌≤ℤ◌, pos, unsigned_abs};
-    ghost use Rattle.pool_definitions.specs.Lottery.{Row as Seen};
+    ghost use Rattle.pool_definitions.specs.Lottery.{LotteryRow as Seen};
 
     ghost Value = { Seen };
 

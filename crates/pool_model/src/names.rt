@@ -3,7 +3,7 @@
 
 ghost use Rattle.std.specs.Prelude.{◌≡◌, ◌==◌, nat_le, not, ◌&&◌, map, IfOk};
 ghost use Rattle.std.specs.List.{list_all};
-ghost use Rattle.pool_definitions.specs.Lists.{stands};
+ghost use Rattle.pool_definitions.specs.Lists.{includes_list};
 ghost use Rattle.pool_definitions.specs.Pool.{keeps_name_limits as is_within_limits};
 ghost use Rattle.pool_definitions.specs.Building.{category_names, value_names, ids, place_of, places_of, are_known as each_is_known};
 
@@ -26,7 +26,7 @@ fn has_right_bytes(name: &[u8]) -> bool
 }
 
 pub(crate) fn is_category(categories: &[Category], name: &[u8]) -> bool
-    ensures { result ≡ stands (category_names categories.now) name.now }
+    ensures { result ≡ includes_list (category_names categories.now) name.now }
 {
     categories
         .iter()
@@ -34,13 +34,13 @@ pub(crate) fn is_category(categories: &[Category], name: &[u8]) -> bool
 }
 
 pub(crate) fn is_value(values: &[BoundedValue], name: &[u8]) -> bool
-    ensures { result ≡ stands (value_names values.now) name.now }
+    ensures { result ≡ includes_list (value_names values.now) name.now }
 {
     values.iter().any(|value| name == value.name().as_bytes())
 }
 
 pub(crate) fn is_volunteer(volunteers: &[Volunteer], id: &[u8]) -> bool
-    ensures { result ≡ stands (ids volunteers.now) id.now }
+    ensures { result ≡ includes_list (ids volunteers.now) id.now }
 {
     volunteers
         .iter()

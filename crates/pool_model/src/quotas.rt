@@ -2,7 +2,7 @@
 
 ghost use Rattle.std.specs.Prelude.{◌≡◌, IsTrue, nat_lt, length};
 ghost use Rattle.std.specs.List.{list_all, enumerate_from};
-ghost use Rattle.pool_definitions.specs.Lists.{holds};
+ghost use Rattle.pool_definitions.specs.Lists.{includes};
 ghost use Rattle.pool_definitions.specs.Pool.{members_with, allows, is_within, meets_quotas, keeps_standings, is_quota_panel};
 
 use crate::panels::Panel;
@@ -38,7 +38,7 @@ fn keep_standings(volunteers: &[Volunteer], members: &[usize]) -> bool
 }
 
 fn is_member(members: &[usize], i: usize) -> bool
-    ensures { result ≡ holds members.now i }
+    ensures { result ≡ includes members.now i }
 {
     members.iter().any(|member| *member == i)
 }

@@ -2,13 +2,13 @@
 use Rattle.std.proofs.Common.{◌≡◌, ◌≢◌, ℕ, zero, suc, ◌<◌, Bool, true, false, cond, List, [], ◌∷◌, length, get_or, ℤ, pos, ◌*ℤ◌, ◌≤ℤ◌, ◌<ℤ◌, refl, sym, ap, ◌∙◌, subst, arith, inl, inr, ◌⊎◌}
 use Rattle.std.proofs.lemmas.Int.{ints}
 use Rattle.std.proofs.lemmas.Bool.{cases_eq}
+use Rattle.basic_laws.proofs.Integers.{mul-zero, le-unscaled, product-not_negative, product-not_positive, factor-not_negative, factor-positive, other-zero}
 use Rattle.row_definitions.specs.declared.Var.{Var}
 use Rattle.row_definitions.specs.declared.Var.TheVariants.{Slack, Stage, Column}
 use Rattle.row_definitions.specs.Row.{Row}
 use Rattle.row_definitions.specs.Table.{Table, coefficient, coefficient_at, basic_at, sizes_where}
 use Rattle.row_definitions.specs.InOrder.{combination, unit, IsSpanned, IsInOrder, IsKnown}
 use Rattle.row_definitions.proofs.SumLaws.{get_or-sizes_where}
-use Rattle.row_definitions.proofs.Integers.{mul-zero, product-not_negative, product-not_positive, factor-not_negative, factor-positive, other-zero, le-unscaled}
 use Rattle.row_definitions.proofs.Linear.{value, value-scaled, value-same, value-combination, sum_of_coefficients, unit-same, unit-other, dot-picks, dot-none}
 
 abbrev zero_row : Row

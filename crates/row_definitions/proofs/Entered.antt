@@ -3,20 +3,22 @@ use Rattle.std.proofs.Common.{◌≡◌, ℕ, suc, ◌+◌, ◌-◌, ◌<◌, �
 use Rattle.std.specs.Prelude.{int_lt, slice_index, count_by}
 use Rattle.std.specs.Ordering.{int_eq}
 use Rattle.std.proofs.lemmas.Int.{ints}
-use Rattle.std.proofs.lemmas.Bool.{and_parts, eqb-true, cases_lt}
+use Rattle.std.proofs.lemmas.Bool.{and_parts, eqb-true, cases_lt, not-true}
 use Rattle.std.proofs.lemmas.List.{get_or-map, get_or_past, length-map}
 use Rattle.std.proofs.lemmas.List.Quantifiers.{position-Some}
 use Rattle.std.proofs.lemmas.List.Sums.{sum_by-cons}
 use Rattle.std.proofs.lemmas.List.Elements.{All-from_recursion}
+use Rattle.basic_laws.proofs.Each.{each_from_list_all}
+use Rattle.basic_laws.proofs.Found.{find-passes, find-each}
+use Rattle.basic_laws.proofs.Integers.{mul-zero, lt-tested, eq-tested}
 use Rattle.row_definitions.specs.declared.Var.{Var}
 use Rattle.row_definitions.specs.declared.Var.TheVariants.{Slack, Stage, Column}
 use Rattle.row_definitions.specs.Row.{sum_of_products}
 use Rattle.row_definitions.specs.Table.{Table, coefficient_at, row_at, basic_at, variables, is_same, stage_variable, sizes_where}
 use Rattle.row_definitions.specs.Choice.{is_eligible, row_of, entering_from, entering}
 use Rattle.row_definitions.specs.InOrder.{IsKnown, IsUnsettled, IsInOrder}
-use Rattle.row_definitions.proofs.Integers.{mul-zero}
 use Rattle.row_definitions.proofs.CoefficientLaws.{coefficient-Stage}
-use Rattle.row_definitions.proofs.Chosen.{find-passes, find-each, each_variable, each_from_all, lt-tested, eq-tested}
+use Rattle.row_definitions.proofs.Chosen.{each_variable}
 
 -- factors that stand only where entries are 0
 products-none : (marks : List Bool) (sizes : List ℕ) (xs : List ℤ) → ((t : ℕ) → get_or marks t false ≡ true → get_or xs t (pos 0) ≡ pos 0) → sum_of_products (sizes_where marks sizes) xs ≡ pos 0
@@ -62,12 +64,8 @@ module _ (table : Table) (h : IsInOrder table) (open_now : table.in_stage ≡ tr
   marked : (t : ℕ) → get_or (map not table.settled) t false ≡ true → IsUnsettled table t
   marked t e = ⊎_elim inside outside (cases_lt t (length table.settled))
     where
-      denied : (b : Bool) → not b ≡ true → b ≡ false
-      denied true k = absurd cc
-      denied false k = refl
-
       inside : t < length table.settled → IsUnsettled table t
-      inside l = denied (get_or table.settled t true) (sym (get_or-map not table.settled t true false l) ∙ e)
+      inside l = not-true (get_or table.settled t true) (sym (get_or-map not table.settled t true false l) ∙ e)
 
       outside : length table.settled ≤ t → IsUnsettled table t
       outside l = let past : get_or (map not table.settled) t false ≡ false = get_or_past (map not table.settled) t false (omega (arith, length-map table.settled not)) in absurd cc
@@ -105,7 +103,7 @@ module _ (table : Table) (h : IsInOrder table) (open_now : table.in_stage ≡ tr
     pub entered-closed : (k : ℕ) → k < length table.closed → coefficient_at table (slice_index table.closed k) v ≡ pos 0
     entered-closed k l =
         ⊎_elim (λ e. ap (coefficient_at table (slice_index table.closed k)) e ∙ stage_eligible k l)
-        (λ p. eq-tested (coefficient_at table (slice_index table.closed k) v) (pos 0) (All-from_recursion (λ i. int_eq (coefficient_at table i v) (pos 0) ≡ true) table.closed (each_from_all (λ i. int_eq (coefficient_at table i v) (pos 0)) table.closed p.3) k 0 l)) cases
+        (λ p. eq-tested (coefficient_at table (slice_index table.closed k) v) (pos 0) (All-from_recursion (λ i. int_eq (coefficient_at table i v) (pos 0) ≡ true) table.closed (each_from_list_all (λ i. int_eq (coefficient_at table i v) (pos 0)) table.closed p.3) k 0 l)) cases
 
     -- a stage variable that enters is the open stage's, at which some class was unsettled
     pub entered-stage : (r : ℕ) → v ≡ Stage r → (t : ℕ) × (t < length table.sizes) × (get_or (get_or table.stages r []) t false ≡ true)

@@ -4,12 +4,15 @@ use Rattle.std.specs.Prelude.{int_lt}
 use Rattle.std.specs.Option.{option_map, option_and_then}
 use Rattle.std.proofs.lemmas.Int.{ints}
 use Rattle.std.proofs.lemmas.Bool.{cases_eq}
+use Rattle.basic_laws.proofs.Integers.{lt-tested}
+use Rattle.basic_laws.proofs.Each.{list_all_from_each}
+use Rattle.basic_laws.proofs.Found.{find-none}
 use Rattle.row_definitions.specs.declared.Var.{Var}
 use Rattle.row_definitions.specs.Table.{Table, coefficient_at, row_at, basic_at, row_numbers}
 use Rattle.row_definitions.specs.Choice.{may_leave, leaves_before, is_least, leaving, entering, choice}
 use Rattle.row_definitions.specs.InOrder.{IsInOrder}
 use Rattle.row_definitions.proofs.Ratios.{IsCandidate, before-before, before-itself}
-use Rattle.row_definitions.proofs.Chosen.{find-none, each_row, row_each, all_from_each, lt-tested}
+use Rattle.row_definitions.proofs.Chosen.{each_row, row_each}
 use Rattle.row_definitions.proofs.Entered.{entered-known, entered-stage}
 use Rattle.row_definitions.proofs.Bounded.{some_positive}
 
@@ -75,7 +78,7 @@ module _ (table : Table) (v : Var) (sides : (i : ℕ) → i < length table.rows 
   -- the best of all rows is least
   pub best_is_least : (b : ℕ) → IsBest table v (length table.rows) b → is_least table v b ≡ true
   best_is_least b h =
-      ap₂ (λ x y. x && y) h.may (all_from_each (λ j. not (may_leave table v j) || not (leaves_before table v j b)) (row_numbers table)
+      ap₂ (λ x y. x && y) h.may (list_all_from_each (λ j. not (may_leave table v j) || not (leaves_before table v j b)) (row_numbers table)
       (each_row table (λ j. (not (may_leave table v j) || not (leaves_before table v j b)) ≡ true) (λ j l. by j l (may_leave table v j) refl)))
     where
       by : (j : ℕ) → j < length table.rows → (t : Bool) → may_leave table v j ≡ t → (not (may_leave table v j) || not (leaves_before table v j b)) ≡ true

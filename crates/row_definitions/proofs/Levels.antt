@@ -1,13 +1,15 @@
 -- The unit row of a class says that its count is its size times its levels.
-use Rattle.std.proofs.Common.{◌≡◌, ◌≢◌, ℕ, zero, suc, ◌+◌, ◌*◌, ◌/◌, ◌<◌, Bool, true, false, cond, List, [], ◌∷◌, length, get_or, Option, Some, None, ℤ, pos, ◌+ℤ◌, ◌-ℤ◌, ◌*ℤ◌, neg_ℤ, ◌≤ℤ◌, refl, sym, ap, ap₂, ◌∙◌, subst, arith}
-use Rattle.std.specs.Prelude.{int_lt, unsigned_abs, slice_index, sum_by, count_by}
+use Rattle.std.proofs.Common.{◌≡◌, ◌≢◌, ℕ, zero, suc, ◌+◌, ◌*◌, ◌/◌, ◌<◌, Bool, true, false, cond, List, [], ◌∷◌, length, get_or, Option, Some, None, ℤ, pos, ◌+ℤ◌, ◌-ℤ◌, ◌*ℤ◌, neg_ℤ, refl, sym, ap, ap₂, ◌∙◌, subst, arith}
+use Rattle.std.specs.Prelude.{int_lt, unsigned_abs, slice_index, sum_by}
 use Rattle.std.specs.Int.{◌∣◌}
 use Rattle.std.specs.List.{All, AllByRecursion, range_with_len}
 use Rattle.std.specs.Option.{option_and_then}
-use Rattle.std.proofs.Math.Nat.{eq_of_mul-eq-mul_right, mul-div_cancel', dvd_trans, dvd-mul_right, dvd-mul_left}
+use Rattle.std.proofs.Math.Nat.{eq_of_mul-eq-mul_right, mul-div_cancel', dvd_trans, dvd-mul_right, dvd-mul_left, mul-pos}
 use Rattle.std.proofs.lemmas.Int.{ints}
-use Rattle.std.proofs.lemmas.List.Sums.{sum_by-cons, count_by-le-length}
+use Rattle.std.proofs.lemmas.List.Sums.{sum_by-cons}
 use Rattle.std.proofs.lemmas.List.Elements.{recursion_from_All}
+use Rattle.basic_laws.proofs.Lists.{all_pass}
+use Rattle.basic_laws.proofs.Integers.{mul_comm, neg-mul, mul-zero, as_natural, same_pos}
 use Rattle.frac128.specs.Fractions.{lowest_of}
 use Rattle.row_definitions.specs.declared.Var.{Var}
 use Rattle.row_definitions.specs.declared.Var.TheVariants.{Slack, Stage, Column}
@@ -18,7 +20,6 @@ use Rattle.row_definitions.specs.InOrder.{IsKnown, count_in, unit}
 use Rattle.row_definitions.specs.Solutions.{numerator_over}
 use Rattle.row_definitions.specs.Settled.{was_unsettled, is_settled}
 use Rattle.row_definitions.specs.Levels.{count_of, count_over, levels_of, AllSettled, HasLevels}
-use Rattle.row_definitions.proofs.Integers.{mul_comm, mul-zero, neg-mul}
 use Rattle.row_definitions.proofs.CoefficientLaws.{coefficient-Slack}
 use Rattle.row_definitions.proofs.Linear.{value, unit-same, unit-other, dot-picks}
 use Rattle.row_definitions.proofs.SumLaws.{get_or-sizes_where}
@@ -35,11 +36,7 @@ product_to (suc n) f = f 0 * product_to n (λ k. f (suc k))
 product-positive : (n : ℕ) (f : ℕ → ℕ) → ((k : ℕ) → k < n → 0 < f k) → 0 < product_to n f
 unfolding product_to
 product-positive zero f h = omega arith
-product-positive (suc n) f h = positive (f 0) (product_to n (λ k. f (suc k))) (h 0 (omega arith)) (product-positive n (λ k. f (suc k)) (λ k l. h (suc k) (omega arith)))
-  where
-    positive : (a b : ℕ) → 0 < a → 0 < b → 0 < a * b
-    positive zero b l m = absurd (omega arith)
-    positive (suc a) b l m = omega arith
+product-positive (suc n) f h = mul-pos (h 0 (omega arith)) (product-positive n (λ k. f (suc k)) (λ k l. h (suc k) (omega arith)))
 
 factor-divides : (n : ℕ) (f : ℕ → ℕ) (k : ℕ) → k < n → f k ∣ product_to n f
 unfolding product_to
@@ -61,13 +58,6 @@ ranged_from f a (suc n) at e =
 
 ranged-total : (f : ℕ → ℕ) (n : ℕ) → pos (sum_by f (range_with_len 0 n)) ≡ total n (λ k. pos (f k))
 ranged-total f n = ranged_from f 0 n (λ k. k) (λ k. let z : k ≡ 0 + k = omega arith in z)
-
--- where all pass, each does
-all-pass : (xs : List Bool) (t : ℕ) → count_by (λ s. s) xs ≡ length xs → t < length xs → get_or xs t false ≡ true
-all-pass [] t e l = absurd (omega arith)
-all-pass (false ∷ xs) t e l = absurd (omega (arith, sum_by-cons (λ (b : Bool). cond b 1 0) false xs, count_by-le-length (λ (b : Bool). b) xs))
-all-pass (true ∷ xs) zero e l = refl
-all-pass (true ∷ xs) (suc t) e l = all-pass xs t (omega (arith, sum_by-cons (λ (b : Bool). cond b 1 0) true xs)) (omega arith)
 
 only-same : (x : Var) (kind : ℕ → Var) (n : ℕ) (f g : ℕ → ℤ) → ((c : ℕ) → c < n → x ≡ kind c → f c ≡ g c) → only x kind n f ≡ only x kind n g
 only-same x kind n f g h = total-same n (λ c. cond (is_same x (kind c)) (f c) (pos 0)) (λ c. cond (is_same x (kind c)) (g c) (pos 0)) (λ c l. by c l (is_same x (kind c)) refl)
@@ -124,9 +114,6 @@ module _ (table : Table) (a : AllSettled table) where
     where
       joined : (b q o s : ℕ) → o * q ≡ s → b * q * o ≡ s * b
       joined b q o s e = (let z : b * q * o ≡ o * q * b = omega arith in z) ∙ ap (λ n. n * b) e
-
-  as_natural : (z : ℤ) → pos 0 ≤ℤ z → z ≡ pos (unsigned_abs z)
-  as_natural z l = omega (arith, ints)
 
   amount-own : (i : ℕ) → i < length table.rows → pos (amount_of i) *ℤ coefficient_at table i (basic_at table i) ≡ pos the_scale *ℤ (row_at table i).b
   unfolding own
@@ -196,7 +183,7 @@ module _ (table : Table) (a : AllSettled table) where
     -- the slack of a settled class is not basic: it has a coefficient above 0 in a closed row
     not_slack : (i : ℕ) → i < length table.rows → basic_at table i ≢ Slack t
     not_slack i m e =
-        let settled : is_settled table t ≡ true = all-pass table.settled t (a.settled ∙ sym a.in_order.settled_each) (omega (arith, a.in_order.settled_each)) in
+        let settled : is_settled table t ≡ true = all_pass table.settled t (a.settled ∙ sym a.in_order.settled_each) (omega (arith, a.in_order.settled_each)) in
         let by_stage = a.stages.settled_by_stage t settled in
         let k = by_stage.0 in
         let s = by_stage.1 in
@@ -312,9 +299,6 @@ module _ (table : Table) (a : AllSettled table) where
 
     class-counts : count_of table value_of_column t ≡ slice_index table.sizes t * levels_of table level_of t
     class-counts = same_pos (count_of table value_of_column t) (slice_index table.sizes t * levels_of table level_of t) (sym columns_total ∙ sym balanced ∙ stages_total)
-      where
-        same_pos : (m n : ℕ) → pos m ≡ pos n → m ≡ n
-        same_pos m n e = omega (arith, ints)
 
   -- over a common multiple each value is the same but for the scales
   numerator-same : (common c t : ℕ) (there : ColumnValue) → StandsAt table c there → (lowest_of there.side there.coefficient).den ∣ common →

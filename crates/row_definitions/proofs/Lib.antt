@@ -4,7 +4,6 @@ pub mod SumLaws
 pub mod DividedLaws
 pub mod CoefficientLaws
 pub mod PivotLaws
-pub mod Integers
 pub mod Linear
 pub mod Bounded
 pub mod Eliminations

@@ -1,5 +1,5 @@
 -- Amounts of the basic variables satisfy the equation of each unit row, and so the values of the solution sum to one.
-use Rattle.std.proofs.Common.{◌≡◌, ◌≢◌, ℕ, zero, suc, ◌*◌, ◌/◌, ◌<◌, ◌≤◌, Bool, true, false, cond, [], length, get_or, Option, Some, None, ℤ, pos, negsuc, ◌*ℤ◌, ◌≤ℤ◌, ◌<ℤ◌, refl, sym, ap, ap₂, ◌∙◌, subst, arith}
+use Rattle.std.proofs.Common.{◌≡◌, ◌≢◌, ℕ, zero, suc, ◌*◌, ◌/◌, ◌<◌, ◌≤◌, Bool, true, false, cond, [], length, get_or, Option, Some, None, ℤ, pos, negsuc, ◌*ℤ◌, ◌<ℤ◌, refl, sym, ap, ap₂, ◌∙◌, subst, arith}
 use Rattle.std.specs.Prelude.{int_lt, unsigned_abs, sum_by}
 use Rattle.std.specs.Int.{◌∣◌}
 use Rattle.std.specs.List.{All}
@@ -7,6 +7,8 @@ use Rattle.std.specs.Option.{option_and_then}
 use Rattle.std.proofs.Math.Nat.{mul-div_cancel'}
 use Rattle.std.proofs.lemmas.Int.{ints}
 use Rattle.std.proofs.lemmas.List.Elements.{All-from_get_or}
+use Rattle.basic_laws.proofs.Found.{position-None}
+use Rattle.basic_laws.proofs.Integers.{mul_comm, mul_assoc, mul-left_comm, mul-zero, one-mul, same-unscaled, as_natural, same_pos, zero-mul}
 use Rattle.frac128.specs.Divisors.{gcd_of}
 use Rattle.frac128.specs.Fractions.{lowest_of}
 use Rattle.frac128.proofs.DivisorLaws.{IsGcd-gcd_of}
@@ -17,12 +19,11 @@ use Rattle.row_definitions.specs.Choice.{row_of}
 use Rattle.row_definitions.specs.Steps.{ColumnValue, value_in, value_of, solution}
 use Rattle.row_definitions.specs.InOrder.{IsInOrder, IsKnown, IsSpanned, combination, unit}
 use Rattle.row_definitions.specs.Solutions.{numerator_over, SolutionStands, IsTight}
-use Rattle.row_definitions.proofs.Integers.{mul_comm, mul_assoc, mul-left_comm, mul-zero, one-mul, same-unscaled}
 use Rattle.row_definitions.proofs.Linear.{value, value-combination, value-same, value-scaled, unit-same, unit-other, dot-none}
 use Rattle.row_definitions.proofs.CoefficientLaws.{coefficient-Column}
 use Rattle.row_definitions.proofs.Entered.{place_of, is_same-true}
 use Rattle.row_definitions.proofs.Totals.{total, total-none, total-same, total-scaled, total-swap, total-picks, combination-total, coefficients-total, amount, filtered-total}
-use Rattle.row_definitions.proofs.Solutions.{StandsAt, is_same_refl, position-None, solution-each, each-solution, solution-rises, stands-positive, found-basic}
+use Rattle.row_definitions.proofs.Solutions.{StandsAt, is_same_refl, solution-each, each-solution, solution-rises, stands-positive, found-basic}
 
 -- a positive factor is cancelled
 cancel : (a b c : ℤ) → pos 0 <ℤ c → c *ℤ a ≡ c *ℤ b → a ≡ b
@@ -129,9 +130,6 @@ module _ (table : Table) (h : IsInOrder table) where
       here : ColumnValue
       here = record { column = c; side = unsigned_abs (row_at table i).b; coefficient = unsigned_abs (coefficient_at table i (Column c)) }
 
-      as_natural : (z : ℤ) → pos 0 ≤ℤ z → z ≡ pos (unsigned_abs z)
-      as_natural z l = omega (arith, ints)
-
       by : (b : Bool) → int_lt (pos 0) (row_at table i).b ≡ b →
           amount f (cond b (Some (record { column = c; side = unsigned_abs (row_at table i).b; coefficient = unsigned_abs (coefficient_at table i (Column c)) })) None) *ℤ coefficient_at table i (basic_at table i) ≡ pos scale *ℤ (row_at table i).b
       by true t =
@@ -173,16 +171,10 @@ module _ (table : Table) (h : IsInOrder table) where
       value table x (unit 0) *ℤ (only x Column (length table.columns) f *ℤ own) ≡ value table x (unit 0) *ℤ wanted
   first_own (Slack t) f own wanted known each =
       let none = unit-other 0 (suc t) (λ e. omega (arith, e)) in
-      ap (λ z. z *ℤ (only (Slack t) Column (length table.columns) f *ℤ own)) none ∙ zero_mul (only (Slack t) Column (length table.columns) f *ℤ own) ∙ sym (zero_mul wanted) ∙ ap (λ z. z *ℤ wanted) (sym none)
-    where
-      zero_mul : (z : ℤ) → pos 0 *ℤ z ≡ pos 0
-      zero_mul z = mul_comm (pos 0) z ∙ mul-zero z
+      ap (λ z. z *ℤ (only (Slack t) Column (length table.columns) f *ℤ own)) none ∙ zero-mul (only (Slack t) Column (length table.columns) f *ℤ own) ∙ sym (zero-mul wanted) ∙ ap (λ z. z *ℤ wanted) (sym none)
   first_own (Stage r) f own wanted known each =
       let none = first_of_stage r in
-      ap (λ z. z *ℤ (only (Stage r) Column (length table.columns) f *ℤ own)) none ∙ zero_mul (only (Stage r) Column (length table.columns) f *ℤ own) ∙ sym (zero_mul wanted) ∙ ap (λ z. z *ℤ wanted) (sym none)
-    where
-      zero_mul : (z : ℤ) → pos 0 *ℤ z ≡ pos 0
-      zero_mul z = mul_comm (pos 0) z ∙ mul-zero z
+      ap (λ z. z *ℤ (only (Stage r) Column (length table.columns) f *ℤ own)) none ∙ zero-mul (only (Stage r) Column (length table.columns) f *ℤ own) ∙ sym (zero-mul wanted) ∙ ap (λ z. z *ℤ wanted) (sym none)
   first_own (Column c) f own wanted known each = ap (λ z. value table (Column c) (unit 0) *ℤ z) (ap (λ z. z *ℤ own) (only-column c f known) ∙ each c known refl)
 
   pub known-basic : (i : ℕ) → i < length table.rows → IsKnown table (basic_at table i)
@@ -200,9 +192,6 @@ module _ (table : Table) (h : IsInOrder table) where
     where
       amounts : ℕ → ℤ
       amounts i = only (basic_at table i) Column (length table.columns) (λ c. amount f (value_in table c i))
-
-      same_pos : (m n : ℕ) → pos m ≡ pos n → m ≡ n
-      same_pos m n e = omega (arith, ints)
 
 -- over a multiple of its denominator, a value's numerator is the value times that multiple
 pub numerator-over : (common : ℕ) (there : ColumnValue) → (lowest_of there.side there.coefficient).den ∣ common → numerator_over common there * there.coefficient ≡ common * there.side

@@ -2,9 +2,11 @@
 use Rattle.std.proofs.Common.{◌≡◌, ℕ, zero, suc, ◌+◌, ◌<◌, ◌≤◌, Bool, true, false, cond, not, ◌||◌, List, [], ◌∷◌, ◌++◌, length, map, get_or, set, replicate, Ok, ℤ, pos, ◌≤ℤ◌, ◌<ℤ◌, refl, sym, ap, ◌∙◌, subst, arith, inl, inr, ◌⊎◌}
 use Rattle.std.specs.Prelude.{int_lt, slice_index, count_by}
 use Rattle.std.proofs.lemmas.Int.{ints}
-use Rattle.std.proofs.lemmas.Bool.{cases_lt}
+use Rattle.std.proofs.lemmas.Bool.{cases_lt, not-true, not-false}
 use Rattle.std.proofs.lemmas.List.{get_or_append_left, get_or_push, get_or_past, get_or_default, get_or-map, get_or-replicate, length_push, length-map, length-replicate}
 use Rattle.std.proofs.lemmas.List.Sums.{sum_by-cons}
+use Rattle.basic_laws.proofs.Integers.{tested-lt}
+use Rattle.basic_laws.proofs.Tests.{or-true}
 use Rattle.row_definitions.specs.declared.Var.{Var}
 use Rattle.row_definitions.specs.Row.{Row, entry}
 use Rattle.row_definitions.specs.Table.{Table, row_at}
@@ -16,7 +18,7 @@ use Rattle.row_definitions.specs.Laws.{HasClosedRowsOf, IsPivoted, MayClose, May
 use Rattle.row_definitions.specs.Settled.{was_unsettled, closed_entry, Settles, KeepsStages}
 use Rattle.row_definitions.proofs.PivotLaws.{after-Ok_parts}
 use Rattle.row_definitions.proofs.Keeps.{pivot-keeps_closed}
-use Rattle.row_definitions.proofs.StepsKeep.{close-keeps, some_settle}
+use Rattle.row_definitions.proofs.StepsKeep.{close-keeps, some_settle, length-settled_by}
 
 ones : Bool → ℕ
 ones b = cond b 1 0
@@ -92,20 +94,12 @@ pivot-keeps_stages table made r v p h =
     subst KeepsStages same (replaced-keeps table parts.0 r v (subst (HasClosedRowsOf table) (sym same) kept) h)
 
 -- ---- a stage is entered
-denied : (b : Bool) → not b ≡ true → b ≡ false
-denied true k = absurd cc
-denied false k = refl
-
-granted : (b : Bool) → not b ≡ false → b ≡ true
-granted true k = refl
-granted false k = absurd cc
-
 -- who is unsettled now, by the marks
 unsettled_marks : (settled : List Bool) (t : ℕ) → get_or (map not settled) t false ≡ true → (t < length settled) × (get_or settled t false ≡ false)
 unsettled_marks settled t e = by (cases_lt t (length settled))
   where
     by : (t < length settled) ⊎ (length settled ≤ t) → (t < length settled) × (get_or settled t false ≡ false)
-    by (inl l) = (l, denied (get_or settled t false) (sym (get_or-map not settled t false false l) ∙ e))
+    by (inl l) = (l, not-true (get_or settled t false) (sym (get_or-map not settled t false false l) ∙ e))
     by (inr l) = let past : get_or (map not settled) t false ≡ false = get_or_past (map not settled) t false (omega (arith, length-map settled not)) in absurd cc
 
 pub enter-keeps_stages : (table : Table) → MayEnter table → KeepsStages table → KeepsStages (enter_stage table)
@@ -150,7 +144,7 @@ enter-keeps_stages table may h = record {
     some k t l m u (inl o) = let s = h.some_stage_before k t o m (sym (old k t o) ∙ u) in (s.0, s.1, again s.2)
     some k t l m u (inr o) =
         let marks = newest k t (omega (arith, length_push table.stages (map not table.settled))) in
-        let settled : get_or table.settled t false ≡ true = granted (get_or table.settled t false) (sym (get_or-map not table.settled t false false (omega (arith, may.in_order.settled_each))) ∙ sym marks ∙ u) in
+        let settled : get_or table.settled t false ≡ true = not-false (get_or table.settled t false) (sym (get_or-map not table.settled t false false (omega (arith, may.in_order.settled_each))) ∙ sym marks ∙ u) in
         let s = h.settled_by_stage t settled in
         let c = (s.1).closed in
         (s.0, omega (arith, shut), again s.1)
@@ -161,13 +155,6 @@ settled-at xs [] t e l = absurd (omega arith)
 settled-at [] (b ∷ was) t e l = absurd (omega arith)
 settled-at (x ∷ xs) (b ∷ was) zero e l = refl
 settled-at (x ∷ xs) (b ∷ was) (suc t) e l = settled-at xs was t (omega arith) (omega arith)
-
--- there are as many as before
-length-settled : (xs : List ℤ) (was : List Bool) → length (settled_by xs was) ≡ length was
-length-settled [] [] = refl
-length-settled (x ∷ xs) [] = refl
-length-settled [] (b ∷ was) = refl
-length-settled (x ∷ xs) (b ∷ was) = ap suc (length-settled xs was)
 
 -- where more are settled, somebody is settled who was not
 somebody-settles : (xs : List ℤ) (was : List Bool) → count_by (λ s. s) was < count_by (λ s. s) (settled_by xs was) → (t : ℕ) × (t < length was) × (get_or was t false ≡ false) × (int_lt (pos 0) (get_or xs t (pos 0)) ≡ true)
@@ -237,7 +224,7 @@ module _ (table : Table) (may : MayClose table) (h : KeepsStages table) where
       by false e =
           let still : get_or (settled_by (row_at table (open_row table)).a table.settled) t false ≡ false =
           settled-at (row_at table (open_row table)).a table.settled t long l ∙ ap (λ b. b || int_lt (pos 0) (get_or (row_at table (open_row table)).a t (pos 0))) u ∙ e in
-          let read = get_or_default (settled_by (row_at table (open_row table)).a table.settled) t true false (omega (arith, length-settled (row_at table (open_row table)).a table.settled)) in
+          let read = get_or_default (settled_by (row_at table (open_row table)).a table.settled) t true false (omega (arith, length-settled_by (row_at table (open_row table)).a table.settled)) in
           let zero = in_order.closed_entries (length table.closed) t (omega (arith, length_push table.closed (open_row table))) (read ∙ still) in
           omega (arith, ints, zero, entry_new (length table.closed) t refl)
 
@@ -296,24 +283,13 @@ module _ (table : Table) (may : MayClose table) (h : KeepsStages table) where
           by (inl l) = settled-at (row_at table (open_row table)).a table.settled t long l ∙ ap (λ b. b || int_lt (pos 0) (get_or (row_at table (open_row table)).a t (pos 0))) e
           by (inr l) = let past : get_or table.settled t false ≡ false = get_or_past table.settled t false l in absurd cc
 
-      or_true : (b : Bool) → (b || true) ≡ true
-      or_true true = refl
-      or_true false = refl
-
       settled : (k t : ℕ) → k < length (table.closed ++ open_row table ∷ []) → pos 0 <ℤ closed_entry closed k t → (k < length table.closed) ⊎ (length table.closed ≤ k) →
           get_or (settled_by (row_at table (open_row table)).a table.settled) t false ≡ true
       settled k t l a (inl o) = stays t (h.settled_by_row k t o (subst (λ z. pos 0 <ℤ z) (entry_old k t o) a))
       settled k t l a (inr o) =
           let e : length table.closed ≡ k = omega (arith, length_push table.closed (open_row table)) in
-          let positive : int_lt (pos 0) (get_or (row_at table (open_row table)).a t (pos 0)) ≡ true = above_tested (get_or (row_at table (open_row table)).a t (pos 0)) (subst (λ z. pos 0 <ℤ z) (entry_new k t e) a) in
-          settled-at (row_at table (open_row table)).a table.settled t long (in_range k t e a) ∙ ap (λ b. get_or table.settled t false || b) positive ∙ or_true (get_or table.settled t false)
-        where
-          above_tested : (z : ℤ) → pos 0 <ℤ z → int_lt (pos 0) z ≡ true
-          above_tested z l = test (int_lt (pos 0) z) refl
-            where
-              test : (b : Bool) → int_lt (pos 0) z ≡ b → int_lt (pos 0) z ≡ true
-              test true e = e
-              test false e = absurd (omega (arith, ints))
+          let positive : int_lt (pos 0) (get_or (row_at table (open_row table)).a t (pos 0)) ≡ true = tested-lt (pos 0) (get_or (row_at table (open_row table)).a t (pos 0)) (subst (λ z. pos 0 <ℤ z) (entry_new k t e) a) in
+          settled-at (row_at table (open_row table)).a table.settled t long (in_range k t e a) ∙ ap (λ b. get_or table.settled t false || b) positive ∙ or-true (get_or table.settled t false)
 
       settlers : (t : ℕ) → get_or (settled_by (row_at table (open_row table)).a table.settled) t false ≡ true → (k : ℕ) × Settles closed k t
       settlers t e = by (cases_lt t (length table.settled))
@@ -321,7 +297,7 @@ module _ (table : Table) (may : MayClose table) (h : KeepsStages table) where
           by : (t < length table.settled) ⊎ (length table.settled ≤ t) → (k : ℕ) × Settles closed k t
           by (inr l) =
               let past : get_or (settled_by (row_at table (open_row table)).a table.settled) t false ≡ false =
-              get_or_past (settled_by (row_at table (open_row table)).a table.settled) t false (omega (arith, length-settled (row_at table (open_row table)).a table.settled)) in absurd cc
+              get_or_past (settled_by (row_at table (open_row table)).a table.settled) t false (omega (arith, length-settled_by (row_at table (open_row table)).a table.settled)) in absurd cc
           by (inl l) = then (get_or table.settled t false) refl
             where
               then : (b : Bool) → get_or table.settled t false ≡ b → (k : ℕ) × Settles closed k t

@@ -1,13 +1,14 @@
 -- What each value of the solution is, and that the columns rise.
-use Rattle.std.proofs.Common.{◌≡◌, ◌≢◌, ℕ, zero, suc, ◌+◌, ◌<◌, ◌≤◌, Bool, true, false, cond, List, length, get_or, Option, Some, None, ℤ, pos, ◌<ℤ◌, refl, sym, ap, ◌∙◌, subst, arith, inl, inr, ◌⊎◌}
-use Rattle.std.specs.Prelude.{int_lt, unsigned_abs, filter_map, position}
-use Rattle.std.specs.List.{All, AllPairs, AllByRecursion, range_with_len, cons_option, position_or_len}
+use Rattle.std.proofs.Common.{◌≡◌, ◌≢◌, ℕ, zero, suc, ◌+◌, ◌<◌, ◌≤◌, Bool, true, false, cond, length, Option, Some, None, ℤ, pos, ◌<ℤ◌, refl, sym, ap, ◌∙◌, subst, arith, inl, inr, ◌⊎◌}
+use Rattle.std.specs.Prelude.{int_lt, unsigned_abs, filter_map}
+use Rattle.std.specs.List.{All, AllPairs, AllByRecursion, range_with_len, cons_option}
 use Rattle.std.specs.Option.{option_and_then}
 use Rattle.std.proofs.lemmas.Int.{ints}
-use Rattle.std.proofs.lemmas.Bool.{cases_lt, cases_eq, lt-ltb, eq-eqb}
+use Rattle.std.proofs.lemmas.Bool.{cases_eq, eq-eqb}
 use Rattle.std.proofs.lemmas.List.Elements.{All-from_recursion, recursion_from_All}
 use Rattle.std.proofs.lemmas.List.Kept.{AllPairs-cons}
-use Rattle.std.proofs.lemmas.List.Sums.{fails_before_first}
+use Rattle.basic_laws.proofs.Integers.{tested-lt}
+use Rattle.basic_laws.proofs.Found.{position-None}
 use Rattle.row_definitions.specs.declared.Var.{Var}
 use Rattle.row_definitions.specs.declared.Var.TheVariants.{Slack, Stage, Column}
 use Rattle.row_definitions.specs.Table.{Table, coefficient_at, row_at, basic_at, is_same}
@@ -20,14 +21,6 @@ pub is_same_refl : (x : Var) → is_same x x ≡ true
 is_same_refl (Slack t) = eq-eqb t t refl
 is_same_refl (Stage r) = eq-eqb r r refl
 is_same_refl (Column c) = eq-eqb c c refl
-
--- where no place is found, no element passes
-pub position-None : {X : Type 0} (p : X → Bool) (xs : List X) (k : ℕ) (d : X) → position p xs ≡ None → k < length xs → p (get_or xs k d) ≡ false
-position-None p xs k d e l = by (cases_lt (position_or_len p xs) (length xs))
-  where
-    by : (position_or_len p xs < length xs) ⊎ (length xs ≤ position_or_len p xs) → p (get_or xs k d) ≡ false
-    by (inl m) = let found : position p xs ≡ Some (position_or_len p xs) = ap (λ b. cond b (Some (position_or_len p xs)) None) (lt-ltb (position_or_len p xs) (length xs) m) in absurd cc
-    by (inr m) = fails_before_first p xs k d (omega arith)
 
 -- what holds of what is kept of each number holds of all that is kept
 pub filtered-each : {X : Type 0} (Q : X → Type 0) (g : ℕ → Option X) (a n : ℕ) → ((k : ℕ) (x : X) → a ≤ k → k < a + n → g k ≡ Some x → Q x) → AllByRecursion Q (filter_map g (range_with_len a n))
@@ -102,16 +95,9 @@ module _ (table : Table) (h : IsInOrder table) where
   -- and the other way round
   pub stands-value : (c : ℕ) (there : ColumnValue) → StandsAt table c there → value_of table c ≡ Some there
   stands-value c there s =
-      ap (option_and_then (value_in table c)) s.found ∙ ap (λ b. cond b (Some (record { column = c; side = unsigned_abs (row_at table s.row).b; coefficient = unsigned_abs (coefficient_at table s.row (Column c)) })) None) (tested (row_at table s.row).b s.above)
+      ap (option_and_then (value_in table c)) s.found ∙ ap (λ b. cond b (Some (record { column = c; side = unsigned_abs (row_at table s.row).b; coefficient = unsigned_abs (coefficient_at table s.row (Column c)) })) None) (tested-lt (pos 0) (row_at table s.row).b s.above)
       ∙ ap Some (same c (unsigned_abs (row_at table s.row).b) (unsigned_abs (coefficient_at table s.row (Column c))) there s.column_is s.side_is s.coefficient_is)
     where
-      tested : (z : ℤ) → pos 0 <ℤ z → int_lt (pos 0) z ≡ true
-      tested z l = by (int_lt (pos 0) z) refl
-        where
-          by : (b : Bool) → int_lt (pos 0) z ≡ b → int_lt (pos 0) z ≡ true
-          by true e = e
-          by false e = absurd (omega (arith, ints))
-
       same : (c s k : ℕ) (there : ColumnValue) → there.column ≡ c → there.side ≡ s → there.coefficient ≡ k → record { column = c; side = s; coefficient = k } ≡ there
       same c s k there e f g = λ i. record { column = sym e i; side = sym f i; coefficient = sym g i }
 

@@ -10,6 +10,8 @@ use Rattle.std.proofs.lemmas.List.Elements.{All-set, All-replicate, recursion_fr
 use Rattle.std.proofs.lemmas.List.Sums.{sum_by-cons}
 use Rattle.std.proofs.lemmas.List.FromFn.{length-range_with_len, get_or-range_with_len}
 use Rattle.std.proofs.lemmas.Nat.Gcd.{dvd_antisymm, dvd_of_mod-eq-zero}
+use Rattle.basic_laws.proofs.Lists.{length-enumerate_from, get_or-enumerate_from}
+use Rattle.basic_laws.proofs.Integers.{mul_comm, neg-mul, mul-zero, one-mul}
 use Rattle.frac128.specs.Divisors.{gcd_of_list}
 use Rattle.frac128.proofs.DivisorLaws.{gcd_of_list-divides}
 use Rattle.row_definitions.specs.declared.Var.TheVariants.{Slack, Column}
@@ -18,7 +20,6 @@ use Rattle.row_definitions.specs.Table.{Table, coefficient, coefficient_at, basi
 use Rattle.row_definitions.specs.Width.{most_of, in_turn, reach_operations}
 use Rattle.row_definitions.specs.Pivot.{total_row, class_row, first_rows, first_table, start}
 use Rattle.row_definitions.specs.InOrder.{number_at, unit, IsSpanned, IsKnown, IsInOrder}
-use Rattle.row_definitions.proofs.Integers.{mul_comm, mul-zero, neg-mul, one-mul}
 use Rattle.row_definitions.proofs.CoefficientLaws.{coefficient-Slack}
 use Rattle.row_definitions.proofs.Linear.{coefficient-value, dot-picks, dot-none, unit-same, unit-other}
 use Rattle.row_definitions.proofs.PivotLaws.{after-Ok_parts, in_turn-each}
@@ -31,16 +32,6 @@ one_divides ns k l e = dvd_antisymm (subst (λ n. gcd_of_list ns ∣ n) e (gcd_o
 
 row_divisor_one : (row : Row) (k : ℕ) → k < length (numbers row) → number_at row k ≡ pos 1 → common_divisor row ≡ 1
 row_divisor_one row k l e = one_divides (map unsigned_abs (numbers row)) k (omega (arith, length-map (numbers row) unsigned_abs)) (get_or-map unsigned_abs (numbers row) k (pos 0) 0 l ∙ ap unsigned_abs e)
-
--- the places of an enumeration
-length-enumerated : (a : ℕ) (xs : List ℕ) → length (enumerate_from a xs) ≡ length xs
-length-enumerated a [] = refl
-length-enumerated a (x ∷ xs) = ap suc (length-enumerated (a + 1) xs)
-
-enumerated : (a : ℕ) (xs : List ℕ) (t : ℕ) (d : ℕ × ℕ) → t < length xs → get_or (enumerate_from a xs) t d ≡ (a + t, get_or xs t 0)
-enumerated a [] t d l = absurd (omega arith)
-enumerated a (x ∷ xs) zero d l = let e : a ≡ a + 0 = omega arith in ap (λ n. let p : ℕ × ℕ = (n, x) in p) e
-enumerated a (x ∷ xs) (suc t) d l = enumerated (a + 1) xs t d (omega arith) ∙ (let e : (a + 1) + t ≡ a + suc t = omega arith in ap (λ n. let p : ℕ × ℕ = (n, get_or xs t 0) in p) e)
 
 element_le_sum : (xs : List ℕ) (t : ℕ) → get_or xs t 0 ≤ sum xs
 element_le_sum [] t = omega arith
@@ -66,11 +57,11 @@ module _ (sizes first : List ℕ) (bits : ℕ) (some : 0 < length sizes) (each :
   -- the rows by number: row 0, and the row of each class
   row_of_class : (t : ℕ) → t < length first → get_or (first_rows first) (suc t) (record { b = pos 0; a = [] }) ≡ class_row (length first) (t, get_or first t 0)
   row_of_class t l =
-      get_or-map (class_row (length first)) (enumerate_from 0 first) t (0, 0) (record { b = pos 0; a = [] }) (omega (arith, length-enumerated 0 first))
-      ∙ ap (class_row (length first)) (enumerated 0 first t (0, 0) l ∙ (let e : 0 + t ≡ t = omega arith in ap (λ n. let p : ℕ × ℕ = (n, get_or first t 0) in p) e))
+      get_or-map (class_row (length first)) (enumerate_from 0 first) t (0, 0) (record { b = pos 0; a = [] }) (omega (arith, length-enumerate_from 0 first))
+      ∙ ap (class_row (length first)) (get_or-enumerate_from 0 first t (0, 0) 0 l ∙ (let e : 0 + t ≡ t = omega arith in ap (λ n. let p : ℕ × ℕ = (n, get_or first t 0) in p) e))
 
   rows_long : length (first_rows first) ≡ suc (length first)
-  rows_long = ap suc (length-map (enumerate_from 0 first) (class_row (length first)) ∙ length-enumerated 0 first)
+  rows_long = ap suc (length-map (enumerate_from 0 first) (class_row (length first)) ∙ length-enumerate_from 0 first)
 
   -- the numbers of these rows
   total_at : (l : ℕ) → number_at (total_row (length first)) l ≡ unit 0 l

@@ -3,11 +3,14 @@ use Rattle.std.proofs.Common.{◌≡◌, ◌≢◌, ℕ, zero, suc, ◌+◌, ◌
 use Rattle.std.specs.Prelude.{int_lt, slice_index, slice_index_or, count_by, unwrap_or}
 use Rattle.std.specs.Ordering.{int_eq}
 use Rattle.std.proofs.lemmas.Int.{ints}
-use Rattle.std.proofs.lemmas.Bool.{cases_lt}
+use Rattle.std.proofs.lemmas.Bool.{cases_lt, not-true}
 use Rattle.std.proofs.lemmas.Bool.Decides.{Decides-int_eq}
 use Rattle.std.proofs.lemmas.List.{get_or_append_left, get_or_push, get_or_past, get_or_default, get_or-map, length_push, length-map}
 use Rattle.std.proofs.lemmas.List.Elements.{All-push, recursion_from_All}
 use Rattle.std.proofs.lemmas.List.Sums.{sum_by-cons}
+use Rattle.basic_laws.proofs.Each.{list_all_from_each}
+use Rattle.basic_laws.proofs.Found.{find-none}
+use Rattle.basic_laws.proofs.Integers.{product-not_positive}
 use Rattle.row_definitions.specs.declared.Var.{Var}
 use Rattle.row_definitions.specs.declared.Var.TheVariants.{Slack, Stage, Column}
 use Rattle.row_definitions.specs.Row.{Row, entry, sum_of_products}
@@ -16,9 +19,8 @@ use Rattle.row_definitions.specs.Choice.{row_of, is_eligible, entering, entering
 use Rattle.row_definitions.specs.Steps.{enter_stage, open_row, settled_by, closed_by, close_stage, add_column}
 use Rattle.row_definitions.specs.InOrder.{IsKnown, IsUnsettled, IsInOrder, settled_count}
 use Rattle.row_definitions.proofs.CoefficientLaws.{coefficient-Slack, coefficient-Stage, coefficient-Column}
-use Rattle.row_definitions.proofs.Chosen.{find-none, each_slack, all_from_each}
+use Rattle.row_definitions.proofs.Chosen.{each_slack}
 use Rattle.row_definitions.proofs.Entered.{place_of, marks_now, stages_are}
-use Rattle.row_definitions.proofs.Integers.{product-not_positive}
 use Rattle.row_definitions.proofs.Leaving.{entering-none}
 
 ones : Bool → ℕ
@@ -142,7 +144,7 @@ add-keeps table counts h long bound fresh = record {
     bounded c t l m (inr o) = subst (λ q. slice_index q t ≤ slice_index table.sizes t) (sym (last c l o)) (bound t m)
 
 -- ---- a stage closes
-length-settled_by : (xs : List ℤ) (was : List Bool) → length (settled_by xs was) ≡ length was
+pub length-settled_by : (xs : List ℤ) (was : List Bool) → length (settled_by xs was) ≡ length was
 length-settled_by [] [] = refl
 length-settled_by (x ∷ xs) [] = refl
 length-settled_by [] (b ∷ was) = refl
@@ -225,7 +227,7 @@ module _ (table : Table) (h : IsInOrder table) (open_now : table.in_stage ≡ tr
   -- an unsettled class has no entry below 0 in the open row
   not_below : (t : ℕ) → t < length table.sizes → IsUnsettled table t → pos 0 ≤ℤ entry (row_at table open_found.0) t
   not_below t l u =
-      let eligible : is_eligible table (Slack t) ≡ true = all_from_each (λ i. int_eq (coefficient_at table i (Slack t)) (pos 0)) table.closed
+      let eligible : is_eligible table (Slack t) ≡ true = list_all_from_each (λ i. int_eq (coefficient_at table i (Slack t)) (pos 0)) table.closed
       (recursion_from_All (λ i. int_eq (coefficient_at table i (Slack t)) (pos 0) ≡ true) table.closed (λ k d m. zero_in k d m)) in
       let test : (true && int_lt (coefficient_at table open_found.0 (Slack t)) (pos 0)) ≡ false = ap (λ b. b && int_lt (coefficient_at table open_found.0 (Slack t)) (pos 0)) (sym eligible) ∙ open_found.2 t l in
       omega (arith, ints, coefficient-Slack table (row_at table open_found.0) t)
@@ -248,12 +250,8 @@ module _ (table : Table) (h : IsInOrder table) (open_now : table.in_stage ≡ tr
   was_unsettled : (t : ℕ) → get_or (map not table.settled) t false ≡ true → get_or table.settled t true ≡ false
   was_unsettled t e = ⊎_elim inside outside (cases_lt t (length table.settled))
     where
-      denied : (b : Bool) → not b ≡ true → b ≡ false
-      denied true k = absurd cc
-      denied false k = refl
-
       inside : t < length table.settled → get_or table.settled t true ≡ false
-      inside l = denied (get_or table.settled t true) (sym (get_or-map not table.settled t true false l) ∙ e)
+      inside l = not-true (get_or table.settled t true) (sym (get_or-map not table.settled t true false l) ∙ e)
 
       outside : length table.settled ≤ t → get_or table.settled t true ≡ false
       outside l = let past : get_or (map not table.settled) t false ≡ false = get_or_past (map not table.settled) t false (omega (arith, length-map table.settled not)) in absurd cc

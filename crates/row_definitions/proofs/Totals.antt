@@ -4,11 +4,11 @@ use Rattle.std.specs.Prelude.{sum_by, filter_map}
 use Rattle.std.specs.List.{range_with_len, cons_option}
 use Rattle.std.proofs.lemmas.Int.{ints}
 use Rattle.std.proofs.lemmas.List.Sums.{sum_by-cons}
+use Rattle.basic_laws.proofs.Integers.{mul-add, mul-zero}
 use Rattle.row_definitions.specs.declared.Var.{Var}
 use Rattle.row_definitions.specs.Row.{Row}
 use Rattle.row_definitions.specs.Table.{Table, coefficient}
 use Rattle.row_definitions.specs.InOrder.{number_at, combination}
-use Rattle.row_definitions.proofs.Integers.{mul-add, mul-zero}
 use Rattle.row_definitions.proofs.Linear.{sum_of_coefficients}
 
 -- the sum of what a function gives of the numbers below n

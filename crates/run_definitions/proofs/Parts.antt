@@ -9,7 +9,7 @@ use Rattle.frac128.specs.Divisors.{gcd_of}
 use Rattle.frac128.specs.Fractions.{Fraction, lowest_of}
 use Rattle.frac128.proofs.DivisorLaws.{beyond-positive}
 use Rattle.frac128.proofs.FractionLaws.{IsLowest-divided}
-use Rattle.pool_definitions.specs.Lists.{all_different, stands}
+use Rattle.pool_definitions.specs.Lists.{all_different, includes_list}
 use Rattle.pool_definitions.proofs.Sums.{each_map, total, sum_by-is-total}
 use Rattle.row_definitions.specs.Table.{Table}
 use Rattle.row_definitions.specs.Steps.{ColumnValue, fraction_of, solution}
@@ -61,7 +61,7 @@ module _ (all : Classes) (limits : RunLimits) (table : Table) (keeps : KeepsRun 
   rest_pairs there theres pairs = λ i j d l m. pairs (suc i) (suc j) d (omega arith) (omega arith)
 
   stands_apart : (there : ColumnValue) (theres : List ColumnValue) → AllByRecursion (λ b. there.column < b.column) theres → AllByRecursion (λ b. b.column < length table.columns) theres →
-      stands (columns_of theres) (get_or table.columns there.column []) ≡ false
+      includes_list (columns_of theres) (get_or table.columns there.column []) ≡ false
   unfolding columns_of
   stands_apart there [] above within = refl
   stands_apart there (next ∷ theres) above within =

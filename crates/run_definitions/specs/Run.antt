@@ -3,7 +3,7 @@ use Rattle.std.specs.Prelude.{◌≡◌, ℕ, zero, suc, nat_lt, nat_le, if◌th
 use Rattle.std.specs.List.{position, range_with_len}
 use Rattle.frac128.specs.Fractions.{Fraction}
 use Rattle.pool_definitions.specs.Certificate.{Answer, Stage}
-use Rattle.pool_definitions.specs.Lists.{holds}
+use Rattle.pool_definitions.specs.Lists.{includes}
 use Rattle.pool_definitions.specs.Lottery.{Lottery}
 use Rattle.pool_definitions.specs.Pool.{Pool}
 use Rattle.row_definitions.specs.declared.Pass.{Pass}
@@ -65,7 +65,7 @@ closed_rows table = map (row_at table) table.closed
 
 -- the number of the class that holds a volunteer
 abbrev pub class_number : List Class → ℕ → ℕ
-class_number classes i = unwrap_or (position (λ class. holds class.members i) classes) 0
+class_number classes i = unwrap_or (position (λ class. includes class.members i) classes) 0
 
 -- the stage of a closed row: its right side is the cap, and each volunteer weighs the entry of the volunteer's class
 abbrev pub stage_of : Classes → Row → Stage

@@ -8,7 +8,7 @@ use Rattle.std.proofs.lemmas.List.Elements.{All-from_recursion, recursion_from_A
 use Rattle.std.proofs.lemmas.Option.{slice_get-get_or}
 use Rattle.frac128.specs.Fractions.{Fraction, lowest_of}
 use Rattle.pool_definitions.specs.Certificate.{panel_weight}
-use Rattle.pool_definitions.specs.Lists.{holds}
+use Rattle.pool_definitions.specs.Lists.{includes}
 use Rattle.pool_definitions.specs.Lottery.{Lottery, count}
 use Rattle.pool_definitions.specs.Pool.{IsPool, Pool}
 use Rattle.pool_definitions.proofs.Sums.{each_both, each_map, total, sum_by-is-total}
@@ -105,9 +105,9 @@ module _ (pool : Pool) (limits : RunLimits) (table : Table) (keeps : KeepsRun (c
     counted i l =
         let inside : i < length all.classes = omega (arith, class_count pool) in
         let mine = members_alone 0 i all.classes (single pool.volunteers 0) (pool_alone pool) inside in
-        let me : holds ((0 + i) ∷ []) i ≡ true = ap (λ b. b || false) (eq-eqb (0 + i) i (omega arith)) in
+        let me : includes ((0 + i) ∷ []) i ≡ true = ap (λ b. b || false) (eq-eqb (0 + i) i (omega arith)) in
         let even = pool_even pool (parts_of table) lottery is_pool parts lottery_is i i (get_or all.classes i (single pool.volunteers 0)) (slice_get-get_or all.classes i (single pool.volunteers 0) inside)
-        (ap (λ members. holds members i) mine ∙ me) in
+        (ap (λ members. includes members i) mine ∙ me) in
         times_one (count lottery i) (length (get_or all.classes i (single pool.volunteers 0)).members) (ap length mine) ∙ even ∙ expected_count i
       where
         times_one : (n size : ℕ) → size ≡ 1 → n ≡ n * size

@@ -7,7 +7,7 @@ use Rattle.std.proofs.Math.Pow.{pow_mono}
 use Rattle.bundle_definitions.specs.Ranges.{IsInRanges, is_group, is_row, is_stage, is_weight, reach}
 use Rattle.pool_definitions.specs.Certificate.{Answer, Stage, StagesHold, is_settled, weight_of}
 use Rattle.pool_definitions.specs.Lists.{is_increasing}
-use Rattle.pool_definitions.specs.Lottery.{IsLottery, Lottery, Row}
+use Rattle.pool_definitions.specs.Lottery.{IsLottery, Lottery, LotteryRow}
 use Rattle.pool_definitions.specs.Pool.{IsPool, Pool, is_quota_panel}
 use Rattle.pool_definitions.proofs.AllPanels.{quota_parts}
 use Rattle.pool_definitions.proofs.Sums.{each_both, each_from_list_all, each_map, sum_by-is-total, total}
@@ -31,7 +31,7 @@ use Rattle.run_laws.proofs.StageRows.{entries_back, from_places, one_weight_each
 -- ---- rows
 
 -- no weight is above the sum of all
-each_within : (rows : List Row) (sum : ℕ) → total (λ row. row.weight) rows ≤ sum → AllByRecursion (λ row. row.weight ≤ sum) rows
+each_within : (rows : List LotteryRow) (sum : ℕ) → total (λ row. row.weight) rows ≤ sum → AllByRecursion (λ row. row.weight ≤ sum) rows
 each_within [] sum low = tt
 each_within (row ∷ rows) sum low = (omega arith, each_within rows sum (omega arith))
 
@@ -52,17 +52,17 @@ rows_in_ranges pool lottery is_pool is low =
     (λ row h. and_from (is_weight row.weight) (is_group (length pool.volunteers) row.panel) (weighs row.weight h.0.0 h.0.1) (quota_group pool row.panel is_pool h.1)) lottery.rows
     (each_both (λ row. (row.weight ≤ lottery.total) × (leb 1 row.weight ≡ true)) (λ row. is_quota_panel pool row.panel ≡ true) lottery.rows
     (each_both (λ row. row.weight ≤ lottery.total) (λ row. leb 1 row.weight ≡ true) lottery.rows
-    (each_within lottery.rows lottery.total (omega (arith, is.total, sum_by-is-total (λ (row : Row). row.weight) lottery.rows)))
-    (each_from_list_all (λ row. leb 1 row.weight) lottery.rows is.weights))
+    (each_within lottery.rows lottery.total (omega (arith, is.total_agrees.total, sum_by-is-total (λ (row : LotteryRow). row.weight) lottery.rows)))
+    (each_from_list_all (λ row. leb 1 row.weight) lottery.rows is.total_agrees.weights))
     (each_from_list_all (λ row. is_quota_panel pool row.panel) lottery.rows is.panels)))
   where
     weighs : (weight : ℕ) → weight ≤ lottery.total → leb 1 weight ≡ true → is_weight weight ≡ true
     weighs weight high some = weight_ranges weight (leb-true 1 weight some) (omega arith)
 
 some_total : (pool : Pool) (lottery : Lottery) → IsLottery pool lottery → 1 ≤ lottery.total
-some_total pool lottery is = by lottery.rows is.some is.weights (is.total ∙ sum_by-is-total (λ (row : Row). row.weight) lottery.rows)
+some_total pool lottery is = by lottery.rows is.some is.total_agrees.weights (is.total_agrees.total ∙ sum_by-is-total (λ (row : LotteryRow). row.weight) lottery.rows)
   where
-    by : (rows : List Row) → ltb 0 (length rows) ≡ true → list_all (λ row. leb 1 row.weight) rows ≡ true → lottery.total ≡ total (λ row. row.weight) rows → 1 ≤ lottery.total
+    by : (rows : List LotteryRow) → ltb 0 (length rows) ≡ true → list_all (λ row. leb 1 row.weight) rows ≡ true → lottery.total ≡ total (λ row. row.weight) rows → 1 ≤ lottery.total
     by [] some weights sum = absurd (false≢true some)
     by (row ∷ rows) some weights sum = let one = leb-true 1 row.weight (and_parts (leb 1 row.weight) (list_all (λ row. leb 1 row.weight) rows) weights).0 in omega arith
 

@@ -7,7 +7,7 @@ use Rattle.std.proofs.lemmas.Bool.{eq-eqb, le-leb, lt-ltb, cases_lt}
 use Rattle.std.proofs.lemmas.Bool.Decides.{Decides-int_eq}
 use Rattle.pool_definitions.specs.Pool.{Pool, everybody}
 use Rattle.pool_definitions.specs.Lottery.{Lottery, count}
-use Rattle.pool_definitions.specs.Certificate.{Stage, StageHolds, common_count, is_capped, is_positive, is_settled, panel_weight, settling, unsettled, weight_of}
+use Rattle.pool_definitions.specs.Certificate.{Stage, StageHolds, is_capped, is_positive, is_settled, panel_weight, settling, unsettled, weight_of}
 use Rattle.pool_definitions.proofs.Sums.{each_map}
 use Rattle.search_definitions.proofs.Listed.{each_filter, each_range, list_all_from_each}
 
@@ -28,10 +28,6 @@ some_left p q i first (suc many) l m e f =
     let e' : p first ≡ true = subst (λ z. p z ≡ true) s e in let f' : q first ≡ true = subst (λ z. q z ≡ true) s f in
     rw (e', f') (omega arith))
     (cases_lt first i)
-
-first_of_each : (P : ℕ → Type 0) (xs : List ℕ) → 0 < length xs → AllByRecursion P xs → P (get_or xs 0 0)
-first_of_each P [] l h = absurd (omega arith)
-first_of_each P (x ∷ xs) l h = h.0
 
 from_not : (b : Bool) → not b ≡ true → b ≡ false
 from_not true h = sym h
@@ -55,10 +51,11 @@ holds_from_facts pool lottery earlier stage T facts = record {
   one_each = facts.one_each;
   none_negative = list_all_from_each (λ i. int_le (pos 0) (weight_of stage i)) (unsettled pool earlier) (of_unsettled (λ i. int_le (pos 0) (weight_of stage i) ≡ true) facts.none_negative);
   some_positive = lt-ltb 0 (length (settling pool earlier stage)) some;
-  same_count = list_all_from_each (λ i. eqb (count lottery i) (common_count pool lottery earlier stage)) (settling pool earlier stage)
-      (each_map (λ i. count lottery i ≡ T) (λ i. eqb (count lottery i) (common_count pool lottery earlier stage) ≡ true) (λ i e. eq-eqb (count lottery i) (common_count pool lottery earlier stage) (e ∙ sym common)) (settling pool earlier stage) at_T);
-  least_count = list_all_from_each (λ i. leb (common_count pool lottery earlier stage) (count lottery i)) (unsettled pool earlier)
-      (of_unsettled (λ i. leb (common_count pool lottery earlier stage) (count lottery i) ≡ true) (λ i l s. rw common (le-leb T (count lottery i) (facts.least_count i l s))));
+  common_count = T;
+  same_count = list_all_from_each (λ i. eqb (count lottery i) T) (settling pool earlier stage)
+      (each_map (λ i. count lottery i ≡ T) (λ i. eqb (count lottery i) T ≡ true) (λ i e. eq-eqb (count lottery i) T e) (settling pool earlier stage) at_T);
+  least_count = list_all_from_each (λ i. leb T (count lottery i)) (unsettled pool earlier)
+      (of_unsettled (λ i. leb T (count lottery i) ≡ true) (λ i l s. le-leb T (count lottery i) (facts.least_count i l s)));
   capped = facts.capped;
   reached = list_all_from_each (λ row. int_eq (panel_weight stage row.panel) stage.cap) lottery.rows
       (each_map (λ row. panel_weight stage row.panel ≡ stage.cap) (λ row. int_eq (panel_weight stage row.panel) stage.cap ≡ true) (λ row e. (Decides-int_eq (panel_weight stage row.panel) stage.cap).1 e) lottery.rows facts.reached);
@@ -77,6 +74,3 @@ holds_from_facts pool lottery earlier stage T facts = record {
     some : 0 < length (settling pool earlier stage)
     some = let inside : facts.somebody < 0 + length pool.volunteers = omega (arith, facts.in_pool) in
         some_left (λ i. not (is_settled earlier i)) (is_positive stage) facts.somebody 0 (length pool.volunteers) (omega arith) inside (to_not (is_settled earlier facts.somebody) facts.not_settled) facts.positive
-
-    common : common_count pool lottery earlier stage ≡ T
-    common = first_of_each (λ i. count lottery i ≡ T) (settling pool earlier stage) some at_T

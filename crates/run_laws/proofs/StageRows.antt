@@ -6,7 +6,7 @@ use Rattle.std.proofs.lemmas.Bool.{eqb-true, eq-eqb, ne_eqb, lt-ltb}
 use Rattle.std.proofs.lemmas.List.FromFn.{get_or-map-range_with_len, length-map-range_with_len}
 use Rattle.std.proofs.lemmas.List.Sums.{position_or_len_is}
 use Rattle.pool_definitions.specs.Certificate.{Stage, weight_of}
-use Rattle.pool_definitions.specs.Lists.{holds}
+use Rattle.pool_definitions.specs.Lists.{includes}
 use Rattle.pool_definitions.specs.Pool.{Pool}
 use Rattle.row_definitions.specs.Row.{Row, entry}
 use Rattle.search_definitions.specs.Classes.{Class, Classes, are_alike, classes_of, leaders, volunteer_count}
@@ -42,11 +42,11 @@ number_alone classes d i alone l =
     or_false true = refl
     or_false false = refl
 
-    holds_at : (k : ℕ) → k < length classes → holds (get_or classes k d).members i ≡ eqb (0 + k) i
-    holds_at k m = ap (λ members. holds members i) (members_alone 0 k classes d alone m) ∙ or_false (eqb (0 + k) i)
+    holds_at : (k : ℕ) → k < length classes → includes (get_or classes k d).members i ≡ eqb (0 + k) i
+    holds_at k m = ap (λ members. includes members i) (members_alone 0 k classes d alone m) ∙ or_false (eqb (0 + k) i)
 
-    place : position_or_len (λ class. holds class.members i) classes ≡ i
-    place = position_or_len_is (λ class. holds class.members i) classes i d (omega arith)
+    place : position_or_len (λ class. includes class.members i) classes ≡ i
+    place = position_or_len_is (λ class. includes class.members i) classes i d (omega arith)
         (λ k m. holds_at k (omega arith) ∙ ne_eqb (0 + k) i (λ e. omega arith)) (λ m. holds_at i m ∙ eq-eqb (0 + i) i (omega arith))
 
 -- ---- the stage of a row

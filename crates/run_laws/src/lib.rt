@@ -10,7 +10,6 @@ ghost use Rattle.run_definitions.specs.WorkedRuns.{pairs};
 ghost use Rattle.run_laws.specs.Levels.{LevelsMakeStages};
 ghost use Rattle.run_laws.specs.Laws.{FoundIsCertified, FoundIsGreatest, FoundIsInRanges, FoundIsLottery, FoundIsWithin, NoPanelIsWithin, NoPanelWhereNone, NoneEndsSo};
 
-use pool_definitions::four_volunteers;
 use run_definitions::worked_runs;
 
 /// A run ends with no panel only where the pool has no quota panel and the opening search may take its visits, and does so there.
@@ -51,6 +50,5 @@ pub fn found_is_in_ranges()
 pub fn worked_certificate()
     ensures { Certifies four pairs.lottery pairs.stages }
 {
-    four_volunteers();
     worked_runs();
 }

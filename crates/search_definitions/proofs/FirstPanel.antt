@@ -4,7 +4,7 @@ use Rattle.std.specs.List.{list_all, AllByRecursion, range_with_len, enumerate_f
 use Rattle.std.proofs.lemmas.Bool.{and_parts, and_from, cases_Bool, cases_lt, cases_eq, eqb-true, eq-eqb, ne_eqb, ltb-true, lt-ltb, le-ltb, false≢true}
 use Rattle.pool_definitions.specs.declared.Standing.{Standing}
 use Rattle.pool_definitions.specs.declared.Standing.TheVariants.{Open, Seated, Gone}
-use Rattle.pool_definitions.specs.Lists.{holds, is_increasing}
+use Rattle.pool_definitions.specs.Lists.{includes, is_increasing}
 use Rattle.pool_definitions.specs.Pool.{Pool, Volunteer, volunteer, is_quota_panel, allows, keeps_standings, meets_quotas, members_with, is_within}
 use Rattle.search_definitions.specs.Classes.{leaders, class_of, least_taken, most_taken, IsEquivalenceTest, MakesClasses}
 use Rattle.search_definitions.proofs.LeaderForm.{all_counts, compositions, composition_of, taken_of, is_composition, first_panel}
@@ -43,32 +43,32 @@ filter_below p n first (suc count) l =
       | false ↦ rest
     ]
 
-holds_before : (p : ℕ → Bool) (i first count : ℕ) → i < first → holds (filter p (range_with_len first count)) i ≡ false
+holds_before : (p : ℕ → Bool) (i first count : ℕ) → i < first → includes (filter p (range_with_len first count)) i ≡ false
 holds_before p i first zero l = refl
 holds_before p i first (suc count) l =
     let rest = holds_before p i (first + 1) count (omega arith) in
     let e : eqb first i ≡ false = ne_eqb first i (λ e. omega arith) in
-    elim (p first) as (λ b. holds (cond b (first ∷ filter p (range_with_len (first + 1) count)) (filter p (range_with_len (first + 1) count))) i ≡ false) [
+    elim (p first) as (λ b. includes (cond b (first ∷ filter p (range_with_len (first + 1) count)) (filter p (range_with_len (first + 1) count))) i ≡ false) [
       | true ↦ rw e rest
       | false ↦ rest
     ]
 
 -- a filter of a range holds what passes
-pub holds_filter : (p : ℕ → Bool) (i first count : ℕ) → first ≤ i → i < first + count → holds (filter p (range_with_len first count)) i ≡ p i
+pub holds_filter : (p : ℕ → Bool) (i first count : ℕ) → first ≤ i → i < first + count → includes (filter p (range_with_len first count)) i ≡ p i
 holds_filter p i first zero l m = absurd (omega arith)
 holds_filter p i first (suc count) l m =
     ⊎_elim (λ (e : first ≡ i).
     let none = holds_before p i (first + 1) count (omega arith) in
     let same : eqb first i ≡ true = eq-eqb first i e in
     let q : p first ≡ p i = ap p e in
-    (elim (p first) as (λ b. b ≡ p i → holds (cond b (first ∷ filter p (range_with_len (first + 1) count)) (filter p (range_with_len (first + 1) count))) i ≡ p i) [
+    (elim (p first) as (λ b. b ≡ p i → includes (cond b (first ∷ filter p (range_with_len (first + 1) count)) (filter p (range_with_len (first + 1) count))) i ≡ p i) [
       | true ↦ λ q. rw same q
       | false ↦ λ q. none ∙ q
     ]) q)
     (λ (ne : first ≡ i → ⊥).
     let rest = holds_filter p i (first + 1) count (omega arith) (omega arith) in
     let other : eqb first i ≡ false = ne_eqb first i ne in
-    elim (p first) as (λ b. holds (cond b (first ∷ filter p (range_with_len (first + 1) count)) (filter p (range_with_len (first + 1) count))) i ≡ p i) [
+    elim (p first) as (λ b. includes (cond b (first ∷ filter p (range_with_len (first + 1) count)) (filter p (range_with_len (first + 1) count))) i ≡ p i) [
       | true ↦ rw other rest
       | false ↦ rest
     ]) (cases_eq first i)
@@ -273,7 +273,7 @@ module _ (pool : Pool) (alike : ℕ → ℕ → Bool) (makes : MakesClasses pool
         (enumerate_from 0 pool.categories)
         ∙ (and_parts (eqb (taken_of (λ leader. true) (leaders alike n) (map g (leaders alike n))) pool.size) _ composes).1
 
-    keeps_at : (i : ℕ) → i < n → allows (standing_of i) (holds chosen i) ≡ true
+    keeps_at : (i : ℕ) → i < n → allows (standing_of i) (includes chosen i) ≡ true
     keeps_at i l =
         let first = leader_of alike makes.same n g i in
         let lead = lead_of i in
@@ -284,7 +284,7 @@ module _ (pool : Pool) (alike : ℕ → ℕ → Bool) (makes : MakesClasses pool
         let less : rank (alike first.at) i + 1 ≤ rank (alike first.at) n = rw first.passes at before in
         let kept = keeps_one (standing_of first.at) (rank (alike first.at) i) (rank (alike first.at) n) (g first.at) (omega arith) bounds.0 bounds.1 in
         let test = in_class alike makes.same n g first.at i lead l first.passes in
-        let here : holds chosen i ≡ in_panel alike makes.same n g i = holds_filter (in_panel alike makes.same n g) i 0 n (omega arith) (omega arith) in
+        let here : includes chosen i ≡ in_panel alike makes.same n g i = holds_filter (in_panel alike makes.same n g) i 0 n (omega arith) (omega arith) in
         rw (here, test, ← s) kept
       where
         lead_of : (i : ℕ) → leads alike makes.same n (leader_of alike makes.same n g i).at ≡ true
@@ -303,8 +303,8 @@ module _ (pool : Pool) (alike : ℕ → ℕ → Bool) (makes : MakesClasses pool
     first_panel_fits =
         let A = eqb (length chosen) pool.size in let B = is_increasing chosen in let C = list_all (λ i. ltb i n) chosen in
         let D = keeps_standings pool.volunteers chosen in let E = meets_quotas pool.categories pool.volunteers chosen in
-        let keeps = each_place (λ i v. allows v.standing (holds chosen i)) (record { id = []; values = []; standing = Gone }) 0 pool.volunteers
-        (λ k l. let e : 0 + k ≡ k = omega arith in subst (λ z. allows (standing_of k) (holds chosen z) ≡ true) (sym e) (keeps_at k l)) in
+        let keeps = each_place (λ i v. allows v.standing (includes chosen i)) (record { id = []; values = []; standing = Gone }) 0 pool.volunteers
+        (λ k l. let e : 0 + k ≡ k = omega arith in subst (λ z. allows (standing_of k) (includes chosen z) ≡ true) (sym e) (keeps_at k l)) in
         and_from (A && B && C && D) E (and_from (A && B && C) D (and_from (A && B) C (and_from A B (eq-eqb (length chosen) pool.size size_is) (filter_increases (in_panel alike makes.same n g) 0 n)) below) keeps) meets
 
 -- ---- each composition in the list

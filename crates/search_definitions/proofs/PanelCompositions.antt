@@ -6,7 +6,7 @@ use Rattle.std.proofs.lemmas.Bool.{and_parts, and_from, cases_lt, eq-eqb, ltb-tr
 use borrow.Author.Differences.{up, down, sum_is_lem, same_in, true_is_le, lt-false}
 use Rattle.pool_definitions.specs.declared.Standing.{Standing}
 use Rattle.pool_definitions.specs.declared.Standing.TheVariants.{Open, Seated, Gone}
-use Rattle.pool_definitions.specs.Lists.{holds, is_increasing, choices}
+use Rattle.pool_definitions.specs.Lists.{includes, is_increasing, choices}
 use Rattle.pool_definitions.specs.Pool.{Pool, Volunteer, volunteer, everybody, panels, is_quota_panel, allows, keeps_standings, meets_quotas, members_with, is_within}
 use Rattle.pool_definitions.specs.Certificate.{Stage, weight_of, panel_weight, attains, is_capped}
 use Rattle.search_definitions.specs.Classes.{leaders, class_of, least_taken, most_taken, IsEquivalenceTest, MakesClasses}
@@ -168,12 +168,12 @@ module _ (pool : Pool) (alike : ℕ → ℕ → Bool) (respects : MakesClasses p
   below : AllByRecursion (λ i. i < n) panel
   below = each_map (λ i. ltb i n ≡ true) (λ i. i < n) (λ i e. ltb-true i n e) panel (each_from_list_all (λ i. ltb i n) panel parts.below)
 
-  stands : (i : ℕ) → i < n → allows (standing_of i) (holds panel i) ≡ true
+  stands : (i : ℕ) → i < n → allows (standing_of i) (includes panel i) ≡ true
   stands i l =
-      let here = at_place (λ i v. allows v.standing (holds panel i)) 0 pool.volunteers keeps i (record { id = []; values = []; standing = Gone }) l in
-      let e : 0 + i ≡ i = omega arith in subst (λ z. allows (standing_of i) (holds panel z) ≡ true) e here
+      let here = at_place (λ i v. allows v.standing (includes panel i)) 0 pool.volunteers keeps i (record { id = []; values = []; standing = Gone }) l in
+      let e : 0 + i ≡ i = omega arith in subst (λ z. allows (standing_of i) (includes panel z) ≡ true) e here
 
-  taken_here : (l : ℕ) → count_by (alike l) panel ≡ total (λ i. cond (holds panel i) (one_if (alike l i)) 0) (range_with_len 0 n)
+  taken_here : (l : ℕ) → count_by (alike l) panel ≡ total (λ i. cond (includes panel i) (one_if (alike l i)) 0) (range_with_len 0 n)
   taken_here l = counted_is (alike l) panel ∙ total_panel (λ i. one_if (alike l i)) n panel parts.up parts.below
 
   class_size : (l : ℕ) → length (class_of alike n l) ≡ total (λ i. one_if (alike l i)) (range_with_len 0 n)
@@ -181,22 +181,22 @@ module _ (pool : Pool) (alike : ℕ → ℕ → Bool) (respects : MakesClasses p
 
   at_most_size : (l : ℕ) → count_by (alike l) panel ≤ length (class_of alike n l)
   at_most_size l =
-      let le = total_le (λ i. cond (holds panel i) (one_if (alike l i)) 0) (λ i. one_if (alike l i)) (range_with_len 0 n)
-      (each_everywhere (λ i. cond (holds panel i) (one_if (alike l i)) 0 ≤ one_if (alike l i)) (λ i. term_most (holds panel i) (alike l i)) (range_with_len 0 n)) in
+      let le = total_le (λ i. cond (includes panel i) (one_if (alike l i)) 0) (λ i. one_if (alike l i)) (range_with_len 0 n)
+      (each_everywhere (λ i. cond (includes panel i) (one_if (alike l i)) 0 ≤ one_if (alike l i)) (λ i. term_most (includes panel i) (alike l i)) (range_with_len 0 n)) in
       omega (arith, taken_here l, class_size l, le)
 
   all_seated : (l : ℕ) → standing_of l ≡ Seated → length (class_of alike n l) ≤ count_by (alike l) panel
   all_seated l s =
-      let le = total_le (λ i. one_if (alike l i)) (λ i. cond (holds panel i) (one_if (alike l i)) 0) (range_with_len 0 n)
-      (each_range (λ i. one_if (alike l i) ≤ cond (holds panel i) (one_if (alike l i)) 0) 0 n
-      (λ i f below. term_seated (standing_of i) (holds panel i) (alike l i) (stands i (omega arith)) (λ e. sym (respects.standing l i e) ∙ s))) in
+      let le = total_le (λ i. one_if (alike l i)) (λ i. cond (includes panel i) (one_if (alike l i)) 0) (range_with_len 0 n)
+      (each_range (λ i. one_if (alike l i) ≤ cond (includes panel i) (one_if (alike l i)) 0) 0 n
+      (λ i f below. term_seated (standing_of i) (includes panel i) (alike l i) (stands i (omega arith)) (λ e. sym (respects.standing l i e) ∙ s))) in
       omega (arith, taken_here l, class_size l, le)
 
   none_gone : (l : ℕ) → standing_of l ≡ Gone → count_by (alike l) panel ≤ 0
   none_gone l s =
-      let le = total_le (λ i. cond (holds panel i) (one_if (alike l i)) 0) (λ i. 0) (range_with_len 0 n)
-      (each_range (λ i. cond (holds panel i) (one_if (alike l i)) 0 ≤ 0) 0 n
-      (λ i f below. term_gone (standing_of i) (holds panel i) (alike l i) (stands i (omega arith)) (λ e. sym (respects.standing l i e) ∙ s))) in
+      let le = total_le (λ i. cond (includes panel i) (one_if (alike l i)) 0) (λ i. 0) (range_with_len 0 n)
+      (each_range (λ i. cond (includes panel i) (one_if (alike l i)) 0 ≤ 0) 0 n
+      (λ i f below. term_gone (standing_of i) (includes panel i) (alike l i) (stands i (omega arith)) (λ e. sym (respects.standing l i e) ∙ s))) in
       omega (arith, taken_here l, total-zero (λ i. 0) (λ i. refl) (range_with_len 0 n), le)
 
   bounds : (l : ℕ) (s : Standing) → standing_of l ≡ s → (least_taken s (length (class_of alike n l)) ≤ count_by (alike l) panel) × (count_by (alike l) panel ≤ most_taken s (length (class_of alike n l)))

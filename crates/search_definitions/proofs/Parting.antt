@@ -1,7 +1,7 @@
 -- The classes of a pool part its volunteers.
 use Rattle.std.proofs.Common.{◌≡◌, ℕ, ◌<◌, Bool, true, List, [], ◌∷◌, map, length, cond, refl, sym, ◌∙◌, subst, arith}
 use Rattle.std.specs.List.{AllByRecursion, range_with_len}
-use Rattle.pool_definitions.specs.Lists.{holds, is_increasing}
+use Rattle.pool_definitions.specs.Lists.{includes, is_increasing}
 use Rattle.pool_definitions.specs.Pool.{Pool}
 use Rattle.pool_definitions.proofs.Sums.{sum_by-is-total, total}
 use Rattle.search_definitions.specs.Classes.{Class, MakesClasses, PartVolunteers, class_of, class_by, classes_by, leaders, volunteer_count}
@@ -24,10 +24,10 @@ module _ (pool : Pool) (alike : ℕ → ℕ → Bool) (makes : MakesClasses pool
   members_below l = each_filter (λ i. i < many) (alike l) (range_with_len 0 many) (each_range (λ i. alike l i ≡ true → i < many) 0 many (λ i low high t. omega arith))
 
   -- a number is in as many classes as there are leaders to whom it is alike
-  classes_with : (i : ℕ) → i < many → (xs : List ℕ) → total (λ (class : Class). cond (holds class.members i) 1 0) (map (class_by alike pool) xs) ≡ total (λ l. one_if (alike l i)) xs
+  classes_with : (i : ℕ) → i < many → (xs : List ℕ) → total (λ (class : Class). cond (includes class.members i) 1 0) (map (class_by alike pool) xs) ≡ total (λ l. one_if (alike l i)) xs
   classes_with i below [] = refl
   classes_with i below (l ∷ xs) =
-      let here : holds (class_of alike many l) i ≡ alike l i = holds_filter (alike l) i 0 many (omega arith) (omega arith) in
+      let here : includes (class_of alike many l) i ≡ alike l i = holds_filter (alike l) i 0 many (omega arith) (omega arith) in
       let rest = classes_with i below xs in rw (here, rest) refl
 
   pub classes_part : PartVolunteers (classes_by alike pool)
@@ -37,6 +37,6 @@ module _ (pool : Pool) (alike : ℕ → ℕ → Bool) (makes : MakesClasses pool
         (each_class (λ class. AllByRecursion (λ i. i < many) class.members) members_below);
     once = λ i below.
         let inside : i < many = subst (λ n. i < n) all_counted below in
-        sum_by-is-total (λ (class : Class). cond (holds class.members i) 1 0) (classes_by alike pool).classes
+        sum_by-is-total (λ (class : Class). cond (includes class.members i) 1 0) (classes_by alike pool).classes
         ∙ classes_with i inside (leaders alike many) ∙ one_leader alike makes.same many i inside;
   }

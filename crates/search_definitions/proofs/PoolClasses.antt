@@ -3,7 +3,7 @@ use Rattle.std.proofs.Common.{◌≡◌, ℕ, zero, suc, ◌+◌, ◌*◌, ◌�
 use Rattle.std.specs.Prelude.{MatchOption, ◌↔◌, slice_get}
 use Rattle.std.specs.List.{flat_map, list_all, AllByRecursion, range_with_len, enumerate_from}
 use Rattle.std.proofs.lemmas.Bool.{cases_Bool, eqb-true, eq-eqb, ne_eqb, cases_lt, false≢true, le-ltb, lt-ltb}
-use Rattle.pool_definitions.specs.Lists.{holds, is_increasing}
+use Rattle.pool_definitions.specs.Lists.{includes, is_increasing}
 use Rattle.pool_definitions.specs.Pool.{Pool, volunteer, is_within, is_quota_panel, panels}
 use Rattle.pool_definitions.proofs.Sums.{total, total_eq, total_ext, sum_by-is-total, each_map}
 use Rattle.pool_definitions.proofs.AllPanels.{each_panel}
@@ -98,21 +98,21 @@ module _ (pool : Pool) (alike : ℕ → ℕ → Bool) where
 -- ---- first members
 
 -- a number before a range is none of its elements
-not_before : (p : ℕ → Bool) (i c first count : ℕ) → i < first → holds (take c (filter p (range_with_len first count))) i ≡ false
+not_before : (p : ℕ → Bool) (i c first count : ℕ) → i < first → includes (take c (filter p (range_with_len first count))) i ≡ false
 not_before p i c first zero l = nothing c
   where
-    nothing : (c : ℕ) → holds (take c []) i ≡ false
+    nothing : (c : ℕ) → includes (take c []) i ≡ false
     nothing zero = refl
     nothing (suc c) = refl
 not_before p i c first (suc count) l =
     let e : eqb first i ≡ false = ne_eqb first i (λ e. omega arith) in
-    let rest : (c : ℕ) → holds (take c (filter p (range_with_len (first + 1) count))) i ≡ false = λ c. not_before p i c (first + 1) count (omega arith) in
-    elim (p first) as (λ b. holds (take c (cond b (first ∷ filter p (range_with_len (first + 1) count)) (filter p (range_with_len (first + 1) count)))) i ≡ false) [
+    let rest : (c : ℕ) → includes (take c (filter p (range_with_len (first + 1) count))) i ≡ false = λ c. not_before p i c (first + 1) count (omega arith) in
+    elim (p first) as (λ b. includes (take c (cond b (first ∷ filter p (range_with_len (first + 1) count)) (filter p (range_with_len (first + 1) count)))) i ≡ false) [
       | true ↦ with_first c e rest
       | false ↦ rest c
     ]
   where
-    with_first : (c : ℕ) → eqb first i ≡ false → ((c : ℕ) → holds (take c (filter p (range_with_len (first + 1) count))) i ≡ false) → holds (take c (first ∷ filter p (range_with_len (first + 1) count))) i ≡ false
+    with_first : (c : ℕ) → eqb first i ≡ false → ((c : ℕ) → includes (take c (filter p (range_with_len (first + 1) count))) i ≡ false) → includes (take c (first ∷ filter p (range_with_len (first + 1) count))) i ≡ false
     with_first zero e rest = refl
     with_first (suc c) e rest = let r = rest c in rw (e, r) refl
 
@@ -125,32 +125,32 @@ below_more k c = ⊎_elim (λ (l : k < c). lt-ltb (1 + k) (suc c) (omega arith) 
 
 -- the first c that pass hold who passes and has fewer than c before
 first_holds : (p : ℕ → Bool) (c first count d : ℕ) → d < count →
-    holds (take c (filter p (range_with_len first count))) (first + d) ≡ (p (first + d) && ltb (total (λ j. one_if (p j)) (range_with_len first d)) c)
+    includes (take c (filter p (range_with_len first count))) (first + d) ≡ (p (first + d) && ltb (total (λ j. one_if (p j)) (range_with_len first d)) c)
 first_holds p c first zero d l = absurd (omega arith)
 first_holds p c first (suc count) zero l =
     let s : first + 0 ≡ first = omega arith in
-    rw s ((elim (p first) as (λ b. holds (take c (cond b (first ∷ filter p (range_with_len (first + 1) count)) (filter p (range_with_len (first + 1) count)))) first ≡ (b && ltb 0 c)) [
+    rw s ((elim (p first) as (λ b. includes (take c (cond b (first ∷ filter p (range_with_len (first + 1) count)) (filter p (range_with_len (first + 1) count)))) first ≡ (b && ltb 0 c)) [
       | true ↦ here c
       | false ↦ not_before p first c (first + 1) count (omega arith)
     ]))
   where
-    here : (c : ℕ) → holds (take c (first ∷ filter p (range_with_len (first + 1) count))) first ≡ ltb 0 c
+    here : (c : ℕ) → includes (take c (first ∷ filter p (range_with_len (first + 1) count))) first ≡ ltb 0 c
     here zero = refl
     here (suc c) = let e : eqb first first ≡ true = eq-eqb first first refl in rw e (sym (lt-ltb 0 (suc c) (omega arith)))
 first_holds p c first (suc count) (suc d) l =
     let s : first + suc d ≡ first + 1 + d = omega arith in
-    let rest : (c : ℕ) → holds (take c (filter p (range_with_len (first + 1) count))) (first + 1 + d) ≡ (p (first + 1 + d) && ltb (total (λ j. one_if (p j)) (range_with_len (first + 1) d)) c) =
+    let rest : (c : ℕ) → includes (take c (filter p (range_with_len (first + 1) count))) (first + 1 + d) ≡ (p (first + 1 + d) && ltb (total (λ j. one_if (p j)) (range_with_len (first + 1) d)) c) =
     λ c. first_holds p c (first + 1) count d (omega arith) in
     let e : eqb first (first + 1 + d) ≡ false = ne_eqb first (first + 1 + d) (λ e. omega arith) in
-    rw s (elim (p first) as (λ b. holds (take c (cond b (first ∷ filter p (range_with_len (first + 1) count)) (filter p (range_with_len (first + 1) count)))) (first + 1 + d)
+    rw s (elim (p first) as (λ b. includes (take c (cond b (first ∷ filter p (range_with_len (first + 1) count)) (filter p (range_with_len (first + 1) count)))) (first + 1 + d)
     ≡ (p (first + 1 + d) && ltb (one_if b + total (λ j. one_if (p j)) (range_with_len (first + 1) d)) c)) [
       | true ↦ after c e rest
       | false ↦ let z : 0 + total (λ j. one_if (p j)) (range_with_len (first + 1) d) ≡ total (λ j. one_if (p j)) (range_with_len (first + 1) d) = omega arith in rw z (rest c)
     ])
   where
     after : (c : ℕ) → eqb first (first + 1 + d) ≡ false →
-        ((c : ℕ) → holds (take c (filter p (range_with_len (first + 1) count))) (first + 1 + d) ≡ (p (first + 1 + d) && ltb (total (λ j. one_if (p j)) (range_with_len (first + 1) d)) c)) →
-        holds (take c (first ∷ filter p (range_with_len (first + 1) count))) (first + 1 + d) ≡ (p (first + 1 + d) && ltb (1 + total (λ j. one_if (p j)) (range_with_len (first + 1) d)) c)
+        ((c : ℕ) → includes (take c (filter p (range_with_len (first + 1) count))) (first + 1 + d) ≡ (p (first + 1 + d) && ltb (total (λ j. one_if (p j)) (range_with_len (first + 1) d)) c)) →
+        includes (take c (first ∷ filter p (range_with_len (first + 1) count))) (first + 1 + d) ≡ (p (first + 1 + d) && ltb (1 + total (λ j. one_if (p j)) (range_with_len (first + 1) d)) c)
     after zero e rest =
         let none : ltb (1 + total (λ j. one_if (p j)) (range_with_len (first + 1) d)) 0 ≡ false = le-ltb (1 + total (λ j. one_if (p j)) (range_with_len (first + 1) d)) 0 (omega arith) in
         rw none (sym (and_false (p (first + 1 + d))))
@@ -172,16 +172,16 @@ module _ (pool : Pool) (alike : ℕ → ℕ → Bool) (makes : MakesClasses pool
       (λ (p : alike i j ≡ false). ⊎_elim (λ (q : alike l j ≡ true). absurd (false≢true (sym p ∙ makes.same.along i l j (makes.same.back l i t) q))) (λ (q : alike l j ≡ false). q ∙ sym p) (cases_Bool (alike l j)))
       (cases_Bool (alike i j))
 
-  held : (l c i : ℕ) → i < many → holds (take c (class_of alike many l)) i ≡ (alike l i && ltb (before i) c)
+  held : (l c i : ℕ) → i < many → includes (take c (class_of alike many l)) i ≡ (alike l i && ltb (before i) c)
   held l c i below =
       let s : 0 + i ≡ i = omega arith in
-      let here : holds (take c (class_of alike many l)) i ≡ (alike l i && ltb (total (λ j. one_if (alike l j)) (range_with_len 0 i)) c) =
-      subst (λ k. holds (take c (class_of alike many l)) k ≡ (alike l k && ltb (total (λ j. one_if (alike l j)) (range_with_len 0 i)) c)) s (first_holds (alike l) c 0 many i below) in
+      let here : includes (take c (class_of alike many l)) i ≡ (alike l i && ltb (total (λ j. one_if (alike l j)) (range_with_len 0 i)) c) =
+      subst (λ k. includes (take c (class_of alike many l)) k ≡ (alike l k && ltb (total (λ j. one_if (alike l j)) (range_with_len 0 i)) c)) s (first_holds (alike l) c 0 many i below) in
       ⊎_elim (λ (t : alike l i ≡ true).
       let same : total (λ j. one_if (alike l j)) (range_with_len 0 i) ≡ before i =
       total_ext (λ j. one_if (alike l j)) (λ j. one_if (alike i j)) (λ j. ap one_if (alike_as l i j t)) (range_with_len 0 i) ∙ sym (counted_is (alike i) (range_with_len 0 i)) in
       here ∙ ap (λ k. alike l i && ltb k c) same)
-      (λ (f : alike l i ≡ false). let h : holds (take c (class_of alike many l)) i ≡ false = here ∙ ap (λ b. b && ltb (total (λ j. one_if (alike l j)) (range_with_len 0 i)) c) f in rw (h, f) refl)
+      (λ (f : alike l i ≡ false). let h : includes (take c (class_of alike many l)) i ≡ false = here ∙ ap (λ b. b && ltb (total (λ j. one_if (alike l j)) (range_with_len 0 i)) c) f in rw (h, f) refl)
       (cases_Bool (alike l i))
 
   none_alike : (i : ℕ) → i < many → (xs counts : List ℕ) → total (λ l. one_if (alike l i)) xs ≡ 0 →
@@ -194,7 +194,7 @@ module _ (pool : Pool) (alike : ℕ → ℕ → Bool) (makes : MakesClasses pool
         | true ↦ λ t z. absurd (omega arith)
         | false ↦ λ f z.
             let rest = none_alike i below xs counts (omega arith) in
-            let h : holds (take c (class_of alike many l)) i ≡ false = held l c i below ∙ ap (λ b. b && ltb (before i) c) f in
+            let h : includes (take c (class_of alike many l)) i ≡ false = held l c i below ∙ ap (λ b. b && ltb (before i) c) f in
             let a = rest.0 in let b = rest.1 in
             (rw (h, a) refl, rw f (omega (arith, b)))
       ]) refl z
@@ -208,13 +208,13 @@ module _ (pool : Pool) (alike : ℕ → ℕ → Bool) (makes : MakesClasses pool
       is_taken (map class_at (l ∷ xs)) (c ∷ counts) i ≡ ltb (before i) (by_leader.taken_of (λ l. alike l i) (l ∷ xs) (c ∷ counts))) [
         | true ↦ λ t z.
             let rest = none_alike i below xs counts (omega arith) in
-            let h : holds (take c (class_of alike many l)) i ≡ ltb (before i) c = held l c i below ∙ ap (λ b. b && ltb (before i) c) t in
+            let h : includes (take c (class_of alike many l)) i ≡ ltb (before i) c = held l c i below ∙ ap (λ b. b && ltb (before i) c) t in
             let a = rest.0 in let b = rest.1 in
             let s : c + 0 ≡ c = omega arith in
             rw (h, a, t, b, s) (or_false (ltb (before i) c))
         | false ↦ λ f z.
             let rest = taken_by_one i below xs counts (omega arith) in
-            let h : holds (take c (class_of alike many l)) i ≡ false = held l c i below ∙ ap (λ b. b && ltb (before i) c) f in
+            let h : includes (take c (class_of alike many l)) i ≡ false = held l c i below ∙ ap (λ b. b && ltb (before i) c) f in
             let s : 0 + by_leader.taken_of (λ l. alike l i) xs counts ≡ by_leader.taken_of (λ l. alike l i) xs counts = omega arith in
             rw (h, f, s) rest
       ]) refl z
@@ -252,13 +252,13 @@ module _ (pool : Pool) (alike : ℕ → ℕ → Bool) (makes : MakesClasses pool
       (λ counts fits. let e = first_panel_same counts in rw e fits.0) (by_leader.compositions pool alike) (each_first_panel pool alike makes))
 
   -- who is in a class is alike its leader
-  composition_of_same : (panel : List ℕ) → AllByRecursion (λ i. i < many) panel → (xs : List ℕ) → map (λ class. count_by (holds class.members) panel) (map class_at xs) ≡ by_leader.composition_of alike xs panel
+  composition_of_same : (panel : List ℕ) → AllByRecursion (λ i. i < many) panel → (xs : List ℕ) → map (λ class. count_by (includes class.members) panel) (map class_at xs) ≡ by_leader.composition_of alike xs panel
   composition_of_same panel below [] = refl
   composition_of_same panel below (l ∷ xs) =
-      let here : count_by (holds (class_of alike many l)) panel ≡ count_by (alike l) panel =
-      counted_is (holds (class_of alike many l)) panel
-      ∙ total_eq (λ i. one_if (holds (class_of alike many l) i)) (λ i. one_if (alike l i)) panel
-      (each_map (λ i. i < many) (λ i. one_if (holds (class_of alike many l) i) ≡ one_if (alike l i)) (λ i b. ap one_if (holds_filter (alike l) i 0 many (omega arith) (omega arith))) panel below)
+      let here : count_by (includes (class_of alike many l)) panel ≡ count_by (alike l) panel =
+      counted_is (includes (class_of alike many l)) panel
+      ∙ total_eq (λ i. one_if (includes (class_of alike many l) i)) (λ i. one_if (alike l i)) panel
+      (each_map (λ i. i < many) (λ i. one_if (includes (class_of alike many l) i) ≡ one_if (alike l i)) (λ i b. ap one_if (holds_filter (alike l) i 0 many (omega arith) (omega arith))) panel below)
       ∙ sym (counted_is (alike l) panel) in
       let rest = composition_of_same panel below xs in rw (here, rest) refl
 

@@ -3,7 +3,7 @@ use Rattle.std.specs.Prelude.{◌≡◌, ℕ, ◌==◌, ◌≤◌, ◌<◌, Bool
 use Rattle.std.specs.List.{list_any, range_with_len, All, AllByRecursion}
 use Rattle.pool_definitions.specs.declared.Standing.{Standing}
 use Rattle.pool_definitions.specs.declared.Standing.TheVariants.{Open, Seated, Gone}
-use Rattle.pool_definitions.specs.Lists.{holds, is_increasing}
+use Rattle.pool_definitions.specs.Lists.{includes, is_increasing}
 use Rattle.pool_definitions.specs.Pool.{Category, Pool, volunteer}
 use Rattle.search_definitions.specs.declared.Bounds.{Bounds}
 
@@ -40,7 +40,7 @@ volunteer_count all = sum_by (λ class. length class.members) all.classes
 pub record PartVolunteers (all : Classes) : Type 0 where
   pub rising : AllByRecursion (λ class. IsTrue (is_increasing class.members)) all.classes
   pub known : AllByRecursion (λ class. AllByRecursion (λ i. i < volunteer_count all) class.members) all.classes
-  pub once : (i : ℕ) → i < volunteer_count all → count_by (λ class. holds class.members i) all.classes ≡ 1
+  pub once : (i : ℕ) → i < volunteer_count all → count_by (λ class. includes class.members i) all.classes ≡ 1
 
 -- what the classes of each pool keep: few of everything, so that sums over them stay small
 pub record KeepsLimits (all : Classes) : Type 0 where

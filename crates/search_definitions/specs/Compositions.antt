@@ -1,7 +1,7 @@
 -- Compositions: how many of each class are taken.
 use Rattle.std.specs.Prelude.{ℕ, zero, suc, ◌+◌, ◌-◌, ◌==◌, nat_le, if◌then◌else◌, Bool, true, false, ◌&&◌, ◌||◌, List, [], ◌∷◌, map, count_by, filter, slice_get, slice_index, take, ℤ, int_lt, int_le, Option, Some, None, unwrap_or}
 use Rattle.std.specs.List.{list_all, flat_map, enumerate_from, range_with_len}
-use Rattle.pool_definitions.specs.Lists.{holds}
+use Rattle.pool_definitions.specs.Lists.{includes}
 use Rattle.row_definitions.specs.Row.{Row, sum_of_products}
 use Rattle.search_definitions.specs.declared.Bounds.{Bounds}
 use Rattle.search_definitions.specs.Classes.{Class, Classes, volunteer_count}
@@ -57,7 +57,7 @@ first_composition all = slice_get (compositions all) 0
 abbrev pub is_taken : List Class → List ℕ → ℕ → Bool
 is_taken [] counts i = false
 is_taken (class ∷ classes) [] i = false
-is_taken (class ∷ classes) (c ∷ counts) i = holds (take c class.members) i || is_taken classes counts i
+is_taken (class ∷ classes) (c ∷ counts) i = includes (take c class.members) i || is_taken classes counts i
 
 -- the first members of each class, as many as a composition takes, in number order
 abbrev pub first_panel : Classes → List ℕ → List ℕ
@@ -65,7 +65,7 @@ first_panel all counts = filter (is_taken all.classes counts) (range_with_len 0 
 
 -- how many members of a panel are of each class
 abbrev pub composition_of : Classes → List ℕ → List ℕ
-composition_of all panel = map (λ class. count_by (holds class.members) panel) all.classes
+composition_of all panel = map (λ class. count_by (includes class.members) panel) all.classes
 
 -- a composition's weight in a row: the sum of count times entry
 abbrev pub weight_in : List ℤ → List ℕ → ℤ

@@ -4,8 +4,8 @@ use Rattle.std.specs.List.{AllByRecursion}
 use Rattle.std.proofs.lemmas.Bool.{lt-ltb, eqb-true, ne_eqb, eq-eqb}
 use Rattle.std.proofs.lemmas.List.Elements.{recursion_from_All}
 use Rattle.frac128.specs.Fractions.{Fraction}
-use Rattle.pool_definitions.specs.Lists.{holds}
-use Rattle.pool_definitions.specs.Lottery.{Row, count}
+use Rattle.pool_definitions.specs.Lists.{includes}
+use Rattle.pool_definitions.specs.Lottery.{LotteryRow, count}
 use Rattle.pool_definitions.proofs.Sums.{each_map, total, sum_by-is-total}
 use Rattle.search_definitions.specs.Classes.{Class, Classes, KeepsLimits}
 use Rattle.search_definitions.specs.Compositions.{all_counts, compositions, first_panel, is_composition, is_taken}
@@ -50,7 +50,7 @@ small_compositions all keeps alone =
 
 -- ---- who is taken
 
-held_one : (c first i : ℕ) → holds (take c (first ∷ [])) i ≡ (ltb 0 c && eqb first i)
+held_one : (c first i : ℕ) → includes (take c (first ∷ [])) i ≡ (ltb 0 c && eqb first i)
 held_one zero first i = refl
 held_one (suc c) first i =
     let e : ltb 0 (suc c) ≡ true = lt-ltb 0 (suc c) (omega arith) in
@@ -65,8 +65,8 @@ held_one (suc c) first i =
     or_false true = refl
     or_false false = refl
 
-held : (first c i : ℕ) (members : List ℕ) → members ≡ first ∷ [] → holds (take c members) i ≡ (ltb 0 c && eqb first i)
-held first c i members e = ap (λ xs. holds (take c xs) i) e ∙ held_one c first i
+held : (first c i : ℕ) (members : List ℕ) → members ≡ first ∷ [] → includes (take c members) i ≡ (ltb 0 c && eqb first i)
+held first c i members e = ap (λ xs. includes (take c xs) i) e ∙ held_one c first i
 
 and_false : (b : Bool) → (b && false) ≡ false
 and_false true = refl
@@ -125,7 +125,7 @@ as_many first classes alone = sum_by-is-total (λ class. length class.members) c
     each_one first (class ∷ classes) alone = omega (arith, ap length alone.0, each_one (first + 1) classes alone.1)
 
 -- a panel holds whose count is above 0
-held_at : (all : Classes) (counts : List ℕ) (t : ℕ) → AreAlone 0 all.classes → t < length all.classes → holds (first_panel all counts) t ≡ ltb 0 (get_or counts t 0)
+held_at : (all : Classes) (counts : List ℕ) (t : ℕ) → AreAlone 0 all.classes → t < length all.classes → includes (first_panel all counts) t ≡ ltb 0 (get_or counts t 0)
 held_at all counts t alone inside =
     let many = as_many 0 all.classes alone in
     holds_filter (is_taken all.classes counts) t 0 (sum_by (λ class. length class.members) all.classes) (omega arith) (omega arith)
@@ -149,18 +149,18 @@ once (suc c) weight low =
     rw (e, one) (omega arith)
 
 weights_held : (all : Classes) (sum t : ℕ) (parts : List (List ℕ × Fraction)) → AreAlone 0 all.classes → t < length all.classes → AllByRecursion (λ part. AtMostOne part.0) parts →
-    total (λ row. row.weight) (filter (λ row. holds row.panel t) (map (row_alone all sum) parts)) ≡ total (λ part. slice_index part.0 t * (part.1.num * (sum / part.1.den))) parts
+    total (λ row. row.weight) (filter (λ row. includes row.panel t) (map (row_alone all sum) parts)) ≡ total (λ part. slice_index part.0 t * (part.1.num * (sum / part.1.den))) parts
 weights_held all sum t [] alone inside each = refl
 weights_held all sum t (part ∷ parts) alone inside each =
     let rest = weights_held all sum t parts alone inside each.1 in
     let weight : ℕ = part.1.num * (sum / part.1.den) in
     let here = held_at all part.0 t alone inside in
     let one = once (get_or part.0 t 0) weight (at_place part.0 t each.0) in
-    let split = first_row (holds (first_panel all part.0) t) (row_alone all sum part) (filter (λ row. holds row.panel t) (map (row_alone all sum) parts)) in
-    let tested : cond (holds (first_panel all part.0) t) weight 0 ≡ cond (ltb 0 (get_or part.0 t 0)) weight 0 = ap (λ b. cond b weight 0) here in
+    let split = first_row (includes (first_panel all part.0) t) (row_alone all sum part) (filter (λ row. includes row.panel t) (map (row_alone all sum) parts)) in
+    let tested : cond (includes (first_panel all part.0) t) weight 0 ≡ cond (ltb 0 (get_or part.0 t 0)) weight 0 = ap (λ b. cond b weight 0) here in
     split ∙ omega (arith, tested, one, rest)
   where
-    first_row : (b : Bool) (row : Row) (rows : List Row) → total (λ row. row.weight) (cond b (row ∷ rows) rows) ≡ cond b row.weight 0 + total (λ row. row.weight) rows
+    first_row : (b : Bool) (row : LotteryRow) (rows : List LotteryRow) → total (λ row. row.weight) (cond b (row ∷ rows) rows) ≡ cond b row.weight 0 + total (λ row. row.weight) rows
     first_row true row rows = refl
     first_row false row rows = omega arith
 
@@ -170,12 +170,12 @@ even_alone all parts sum keeps alone are t i class at is_member =
     let found = member_at 0 t all.classes class alone at in
     let each = each_composition AtMostOne all parts are (small_compositions all keeps alone) in
     let size : length class.members ≡ 1 = ap length found.1 in
-    let test : holds ((0 + t) ∷ []) i ≡ true = subst (λ members. holds members i ≡ true) found.1 is_member in
+    let test : includes ((0 + t) ∷ []) i ≡ true = subst (λ members. includes members i ≡ true) found.1 is_member in
     let me : i ≡ t = only_one t i test in
     let rows = map (row_alone all sum) parts in
     let here : count (record { total = sum; rows = rows }) i ≡ count (record { total = sum; rows = rows }) t = ap (count (record { total = sum; rows = rows })) me in
     let counted : count (record { total = sum; rows = rows }) t ≡ expected sum parts t =
-    sum_by-is-total (λ row. row.weight) (filter (λ row. holds row.panel t) rows)
+    sum_by-is-total (λ row. row.weight) (filter (λ row. includes row.panel t) rows)
     ∙ weights_held all sum t parts alone found.0 each
     ∙ sym (sum_by-is-total (λ part. slice_index part.0 t * (part.1.num * (sum / part.1.den))) parts) in
     times_one (count (record { total = sum; rows = rows }) i) (length class.members) size ∙ here ∙ counted

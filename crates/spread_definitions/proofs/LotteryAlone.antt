@@ -45,10 +45,12 @@ lottery_alone pool all parts sum of_pool are common =
       panels = list_all_from_each (λ row. is_quota_panel pool row.panel) rows
           (each_mapped (λ row. is_quota_panel pool row.panel ≡ true) (row_alone all sum) parts (each_composition (λ counts. is_quota_panel pool (first_panel all counts) ≡ true) all parts are fits));
       different = subst (λ panels. all_different panels ≡ true) (sym (panels_are all sum parts)) apart;
-      weights = list_all_from_each (λ row. leb 1 row.weight) rows
-          (each_mapped (λ row. leb 1 row.weight ≡ true) (row_alone all sum) parts
-          (each_map (λ part. 0 < part.1.num * (sum / part.1.den)) (λ part. leb 1 (part.1.num * (sum / part.1.den)) ≡ true) (λ part h. le-leb 1 (part.1.num * (sum / part.1.den)) h) parts (each_weighs all parts sum are common)));
-      total = sym (sum_by-is-total (λ row. row.weight) rows ∙ sum_is all sum parts ∙ sym (sum_by-is-total (λ part. part.1.num * (sum / part.1.den)) parts) ∙ sum_is_total all parts sum are common);
+      total_agrees = record {
+        weights = list_all_from_each (λ row. leb 1 row.weight) rows
+            (each_mapped (λ row. leb 1 row.weight ≡ true) (row_alone all sum) parts
+            (each_map (λ part. 0 < part.1.num * (sum / part.1.den)) (λ part. leb 1 (part.1.num * (sum / part.1.den)) ≡ true) (λ part h. le-leb 1 (part.1.num * (sum / part.1.den)) h) parts (each_weighs all parts sum are common)));
+        total = sym (sum_by-is-total (λ row. row.weight) rows ∙ sum_is all sum parts ∙ sym (sum_by-is-total (λ part. part.1.num * (sum / part.1.den)) parts) ∙ sum_is_total all parts sum are common);
+      };
     }
 
 -- ---- what spreading gives

@@ -8,7 +8,7 @@ use Rattle.std.proofs.lemmas.List.Elements.{All-contains, All-from_recursion, Al
 use Rattle.std.proofs.lemmas.Slice.Eq.{bytes_eq-Decides}
 use Rattle.std.proofs.Math.Nat.{mul-pos, mul-div_cancel'}
 use Rattle.frac128.specs.Fractions.{Fraction}
-use Rattle.pool_definitions.specs.Lists.{all_different, stands}
+use Rattle.pool_definitions.specs.Lists.{all_different, includes_list}
 use Rattle.pool_definitions.proofs.Sums.{each_both, each_map}
 use Rattle.search_definitions.specs.Classes.{Classes}
 use Rattle.search_definitions.specs.Compositions.{compositions}
@@ -46,11 +46,11 @@ each_weighs all parts total are common =
 
 -- ---- different lists
 
-apart_still : (f back : List ℕ → List ℕ) (x : List ℕ) (xs : List (List ℕ)) → back (f x) ≡ x → AllByRecursion (λ y. back (f y) ≡ y) xs → stands xs x ≡ false → stands (map f xs) (f x) ≡ false
+apart_still : (f back : List ℕ → List ℕ) (x : List ℕ) (xs : List (List ℕ)) → back (f x) ≡ x → AllByRecursion (λ y. back (f y) ≡ y) xs → includes_list xs x ≡ false → includes_list (map f xs) (f x) ≡ false
 apart_still f back x [] e each h = refl
 apart_still f back x (y ∷ ys) e each h =
-    let tests = or_parts (bytes_eq x y) (stands ys x) h in
-    or_from (bytes_eq (f x) (f y)) (stands (map f ys) (f x)) (apart_images (cases_Bool (bytes_eq (f x) (f y))) tests.0) (apart_still f back x ys e each.1 tests.1)
+    let tests = or_parts (bytes_eq x y) (includes_list ys x) h in
+    or_from (bytes_eq (f x) (f y)) (includes_list (map f ys) (f x)) (apart_images (cases_Bool (bytes_eq (f x) (f y))) tests.0) (apart_still f back x ys e each.1 tests.1)
   where
     apart_images : (bytes_eq (f x) (f y) ≡ true) ⊎ (bytes_eq (f x) (f y) ≡ false) → bytes_eq x y ≡ false → bytes_eq (f x) (f y) ≡ false
     apart_images (inl same) other =
@@ -62,6 +62,6 @@ apart_still f back x (y ∷ ys) e each h =
 pub all_different-map : (f back : List ℕ → List ℕ) (xs : List (List ℕ)) → AllByRecursion (λ x. back (f x) ≡ x) xs → all_different xs ≡ true → all_different (map f xs) ≡ true
 all_different-map f back [] each h = refl
 all_different-map f back (x ∷ xs) each h =
-    let parts = and_parts (not (stands xs x)) (all_different xs) h in
-    let apart : stands (map f xs) (f x) ≡ false = apart_still f back x xs each.0 each.1 (not-true (stands xs x) parts.0) in
-    and_from (not (stands (map f xs) (f x))) (all_different (map f xs)) (not_from_false (stands (map f xs) (f x)) apart) (all_different-map f back xs each.1 parts.1)
+    let parts = and_parts (not (includes_list xs x)) (all_different xs) h in
+    let apart : includes_list (map f xs) (f x) ≡ false = apart_still f back x xs each.0 each.1 (not-true (includes_list xs x) parts.0) in
+    and_from (not (includes_list (map f xs) (f x))) (all_different (map f xs)) (not_from_false (includes_list (map f xs) (f x)) apart) (all_different-map f back xs each.1 parts.1)

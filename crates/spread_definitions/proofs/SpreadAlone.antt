@@ -7,7 +7,7 @@ use Rattle.std.proofs.lemmas.List.Elements.{filter_agree}
 use Rattle.std.proofs.Math.Nat.{mul-div_assoc}
 use Rattle.std.proofs.lemmas.List.Concat.{flat_map-cons}
 use Rattle.frac128.specs.Fractions.{Fraction}
-use Rattle.pool_definitions.specs.Lottery.{Row}
+use Rattle.pool_definitions.specs.Lottery.{LotteryRow}
 use Rattle.search_definitions.specs.Classes.{Class, Classes, volunteer_count}
 use Rattle.search_definitions.specs.Compositions.{is_taken, first_panel}
 use Rattle.spread_definitions.specs.Spreading.{partly_taken, dial, arcs, is_given, panel_at, rows_of}
@@ -55,13 +55,13 @@ weight_alone num total den h =
     let b : den * 1 ≡ den = omega arith in
     rw (a, b) (mul-div_assoc den num h)
 
-abbrev row : List ℕ → ℕ → Row
+abbrev row : List ℕ → ℕ → LotteryRow
 row panel weight = record { panel = panel; weight = weight }
 
 pub rows_alone : (all : Classes) (total : ℕ) (part : List ℕ × Fraction) → AreAlone 0 all.classes → part.1.den ∣ total → rows_of all total part ≡ row_alone all total part ∷ []
 rows_alone all total part alone h =
     let num = part.1.num in let den = part.1.den in
-    let weigh : ℕ → ℕ × ℕ → Row = λ length_of_dial pair. row (panel_at all part.0 pair.0) (pair.1 * num * total / (den * length_of_dial)) in
+    let weigh : ℕ → ℕ × ℕ → LotteryRow = λ length_of_dial pair. row (panel_at all part.0 pair.0) (pair.1 * num * total / (den * length_of_dial)) in
     ap (map (weigh (dial all part.0))) (arcs_alone all part.0 alone)
     ∙ ap (λ (length_of_dial : ℕ). weigh length_of_dial (0, 1) ∷ []) (dial_alone all part.0 alone)
     ∙ ap (λ (weight : ℕ). row (panel_at all part.0 0) weight ∷ []) (weight_alone num total den h)

@@ -4,8 +4,8 @@ use Rattle.std.specs.Int.{◌∣◌}
 use Rattle.std.specs.List.{All, AllByRecursion, flat_map, range_with_len}
 use Rattle.frac128.specs.Divisors.{lcm_of}
 use Rattle.frac128.specs.Fractions.{Fraction, lowest_of}
-use Rattle.pool_definitions.specs.Lists.{all_different, holds, rising}
-use Rattle.pool_definitions.specs.Lottery.{Row, Lottery, count}
+use Rattle.pool_definitions.specs.Lists.{all_different, includes, rising}
+use Rattle.pool_definitions.specs.Lottery.{LotteryRow, Lottery, count}
 use Rattle.search_definitions.specs.Classes.{Class, Classes, volunteer_count}
 use Rattle.search_definitions.specs.Compositions.{compositions}
 
@@ -57,7 +57,7 @@ abbrev pub is_given : ℕ → ℕ → List Class → List ℕ → ℕ → Bool
 is_given length_of_dial at [] counts i = false
 is_given length_of_dial at (class ∷ classes) [] i = false
 is_given length_of_dial at (class ∷ classes) (count ∷ counts) i =
-    holds (turned (at * length class.members / length_of_dial) count class.members) i || is_given length_of_dial at classes counts i
+    includes (turned (at * length class.members / length_of_dial) count class.members) i || is_given length_of_dial at classes counts i
 
 -- the panel of the arc that begins at a place
 abbrev pub panel_at : Classes → List ℕ → ℕ → List ℕ
@@ -65,7 +65,7 @@ panel_at all counts at = filter (is_given (dial all counts) at all.classes count
 
 -- the panels of a composition and its fraction, along the dial: an arc's weight is its length times the fraction of the total,
 -- over the dial's length
-abbrev pub rows_of : Classes → ℕ → List ℕ × Fraction → List Row
+abbrev pub rows_of : Classes → ℕ → List ℕ × Fraction → List LotteryRow
 rows_of all total (counts, fraction) =
     map (λ (at, arc). record { panel = panel_at all counts at; weight = arc * fraction.num * total / (fraction.den * dial all counts) }) (arcs all counts)
 
@@ -129,5 +129,5 @@ expected total parts t = sum_by (λ part. slice_index part.0 t * (part.1.num * (
 
 -- the members of each class have even chances: each one's count times the class's size is the class's expected number times the total
 abbrev pub HasEvenChances : Classes → List (List ℕ × Fraction) → Lottery → Type 0
-HasEvenChances all parts lottery = (t i : ℕ) (class : Class) → slice_get all.classes t ≡ Some class → IsTrue (holds class.members i) →
+HasEvenChances all parts lottery = (t i : ℕ) (class : Class) → slice_get all.classes t ≡ Some class → IsTrue (includes class.members i) →
     count lottery i * length class.members ≡ expected lottery.total parts t

@@ -13,7 +13,7 @@ use Rattle.std.proofs.lemmas.List.Folds.{list_any-append}
 use Rattle.std.proofs.lemmas.Str.{is_utf8-from_IsUtf8}
 use Rattle.pool_definitions.specs.declared.Standing.{Standing}
 use Rattle.pool_definitions.specs.declared.Standing.TheVariants.{Open, Seated, Gone}
-use Rattle.pool_definitions.specs.Lists.{stands, all_different}
+use Rattle.pool_definitions.specs.Lists.{includes_list, all_different}
 use Rattle.pool_definitions.specs.Pool.{BoundedValue, Category, Volunteer, Pool, is_name, is_value, is_category, are_bounds, has_values, keeps_name_limits}
 use Rattle.pool_definitions.specs.Building.{category_names, value_names, ids, last_values, with_value, place_of, places_of, are_known, empty_pool, size_kind, category_kind, value_kind, volunteer_kind, volunteer_added, with_standing}
 use Rattle.pool_definitions.proofs.BuildingLemmas.{same_bytes_comm}
@@ -60,11 +60,11 @@ run_entry pool passed field fields entry lines after are e none rest =
     )
 
 -- a name in a list of different names is none of those before it
-new_among : (before : List (List ℕ)) (name : List ℕ) (later : List (List ℕ)) → all_different (before ++ name ∷ later) ≡ true → stands before name ≡ false
+new_among : (before : List (List ℕ)) (name : List ℕ) (later : List (List ℕ)) → all_different (before ++ name ∷ later) ≡ true → includes_list before name ≡ false
 new_among [] name later h = refl
 new_among (first ∷ before) name later h =
-    let parts = and_parts (not (stands (before ++ name ∷ later) first)) (all_different (before ++ name ∷ later)) h in
-    let none = sym (list_any-append (bytes_eq first) before (name ∷ later)) ∙ not-true (stands (before ++ name ∷ later) first) parts.0 in
+    let parts = and_parts (not (includes_list (before ++ name ∷ later) first)) (all_different (before ++ name ∷ later)) h in
+    let none = sym (list_any-append (bytes_eq first) before (name ∷ later)) ∙ not-true (includes_list (before ++ name ∷ later) first) parts.0 in
     let behind = or_parts (list_any (bytes_eq first) before) (bytes_eq first name || list_any (bytes_eq first) later) none in
     let here = or_parts (bytes_eq first name) (list_any (bytes_eq first) later) behind.1 in
     let other = same_bytes_comm name first ∙ here.0 in
@@ -92,7 +92,7 @@ bound_again n h = ap (λ o. unwrap_or o 1000) (number_again 999 n (omega arith) 
 
 -- what a value that may be added keeps
 value_is_new : (size : ℕ) (before : List Category) (name : List ℕ) (values : List BoundedValue) (value : BoundedValue) →
-    stands (value_names values) value.name ≡ false → is_value value ≡ true → length values < 50 → value_kind (made size (before ++ named name values ∷ []) []) value ≡ None
+    includes_list (value_names values) value.name ≡ false → is_value value ≡ true → length values < 50 → value_kind (made size (before ++ named name values ∷ []) []) value ≡ None
 value_is_new size before name values value new is room =
     let parts = and_parts (is_name value.name) (are_bounds value.lower value.upper) is in
     let limits = (and_parts (keeps_name_limits value.name) (is_utf8 value.name) parts.0).0 in
@@ -141,7 +141,7 @@ category_parts category h =
     record { name = b.0; few = leb-true (length category.values) 50 b.1; different = c.1; values = d.1 }
 
 category_is_new : (size : ℕ) (before : List Category) (name : List ℕ) →
-    stands (category_names before) name ≡ false → is_name name ≡ true → length before < 20 → category_kind (made size before []) name ≡ None
+    includes_list (category_names before) name ≡ false → is_name name ≡ true → length before < 20 → category_kind (made size before []) name ≡ None
 category_is_new size before name new is room =
     let limits = (and_parts (keeps_name_limits name) (is_utf8 name) is).0 in
     let few : leb 20 (length before) ≡ false = lt-leb 20 (length before) room in
@@ -165,24 +165,24 @@ categories_run size done (category ∷ todo) are different few =
     (plain_field (codes "category") refl, (name_field category.name is.name, tt)) refl (category_is_new size done category.name new is.name (omega (arith, sizes))) all
 
 -- a name that stands at a place of different names is known, and that is its place
-absent_at : (names : List (List ℕ)) (name : List ℕ) (i : ℕ) → stands names name ≡ false → i < length names → bytes_eq name (get_or names i []) ≡ false
+absent_at : (names : List (List ℕ)) (name : List ℕ) (i : ℕ) → includes_list names name ≡ false → i < length names → bytes_eq name (get_or names i []) ≡ false
 absent_at [] name i h l = absurd (omega arith)
-absent_at (first ∷ names) name zero h l = (or_parts (bytes_eq name first) (stands names name) h).0
-absent_at (first ∷ names) name (suc i) h l = absent_at names name i (or_parts (bytes_eq name first) (stands names name) h).1 (omega arith)
+absent_at (first ∷ names) name zero h l = (or_parts (bytes_eq name first) (includes_list names name) h).0
+absent_at (first ∷ names) name (suc i) h l = absent_at names name i (or_parts (bytes_eq name first) (includes_list names name) h).1 (omega arith)
 
 place_again : (values : List BoundedValue) (place : ℕ) → all_different (value_names values) ≡ true → place < length values →
-    (place_of values (get_or (value_names values) place []) ≡ Some place) × (stands (value_names values) (get_or (value_names values) place []) ≡ true)
+    (place_of values (get_or (value_names values) place []) ≡ Some place) × (includes_list (value_names values) (get_or (value_names values) place []) ≡ true)
 place_again [] place h l = absurd (omega arith)
 place_again (value ∷ values) zero h l =
-    let same = bytes_same value.name value.name refl in (rw same refl, or_left (bytes_eq value.name value.name) (stands (value_names values) value.name) same)
+    let same = bytes_same value.name value.name refl in (rw same refl, or_left (bytes_eq value.name value.name) (includes_list (value_names values) value.name) same)
 place_again (value ∷ values) (suc place) h l =
-    let parts = and_parts (not (stands (value_names values) value.name)) (all_different (value_names values)) h in
+    let parts = and_parts (not (includes_list (value_names values) value.name)) (all_different (value_names values)) h in
     let name = get_or (value_names values) place [] in
     let sizes : length (value_names values) ≡ length values = length-map values (λ v. v.name) in
-    let other = same_bytes_comm name value.name ∙ absent_at (value_names values) value.name place (not-true (stands (value_names values) value.name) parts.0) (omega arith) in
+    let other = same_bytes_comm name value.name ∙ absent_at (value_names values) value.name place (not-true (includes_list (value_names values) value.name) parts.0) (omega arith) in
     let rest = place_again values place parts.1 (omega arith) in (
       ap (λ test. cond test (Some 0) (option_map (λ p. p + 1) (place_of values name))) other ∙ (ap (option_map (λ p. p + 1)) rest.0 ∙ ap Some (add-one place)),
-      or_right (bytes_eq name value.name) (stands (value_names values) name) rest.1,
+      or_right (bytes_eq name value.name) (includes_list (value_names values) name) rest.1,
     )
 
 name_at_is_field : (values : List BoundedValue) (place : ℕ) → list_all is_value values ≡ true → place < length values → IsField (get_or (value_names values) place [])
@@ -210,14 +210,14 @@ are_names_at (category ∷ categories) (place ∷ places) are have =
     let here = place_again category.values place is.different inside in
     let rest = are_names_at categories places parts.1 has.1 in
     record {
-      known = and_from (stands (value_names category.values) (get_or (value_names category.values) place [])) (are_known categories (names_at categories places)) here.1 rest.known;
+      known = and_from (includes_list (value_names category.values) (get_or (value_names category.values) place [])) (are_known categories (names_at categories places)) here.1 rest.known;
       each = let e = rest.each in omega arith;
       again = let e = here.0 in let f = rest.again in ap (λ o. unwrap_or o 0 ∷ places_of categories (names_at categories places)) e ∙ ap (λ ps. place ∷ ps) f;
       fields = (name_at_is_field category.values place is.values inside, rest.fields);
     }
 
 volunteer_is_new : (pool : Pool) (id : List ℕ) (names : List (List ℕ)) → are_known pool.categories names ≡ true → length names ≡ length pool.categories →
-    stands (ids pool.volunteers) id ≡ false → is_name id ≡ true → length pool.volunteers < 400 → volunteer_kind pool id names ≡ None
+    includes_list (ids pool.volunteers) id ≡ false → is_name id ≡ true → length pool.volunteers < 400 → volunteer_kind pool id names ≡ None
 volunteer_is_new pool id names known each new is room =
     let limits = (and_parts (keeps_name_limits id) (is_utf8 id) is).0 in
     let same : eqb (length names) (length pool.categories) ≡ true = eq-eqb (length names) (length pool.categories) each in
@@ -268,10 +268,10 @@ found_behind done todo volunteer different =
     (λ l. ap test (get_or-append_seam done (opened volunteer) (map opened todo) (opened volunteer)) ∙ bytes_same volunteer.id volunteer.id refl) in
     ap (λ n. cond (ltb n (length all)) (Some n) None) place ∙ ap (λ b. cond b (Some (length done)) None) (lt-ltb (length done) (length all) inside)
   where
-    other : (done : List Volunteer) (k : ℕ) → k < length done → stands (ids done) volunteer.id ≡ false → bytes_eq volunteer.id (get_or done k (opened volunteer)).id ≡ false
+    other : (done : List Volunteer) (k : ℕ) → k < length done → includes_list (ids done) volunteer.id ≡ false → bytes_eq volunteer.id (get_or done k (opened volunteer)).id ≡ false
     other [] k l h = absurd (omega arith)
-    other (first ∷ done) zero l h = (or_parts (bytes_eq volunteer.id first.id) (stands (ids done) volunteer.id) h).0
-    other (first ∷ done) (suc k) l h = other done k (omega arith) (or_parts (bytes_eq volunteer.id first.id) (stands (ids done) volunteer.id) h).1
+    other (first ∷ done) zero l h = (or_parts (bytes_eq volunteer.id first.id) (includes_list (ids done) volunteer.id) h).0
+    other (first ∷ done) (suc k) l h = other done k (omega arith) (or_parts (bytes_eq volunteer.id first.id) (includes_list (ids done) volunteer.id) h).1
 
 with_standing_behind : (done : List Volunteer) (volunteer : Volunteer) (todo : List Volunteer) (standing : Standing) →
     with_standing (done ++ volunteer ∷ todo) (length done) standing ≡ done ++ record volunteer { standing = standing } ∷ todo

@@ -9,7 +9,7 @@ use Rattle.std.proofs.lemmas.Grind.{flat_map-append}
 use Rattle.std.proofs.lemmas.List.{append-nil, map-append}
 use Rattle.std.proofs.lemmas.List.Quantifiers.{position-Some}
 use Rattle.pool_definitions.specs.Pool.{Pool, BoundedValue, Category, Volunteer, are_bounds}
-use Rattle.pool_definitions.specs.Lists.{stands}
+use Rattle.pool_definitions.specs.Lists.{includes_list}
 use Rattle.pool_definitions.specs.Building.{value_names, size_kind, with_value, place_of, places_of, are_known, volunteer_kind, with_standing, standing_set}
 use Rattle.text_definitions.specs.Lines.{line_feed, line_of, text_of, fields_of, pieces_of, number_up_to}
 use Rattle.text_definitions.specs.PoolText.{version_line, size_line, value_line, category_lines, names_at, volunteer_line, standing_line, standing_lines, end_line, lines_before_end, spelling, HasText}
@@ -138,7 +138,7 @@ flat_map-with_value (category ∷ next ∷ later) value some =
     ∙ sym (append_assoc (category_lines category) (flat_map category_lines (next ∷ later)) (value_line value ∷ []))
 
 -- the name that stands at the place of a known name is that name
-name_at_place : (values : List BoundedValue) (name : List ℕ) → stands (value_names values) name ≡ true → get_or (value_names values) (unwrap_or (place_of values name) 0) [] ≡ name
+name_at_place : (values : List BoundedValue) (name : List ℕ) → includes_list (value_names values) name ≡ true → get_or (value_names values) (unwrap_or (place_of values name) 0) [] ≡ name
 name_at_place values name h =
     let known = place_at values name h in
     ap (λ place. get_or (value_names values) (unwrap_or place 0) []) known.1 ∙ known.3
@@ -149,7 +149,7 @@ names_at-places_of [] [] known e = refl
 names_at-places_of [] (name ∷ names) known e = absurd (omega arith)
 names_at-places_of (category ∷ categories) [] known e = absurd (omega arith)
 names_at-places_of (category ∷ categories) (name ∷ names) known e =
-    let parts = and_parts (stands (value_names category.values) name) (are_known categories names) known in
+    let parts = and_parts (includes_list (value_names category.values) name) (are_known categories names) known in
     let rest = names_at-places_of categories names parts.1 (omega arith) in
     let here = name_at_place category.values name parts.0 in cc
 

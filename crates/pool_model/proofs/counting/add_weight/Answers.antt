@@ -7,7 +7,7 @@ use Rattle.std.proofs.lemmas.Int.{to_z-of_z}
 use Rattle.std.proofs.Math.Bool.{or-true, or-false}
 use mir.Val.{SFits, to_z, of_z}
 use mir.Syntax.{w128}
-use Rattle.pool_definitions.specs.Lists.{holds, is_increasing}
+use Rattle.pool_definitions.specs.Lists.{includes, is_increasing}
 use Rattle.pool_model.proofs.counting.add_weight.Goals as goal
 use Rattle.pool_model.proofs.counting.add_weight.Goals.{then-i-chances, else-i-chances}
 
@@ -17,7 +17,7 @@ above x (y ∷ ys) zero h l = ltb-true x y (and_parts (ltb x y) (list_all (λ y.
 above x (y ∷ ys) (suc j) h l = above x ys j (and_parts (ltb x y) (list_all (λ y. ltb x y) ys) h).1 (omega arith)
 
 -- a member of an increasing list is none of those before it
-not_before : (xs : List ℕ) (j : ℕ) → is_increasing xs ≡ true → j < length xs → holds (take j xs) (get_or xs j 0) ≡ false
+not_before : (xs : List ℕ) (j : ℕ) → is_increasing xs ≡ true → j < length xs → includes (take j xs) (get_or xs j 0) ≡ false
 not_before [] j h l = absurd (omega arith)
 not_before (x ∷ xs) zero h l = refl
 not_before (x ∷ xs) (suc j) h l =
@@ -29,7 +29,7 @@ not_before (x ∷ xs) (suc j) h l =
 -- the sums with the members' weight
 abbrev AddedTo : List ℤ → List ℤ → List ℕ → ℤ → Type 0
 AddedTo before xs members weight =
-    (k : ℕ) → k < length xs → get_or xs k (pos 0) ≡ cond (holds members k) (get_or before k (pos 0) +ℤ weight) (get_or before k (pos 0))
+    (k : ℕ) → k < length xs → get_or xs k (pos 0) ≡ cond (includes members k) (get_or before k (pos 0) +ℤ weight) (get_or before k (pos 0))
 
 -- one more member, at whose number there is a sum
 module _ (before xs : List ℤ) (members : List ℕ) (weight : ℤ) (j : ℕ) (up : is_increasing members ≡ true) (inside : j < length members) (added : AddedTo before xs (take j members) weight) where
@@ -43,19 +43,19 @@ module _ (before xs : List ℤ) (members : List ℕ) (weight : ℤ) (j : ℕ) (u
 
   -- for the other numbers nothing changes
   pub other_number : (k : ℕ) → k < length xs → (k ≡ member → ⊥) →
-      get_or xs k (pos 0) ≡ cond (holds (take (j + 1) members) k) (get_or before k (pos 0) +ℤ weight) (get_or before k (pos 0))
+      get_or xs k (pos 0) ≡ cond (includes (take (j + 1) members) k) (get_or before k (pos 0) +ℤ weight) (get_or before k (pos 0))
   other_number k l apart =
       let e : eqb (get_or members j 0) k ≡ false = ne_eqb (get_or members j 0) k (λ e. apart (sym e)) in
-      let more : holds (take (j + 1) members) k ≡ holds (take j members) k =
-      list_any_more (λ x. eqb x k) members j 0 inside ∙ (ap (λ b. holds (take j members) k || b) e ∙ or-false (holds (take j members) k)) in
+      let more : includes (take (j + 1) members) k ≡ includes (take j members) k =
+      list_any_more (λ x. eqb x k) members j 0 inside ∙ (ap (λ b. includes (take j members) k || b) e ∙ or-false (includes (take j members) k)) in
       added k l ∙ ap (λ b. cond b (get_or before k (pos 0) +ℤ weight) (get_or before k (pos 0))) (sym more)
 
   pub this_number : (k : ℕ) → k ≡ member →
-      get_or before k (pos 0) +ℤ weight ≡ cond (holds (take (j + 1) members) k) (get_or before k (pos 0) +ℤ weight) (get_or before k (pos 0))
+      get_or before k (pos 0) +ℤ weight ≡ cond (includes (take (j + 1) members) k) (get_or before k (pos 0) +ℤ weight) (get_or before k (pos 0))
   this_number k same =
       let e : eqb (get_or members j 0) k ≡ true = eq-eqb (get_or members j 0) k (sym same) in
-      let more : holds (take (j + 1) members) k ≡ true =
-      list_any_more (λ x. eqb x k) members j 0 inside ∙ (ap (λ b. holds (take j members) k || b) e ∙ or-true (holds (take j members) k)) in
+      let more : includes (take (j + 1) members) k ≡ true =
+      list_any_more (λ x. eqb x k) members j 0 inside ∙ (ap (λ b. includes (take j members) k || b) e ∙ or-true (includes (take j members) k)) in
       ap (λ b. cond b (get_or before k (pos 0) +ℤ weight) (get_or before k (pos 0))) (sym more)
 
   -- the sum at the member is written

@@ -1,8 +1,8 @@
 use Rattle.std.proofs.Common.{◌≡◌, ℕ, ◌<◌, ◌+ℤ◌, pos, length, get_or, take, cond}
-use Rattle.pool_definitions.specs.Lists.{holds}
+use Rattle.pool_definitions.specs.Lists.{includes}
 use Rattle.pool_model.proofs.counting.add_weight.Given as goal
 
 -- the weight stands with the members up to now
 abbrev pub invariant-loop-i : goal.invariant-loop-i
 invariant-loop-i l = (k : ℕ) → k < length l.chances →
-    get_or l.chances k (pos 0) ≡ cond (holds (take l.i-index l.members) k) (get_or l.initial.chances k (pos 0) +ℤ l.weight) (get_or l.initial.chances k (pos 0))
+    get_or l.chances k (pos 0) ≡ cond (includes (take l.i-index l.members) k) (get_or l.initial.chances k (pos 0) +ℤ l.weight) (get_or l.initial.chances k (pos 0))

@@ -6,17 +6,17 @@ use Rattle.std.proofs.lemmas.List.{take_all}
 use Rattle.std.proofs.lemmas.Simd.{map-map}
 use mir.Val.{SFits, to_z, of_z}
 use mir.Syntax.{w128}
-use Rattle.pool_definitions.specs.Lists.{holds}
+use Rattle.pool_definitions.specs.Lists.{includes}
 use Rattle.pool_definitions.specs.Pool.{everybody}
-use Rattle.pool_definitions.specs.Lottery.{Row, count}
+use Rattle.pool_definitions.specs.Lottery.{LotteryRow, count}
 use Rattle.pool_definitions.proofs.Sums.{total, sum_by-is-total}
 use Rattle.pool_definitions.proofs.Weights.{counted}
 use Rattle.pool_definitions.proofs.Greatest.{count-is}
 use Rattle.pool_model.proofs.counting.chances.Goals as goal
 
 -- one more row
-counted_more : (rows : List Row) (j i : ℕ) (d : Row) → j < length rows →
-    counted (take (j + 1) rows) i ≡ counted (take j rows) i + cond (holds (get_or rows j d).panel i) (get_or rows j d).weight 0
+counted_more : (rows : List LotteryRow) (j i : ℕ) (d : LotteryRow) → j < length rows →
+    counted (take (j + 1) rows) i ≡ counted (take j rows) i + cond (includes (get_or rows j d).panel i) (get_or rows j d).weight 0
 counted_more [] j i d h = absurd (omega arith)
 counted_more (row ∷ rows) zero i d h = omega arith
 counted_more (row ∷ rows) (suc j) i d h =
@@ -24,12 +24,12 @@ counted_more (row ∷ rows) (suc j) i d h =
     let rest = counted_more rows j i d (omega arith) in rw e (omega (arith, rest))
 
 -- a count and one more weight are no more than all weights
-counted_room : (rows : List Row) (j i : ℕ) (d : Row) → j < length rows → counted (take j rows) i + (get_or rows j d).weight ≤ total (λ row. row.weight) rows
+counted_room : (rows : List LotteryRow) (j i : ℕ) (d : LotteryRow) → j < length rows → counted (take j rows) i + (get_or rows j d).weight ≤ total (λ row. row.weight) rows
 counted_room [] j i d h = absurd (omega arith)
 counted_room (row ∷ rows) zero i d h = omega arith
 counted_room (row ∷ rows) (suc j) i d h =
     let rest = counted_room rows j i d (omega arith) in
-    let here = at_most (holds row.panel i) row.weight in omega arith
+    let here = at_most (includes row.panel i) row.weight in omega arith
   where
     at_most : (b : Bool) (w : ℕ) → cond b w 0 ≤ w
     at_most true w = omega arith
@@ -56,10 +56,10 @@ add_weight-requires-clause-room c i l =
     let weight : to_z w128 (of_z w128 c.weight.result) ≡ pos row.weight = stored c.weight.result row.weight (search rules) c.weight.ensures in
     let here : get_or c.deref_mut.result.now i (pos 0) ≡ pos (counted (take j rows) i) =
     ap (λ xs. get_or xs i (pos 0)) c.deref_mut.ensures.value ∙ c.loop-row.invariant.each i (omega (arith, ap (λ (xs : List ℤ). length xs) c.deref_mut.ensures.value)) in
-    let count_of_rows = ap (λ (rs : List Row). length rs) c.rows-row-items.ensures in
+    let count_of_rows = ap (λ (rs : List LotteryRow). length rs) c.rows-row-items.ensures in
     let room = counted_room rows j i row (omega (arith, count_of_rows)) in
-    let all : c.args.lottery.now.total ≡ total (λ (r : Row). r.weight) rows = c.requires.total ∙ sum_by-is-total (λ (r : Row). r.weight) rows in
-    let same : row.weight ≡ (get_or rows j row).weight = ap (λ (r : Row). r.weight) (c.row-item.is ∙ ap (λ rs. get_or rs j row) c.rows-row-items.ensures) in
+    let all : c.args.lottery.now.total ≡ total (λ (r : LotteryRow). r.weight) rows = c.requires.total ∙ sum_by-is-total (λ (r : LotteryRow). r.weight) rows in
+    let same : row.weight ≡ (get_or rows j row).weight = ap (λ (r : LotteryRow). r.weight) (c.row-item.is ∙ ap (λ rs. get_or rs j row) c.rows-row-items.ensures) in
     let small = c.facts.ensures in
     rw (here, weight) (fits (counted (take j rows) i + row.weight) (omega arith))
 
@@ -74,23 +74,23 @@ loop-row-preserved c =
     let whole = with_items_is c.loop-row.chances new (kept ∙ c.deref_mut.ensures.len) in
     let weight : to_z w128 (of_z w128 c.weight.result) ≡ pos row.weight = stored c.weight.result row.weight (search rules) c.weight.ensures in
     let same : row ≡ get_or rows j row = c.row-item.is ∙ ap (λ rs. get_or rs j row) c.rows-row-items.ensures in
-    let count_of_rows = ap (λ (rs : List Row). length rs) c.rows-row-items.ensures in
+    let count_of_rows = ap (λ (rs : List LotteryRow). length rs) c.rows-row-items.ensures in
     rw whole (record {
       each = λ k l.
           let here : get_or c.deref_mut.result.now k (pos 0) ≡ pos (counted (take j rows) k) =
           ap (λ xs. get_or xs k (pos 0)) c.deref_mut.ensures.value ∙ c.loop-row.invariant.each k (omega arith) in
-          let panel : holds c.members.result.now k ≡ holds row.panel k = ap (λ p. holds p k) (c.members.ensures.value ∙ c.panel.ensures) in
+          let panel : includes c.members.result.now k ≡ includes row.panel k = ap (λ p. includes p k) (c.members.ensures.value ∙ c.panel.ensures) in
           c.add_weight.ensures k (omega arith)
-          ∙ (more (get_or c.deref_mut.result.now k (pos 0)) (to_z w128 (of_z w128 c.weight.result)) (holds c.members.result.now k) (counted (take j rows) k) row.weight here weight
+          ∙ (more (get_or c.deref_mut.result.now k (pos 0)) (to_z w128 (of_z w128 c.weight.result)) (includes c.members.result.now k) (counted (take j rows) k) row.weight here weight
           ∙ ap pos (ap (λ b. counted (take j rows) k + cond b row.weight 0) panel
-          ∙ (ap (λ (r : Row). counted (take j rows) k + cond (holds r.panel k) r.weight 0) same ∙ sym (counted_more rows j k row (omega (arith, count_of_rows))))));
+          ∙ (ap (λ (r : LotteryRow). counted (take j rows) k + cond (includes r.panel k) r.weight 0) same ∙ sym (counted_more rows j k row (omega (arith, count_of_rows))))));
       size = kept ∙ (sizes ∙ c.loop-row.invariant.size);
     })
 
 pub returns : goal.returns
 returns c =
     let rows = c.args.lottery.now.rows in
-    let all : take c.loop-row.row-index rows ≡ rows = take_all c.loop-row.row-index rows (omega (arith, ap (λ (rs : List Row). length rs) c.rows-row-items.ensures)) in
+    let all : take c.loop-row.row-index rows ≡ rows = take_all c.loop-row.row-index rows (omega (arith, ap (λ (rs : List LotteryRow). length rs) c.rows-row-items.ensures)) in
     fill_by_all (λ i. pos (count c.args.lottery.now i)) c.loop-row.chances.items (length c.args.pool.now.volunteers) (pos 0) c.loop-row.invariant.size
     (λ k l. c.loop-row.invariant.each k (omega arith) ∙ ap pos (ap (λ rs. counted rs k) all ∙ sym (count-is c.args.lottery.now k)))
     ∙ sym (map-map (λ n. pos n) (count c.args.lottery.now) (everybody c.args.pool.now))

@@ -1,5 +1,8 @@
--- Laws of products of whole numbers with a sign, which `omega` treats as unknowns.
-use Rattle.std.proofs.Common.{◌≡◌, ℕ, zero, suc, ◌*◌, ◌+◌, ◌<◌, ◌≤◌, ℤ, pos, negsuc, ◌+ℤ◌, ◌-ℤ◌, ◌*ℤ◌, neg_ℤ, ap, ◌∙◌, sym, arith, ◌≤ℤ◌, ◌<ℤ◌, mul-le-mul_right, le_of_mul-le-mul_right, le_antisymm}
+-- Whole numbers with a sign: their products, which `omega` treats as unknowns, and tests.
+use Rattle.std.proofs.Common.{◌≡◌, ℕ, true, false, zero, suc, ◌*◌, ◌+◌, ◌<◌, ◌≤◌, ℤ, pos, negsuc, ◌+ℤ◌, ◌-ℤ◌, ◌*ℤ◌, neg_ℤ, ap, ◌∙◌, sym, arith, ◌≤ℤ◌, ◌<ℤ◌, mul-le-mul_right, le_of_mul-le-mul_right, le_antisymm}
+use Rattle.std.specs.Prelude.{int_lt, int_le, unsigned_abs}
+use Rattle.std.specs.Ordering.{int_eq}
+use Rattle.std.proofs.lemmas.Bool.Decides.{Decides-int_eq}
 use Rattle.std.proofs.lemmas.Int.{ints}
 use borrow.Author.Differences.{up, down, sum_is_lem, product_is, same_in, le_out, at_most_in}
 
@@ -98,3 +101,36 @@ pub other-zero : (a b : ℤ) → pos 0 <ℤ a → a *ℤ b ≡ pos 0 → b ≡ p
 other-zero (pos zero) b h e = absurd (omega (arith, ints))
 other-zero (pos (suc a)) b h e = same-unscaled b (pos 0) (suc a) (omega arith) (e ∙ sym (mul-zero (pos (suc a))))
 other-zero (negsuc a) b h e = absurd (omega (arith, ints))
+
+-- ---- tests, and numbers of at least 0
+
+pub lt-tested : (a b : ℤ) → int_lt a b ≡ true → a <ℤ b
+lt-tested a b e = omega (arith, ints)
+
+pub eq-tested : (a b : ℤ) → int_eq a b ≡ true → a ≡ b
+eq-tested a b e = (Decides-int_eq a b).0 e
+
+pub tested-lt : (a b : ℤ) → a <ℤ b → int_lt a b ≡ true
+tested-lt a b h = grind (arith, ints)
+
+pub tested-le : (a b : ℤ) → a ≤ℤ b → int_le a b ≡ true
+tested-le a b h = grind (arith, ints)
+
+pub as_natural : (z : ℤ) → pos 0 ≤ℤ z → z ≡ pos (unsigned_abs z)
+as_natural z h = omega (arith, ints)
+
+pub abs-positive : (z : ℤ) → pos 0 <ℤ z → 0 < unsigned_abs z
+abs-positive z h = omega (arith, ints)
+
+pub same_pos : (m n : ℕ) → pos m ≡ pos n → m ≡ n
+same_pos m n e = omega (arith, ints)
+
+pub zero-mul : (z : ℤ) → pos 0 *ℤ z ≡ pos 0
+zero-mul z = omega (arith, ints)
+
+pub refused-lt : (a b : ℤ) → b ≤ℤ a → int_lt a b ≡ false
+refused-lt a b h = grind (arith, ints)
+
+-- a product with a natural number, by the parts above and below 0
+pub product-parts : (c : ℕ) (z : ℤ) → up (pos c *ℤ z) + c * down z ≡ c * up z + down (pos c *ℤ z)
+product-parts c z = omega (arith, ints, product_is (pos c) z)

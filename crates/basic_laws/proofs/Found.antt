@@ -1,0 +1,39 @@
+-- What is found in a list.
+use Rattle.std.proofs.Common.{◌≡◌, ◌⊎◌, inl, inr, refl, ℕ, ◌<◌, ◌≤◌, Bool, true, false, cond, List, [], ◌∷◌, Some, None, length, get_or, sym, arith, ap, ◌∙◌, subst}
+use Rattle.std.specs.List.{AllByRecursion, find, position, position_or_len}
+use Rattle.std.proofs.lemmas.Bool.{cases_lt, lt-ltb}
+use Rattle.std.proofs.lemmas.List.Sums.{fails_before_first}
+
+-- what is found passes the test, and is as every element is
+pub find-passes : {X : Type 0} (p : X → Bool) (xs : List X) (x : X) → find p xs ≡ Some x → p x ≡ true
+find-passes p [] x e = absurd cc
+find-passes p (y ∷ ys) x e = by (p y) refl e (λ f. find-passes p ys x f)
+  where
+    by : (b : Bool) → p y ≡ b → cond b (Some y) (find p ys) ≡ Some x → (find p ys ≡ Some x → p x ≡ true) → p x ≡ true
+    by true t f rest = let same : y ≡ x = cc in ap p (sym same) ∙ t
+    by false t f rest = rest f
+
+pub find-each : {X : Type 0} (p : X → Bool) (Q : X → Type 0) (xs : List X) (x : X) → AllByRecursion Q xs → find p xs ≡ Some x → Q x
+find-each p Q [] x h e = absurd cc
+find-each p Q (y ∷ ys) x h e = by (p y) e (λ f. find-each p Q ys x h.1 f)
+  where
+    by : (b : Bool) → cond b (Some y) (find p ys) ≡ Some x → (find p ys ≡ Some x → Q x) → Q x
+    by true f rest = let same : y ≡ x = cc in subst Q same h.0
+    by false f rest = rest f
+
+-- where nothing is found, no element passes
+pub find-none : {X : Type 0} (p : X → Bool) (xs : List X) → find p xs ≡ None → AllByRecursion (λ x. p x ≡ false) xs
+find-none p [] e = tt
+find-none p (y ∷ ys) e = by (p y) refl e (λ f. find-none p ys f)
+  where
+    by : (b : Bool) → p y ≡ b → cond b (Some y) (find p ys) ≡ None → (find p ys ≡ None → AllByRecursion (λ x. p x ≡ false) ys) → (p y ≡ false) × AllByRecursion (λ x. p x ≡ false) ys
+    by true t f rest = absurd cc
+    by false t f rest = (t, rest f)
+
+-- where no place is found, no element passes
+pub position-None : {X : Type 0} (p : X → Bool) (xs : List X) (k : ℕ) (d : X) → position p xs ≡ None → k < length xs → p (get_or xs k d) ≡ false
+position-None p xs k d e l = by (cases_lt (position_or_len p xs) (length xs))
+  where
+    by : (position_or_len p xs < length xs) ⊎ (length xs ≤ position_or_len p xs) → p (get_or xs k d) ≡ false
+    by (inl m) = let found : position p xs ≡ Some (position_or_len p xs) = ap (λ b. cond b (Some (position_or_len p xs)) None) (lt-ltb (position_or_len p xs) (length xs) m) in absurd cc
+    by (inr m) = fails_before_first p xs k d (omega arith)

@@ -1,0 +1,38 @@
+-- Lists that are mapped, and lists with their numbers.
+use Rattle.std.proofs.Common.{◌≡◌, ℕ, zero, suc, ◌+◌, ◌<◌, Bool, true, false, cond, List, [], ◌∷◌, ◌++◌, map, length, get_or, refl, ap, ap₂, ◌∙◌, arith}
+use Rattle.std.specs.List.{AllByRecursion, enumerate_from, range_with_len}
+use Rattle.std.specs.Prelude.{count_by}
+use Rattle.std.proofs.lemmas.List.Sums.{count_by-le-length, sum_by-cons}
+
+pub map_same : {X Y : Type 0} (f g : X → Y) (xs : List X) → AllByRecursion (λ x. f x ≡ g x) xs → map f xs ≡ map g xs
+map_same f g [] h = refl
+map_same f g (x ∷ xs) h = ap₂ (λ y ys. y ∷ ys) h.0 (map_same f g xs h.1)
+
+pub map-map : {X Y Z : Type 0} (g : Y → Z) (f : X → Y) (xs : List X) → map g (map f xs) ≡ map (λ x. g (f x)) xs
+map-map g f [] = refl
+map-map g f (x ∷ xs) = ap (λ ys. g (f x) ∷ ys) (map-map g f xs)
+
+pub length-enumerate_from : {X : Type 0} (first : ℕ) (xs : List X) → length (enumerate_from first xs) ≡ length xs
+length-enumerate_from first [] = refl
+length-enumerate_from first (x ∷ xs) = ap suc (length-enumerate_from (first + 1) xs)
+
+pub get_or-enumerate_from : {X : Type 0} (first : ℕ) (xs : List X) (t : ℕ) (d : ℕ × X) (e : X) → t < length xs → get_or (enumerate_from first xs) t d ≡ (first + t, get_or xs t e)
+get_or-enumerate_from first [] t d e l = absurd (omega arith)
+get_or-enumerate_from {X} first (x ∷ xs) zero d e l = let same : first ≡ first + 0 = omega arith in ap (λ n. let pair : ℕ × X = (n, x) in pair) same
+get_or-enumerate_from {X} first (x ∷ xs) (suc t) d e l =
+    get_or-enumerate_from (first + 1) xs t d e (omega arith)
+    ∙ (let same : (first + 1) + t ≡ first + suc t = omega arith in ap (λ n. let pair : ℕ × X = (n, get_or xs t e) in pair) same)
+
+-- a range that is one longer has one more number behind it
+pub range-more : (first count : ℕ) → range_with_len first (suc count) ≡ range_with_len first count ++ (first + count) ∷ []
+range-more first zero = let e : first ≡ first + 0 = omega arith in ap (λ k. k ∷ []) e
+range-more first (suc count) =
+    let e : (first + 1) + count ≡ first + suc count = omega arith in
+    ap (λ ks. first ∷ ks) (range-more (first + 1) count ∙ ap (λ k. range_with_len (first + 1) count ++ k ∷ []) e)
+
+-- where as many pass as there are, each passes
+pub all_pass : (xs : List Bool) (t : ℕ) → count_by (λ b. b) xs ≡ length xs → t < length xs → get_or xs t false ≡ true
+all_pass [] t e l = absurd (omega arith)
+all_pass (false ∷ xs) t e l = absurd (omega (arith, sum_by-cons (λ (b : Bool). cond b 1 0) false xs, count_by-le-length (λ (b : Bool). b) xs))
+all_pass (true ∷ xs) zero e l = refl
+all_pass (true ∷ xs) (suc t) e l = all_pass xs t (omega (arith, sum_by-cons (λ (b : Bool). cond b 1 0) true xs)) (omega arith)

@@ -1,0 +1,56 @@
+//! Texts byte for byte, each kind of fault of a pool's text, and answers that no bundle may have.
+
+ghost use Rattle.std.specs.Prelude.{◌≡◌, [], ◌∷◌, ◌++◌, ◌+◌, ◌-◌, ◌^◌, codes, Ok, Err, pos, negsuc};
+ghost use Rattle.pool_definitions.specs.WorkedExamples.{four, after_dropout, row, stage};
+ghost use Rattle.text_definitions.specs.PoolText.{spelling};
+ghost use Rattle.text_definitions.specs.PoolReading.{read};
+ghost use Rattle.bundle_definitions.specs.Ranges.{IsInRanges};
+ghost use Rattle.bundle_definitions.specs.BundleText.{bundle_text};
+ghost use Rattle.worked_examples.specs.Bundles.{answer_of, four_text, head, head_with_value, printed_answer, printed_text};
+
+/// The text of two women and two men, and the bundle that the program prints for them, byte for byte.
+pub fn spelled_texts()
+    ensures pool { spelling four ≡ four_text }
+    ensures pool_is_read { read four_text ≡ Ok four }
+    ensures bundle { bundle_text four printed_answer ≡ printed_text }
+{}
+
+/// Each kind of fault of a pool's text, from 1 to 12.
+pub fn faulty_texts()
+    ensures form { read (codes "pool\t2\n") ≡ Err (record { line = 1; kind = 1 }) }
+    ensures size { read (codes "pool\t1\nsize\t0\n") ≡ Err (record { line = 2; kind = 2 }) }
+    ensures category_repeated { read (head_with_value ++ codes "category\tg\n") ≡ Err (record { line = 5; kind = 3 }) }
+    ensures value_repeated { read (head_with_value ++ codes "value\tx\t0\t1\n") ≡ Err (record { line = 5; kind = 4 }) }
+    ensures bounds { read (head_with_value ++ codes "value\ty\t2\t1\n") ≡ Err (record { line = 5; kind = 5 }) }
+    ensures unknown_value { read (head_with_value ++ codes "volunteer\ta\ty\n") ≡ Err (record { line = 5; kind = 6 }) }
+    ensures missing_value { read (head_with_value ++ codes "volunteer\ta\n") ≡ Err (record { line = 5; kind = 7 }) }
+    ensures id_repeated { read (head_with_value ++ codes "volunteer\ta\tx\nvolunteer\ta\tx\n") ≡ Err (record { line = 6; kind = 8 }) }
+    ensures unknown_id { read (head_with_value ++ codes "volunteer\ta\tx\ngone\tb\n") ≡ Err (record { line = 6; kind = 9 }) }
+    ensures limit { read (head ++ codes "category\t\n") ≡ Err (record { line = 3; kind = 10 }) }
+    ensures not_utf8 { read (head ++ codes "category\t" ++ 255 ∷ 10 ∷ []) ≡ Err (record { line = 3; kind = 11 }) }
+    ensures missing_end { read head ≡ Err (record { line = 3; kind = 12 }) }
+{}
+
+/// The first faulty line tells, in it the lowest kind, and nothing may stand behind the end.
+pub fn first_faults()
+    ensures first_line { read (codes "pool\t1\nsize\t0\ncategory\t\n") ≡ Err (record { line = 2; kind = 2 }) }
+    ensures lowest_kind { read (head_with_value ++ codes "value\tx\t2\t1\n") ≡ Err (record { line = 5; kind = 4 }) }
+    ensures behind_the_end { read (four_text ++ 10 ∷ []) ≡ Err (record { line = 11; kind = 1 }) }
+    ensures unended_line { read (four_text ++ 48 ∷ []) ≡ Err (record { line = 11; kind = 1 }) }
+    ensures behind_a_standing { read (head_with_value ++ codes "volunteer\ta\tx\ngone\ta\nvolunteer\tb\tx\n") ≡ Err (record { line = 7; kind = 1 }) }
+{}
+
+/// Answers for the four that no bundle may have: totals of 0 and above 10^38; no panel, a weight of 0, a panel of nobody, one
+/// member twice, a number that nobody has; no stage, too few weights, and a reach of 2^127.
+pub fn ranges_that_refuse()
+    ensures no_total { ¬ IsInRanges four (answer_of 0 (row (0 ∷ 2 ∷ []) 1 ∷ []) (stage (pos 1) (pos 1 ∷ pos 1 ∷ pos 0 ∷ pos 0 ∷ []) ∷ [])) }
+    ensures great_total { ¬ IsInRanges four (answer_of (10 ^ 38 + 1) (row (0 ∷ 2 ∷ []) 1 ∷ []) (stage (pos 1) (pos 1 ∷ pos 1 ∷ pos 0 ∷ pos 0 ∷ []) ∷ [])) }
+    ensures no_row { ¬ IsInRanges four (answer_of 1 [] (stage (pos 1) (pos 1 ∷ pos 1 ∷ pos 0 ∷ pos 0 ∷ []) ∷ [])) }
+    ensures no_weight { ¬ IsInRanges four (answer_of 1 (row (0 ∷ 2 ∷ []) 0 ∷ []) (stage (pos 1) (pos 1 ∷ pos 1 ∷ pos 0 ∷ pos 0 ∷ []) ∷ [])) }
+    ensures of_nobody { ¬ IsInRanges four (answer_of 1 (row [] 1 ∷ []) (stage (pos 1) (pos 1 ∷ pos 1 ∷ pos 0 ∷ pos 0 ∷ []) ∷ [])) }
+    ensures member_twice { ¬ IsInRanges four (answer_of 1 (row (0 ∷ 0 ∷ []) 1 ∷ []) (stage (pos 1) (pos 1 ∷ pos 1 ∷ pos 0 ∷ pos 0 ∷ []) ∷ [])) }
+    ensures no_volunteer { ¬ IsInRanges four (answer_of 1 (row (0 ∷ 4 ∷ []) 1 ∷ []) (stage (pos 1) (pos 1 ∷ pos 1 ∷ pos 0 ∷ pos 0 ∷ []) ∷ [])) }
+    ensures no_stage { ¬ IsInRanges four (answer_of 1 (row (0 ∷ 2 ∷ []) 1 ∷ []) []) }
+    ensures too_few_weights { ¬ IsInRanges four (answer_of 1 (row (0 ∷ 2 ∷ []) 1 ∷ []) (stage (pos 1) (pos 1 ∷ pos 1 ∷ pos 0 ∷ []) ∷ [])) }
+    ensures great_reach { ¬ IsInRanges four (answer_of 1 (row (0 ∷ 2 ∷ []) 1 ∷ []) (stage (pos 1) (pos (2 ^ 127 - 1) ∷ pos 0 ∷ pos 0 ∷ pos 0 ∷ []) ∷ [])) }
+{}
