@@ -182,9 +182,10 @@ impl Classes {
         &self.classes
     }
 
-    /// How many members all classes have.
+    /// How many volunteers the classes hold in all; each of them is in exactly one class.
     pub fn volunteers(&self) -> usize
-        ensures { result ≡ volunteer_count self.now }
+        ensures count { result ≡ volunteer_count self.now }
+        ensures parts { PartVolunteers self.now }
     {
         self.classes.iter().map(|class| class.size()).sum()
     }
@@ -192,13 +193,6 @@ impl Classes {
     /// Does nothing; its contract tells what each `Classes` keeps.
     pub fn facts(&self)
         ensures { KeepsLimits self.now }
-    {
-        let _ = &self.size;
-    }
-
-    /// Does nothing; its contract tells that the classes part the volunteers: each is in exactly one.
-    pub fn parted(&self)
-        ensures { PartVolunteers self.now }
     {
         let _ = &self.size;
     }

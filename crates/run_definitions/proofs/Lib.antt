@@ -1,3 +1,4 @@
+pub mod StepCases
 pub mod Following
 pub mod Priced
 pub mod Kept

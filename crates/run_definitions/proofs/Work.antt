@@ -22,6 +22,7 @@ use Rattle.run_definitions.specs.Run.{Ending, Ended, Ends, GoOn, Limits, Next, N
 use Rattle.run_definitions.specs.Work.{turns_by, turns_left, work_left}
 use Rattle.run_definitions.proofs.Kept.{opening_kept, step_kept}
 use Rattle.run_definitions.proofs.Priced.{is_chosen}
+use Rattle.run_definitions.proofs.StepCases.{StepIs, Enters, Answers, NoPivot, Pivots, Passes, NoVisits, Widens, Closes, step_is}
 
 -- ---- what is left after a step
 
@@ -78,46 +79,25 @@ less_by_enter limits table shut = omega (arith, shut_turns table shut, turns_in_
 -- a step that goes on
 module _ (all : Classes) (limits : RunLimits) (table : Table) (limited : KeepsLimits all) (ranges : AreRunLimits limits) (keeps : KeepsRun all limits table) where
   pub step_lessens : (made : Table) → step all limits table ≡ GoOn made → work_left limits made < work_left limits table
-  unfolding step
-  step_lessens made e = by table.in_stage refl e
+  step_lessens made e = by (step all limits table) e (step_is all limits table)
     where
       LeavesLess : Table → Type 0
       LeavesLess after = work_left limits after < work_left limits table
 
-      of_pivot : (r : ℕ) (v : Var) → table.in_stage ≡ true → table.pivots < limits.pivots → (tried : Result Table Pass) → pivot table r v ≡ tried → pivoted table tried ≡ GoOn made → LeavesLess made
-      of_pivot r v open_now few (Err pass) p f = absurd cc
-      of_pivot r v open_now few (Ok after) p f = let same : after ≡ made = cc in less_by_pivot limits table r v made ranges open_now few (p ∙ ap Ok same)
-
-      within : (r : ℕ) (v : Var) → table.in_stage ≡ true → (b : Bool) → leb limits.pivots table.pivots ≡ b → cond b (Ended (PivotsSpent table)) (pivoted table (pivot table r v)) ≡ GoOn made → LeavesLess made
-      within r v open_now true t f = absurd cc
-      within r v open_now false t f = of_pivot r v open_now (leb-false limits.pivots table.pivots t) (pivot table r v) refl f
-
-      of_price : table.in_stage ≡ true → choice table ≡ None → (found : Option (List ℕ)) → price all (closed_rows table) (row_at table (open_row table)) ≡ found → priced table found ≡ GoOn made → LeavesLess made
-      of_price open_now done None p f =
-          let same : close_stage table ≡ made = cc in
-          subst LeavesLess same (less_by_close limits table open_now done (keeps.in_order.open_unsettled open_now) (some_settle table keeps.in_order open_now done))
-      of_price open_now done (Some counts) p f =
+      by : (next : Next) → next ≡ GoOn made → StepIs all limits table next → LeavesLess made
+      by next f (Enters shut some is) = let same : enter_stage table ≡ made = cc in subst LeavesLess same (less_by_enter limits table shut)
+      by next f (Answers shut settled is) = absurd cc
+      by next f (NoPivot open_now most is) = absurd cc
+      by next f (Pivots open_now r v after chosen few p is) = let same : after ≡ made = cc in less_by_pivot limits table r v made ranges open_now few (p ∙ ap Ok same)
+      by next f (Passes open_now r v pass chosen few p is) = absurd cc
+      by next f (NoVisits open_now done more is) = absurd cc
+      by next f (Widens open_now done counts p is) =
           let same : add_column table counts ≡ made = cc in
           subst LeavesLess same (less_by_column limits table counts open_now done
           (is_chosen all limits table counts limited (record { keeps = keeps; open_now = open_now; done = done; found = p })))
-
-      budget : table.in_stage ≡ true → choice table ≡ None → (b : Bool) →
-          cond b (Ended (NodesSpent (Some table))) (priced table (price all (closed_rows table) (row_at table (open_row table)))) ≡ GoOn made → LeavesLess made
-      budget open_now done true f = absurd cc
-      budget open_now done false f = of_price open_now done (price all (closed_rows table) (row_at table (open_row table))) refl f
-
-      in_stage : table.in_stage ≡ true → (chosen : Option (ℕ × Var)) → choice table ≡ chosen → step_in_stage all limits table chosen ≡ GoOn made → LeavesLess made
-      in_stage open_now (Some (r, v)) c f = within r v open_now (leb limits.pivots table.pivots) refl f
-      in_stage open_now None c f = budget open_now c (ltb limits.pricing (pricing_visits all (closed_rows table) (row_at table (open_row table)))) f
-
-      between : table.in_stage ≡ false → (b : Bool) → cond b (GoOn (enter_stage table)) (Ended (answered all table (spread all (parts_of table)))) ≡ GoOn made → LeavesLess made
-      between shut true f = let same : enter_stage table ≡ made = cc in subst LeavesLess same (less_by_enter limits table shut)
-      between shut false f = absurd cc
-
-      by : (b : Bool) → table.in_stage ≡ b → cond b (step_in_stage all limits table (choice table))
-          (cond (ltb (settled_count table) (length table.sizes)) (GoOn (enter_stage table)) (Ended (answered all table (spread all (parts_of table))))) ≡ GoOn made → LeavesLess made
-      by true t f = in_stage t (choice table) refl f
-      by false t f = between t (ltb (settled_count table) (length table.sizes)) f
+      by next f (Closes open_now done p is) =
+          let same : close_stage table ≡ made = cc in
+          subst LeavesLess same (less_by_close limits table open_now done (keeps.in_order.open_unsettled open_now) (some_settle table keeps.in_order open_now done))
 
 -- ---- the whole run
 

@@ -1,6 +1,6 @@
 -- The run: from a pool and limits to a lottery with its stages, or to the first refusal.
-use Rattle.std.specs.Prelude.{◌≡◌, ℕ, zero, suc, nat_lt, nat_le, if◌then◌else◌, List, [], map, length, slice_index_or, Option, Some, None, Result, Ok, Err, unwrap_or}
-use Rattle.std.specs.List.{position, range_with_len}
+use Rattle.std.specs.Prelude.{◌≡◌, ℕ, zero, suc, nat_lt, nat_le, if◌then◌else◌, List, [], map, length, slice_index_or, Option, Some, None, Result, Ok, Err}
+use Rattle.std.specs.List.{position_or_len, range_with_len}
 use Rattle.frac128.specs.Fractions.{Fraction}
 use Rattle.pool_definitions.specs.Certificate.{Answer, Stage}
 use Rattle.pool_definitions.specs.Lists.{includes}
@@ -63,9 +63,9 @@ pub data Next : Type 0 where
 abbrev pub closed_rows : Table → List Row
 closed_rows table = map (row_at table) table.closed
 
--- the number of the class that holds a volunteer
+-- the number of the class that has a volunteer, the number of all classes where none has
 abbrev pub class_number : List Class → ℕ → ℕ
-class_number classes i = unwrap_or (position (λ class. includes class.members i) classes) 0
+class_number classes i = position_or_len (λ class. includes class.members i) classes
 
 -- the stage of a closed row: its right side is the cap, and each volunteer weighs the entry of the volunteer's class
 abbrev pub stage_of : Classes → Row → Stage

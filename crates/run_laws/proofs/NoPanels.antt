@@ -44,7 +44,7 @@ at_opening all limits ends = by (ends_at all limits ends.steps NoPanel ends.ther
     by (inr last) = absurd (steps last.last (step_tells all limits last.last NoPanel last.step_is))
 
 pub no_panel_is_within : (pool : Pool) (limits : Limits) → RunEnds pool limits NoPanel → (first_search (classes_of pool)).visits ≤ limits.nodes
-no_panel_is_within pool limits ends = ltb-false _ _ (at_opening (classes_of pool) (run_limits limits) ends).within
+no_panel_is_within pool limits ends = (at_opening (classes_of pool) (run_limits limits) ends).within
 
 pub none_where_no_panel : (pool : Pool) (limits : Limits) → RunEnds pool limits NoPanel → panels pool ≡ []
 none_where_no_panel pool limits ends =

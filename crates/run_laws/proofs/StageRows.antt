@@ -1,6 +1,5 @@
 -- Where each volunteer is a class alone, a stage's weights are its row's entries, and its row is that row again.
 use Rattle.std.proofs.Common.{◌≡◌, ℕ, zero, suc, ◌+◌, ◌<◌, Bool, true, false, cond, ◌||◌, ltb, eqb, List, [], ◌∷◌, map, length, get_or, Some, None, pos, refl, sym, ap, ap₂, ◌∙◌, arith}
-use Rattle.std.specs.Prelude.{unwrap_or}
 use Rattle.std.specs.List.{position_or_len, range_with_len}
 use Rattle.std.proofs.lemmas.Bool.{eqb-true, eq-eqb, ne_eqb, lt-ltb}
 use Rattle.std.proofs.lemmas.List.FromFn.{get_or-map-range_with_len, length-map-range_with_len}
@@ -34,9 +33,7 @@ members_alone first (suc k) (class ∷ classes) d alone l =
     let here : first + 1 + k ≡ first + suc k = omega arith in members_alone (first + 1) k classes d alone.1 (omega arith) ∙ ap (λ n. n ∷ []) here
 
 pub number_alone : (classes : List Class) (d : Class) (i : ℕ) → AreAlone 0 classes → i < length classes → class_number classes i ≡ i
-number_alone classes d i alone l =
-    ap (λ k. unwrap_or (cond (ltb k (length classes)) (Some k) None) 0) place
-    ∙ ap (λ b. unwrap_or (cond b (Some i) None) 0) (lt-ltb i (length classes) l)
+number_alone classes d i alone l = place
   where
     or_false : (b : Bool) → (b || false) ≡ b
     or_false true = refl
