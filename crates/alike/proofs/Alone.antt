@@ -7,8 +7,9 @@ use Rattle.pool_definitions.specs.declared.Standing.TheVariants.{Gone}
 use Rattle.pool_definitions.specs.Pool.{Pool, IsPool, Volunteer, volunteer}
 use Rattle.search_definitions.specs.declared.Bounds.{Bounds}
 use Rattle.search_definitions.proofs.Limits.{limits_kept}
+use Rattle.search_definitions.proofs.Parting.{classes_part}
 use Rattle.search_definitions.proofs.PoolClasses.{alone_makes_classes}
-use Rattle.search_definitions.specs.Classes.{Class, Classes, KeepsLimits, bounds_of, classes_of, least_taken, most_taken}
+use Rattle.search_definitions.specs.Classes.{Class, Classes, KeepsLimits, PartVolunteers, bounds_of, classes_of, least_taken, most_taken}
 use Rattle.spread_definitions.specs.Singles.{AreAlone, single}
 use Rattle.spread_definitions.proofs.Alone.{classes_alone, singles_alone}
 
@@ -34,6 +35,11 @@ pub keeps_limits : (pool : Pool) (size : ℕ) (bounds : List (List Bounds)) (cla
     classes ≡ map (single pool.volunteers) (range_with_len 0 (length pool.volunteers)) → KeepsLimits (record { size = size; bounds = bounds; classes = classes })
 keeps_limits pool size bounds classes is_pool e f g =
     subst KeepsLimits (sym (made_classes pool size bounds classes e f g)) (limits_kept pool eqb is_pool (alone_makes_classes pool))
+
+pub made_parts : (pool : Pool) (size : ℕ) (bounds : List (List Bounds)) (classes : List Class) → size ≡ pool.size → bounds ≡ bounds_of pool.categories →
+    classes ≡ map (single pool.volunteers) (range_with_len 0 (length pool.volunteers)) → PartVolunteers (record { size = size; bounds = bounds; classes = classes })
+made_parts pool size bounds classes e f g =
+    subst PartVolunteers (sym (made_classes pool size bounds classes e f g)) (classes_part pool eqb (alone_makes_classes pool))
 
 pub made_alone : (pool : Pool) (classes : List Class) → classes ≡ map (single pool.volunteers) (range_with_len 0 (length pool.volunteers)) → AreAlone 0 classes
 made_alone pool classes e = subst (AreAlone 0) (sym e) (singles_alone pool.volunteers 0 (length pool.volunteers))

@@ -1,8 +1,8 @@
 //! Classes of volunteers, with the size of a panel and the bounds of the values: what a search for panels goes through.
 
-ghost use Rattle.std.specs.Prelude.{◌≡◌, [], ◌∷◌, length, take, sum_by};
+ghost use Rattle.std.specs.Prelude.{◌≡◌, [], ◌∷◌, length, take};
 ghost use Rattle.spread_definitions.specs.Singles.{AreAlone};
-ghost use Rattle.search_definitions.specs.Classes.{KeepsLimits, least_taken, most_taken};
+ghost use Rattle.search_definitions.specs.Classes.{KeepsLimits, PartVolunteers, least_taken, most_taken, volunteer_count};
 
 use pool_definitions::Standing;
 use search_definitions::Bounds;
@@ -127,7 +127,7 @@ impl ValueBounds {
 /// The classes of a pool, in the order of their first members, with the size of a panel and the bounds of each category's values.
 /// They keep the limits of a pool: a size from 1 to 200; at most 20 categories of at most 50 values, with bounds in order and at
 /// most 999; at most 400 classes with at most 400 members in all, each class with a member and with a value of each category.
-/// Each class is one volunteer alone, in the order of their numbers.
+/// They part the volunteers: each is in exactly one class. Each class is one volunteer alone, in the order of their numbers.
 #[derive(Debug, Drop)]
 pub struct Classes {
     size: usize,
@@ -137,18 +137,20 @@ pub struct Classes {
 
 impl Model for Classes {
     ghost use Rattle.spread_definitions.specs.Singles.{AreAlone};
-    ghost use Rattle.search_definitions.specs.Classes.{Classes as Seen, KeepsLimits};
+    ghost use Rattle.search_definitions.specs.Classes.{Classes as Seen, KeepsLimits, PartVolunteers};
 
     ghost Value = { Seen };
 
     ghost view = { λ c. record { size = c.size; bounds = c.bounds.items; classes = c.classes.items } };
 
-    ghost invariant = { λ c. KeepsLimits (record { size = c.size; bounds = c.bounds.items; classes = c.classes.items }) × AreAlone 0 c.classes.items };
+    ghost invariant = { λ c. KeepsLimits (record { size = c.size; bounds = c.bounds.items; classes = c.classes.items })
+        × PartVolunteers (record { size = c.size; bounds = c.bounds.items; classes = c.classes.items }) × AreAlone 0 c.classes.items };
 }
 
 impl Classes {
     pub(crate) fn new(size: usize, bounds: Vec<ValueBounds>, classes: Vec<Class>) -> Classes
         requires limits { KeepsLimits (record { size = size; bounds = bounds.items; classes = classes.items }) }
+        requires parts { PartVolunteers (record { size = size; bounds = bounds.items; classes = classes.items }) }
         requires alone { AreAlone 0 classes.items }
         ensures { result ≡ record { size = size; bounds = bounds.items; classes = classes.items } }
     {
@@ -180,9 +182,10 @@ impl Classes {
         &self.classes
     }
 
-    /// How many members all classes have.
+    /// How many volunteers the classes hold in all; each of them is in exactly one class.
     pub fn volunteers(&self) -> usize
-        ensures { result ≡ sum_by (λ class. length class.members) self.now.classes }
+        ensures count { result ≡ volunteer_count self.now }
+        ensures parts { PartVolunteers self.now }
     {
         self.classes.iter().map(|class| class.size()).sum()
     }

@@ -54,25 +54,6 @@ fn told(alloc: Global, answer: &Result<Lottery, SpreadStop>) -> Result<String, A
     }
 }
 
-/// The first has a share, and the second the rest.
-fn spread_two(
-    alloc: Global,
-    found: &Classes,
-    whole: i128,
-    share: i128,
-) -> Result<String, AllocError>
-    requires found { found.now ≡ classes_of one_of_three }
-    requires share { pos 0 <ℤ share }
-    requires rest { share <ℤ whole }
-{
-    let rest = whole - share;
-    let parts = [
-        part(alloc, &[1, 0, 0], share, whole)?,
-        part(alloc, &[0, 1, 0], rest, whole)?,
-    ];
-    told(alloc, &spread(alloc, found, &parts))
-}
-
 /// The first and the second have shares, and the third the rest.
 fn spread_three(
     alloc: Global,
@@ -100,38 +81,24 @@ const TEN_38: i128 = 100000000000000000000000000000000000000;
 const TEN_19: i128 = 10000000000000000000;
 
 #[test]
-fn two_shares(rt: HostRuntime) -> Result<(), Fail> {
-    let alloc = rt.alloc();
-    let found = three(alloc)?;
-    for (whole, share, expected) in [
-        (2, 1, "2: 1 [0] 1 [1]"),
-        (12, 8, "3: 2 [0] 1 [1]"),
-        (
-            TEN_38,
-            1,
-            "100000000000000000000000000000000000000: 1 [0] 99999999999999999999999999999999999999 [1]",
-        ),
-        (
-            TEN_38 + 1,
-            1,
-            "the total 1 passes 10^38 at composition 0, of denominator 100000000000000000000000000000000000001",
-        ),
-    ] {
-        assert!(rt; 0 < share);
-        assert!(rt; share < whole);
-        let text = spread_two(alloc, &found, whole, share)?;
-        assert_eq!(rt; text.as_str(), expected);
-    }
-    Ok(())
-}
-
-#[test]
 fn three_shares(rt: HostRuntime) -> Result<(), Fail> {
     let alloc = rt.alloc();
     let found = three(alloc)?;
     for (whole, first, second, expected) in [
         (6, 2, 1, "6: 2 [0] 1 [1] 3 [2]"),
         (30, 10, 6, "15: 5 [0] 3 [1] 7 [2]"),
+        (
+            TEN_38,
+            1,
+            1,
+            "100000000000000000000000000000000000000: 1 [0] 1 [1] 99999999999999999999999999999999999998 [2]",
+        ),
+        (
+            TEN_38 + 1,
+            1,
+            1,
+            "the total 1 passes 10^38 at composition 0, of denominator 100000000000000000000000000000000000001",
+        ),
         // one over 10^19 and one over 10^19 + 1, which have no common divisor
         (
             TEN_38 + TEN_19,

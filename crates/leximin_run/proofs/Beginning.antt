@@ -8,38 +8,39 @@ use Rattle.search_definitions.specs.Classes.{Classes, KeepsLimits}
 use Rattle.search_definitions.specs.Compositions.{compositions, first_composition}
 use Rattle.search_definitions.specs.Fronts.{sizes_of}
 use Rattle.search_definitions.specs.Visits.{first_search}
-use Rattle.run_definitions.specs.Keeps.{AreLimits}
-use Rattle.run_definitions.specs.Run.{Ends, Limits, Ended, NoPanel, NodesSpent, TooWide, closed_rows, opened, opening, started}
-use Rattle.run_definitions.proofs.Ends.{ends_at_once, opens_at}
-use Rattle.run_definitions.proofs.Kept.{MayBegin, first_table_is, first_there, may_begin, reached_kept}
+use Rattle.run_definitions.specs.Keeps.{AreRunLimits}
+use Rattle.run_definitions.specs.Run.{Ends, RunLimits, Ended, NoPanel, NodesSpent, TooWide, closed_rows, opened, opening, started}
+use Rattle.run_definitions.proofs.Following.{ends_at_once, opens_at}
+use Rattle.search_definitions.proofs.Contained.{first_there}
+use Rattle.run_definitions.proofs.Kept.{MayBegin, first_table_is, may_begin, reached_kept}
 use Rattle.leximin_run.specs.Advancing.{Reaches}
 
 -- the opening, where its search stays within the budget
-opens : (all : Classes) (limits : Limits) → (first_search all).visits ≤ limits.nodes → opening all limits ≡ opened all limits (first_composition all)
+opens : (all : Classes) (limits : RunLimits) → (first_search all).visits ≤ limits.opening → opening all limits ≡ opened all limits (first_composition all)
 unfolding opening
-opens all limits l = ap (λ b. cond b (Ended (NodesSpent None)) (opened all limits (first_composition all))) (le-ltb limits.nodes (first_search all).visits l)
+opens all limits l = ap (λ b. cond b (Ended (NodesSpent None)) (opened all limits (first_composition all))) (le-ltb limits.opening (first_search all).visits l)
 
-pub spent_at_once : (all : Classes) (limits : Limits) → limits.nodes < (first_search all).visits → Ends all limits (NodesSpent None)
+pub spent_at_once : (all : Classes) (limits : RunLimits) → limits.opening < (first_search all).visits → Ends all limits (NodesSpent None)
 unfolding opening
 spent_at_once all limits l =
-    ends_at_once all limits (NodesSpent None) (ap (λ b. cond b (Ended (NodesSpent None)) (opened all limits (first_composition all))) (lt-ltb limits.nodes (first_search all).visits l))
+    ends_at_once all limits (NodesSpent None) (ap (λ b. cond b (Ended (NodesSpent None)) (opened all limits (first_composition all))) (lt-ltb limits.opening (first_search all).visits l))
 
-pub no_panel_at_once : (all : Classes) (limits : Limits) → (first_search all).visits ≤ limits.nodes → first_composition all ≡ None → Ends all limits NoPanel
+pub no_panel_at_once : (all : Classes) (limits : RunLimits) → (first_search all).visits ≤ limits.opening → first_composition all ≡ None → Ends all limits NoPanel
 no_panel_at_once all limits l none = ends_at_once all limits NoPanel (opens all limits l ∙ ap (opened all limits) none)
 
-module _ (all : Classes) (limits : Limits) (first : List ℕ) (within : (first_search all).visits ≤ limits.nodes) (found : first_composition all ≡ Some first) where
+module _ (all : Classes) (limits : RunLimits) (first : List ℕ) (within : (first_search all).visits ≤ limits.opening) (found : first_composition all ≡ Some first) where
   starts : opening all limits ≡ started (start (sizes_of all) first limits.bits)
   starts = opens all limits within ∙ ap (opened all limits) found
 
   pub wide_at_once : (pass : Pass) → start (sizes_of all) first limits.bits ≡ Err pass → Ends all limits (TooWide None pass)
   wide_at_once pass e = ends_at_once all limits (TooWide None pass) (starts ∙ ap started e)
 
-  pub begun : KeepsLimits all → AreLimits limits → (table : Table) → start (sizes_of all) first limits.bits ≡ Ok table → Reaches all limits table []
+  pub begun : KeepsLimits all → AreRunLimits limits → (table : Table) → start (sizes_of all) first limits.bits ≡ Ok table → Reaches all limits table []
   begun limited ranges table e =
       let reached = opens_at all limits table (starts ∙ ap started e) in
       record {
         reached = reached;
-        stands = record { keeps = reached_kept all limits limited ranges table reached; closed_are = ap closed_rows (first_table_is (sizes_of all) first limits.bits table e) };
+        stands = record { limited = limited; ranges = ranges; keeps = reached_kept all limits limited ranges table reached; closed_are = ap closed_rows (first_table_is (sizes_of all) first limits.bits table e) };
       }
 
   pub may_start : KeepsLimits all → MayBegin all first

@@ -4,7 +4,7 @@ use Rattle.pool_definitions.specs.Pool.{IsPool, Pool}
 use Rattle.pool_definitions.proofs.Greatest.{greatest_from_Certifies}
 use Rattle.search_definitions.specs.Classes.{classes_of}
 use Rattle.run_definitions.specs.Keeps.{AreLimits}
-use Rattle.run_definitions.specs.Run.{Limits}
+use Rattle.run_definitions.specs.Run.{Limits, run_limits}
 use Rattle.run_laws.proofs.Certified.{found_certified}
 use Rattle.run_laws.proofs.Ranges.{found_in_ranges}
 use Rattle.run_laws.proofs.NoPanels.{none_where_no_panel}
@@ -13,13 +13,13 @@ use Rattle.leximin_run.specs.declared.stops.Solved.TheVariants.{Found, NoPanel}
 use Rattle.leximin_run.specs.declared.stops.Stop.{Stop}
 use Rattle.leximin_run.specs.Answers.{IsCertified, KeepsRanges, TellsEnding}
 
-pub certified : (pool : Pool) (limits : Limits) → IsPool pool → AreLimits limits → (answer : Result Solved Stop) → TellsEnding (classes_of pool) limits answer → IsCertified pool answer
+pub certified : (pool : Pool) (limits : Limits) → IsPool pool → AreLimits limits → (answer : Result Solved Stop) → TellsEnding (classes_of pool) (run_limits limits) answer → IsCertified pool answer
 certified pool limits is_pool ranges (Ok (Found answer)) told =
-    let certifies = found_certified pool limits answer is_pool ranges told in (certifies, greatest_from_Certifies pool answer.lottery answer.stages certifies)
+    let certifies = found_certified pool limits told.0 answer is_pool ranges told.1 in (certifies, greatest_from_Certifies pool answer.lottery answer.stages certifies)
 certified pool limits is_pool ranges (Ok NoPanel) told = none_where_no_panel pool limits told
 certified pool limits is_pool ranges (Err stop) told = tt
 
-pub keeps_ranges : (pool : Pool) (limits : Limits) → IsPool pool → AreLimits limits → (answer : Result Solved Stop) → TellsEnding (classes_of pool) limits answer → KeepsRanges pool answer
-keeps_ranges pool limits is_pool ranges (Ok (Found answer)) told = found_in_ranges pool limits answer is_pool ranges told
+pub keeps_ranges : (pool : Pool) (limits : Limits) → IsPool pool → AreLimits limits → (answer : Result Solved Stop) → TellsEnding (classes_of pool) (run_limits limits) answer → KeepsRanges pool answer
+keeps_ranges pool limits is_pool ranges (Ok (Found answer)) told = found_in_ranges pool limits told.0 answer is_pool ranges told.1
 keeps_ranges pool limits is_pool ranges (Ok NoPanel) told = tt
 keeps_ranges pool limits is_pool ranges (Err stop) told = tt

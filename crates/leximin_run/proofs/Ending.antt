@@ -13,8 +13,8 @@ use Rattle.row_definitions.proofs.Satisfied.{solution-stands}
 use Rattle.search_definitions.specs.Classes.{Classes}
 use Rattle.search_definitions.proofs.Listed.{each_mapped}
 use Rattle.spread_definitions.specs.Spreading.{TotalPass, spread}
-use Rattle.run_definitions.specs.Run.{Ends, Limits, GoOn, Ended, Found, NodesSpent, PivotsSpent, TooWide, TotalPasses, answered, parts_of, stage_of, step, step_in_stage}
-use Rattle.run_definitions.proofs.Ends.{comes_to_end, goes_on}
+use Rattle.run_definitions.specs.Run.{Ends, RunLimits, GoOn, Ended, Found, NodesSpent, PivotsSpent, TooWide, TotalPasses, answered, parts_of, stage_of, step, step_in_stage}
+use Rattle.run_definitions.proofs.Following.{comes_to_end, goes_on}
 use Rattle.leximin_run.specs.declared.running.Refusal.{Refusal}
 use Rattle.leximin_run.specs.declared.running.Refusal.TheVariants.{Wide, NoPivot, NoVisit, NoMemory}
 use Rattle.leximin_run.specs.Advancing.{Reaches, Refuses, Stands}
@@ -27,7 +27,7 @@ known_columns table h =
     All-from_recursion (λ part. part.0 < length table.columns) (map fraction_of (solution table))
     (each_mapped (λ part. part.0 < length table.columns) fraction_of (solution table) (recursion_from_All (λ there. there.column < length table.columns) (solution table) stands.known))
 
-module _ (all : Classes) (limits : Limits) (table : Table) (closed : List Row) (reaches : Reaches all limits table closed) where
+module _ (all : Classes) (limits : RunLimits) (table : Table) (closed : List Row) (reaches : Reaches all limits table closed) where
   answer_due : table.in_stage ≡ false → length table.sizes ≤ settled_count table → step all limits table ≡ Ended (answered all table (spread all (parts_of table)))
   unfolding step
   answer_due shut settled =
@@ -35,10 +35,10 @@ module _ (all : Classes) (limits : Limits) (table : Table) (closed : List Row) (
       ∙ ap (λ s. cond s (GoOn (enter_stage table)) (Ended (answered all table (spread all (parts_of table))))) (le-ltb (settled_count table) (length table.sizes) settled)
 
   pub found_at_end : table.in_stage ≡ false → length table.sizes ≤ settled_count table → (lottery : Lottery) → spread all (parts_of table) ≡ Ok lottery →
-      Ends all limits (Found (record { lottery = lottery; stages = map (stage_of all) closed }))
+      Ends all limits (Found table (record { lottery = lottery; stages = map (stage_of all) closed }))
   found_at_end shut settled lottery e =
       let ended = comes_to_end all limits table (answered all table (Ok lottery)) reaches.reached (answer_due shut settled ∙ ap (λ s. Ended (answered all table s)) e) in
-      subst (λ rows. Ends all limits (Found (record { lottery = lottery; stages = map (stage_of all) rows }))) (sym reaches.stands.closed_are) ended
+      subst (λ rows. Ends all limits (Found table (record { lottery = lottery; stages = map (stage_of all) rows }))) (sym reaches.stands.closed_are) ended
 
   pub passed_at_end : table.in_stage ≡ false → length table.sizes ≤ settled_count table → (pass : TotalPass) → spread all (parts_of table) ≡ Err pass → Ends all limits (TotalPasses table pass)
   passed_at_end shut settled pass e = comes_to_end all limits table (answered all table (Err pass)) reaches.reached (answer_due shut settled ∙ ap (λ s. Ended (answered all table s)) e)

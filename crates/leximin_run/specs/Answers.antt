@@ -5,7 +5,7 @@ use Rattle.pool_definitions.specs.Certificate.{Certifies}
 use Rattle.pool_definitions.specs.Lottery.{LeximinGreatest}
 use Rattle.pool_definitions.specs.Pool.{Pool, panels}
 use Rattle.row_definitions.specs.Table.{Table}
-use Rattle.run_definitions.specs.Run.{Ending, Ends, Limits}
+use Rattle.run_definitions.specs.Run.{Ending, Ends, RunLimits}
 use Rattle.search_definitions.specs.Classes.{Classes}
 use Rattle.spread_definitions.specs.Spreading.{TotalPass}
 use Rattle.leximin_run.specs.declared.running.Refusal.{Refusal}
@@ -29,8 +29,8 @@ pub record IsTotalPass (pass : TotalPass) (place : ℕ) (total den : ℤ) : Type
   pub den_is : den ≡ pos pass.den
 
 -- the answer tells how the run over classes ends; want of memory may come at any time
-abbrev pub TellsEnding : Classes → Limits → Result Solved Stop → Type 0
-TellsEnding all limits (Ok (Found answer)) = Ends all limits (Ending.Found answer)
+abbrev pub TellsEnding : Classes → RunLimits → Result Solved Stop → Type 0
+TellsEnding all limits (Ok (Found answer)) = (last : Table) × Ends all limits (Ending.Found last answer)
 TellsEnding all limits (Ok NoPanel) = Ends all limits Ending.NoPanel
 TellsEnding all limits (Err (TooWide place pass)) = Ends all limits (Ending.TooWide (stood place) pass)
 TellsEnding all limits (Err (TotalPasses place at total den)) =

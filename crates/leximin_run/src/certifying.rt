@@ -48,12 +48,12 @@ fn weight(classes: &[Class], row: &Row, volunteer: usize) -> i128
     }
 }
 
-// The number of a volunteer's class.
+// The number of a volunteer's class, or of all classes where the volunteer is in none.
 fn number_of(classes: &[Class], volunteer: usize) -> usize
     ensures { result ≡ class_number classes.now volunteer }
 {
     let number = classes
         .iter()
         .position(|class| class.members().contains(&volunteer));
-    number.unwrap_or(0)
+    number.unwrap_or(classes.len())
 }

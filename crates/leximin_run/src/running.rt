@@ -4,6 +4,7 @@ ghost use Rattle.std.specs.Prelude.{◌≡◌, ◌<◌, true, OnOk, IfOk, Some, 
 ghost use Rattle.leximin_run.specs.Advancing.{Advances, Makes, Stands};
 ghost use Rattle.row_definitions.specs.Choice.{choice};
 ghost use Rattle.row_definitions.specs.Table.{row_at};
+ghost use Rattle.run_definitions.specs.Run.{run_limits};
 
 use run_limits::Limits;
 use alike::Classes;
@@ -35,9 +36,9 @@ pub(crate) struct Run {
 impl Run {
     // The next step. Is one made? If not, everybody is settled.
     pub(crate) fn advance(&mut self, alloc: Global) -> Result<bool, Refusal>
-        requires { Stands self.old.classes self.old.limits self.old.table self.old.closed.items }
-        ensures advances { Advances self.old.classes self.old.limits self.old.table result self.new.table }
-        ensures stands { OnOk result (Stands self.new.classes self.new.limits self.new.table self.new.closed.items) }
+        requires { Stands self.old.classes (run_limits self.old.limits) self.old.table self.old.closed.items }
+        ensures advances { Advances self.old.classes (run_limits self.old.limits) self.old.table result self.new.table }
+        ensures stands { OnOk result (Stands self.new.classes (run_limits self.new.limits) self.new.table self.new.closed.items) }
         ensures classes { self.new.classes ≡ self.old.classes }
         ensures limits { self.new.limits ≡ self.old.limits }
     {
@@ -57,11 +58,11 @@ impl Run {
 
     // The chosen pivot.
     fn pivot(&mut self, row: usize, variable: Var) -> Result<(), Refusal>
-        requires stands { Stands self.old.classes self.old.limits self.old.table self.old.closed.items }
+        requires stands { Stands self.old.classes (run_limits self.old.limits) self.old.table self.old.closed.items }
         requires open { self.old.table.in_stage ≡ true }
         requires chosen { choice self.old.table ≡ Some (row, variable) }
-        ensures makes { Makes self.old.classes self.old.limits self.old.table result self.new.table }
-        ensures stands { OnOk result (Stands self.new.classes self.new.limits self.new.table self.new.closed.items) }
+        ensures makes { Makes self.old.classes (run_limits self.old.limits) self.old.table result self.new.table }
+        ensures stands { OnOk result (Stands self.new.classes (run_limits self.new.limits) self.new.table self.new.closed.items) }
         ensures classes { self.new.classes ≡ self.old.classes }
         ensures limits { self.new.limits ≡ self.old.limits }
     {
@@ -76,15 +77,14 @@ impl Run {
 
     // No pivot is chosen: the open row is priced, and a column comes or the stage closes.
     fn price(&mut self, alloc: Global) -> Result<(), Refusal>
-        requires stands { Stands self.old.classes self.old.limits self.old.table self.old.closed.items }
+        requires stands { Stands self.old.classes (run_limits self.old.limits) self.old.table self.old.closed.items }
         requires open { self.old.table.in_stage ≡ true }
         requires done { choice self.old.table ≡ None }
-        ensures makes { Makes self.old.classes self.old.limits self.old.table result self.new.table }
-        ensures stands { OnOk result (Stands self.new.classes self.new.limits self.new.table self.new.closed.items) }
+        ensures makes { Makes self.old.classes (run_limits self.old.limits) self.old.table result self.new.table }
+        ensures stands { OnOk result (Stands self.new.classes (run_limits self.new.limits) self.new.table self.new.closed.items) }
         ensures classes { self.new.classes ≡ self.old.classes }
         ensures limits { self.new.limits ≡ self.old.limits }
     {
-        self.classes.facts();
         let open = self.table.open_row();
         let Ok(row) = copied_row(alloc, &self.table, open) else {
             return Err(Refusal::NoMemory);

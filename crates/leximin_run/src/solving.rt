@@ -3,7 +3,7 @@
 ghost use Rattle.std.specs.Prelude.{◌≡◌, ◌≤◌, ◌<◌, false, Some, IfOk, [], length, slice_index_or};
 ghost use Rattle.leximin_run.specs.Advancing.{Reaches};
 ghost use Rattle.leximin_run.specs.Answers.{IsCertified, KeepsRanges, TellsEnding, stop_of};
-ghost use Rattle.run_definitions.specs.Run.{parts_of};
+ghost use Rattle.run_definitions.specs.Run.{parts_of, run_limits};
 ghost use Rattle.row_definitions.specs.InOrder.{settled_count};
 ghost use Rattle.search_definitions.specs.Classes.{classes_of};
 ghost use Rattle.search_definitions.specs.Compositions.{first_composition};
@@ -24,7 +24,7 @@ use std::alloc::{AllocError, Global};
 /// The run over a pool under limits: the lottery with its certificate, or that the pool has no quota panel, or the first step that is
 /// refused, with the table as it stood. A lottery is leximin greatest, and its stages certify it.
 pub fn solve(alloc: Global, pool: &Pool, limits: Limits) -> Result<Solved, Stop>
-    ensures run { TellsEnding (classes_of pool.now) limits result }
+    ensures run { TellsEnding (classes_of pool.now) (run_limits limits) result }
     ensures certified { IsCertified pool.now result }
     // So a lottery that is found has a bundle.
     ensures ranges { KeepsRanges pool.now result }
@@ -36,7 +36,7 @@ pub fn solve(alloc: Global, pool: &Pool, limits: Limits) -> Result<Solved, Stop>
 
 // The run.
 fn run(alloc: Global, pool: &Pool, limits: Limits) -> Result<Solved, Stop>
-    ensures { TellsEnding (classes_of pool.now) limits result }
+    ensures { TellsEnding (classes_of pool.now) (run_limits limits) result }
 {
     let Ok(classes) = classes(alloc, pool) else {
         return Err(Stop::OutOfMemory);
@@ -58,7 +58,7 @@ fn begin(
 ) -> Result<Solved, Stop>
     requires within { (first_search classes).visits ≤ limits.nodes }
     requires first { first_composition classes ≡ Some composition.now }
-    ensures { TellsEnding classes limits result }
+    ensures { TellsEnding classes (run_limits limits) result }
 {
     classes.facts();
     let Ok(sizes) = sizes(alloc, &classes) else {
@@ -92,8 +92,8 @@ fn sizes(alloc: Global, classes: &Classes) -> Result<Vec<usize>, AllocError>
 
 // The run from a table on.
 fn finish(alloc: Global, mut run: Run) -> Result<Solved, Stop>
-    requires { Reaches run.classes run.limits run.table run.closed.items }
-    ensures { TellsEnding run.classes run.limits result }
+    requires { Reaches run.classes (run_limits run.limits) run.table run.closed.items }
+    ensures { TellsEnding run.classes (run_limits run.limits) result }
 {
     loop {
         match run.advance(alloc) {
@@ -119,10 +119,10 @@ fn stop(run: Run, refusal: Refusal) -> Stop
 
 // Everybody is settled: the columns of positive value are spread, and the closed rows certify the lottery.
 fn answer(alloc: Global, run: Run) -> Result<Solved, Stop>
-    requires reached { Reaches run.classes run.limits run.table run.closed.items }
+    requires reached { Reaches run.classes (run_limits run.limits) run.table run.closed.items }
     requires shut { run.table.in_stage ≡ false }
     requires settled { length run.table.sizes ≤ settled_count run.table }
-    ensures { TellsEnding run.classes run.limits result }
+    ensures { TellsEnding run.classes (run_limits run.limits) result }
 {
     let Ok(parts) = parts(alloc, &run.table) else {
         return Err(Stop::OutOfMemory);

@@ -3,7 +3,6 @@
 
 use crate::{At, Limits, Solved, Stop, solve};
 use pool_model::{Answer, BuildStop, Name, Pool, Standing};
-use row_definitions::Op;
 use std::alloc::{AllocError, Global};
 use std::test::Fail;
 
@@ -24,20 +23,6 @@ const FOUR: Given<'static> = Given {
     size: 2,
     bounds: &[(1, 1), (1, 1)],
     volunteers: &[OPEN_0, OPEN_0, OPEN_1, OPEN_1],
-};
-
-/// One woman and three men, one of each to be chosen.
-const ONE_WOMAN: Given<'static> = Given {
-    size: 2,
-    bounds: &[(1, 1), (1, 1)],
-    volunteers: &[OPEN_0, OPEN_1, OPEN_1, OPEN_1],
-};
-
-/// One seat, which the first of three may not have.
-const BARRED: Given<'static> = Given {
-    size: 1,
-    bounds: &[(0, 0), (0, 1)],
-    volunteers: &[OPEN_0, OPEN_1, OPEN_1],
 };
 
 /// One of three and one of two.
@@ -75,13 +60,6 @@ const SHORT: Given<'static> = Given {
     volunteers: &[(0, Standing::Gone), (0, Standing::Gone), OPEN_1, OPEN_1],
 };
 
-/// Two seats for four volunteers, each of another value.
-const APART: Given<'static> = Given {
-    size: 2,
-    bounds: &[(0, 1), (0, 1), (0, 1), (0, 1)],
-    volunteers: &[OPEN_0, OPEN_1, (2, Standing::Open), (3, Standing::Open)],
-};
-
 fn built(alloc: Global, given: Given<'_>) -> Result<Pool, BuildStop> {
     let mut pool = Pool::new(alloc, given.size)?;
     pool.add_category("value")?;
@@ -115,20 +93,14 @@ fn place(alloc: Global, at: &At) -> Result<String, AllocError> {
     }
 }
 
-fn operation(op: Op) -> &'static str {
-    match op {
-        Op::Mul => "mul",
-        Op::Sub => "sub",
-        Op::Add => "add",
-    }
-}
-
 fn refusal(alloc: Global, stop: &Stop) -> Result<String, AllocError> {
     match stop {
         Stop::TooWide(at, pass) => {
             let at = place(alloc, at)?;
-            let op = operation(pass.op);
-            format!(in alloc; "wide {at} {} {op} {} {}", pass.row, pass.x, pass.y)
+            format!(in alloc;
+                "wide {at} {} {:?} {} {}",
+                pass.row, pass.op, pass.x, pass.y
+            )
         }
         Stop::TotalPasses(_, place, total, den) => {
             format!(in alloc; "wide total {place} {total} {den}")
@@ -164,22 +136,6 @@ fn told(alloc: Global, answer: &Result<Solved, Stop>) -> Result<String, AllocErr
         Ok(Solved::NoPanel) => format!(in alloc; "no panel"),
         Err(stop) => refusal(alloc, stop),
     }
-}
-
-/// The count of each volunteer, and the total.
-fn counted(alloc: Global, answer: &Answer, volunteers: usize) -> Result<String, AllocError> {
-    let mut text = format!(in alloc; "")?;
-    for volunteer in 0..volunteers {
-        let mut count: i128 = 0;
-        for row in answer.lottery().rows() {
-            if row.panel().members().contains(&volunteer) {
-                count = count.wrapping_add(row.weight());
-            }
-        }
-        text.push_str(&format!(in alloc; "{count} ")?)?;
-    }
-    text.push_str(&format!(in alloc; "of {}", answer.lottery().total())?)?;
-    Ok(text)
 }
 
 fn run(
@@ -218,40 +174,18 @@ fn small_pools(rt: HostRuntime) -> Result<(), Fail> {
             "total 1; 1 [1, 2]; cap 0 [1, 0, 0, 0]; cap 0 [-1, 0, 0, 1]; cap 1 [0, 1, 0, -1]; cap 0 [0, -1, 1, 0]",
         ),
         (SHORT, AMPLE, "no panel"),
-        (EITHER, (1, 2, 3), "wide 0 0 0 1 add 1 1"),
+        (EITHER, (1, 2, 3), "wide 0 0 0 1 Add 1 1"),
         (EITHER, (2, 0, 3), "spent pivots 1 1 0"),
         (EITHER, (2, 1, 3), "spent pivots 1 2 1"),
         (EITHER, (2, 2, 2), "spent nodes 0 0 0"),
         (FOUR, (127, 3, 50), "spent pivots 2 3 3"),
         (FIVE, (127, 50, 6), "spent nodes 1 1 1"),
         (FIVE, (127, 50, 8), "spent nodes 1 2 2"),
-        (FIVE, (3, 50, 50), "wide 1 4 3 4 add 7 3"),
+        (FIVE, (3, 50, 50), "wide 1 4 3 4 Add 7 3"),
     ];
     for (given, limits, wanted) in cases {
         let answer = run(alloc, given, limits)?;
         assert_eq!(rt; told(alloc, &answer)?.as_str(), wanted);
-    }
-    Ok(())
-}
-
-#[test]
-fn chances(rt: HostRuntime) -> Result<(), Fail> {
-    let alloc = rt.alloc();
-    let cases = [
-        (FOUR, "1 1 1 1 of 2"),
-        (ONE_WOMAN, "3 1 1 1 of 3"),
-        (BARRED, "0 1 1 of 2"),
-        (FIVE, "2 2 2 3 3 of 6"),
-        (APART, "1 1 1 1 of 2"),
-    ];
-    for (given, wanted) in cases {
-        match run(alloc, given, AMPLE)? {
-            Ok(Solved::Found(answer)) => {
-                let counts = counted(alloc, &answer, given.volunteers.len())?;
-                assert_eq!(rt; counts.as_str(), wanted);
-            }
-            other => assert_eq!(rt; told(alloc, &other)?.as_str(), wanted),
-        }
     }
     Ok(())
 }

@@ -11,7 +11,7 @@ use Rattle.std.proofs.Math.ListN.{get_or-append}
 use Rattle.row_definitions.specs.Row.{Row}
 use Rattle.search_definitions.specs.Classes.{Class, Classes, KeepsLimits}
 use Rattle.search_definitions.specs.Compositions.{counts_of, counts_down}
-use Rattle.search_definitions.specs.Fronts.{is_live, is_live_above, optimistic, sizes_of, HaveEntries, HaveReach}
+use Rattle.search_definitions.specs.Fronts.{is_reachable, is_live_above, optimistic, sizes_of, HaveEntries, HaveReach}
 use Rattle.search_definitions.specs.Visits.{Pricing, enter_best}
 use Rattle.search_definitions.proofs.Limits.{all_from_each}
 use Rattle.panel_search.specs.Front.{Tracks}
@@ -130,7 +130,7 @@ stands_with all closed row depth rest rest' before after stands e f g h tracks =
   places = ap length e ∙ stands.places;
   kept_places = ap length f ∙ stands.kept_places;
   within = stands.within;
-  live = ap (λ xs. is_live all (take depth xs)) e ∙ stands.live;
+  live = ap (λ xs. is_reachable all (take depth xs)) e ∙ stands.live;
   counts = subst (λ xs. AreWithin all (take depth xs)) (sym e) stands.counts;
   tally = subst (λ xs. Tracks all (take depth xs) rest' after.tally) (sym e) tracks;
   priced = subst (λ xs. Weighs all row (take depth xs) after.priced) (sym e) (subst (Weighs all row (take depth before.counts.items)) (sym g) stands.priced);
@@ -166,7 +166,7 @@ within_more all front depth count long below can within t l =
 
 -- a live child
 pub child_stands : (all : Classes) (closed : List Row) (row : Row) (depth count : ℕ) (rest : List Class) (before after : BestSearch) → StandsAt all closed row depth rest before → depth < length all.classes → CanTake all depth count →
-    is_live all (take depth before.counts.items ++ count ∷ []) ≡ true → after.counts.items ≡ set before.counts.items depth count → length after.kept.items ≡ length all.classes →
+    is_reachable all (take depth before.counts.items ++ count ∷ []) ≡ true → after.counts.items ≡ set before.counts.items depth count → length after.kept.items ≡ length all.classes →
     Tracks all (take depth before.counts.items ++ count ∷ []) rest after.tally → Weighs all row (take depth before.counts.items ++ count ∷ []) after.priced →
     WeighEach all closed (take depth before.counts.items ++ count ∷ []) after.closed.items → StandsAt all closed row (depth + 1) rest after
 child_stands all closed row depth count rest before after stands below can live e kept tracks priced closed_rows =
@@ -175,7 +175,7 @@ child_stands all closed row depth count rest before after stands below can live 
       places = ap length e ∙ length-set before.counts.items depth count ∙ stands.places;
       kept_places = kept;
       within = omega arith;
-      live = ap (is_live all) child ∙ live;
+      live = ap (is_reachable all) child ∙ live;
       counts = subst (AreWithin all) (sym child) (within_more all (take depth before.counts.items) depth count (front_length depth before.counts.items (length all.classes) stands.places stands.within) below can stands.counts);
       tally = subst (λ f. Tracks all f rest after.tally) (sym child) tracks;
       priced = subst (λ f. Weighs all row f after.priced) (sym child) priced;
@@ -197,7 +197,7 @@ parent_stands all closed row depth count rest before child after stands below e 
       places = ap length f ∙ below.places;
       kept_places = ap length g ∙ below.kept_places;
       within = stands.within;
-      live = ap (is_live all) front ∙ stands.live;
+      live = ap (is_reachable all) front ∙ stands.live;
       counts = subst (AreWithin all) (sym front) stands.counts;
       tally = subst (λ xs. Tracks all (take depth xs) rest after.tally) (sym f) tracks;
       priced = subst (λ x. Weighs all row x after.priced) (sym front) (subst (Weighs all row front_before) (sym h) (weighs_front all row front_before count child.priced (subst (λ x. Weighs all row x child.priced) e below.priced)));
@@ -206,12 +206,12 @@ parent_stands all closed row depth count rest before child after stands below e 
     }
 
 -- a live child's search is entered
-pub child_due : (all : Classes) (closed : List Row) (row : Row) (later : List Class) (child : List ℕ) (now : Pricing) → is_live all child ≡ true →
+pub child_due : (all : Classes) (closed : List Row) (row : Row) (later : List Class) (child : List ℕ) (now : Pricing) → is_reachable all child ≡ true →
     (list_all (λ r. int_le r.b (optimistic all r child)) closed && int_lt now.floor (optimistic all row child)) ≡ true → child_best all closed row later child now ≡ enter_best all closed row later child now
 child_due all closed row later child now live weighs =
     let parts = and_parts (list_all (λ r. int_le r.b (optimistic all r child)) closed) (int_lt now.floor (optimistic all row child)) weighs in
-    let above = and_from (is_live all child && list_all (λ r. int_le r.b (optimistic all r child)) closed) (int_lt now.floor (optimistic all row child))
-    (and_from (is_live all child) (list_all (λ r. int_le r.b (optimistic all r child)) closed) live parts.0) parts.1 in
+    let above = and_from (is_reachable all child && list_all (λ r. int_le r.b (optimistic all r child)) closed) (int_lt now.floor (optimistic all row child))
+    (and_from (is_reachable all child) (list_all (λ r. int_le r.b (optimistic all r child)) closed) live parts.0) parts.1 in
     ap (λ b. cond b (enter_best all closed row later child now) now) above
 
 pub child_tracks : (all : Classes) (depth count : ℕ) (items counts : List ℕ) (tally : Tally) → items ≡ counts → length counts ≡ length all.classes → depth ≤ length all.classes →

@@ -7,7 +7,7 @@ use Rattle.std.proofs.lemmas.Option.{get_or_from_slice_get, slice_get-get_or, sl
 use Rattle.search_definitions.specs.declared.Bounds.{Bounds}
 use Rattle.search_definitions.specs.Classes.{Class, Classes, HasPlaces, KeepsLimits}
 use Rattle.search_definitions.specs.Compositions.{taken_of, has_value}
-use Rattle.search_definitions.specs.Fronts.{most_of, is_live, size_reachable, value_reachable, values_reachable, later_than}
+use Rattle.search_definitions.specs.Fronts.{most_given, is_reachable, size_reachable, value_reachable, values_reachable, later_than}
 use Rattle.panel_search.specs.Tallies.{cell, HasBound, reaches, AllReach, OneFails, EachReaches, SomeFails}
 use Rattle.panel_search.specs.Front.{Tracks}
 use Rattle.panel_search.specs.declared.tally.Tally.{Tally}
@@ -64,8 +64,8 @@ own_reach all front class count tally stands tracks c v bound below within has =
     let taken : taken_of (has_value c v) all.classes (front ++ count ∷ []) ≡ taken_of (has_value c v) all.classes front + cond true count 0 =
     taken_more all front class count stands (has_value c v) ∙ ap (λ b. taken_of (has_value c v) all.classes front + cond b count 0) has in
     let held = tracks.held c v below within in
-    let later : most_of (has_value c v) (later_than (front ++ count ∷ []) all.classes) ≡ slice_index tally.later.items (cell c v) =
-    ap (most_of (has_value c v)) (later_of_child all front count) ∙ sym (tracks.later c v below within) in
+    let later : most_given (has_value c v) (later_than (front ++ count ∷ []) all.classes) ≡ slice_index tally.later.items (cell c v) =
+    ap (most_given (has_value c v)) (later_of_child all front count) ∙ sym (tracks.later c v below within) in
     reach_equal bound.lower bound.upper _ _ _ _ (omega (arith, taken, held)) later
 
 -- the values that others have
@@ -74,13 +74,13 @@ other_reach : (all : Classes) (front : List ℕ) (class : Class) (count : ℕ) �
 other_reach all front class count stands c v bound has =
     let taken : taken_of (has_value c v) all.classes (front ++ count ∷ []) ≡ taken_of (has_value c v) all.classes front + cond false count 0 =
     taken_more all front class count stands (has_value c v) ∙ ap (λ b. taken_of (has_value c v) all.classes front + cond b count 0) has in
-    let next : most_of (has_value c v) (drop (length front) all.classes) ≡ cond false class.most 0 + most_of (has_value c v) (drop (length front + 1) all.classes) =
-    ap (most_of (has_value c v)) (comes_next all (length front) class stands)
-    ∙ (most_more (has_value c v) class (drop (length front + 1) all.classes) ∙ ap (λ b. cond b class.most 0 + most_of (has_value c v) (drop (length front + 1) all.classes)) has) in
-    let later = ap (most_of (has_value c v)) (later_of_child all front count) in
+    let next : most_given (has_value c v) (drop (length front) all.classes) ≡ cond false class.most 0 + most_given (has_value c v) (drop (length front + 1) all.classes) =
+    ap (most_given (has_value c v)) (comes_next all (length front) class stands)
+    ∙ (most_more (has_value c v) class (drop (length front + 1) all.classes) ∙ ap (λ b. cond b class.most 0 + most_given (has_value c v) (drop (length front + 1) all.classes)) has) in
+    let later = ap (most_given (has_value c v)) (later_of_child all front count) in
     reach_equal bound.lower bound.upper _ _ _ _ (omega (arith, taken)) (omega (arith, next, later))
 
-values_of_child : (all : Classes) (front : List ℕ) (class : Class) (count : ℕ) (tally : Tally) → KeepsLimits all → HasPlaces all.bounds class → Stands all (length front) class → is_live all front ≡ true →
+values_of_child : (all : Classes) (front : List ℕ) (class : Class) (count : ℕ) (tally : Tally) → KeepsLimits all → HasPlaces all.bounds class → Stands all (length front) class → is_reachable all front ≡ true →
     Tracks all front (drop (length front + 1) all.classes) tally → AllReach all.bounds tally.held.items tally.later.items class.values count → values_reachable all (front ++ count ∷ []) ≡ true
 values_of_child all front class count tally limits places stands live tracks reach =
     let parent = (and_parts (size_reachable all front) (values_reachable all front) live).1 in
@@ -108,7 +108,7 @@ size_of_child : (all : Classes) (front : List ℕ) (class : Class) (count : ℕ)
     size_reachable all (front ++ count ∷ []) ≡ (leb (tally.taken + count) all.size && leb all.size (tally.taken + count + tally.later_taken))
 size_of_child all front class count tally stands tracks =
     let taken = taken_more all front class count stands (λ class. true) in
-    let later : most_of (λ class. true) (later_than (front ++ count ∷ []) all.classes) ≡ tally.later_taken = ap (most_of (λ class. true)) (later_of_child all front count) ∙ sym tracks.later_taken in
+    let later : most_given (λ class. true) (later_than (front ++ count ∷ []) all.classes) ≡ tally.later_taken = ap (most_given (λ class. true)) (later_of_child all front count) ∙ sym tracks.later_taken in
     reach_equal all.size all.size _ _ _ _ (omega (arith, taken, tracks.taken)) later
 
 decided : (b : Bool) (A B : Type 0) (s : Bool) → (b ≡ true → A) → (b ≡ false → B) → (A → s ≡ true) → (B → s ≡ false) → b ≡ s
@@ -116,10 +116,10 @@ decided true A B s f g h k = sym (h (f refl))
 decided false A B s f g h k = sym (k (g refl))
 
 -- a child whose size can be reached is live where its class's values can be
-pub child_live : (all : Classes) (front : List ℕ) (class : Class) (count : ℕ) (tally : Tally) → KeepsLimits all → HasPlaces all.bounds class → Stands all (length front) class → is_live all front ≡ true →
+pub child_live : (all : Classes) (front : List ℕ) (class : Class) (count : ℕ) (tally : Tally) → KeepsLimits all → HasPlaces all.bounds class → Stands all (length front) class → is_reachable all front ≡ true →
     Tracks all front (drop (length front + 1) all.classes) tally → (leb (tally.taken + count) all.size && leb all.size (tally.taken + count + tally.later_taken)) ≡ true →
     (answer : Bool) → (answer ≡ true → AllReach all.bounds tally.held.items tally.later.items class.values count) → (answer ≡ false → OneFails all.bounds tally.held.items tally.later.items class.values count) →
-    answer ≡ is_live all (front ++ count ∷ [])
+    answer ≡ is_reachable all (front ++ count ∷ [])
 child_live all front class count tally limits places stands live tracks size answer allowed refused =
     let values = decided answer _ _ (values_reachable all (front ++ count ∷ [])) allowed refused
     (values_of_child all front class count tally limits places stands live tracks) (values_fail all front class count tally limits places stands tracks) in
@@ -128,7 +128,7 @@ child_live all front class count tally limits places stands live tracks size ans
 
 pub child_dead : (all : Classes) (front : List ℕ) (class : Class) (count : ℕ) (tally : Tally) → Stands all (length front) class →
     Tracks all front (drop (length front + 1) all.classes) tally → (leb (tally.taken + count) all.size && leb all.size (tally.taken + count + tally.later_taken)) ≡ false →
-    is_live all (front ++ count ∷ []) ≡ false
+    is_reachable all (front ++ count ∷ []) ≡ false
 child_dead all front class count tally stands tracks size =
     ap (λ b. b && values_reachable all (front ++ count ∷ [])) (size_of_child all front class count tally stands tracks ∙ size)
 
@@ -143,12 +143,12 @@ size_of_empty : (all : Classes) (tally : Tally) → Tracks all [] all.classes ta
 size_of_empty all tally tracks = reach_equal all.size all.size _ _ _ _ (omega (arith, tracks.taken)) (sym tracks.later_taken)
 
 pub empty_live : (all : Classes) (tally : Tally) → KeepsLimits all → Tracks all [] all.classes tally → (leb (tally.taken + 0) all.size && leb all.size (tally.taken + 0 + tally.later_taken)) ≡ true →
-    (answer : Bool) → (answer ≡ true → EachReaches all.bounds tally.held.items tally.later.items) → (answer ≡ false → SomeFails all.bounds tally.held.items tally.later.items) → answer ≡ is_live all []
+    (answer : Bool) → (answer ≡ true → EachReaches all.bounds tally.held.items tally.later.items) → (answer ≡ false → SomeFails all.bounds tally.held.items tally.later.items) → answer ≡ is_reachable all []
 empty_live all tally limits tracks size answer allowed refused =
     let values = decided answer _ _ (values_reachable all []) allowed refused
     (λ reach. values_from all [] (λ c v bound below has. empty_reach all tally tracks c v bound below (value_in_cell all limits c v bound below has) ∙ reach c v bound below has))
     (λ (c, v, bound, below, has, fails). false_from_ne_true (values_reachable all []) (λ yes. false≢true (sym fails ∙ (sym (empty_reach all tally tracks c v bound below (value_in_cell all limits c v bound below has)) ∙ values_at all [] yes c v bound below has)))) in
     values ∙ sym (ap (λ b. b && values_reachable all []) (size_of_empty all tally tracks ∙ size))
 
-pub empty_dead : (all : Classes) (tally : Tally) → Tracks all [] all.classes tally → (leb (tally.taken + 0) all.size && leb all.size (tally.taken + 0 + tally.later_taken)) ≡ false → is_live all [] ≡ false
+pub empty_dead : (all : Classes) (tally : Tally) → Tracks all [] all.classes tally → (leb (tally.taken + 0) all.size && leb all.size (tally.taken + 0 + tally.later_taken)) ≡ false → is_reachable all [] ≡ false
 empty_dead all tally tracks size = ap (λ b. b && values_reachable all []) (size_of_empty all tally tracks ∙ size)

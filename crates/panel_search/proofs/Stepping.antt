@@ -6,8 +6,8 @@ use Rattle.std.proofs.Math.Seq.{take-length}
 use Rattle.std.proofs.lemmas.Bool.{false≢true}
 use Rattle.search_definitions.specs.Classes.{Class, Classes}
 use Rattle.search_definitions.specs.Compositions.{counts_down}
-use Rattle.search_definitions.specs.Fronts.{is_live}
-use Rattle.search_definitions.specs.Visits.{Search as Due, in_turn, enter_first}
+use Rattle.search_definitions.specs.Fronts.{is_reachable}
+use Rattle.search_definitions.specs.Visits.{Search as Due, one_by_one, enter_first}
 use Rattle.panel_search.specs.Front.{Tracks}
 use Rattle.panel_search.specs.declared.tally.Tally.{Tally}
 use Rattle.panel_search.specs.Steps.{StandsAt, Steps, StepsFrom, Finds, child_first, children_first, counts_among, counts_at}
@@ -26,7 +26,7 @@ after_nothing rest = let e : rest.visits ≡ 0 + rest.visits = omega arith in ap
 children_more : (all : Classes) (later : List Class) (front : List ℕ) (c : ℕ) (counts : List ℕ) →
     children_first all later front (c ∷ counts) ≡ then_next (child_first all later (front ++ c ∷ [])) (children_first all later front counts)
 children_more all later front c counts =
-    elim (is_live all (front ++ c ∷ [])) as (λ b. in_turn (map (λ child. enter_first all later child) (cond b ((front ++ c ∷ []) ∷ filter (is_live all) (map (λ c. front ++ c ∷ []) counts)) (filter (is_live all) (map (λ c. front ++ c ∷ []) counts))))
+    elim (is_reachable all (front ++ c ∷ [])) as (λ b. one_by_one (map (λ child. enter_first all later child) (cond b ((front ++ c ∷ []) ∷ filter (is_reachable all) (map (λ c. front ++ c ∷ []) counts)) (filter (is_reachable all) (map (λ c. front ++ c ∷ []) counts))))
     ≡ then_next (cond b (enter_first all later (front ++ c ∷ [])) (record { visits = 0; found = None })) (children_first all later front counts)) [
       | true ↦ refl
       | false ↦ after_nothing (children_first all later front counts)
@@ -208,16 +208,6 @@ at_child all depth items front count tally l e tracks =
     (subst (λ n. Tracks all (front ++ count ∷ []) (drop (n + 1) all.classes) tally) (sym l) tracks)
 
 -- a live child's search is entered
-pub child_due : (all : Classes) (later : List Class) (child child' : List ℕ) → is_live all child ≡ true → child' ≡ child → child_first all later child ≡ enter_first all later child'
+pub child_due : (all : Classes) (later : List Class) (child child' : List ℕ) → is_reachable all child ≡ true → child' ≡ child → child_first all later child ≡ enter_first all later child'
 child_due all later child child' live e =
     ap (λ b. cond b (enter_first all later child) (record { visits = 0; found = None })) live ∙ ap (enter_first all later) (sym e)
-
--- ---- a whole search
-
-pub finds_true : (due : Due) (left : ℕ) (found : Bool) (after : Search) → Finds due left (Ok found) after → found ≡ true → due.found ≡ Some after.counts.items
-finds_true due left true after finds e = finds.1
-finds_true due left false after finds e = cc
-
-pub finds_false : (due : Due) (left : ℕ) (found : Bool) (after : Search) → Finds due left (Ok found) after → found ≡ false → due.found ≡ None
-finds_false due left true after finds e = cc
-finds_false due left false after finds e = finds.1

@@ -10,7 +10,7 @@ use Rattle.pool_definitions.proofs.Sums.{sum_by-is-total, total}
 use Rattle.search_definitions.specs.declared.Bounds.{Bounds}
 use Rattle.search_definitions.specs.Classes.{Class, Classes, HasPlaces, KeepsLimits}
 use Rattle.search_definitions.specs.Compositions.{taken_of, has_value}
-use Rattle.search_definitions.specs.Fronts.{most_of, taken_by, is_live, size_reachable, values_reachable}
+use Rattle.search_definitions.specs.Fronts.{most_given, taken_by, is_reachable, size_reachable, values_reachable}
 use Rattle.search_definitions.proofs.FirstSearch.{Split, taken_split}
 use Rattle.panel_search.specs.Tallies.{cell, HaveCells, CanGive, AreAtMost, HasMore, HaveBounds, AllReach, OneFails, FitCells, EachReaches, SomeFails}
 use Rattle.panel_search.specs.Front.{Gives, Tracks}
@@ -51,19 +51,19 @@ bounds_of_class all class places = record { one_each = places.one_each; within =
 
 -- ---- sums
 
-pub most_more : (p : Class → Bool) (class : Class) (rest : List Class) → most_of p (class ∷ rest) ≡ cond (p class) class.most 0 + most_of p rest
+pub most_more : (p : Class → Bool) (class : Class) (rest : List Class) → most_given p (class ∷ rest) ≡ cond (p class) class.most 0 + most_given p rest
 most_more p class rest =
     let f : Class → ℕ = λ class. cond (p class) class.most 0 in sum_by-is-total f (class ∷ rest) ∙ sym (ap (λ n. f class + n) (sum_by-is-total f rest))
 
-pub most_of_none : (p : Class → Bool) → most_of p [] ≡ 0
+pub most_of_none : (p : Class → Bool) → most_given p [] ≡ 0
 most_of_none p = sum_by-is-total (λ class. cond (p class) class.most 0) []
 
-most_of_members : (p : Class → Bool) (classes : List Class) → AllByRecursion (λ class. class.most ≤ length class.members) classes → most_of p classes ≤ sum_by (λ class. length class.members) classes
+most_of_members : (p : Class → Bool) (classes : List Class) → AllByRecursion (λ class. class.most ≤ length class.members) classes → most_given p classes ≤ sum_by (λ class. length class.members) classes
 most_of_members p [] h = omega (arith, most_of_none p)
 most_of_members p (class ∷ classes) h =
     let rest = most_of_members p classes h.1 in let more = most_more p class classes in let here = h.0 in
     let a = sum_by-is-total (λ (class : Class). length class.members) (class ∷ classes) in let b = sum_by-is-total (λ (class : Class). length class.members) classes in
-    (elim (p class) as (λ b. most_of p (class ∷ classes) ≡ cond b class.most 0 + most_of p classes → most_of p (class ∷ classes) ≤ sum_by (λ class. length class.members) (class ∷ classes)) [
+    (elim (p class) as (λ b. most_given p (class ∷ classes) ≡ cond b class.most 0 + most_given p classes → most_given p (class ∷ classes) ≤ sum_by (λ class. length class.members) (class ∷ classes)) [
       | true ↦ λ e. omega arith
       | false ↦ λ e. omega arith
     ]) more
@@ -79,7 +79,7 @@ taken_within_all p (class ∷ classes) (c ∷ counts) =
     ]
 
 -- a live front takes few
-pub few_taken : (all : Classes) (front : List ℕ) (p : Class → Bool) → KeepsLimits all → is_live all front ≡ true → taken_of p all.classes front ≤ 200
+pub few_taken : (all : Classes) (front : List ℕ) (p : Class → Bool) → KeepsLimits all → is_reachable all front ≡ true → taken_of p all.classes front ≤ 200
 few_taken all front p limits live =
     let parts = and_parts (size_reachable all front) (values_reachable all front) live in
     let low = leb-true (taken_by all front) all.size (and_parts _ _ parts.0).0 in
@@ -167,14 +167,14 @@ each_of : {X : Type 0} (P : X → Type 0) (xs : List X) → All P xs → AllByRe
 each_of P [] h = tt
 each_of P (x ∷ xs) h = (h 0 x (omega arith), each_of P xs (λ k d l. h (suc k) d (omega arith)))
 
-pub most_small : (all : Classes) (i : ℕ) (p : Class → Bool) → KeepsLimits all → most_of p (drop i all.classes) ≤ 400
+pub most_small : (all : Classes) (i : ℕ) (p : Class → Bool) → KeepsLimits all → most_given p (drop i all.classes) ≤ 400
 most_small all i p limits =
     let parts = sum_by-take-drop (λ class. cond (p class) class.most 0) all.classes i in
     let whole = most_of_members p all.classes (each_of (λ (class : Class). class.most ≤ length class.members) all.classes limits.most) in
     omega (arith, limits.few_members)
 
 -- the first classes give few too
-pub first_small : (all : Classes) (i : ℕ) (p : Class → Bool) → KeepsLimits all → most_of p (take i all.classes) ≤ 400
+pub first_small : (all : Classes) (i : ℕ) (p : Class → Bool) → KeepsLimits all → most_given p (take i all.classes) ≤ 400
 first_small all i p limits =
     let part = sum_by-take-le (λ class. cond (p class) class.most 0) all.classes i in
     let whole = most_of_members p all.classes (each_of (λ (class : Class). class.most ≤ length class.members) all.classes limits.most) in
@@ -206,7 +206,7 @@ starts all cells tally e none room f gives = record {
 pub few_later : (all : Classes) (front : List ℕ) (i n : ℕ) (tally : Tally) → KeepsLimits all → n ≡ length all.bounds → Tracks all front (drop i all.classes) tally → AreAtMost 1000000 n tally.later.items
 few_later all front i n tally limits e tracks = λ c v a b. omega (arith, tracks.later c v (omega arith) b, most_small all i (has_value c v) limits)
 
-pub few_held : (all : Classes) (front : List ℕ) (rest : List Class) (n : ℕ) (tally : Tally) → KeepsLimits all → n ≡ length all.bounds → is_live all front ≡ true → Tracks all front rest tally → AreAtMost 1000000 n tally.held.items
+pub few_held : (all : Classes) (front : List ℕ) (rest : List Class) (n : ℕ) (tally : Tally) → KeepsLimits all → n ≡ length all.bounds → is_reachable all front ≡ true → Tracks all front rest tally → AreAtMost 1000000 n tally.held.items
 few_held all front rest n tally limits e live tracks = λ c v a b. omega (arith, tracks.held c v (omega arith) b, few_taken all front (has_value c v) limits live)
 
 pub few_empty : (all : Classes) (rest : List Class) (tally : Tally) → Tracks all [] rest tally → AreAtMost 1000000 (length all.bounds) tally.held.items
@@ -222,7 +222,7 @@ can_leave all front class rest tally limits places tracks c below =
     let few = few_places all limits c (omega (arith, places.one_each)) in
     let within = places.within c (omega (arith, places.one_each)) in
     let own = own_value class c in
-    let more : most_of (has_value c v) (class ∷ rest) ≡ cond true class.most 0 + most_of (has_value c v) rest = most_more (has_value c v) class rest ∙ ap (λ b. cond b class.most 0 + most_of (has_value c v) rest) own in
+    let more : most_given (has_value c v) (class ∷ rest) ≡ cond true class.most 0 + most_given (has_value c v) rest = most_more (has_value c v) class rest ∙ ap (λ b. cond b class.most 0 + most_given (has_value c v) rest) own in
     omega (arith, tracks.later c v (omega (arith, places.one_each)) (omega arith))
 
 -- what was taken of a class can be given back

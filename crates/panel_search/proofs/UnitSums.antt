@@ -14,7 +14,7 @@ use Rattle.pool_definitions.proofs.Sums.{total, each_map}
 use Rattle.row_definitions.specs.Row.{sum_of_sizes}
 use Rattle.row_definitions.proofs.SumLaws.{abs_sum_le}
 use Rattle.search_definitions.specs.Classes.{Class, Classes, KeepsLimits}
-use Rattle.search_definitions.specs.Fronts.{most_of, put_falling, falling, units, sum_of, greatest_sum}
+use Rattle.search_definitions.specs.Fronts.{most_given, put_falling, falling, units, sum_of, greatest_sum}
 use Rattle.search_definitions.proofs.GreatestSum.{AtMost, Falls, falling_falls, length-falling, length-replicate}
 use Rattle.panel_search.specs.Weights.{cell_of, HoldsSums, IsGreater, HasUnit, AreGreatest, AreNarrow, at, units_from}
 use Rattle.panel_search.proofs.Tracking.{Stands, comes_next, most_more, most_small}
@@ -221,7 +221,7 @@ pub units_more : (all : Classes) (entries : List ℤ) (place : ℕ) (class : Cla
 units_more all entries place class narrow stands =
     omega (arith, ap length (units_next all entries place class stands narrow.one_each), length-replicate class.most (at entries place) (units_from all entries (place + 1)))
 
-units_count : (classes : List Class) (entries : List ℤ) → length (units classes entries) ≤ most_of (λ class. true) classes
+units_count : (classes : List Class) (entries : List ℤ) → length (units classes entries) ≤ most_given (λ class. true) classes
 units_count [] entries = omega arith
 units_count (class ∷ classes) [] = omega arith
 units_count (class ∷ classes) (x ∷ entries) =

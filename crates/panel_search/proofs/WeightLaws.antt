@@ -11,7 +11,7 @@ use Rattle.row_definitions.specs.Row.{Row, sum_of_sizes}
 use Rattle.row_definitions.proofs.SumLaws.{abs_sum_le}
 use Rattle.search_definitions.specs.Classes.{Class, Classes, KeepsLimits}
 use Rattle.search_definitions.specs.Compositions.{weight_in}
-use Rattle.search_definitions.specs.Fronts.{sizes_of, is_live, size_reachable, values_reachable, taken_by, units, greatest_sum, optimistic}
+use Rattle.search_definitions.specs.Fronts.{sizes_of, is_reachable, size_reachable, values_reachable, taken_by, units, greatest_sum, optimistic}
 use Rattle.panel_search.specs.Weights.{at, cell_of, AreNarrow, AreWithin, HoldsSums, Weighs}
 use Rattle.panel_search.specs.declared.weighing.Weighing.{Weighing}
 use Rattle.panel_search.proofs.UnitSums.{width, greatest_width, units_width, each_of}
@@ -62,35 +62,45 @@ child_narrow all entries front count n limits narrow below within =
 pub cell_within : (all : Classes) (later count : ℕ) (entries table : List ℤ) → HoldsSums all entries (length all.classes + 1) table → later ≤ length all.classes → count ≤ all.size → cell_of all later count < length table
 cell_within all later count entries table holds l m = omega (arith, holds.room, mul-add-lt later (all.size + 1) count (length all.classes + 1) (omega arith) (omega arith))
 
-pub optimistic_child : (all : Classes) (row : Row) (front : List ℕ) (count later lack : ℕ) (weighing : Weighing) → AreNarrow all row.a → length front < length all.classes → later + (length front + 1) ≡ length all.classes →
-    lack ≡ all.size - taken_by all (front ++ count ∷ []) → Weighs all row front weighing →
-    optimistic all row (front ++ count ∷ []) ≡ at weighing.weights.items (length front) +ℤ pos count *ℤ at row.a (length front) +ℤ at weighing.greatest.items (cell_of all later lack)
-optimistic_child all row front count later lack weighing narrow below e f weighs =
+pub optimistic_child : (all : Classes) (row : Row) (front : List ℕ) (count lack : ℕ) → AreNarrow all row.a → length front < length all.classes → lack ≡ all.size - taken_by all (front ++ count ∷ []) →
+    optimistic all row (front ++ count ∷ []) ≡ weight_in row.a front +ℤ pos count *ℤ at row.a (length front) +ℤ greatest_sum lack (drop (length front + 1) all.classes) (drop (length front + 1) row.a)
+optimistic_child all row front count lack narrow below f =
     let size = length-append front (count ∷ []) in
-    let table = weighs.sums.each later (length front + 1) lack (omega arith) e (omega arith) in
     let weight = weight_more row.a front count (omega (arith, narrow.one_each)) in
-    let here = weighs.weights (length front) (omega arith) ∙ ap (weight_in row.a) (take_whole front) in
-    let greatest : greatest_sum (all.size - taken_by all (front ++ count ∷ [])) (drop (length (front ++ count ∷ [])) all.classes) (drop (length (front ++ count ∷ [])) row.a) ≡ at weighing.greatest.items (cell_of all later lack) =
-    ap (λ n. greatest_sum (all.size - taken_by all (front ++ count ∷ [])) (drop n all.classes) (drop n row.a)) size
-    ∙ ap (λ n. greatest_sum n (drop (length front + 1) all.classes) (drop (length front + 1) row.a)) (sym f) ∙ sym table in
     ap (λ z. z +ℤ greatest_sum (all.size - taken_by all (front ++ count ∷ [])) (drop (length (front ++ count ∷ [])) all.classes) (drop (length (front ++ count ∷ [])) row.a)) weight
-    ∙ ap (λ z. weight_in row.a front +ℤ pos count *ℤ at row.a (length front) +ℤ z) greatest
-    ∙ ap (λ z. z +ℤ pos count *ℤ at row.a (length front) +ℤ at weighing.greatest.items (cell_of all later lack)) (sym here)
-
--- a child's weight and optimistic weight, as they are computed, fit 128 bits
-pub child_fits : (all : Classes) (row : Row) (front : List ℕ) (count later lack : ℕ) (weighing : Weighing) → KeepsLimits all → AreNarrow all row.a → length front < length all.classes → AreWithin all (front ++ count ∷ []) →
-    later + (length front + 1) ≡ length all.classes → lack ≤ all.size → Weighs all row front weighing →
-    unsigned_abs (at weighing.weights.items (length front)) + count * unsigned_abs (at row.a (length front)) + unsigned_abs (at weighing.greatest.items (cell_of all later lack)) < 2 ^ 127
-child_fits all row front count later lack weighing limits narrow below within e few weighs =
-    let table = weighs.sums.each later (length front + 1) lack (omega arith) e few in
-    let here = weighs.weights (length front) (omega arith) ∙ ap (weight_in row.a) (take_whole front) in
-    omega (arith, ap unsigned_abs table, ap unsigned_abs here, child_narrow all row.a front count lack limits narrow below within)
+    ∙ ap (λ n. weight_in row.a front +ℤ pos count *ℤ at row.a (length front) +ℤ greatest_sum (all.size - taken_by all (front ++ count ∷ [])) (drop n all.classes) (drop n row.a)) size
+    ∙ ap (λ n. weight_in row.a front +ℤ pos count *ℤ at row.a (length front) +ℤ greatest_sum n (drop (length front + 1) all.classes) (drop (length front + 1) row.a)) (sym f)
 
 pub weight_fits : (x : ℤ) (count : ℕ) (a : ℤ) → unsigned_abs (x +ℤ pos count *ℤ a) ≤ unsigned_abs x + count * unsigned_abs a
 weight_fits x count a = abs_sum_le x (pos count *ℤ a) (unsigned_abs x) (count * unsigned_abs a) (omega arith) (omega (arith, unsigned_abs-mul (pos count) a))
 
+-- what a child weighs, and its optimistic weight, as they are computed from numbers that were read
+pub record IsChild (all : Classes) (row : Row) (front : List ℕ) (count : ℕ) (made greatest : ℤ) : Type 0 where
+  pub weight : made ≡ weight_in row.a front +ℤ pos count *ℤ at row.a (length front)
+  pub narrow : unsigned_abs (made +ℤ greatest) < 2 ^ 127
+  pub value : made +ℤ greatest ≡ optimistic all row (front ++ count ∷ [])
+
+pub child_is : (all : Classes) (row : Row) (front : List ℕ) (count lack : ℕ) {before entry weight greatest : ℤ} → KeepsLimits all → AreNarrow all row.a → length front < length all.classes → AreWithin all (front ++ count ∷ []) →
+    lack ≡ all.size - taken_by all (front ++ count ∷ []) → weight ≡ before +ℤ pos count *ℤ entry → before ≡ weight_in row.a front → entry ≡ at row.a (length front) →
+    greatest ≡ greatest_sum lack (drop (length front + 1) all.classes) (drop (length front + 1) row.a) → IsChild all row front count weight greatest
+child_is all row front count lack {before = before} {entry = entry} {weight = weight} {greatest = greatest} limits narrow below within lack_is made before_is entry_is greatest_is =
+    let here : weight ≡ weight_in row.a front +ℤ pos count *ℤ at row.a (length front) = made ∙ ap (λ z. z +ℤ pos count *ℤ entry) before_is ∙ ap (λ z. weight_in row.a front +ℤ pos count *ℤ z) entry_is in
+    record {
+      weight = here;
+      narrow = omega (
+        arith,
+        child_narrow all row.a front count lack limits narrow below within,
+        ap unsigned_abs here,
+        ap unsigned_abs greatest_is,
+        weight_fits (weight_in row.a front) count (at row.a (length front)),
+        abs_sum_le weight greatest (unsigned_abs weight) (unsigned_abs greatest) (omega arith) (omega arith),
+      );
+      value = ap (λ z. z +ℤ greatest) here ∙ ap (λ z. weight_in row.a front +ℤ pos count *ℤ at row.a (length front) +ℤ z) greatest_is
+          ∙ sym (optimistic_child all row front count lack narrow below lack_is);
+    }
+
 pub weighs_child : (all : Classes) (row : Row) (front : List ℕ) (count : ℕ) (before after : Weighing) → AreNarrow all row.a → length front < length all.classes → Weighs all row front before →
-    after.weights.items ≡ set before.weights.items (length front + 1) (at before.weights.items (length front) +ℤ pos count *ℤ at row.a (length front)) → after.greatest.items ≡ before.greatest.items →
+    after.weights.items ≡ set before.weights.items (length front + 1) (weight_in row.a front +ℤ pos count *ℤ at row.a (length front)) → after.greatest.items ≡ before.greatest.items →
     Weighs all row (front ++ count ∷ []) after
 weighs_child all row front count before after narrow below weighs e f = record {
   room = ap length e ∙ length-set before.weights.items (length front + 1) _ ∙ weighs.room;
@@ -112,9 +122,8 @@ weighs_child all row front count before after narrow below weighs e f = record {
     whole : (depth : ℕ) → depth ≡ length front + 1 → at after.weights.items depth ≡ weight_in row.a (take depth (front ++ count ∷ []))
     whole depth same =
         let size : depth ≡ length (front ++ count ∷ []) = omega (arith, length-append front (count ∷ [])) in
-        let here = weighs.weights (length front) (omega arith) ∙ ap (weight_in row.a) (take_whole front) in
         ap (λ xs. at xs depth) e ∙ get_or-set_at before.weights.items (length front + 1) depth _ (pos 0) same (omega (arith, weighs.room))
-        ∙ ap (λ z. z +ℤ pos count *ℤ at row.a (length front)) here ∙ sym (weight_more row.a front count (omega (arith, narrow.one_each)))
+        ∙ sym (weight_more row.a front count (omega (arith, narrow.one_each)))
         ∙ ap (weight_in row.a) (sym (ap (λ n. take n (front ++ count ∷ [])) size ∙ take_whole (front ++ count ∷ [])))
 
 -- what weighs a child weighs the front that it goes on from
@@ -136,19 +145,18 @@ weighs_none all row weighing room none sums = record {
 taken_of_none : (all : Classes) → taken_by all [] ≡ 0
 taken_of_none all = nothing_taken (λ class. true) all.classes
 
-pub optimistic_none : (all : Classes) (row : Row) (weighing : Weighing) → Weighs all row [] weighing → optimistic all row [] ≡ at weighing.greatest.items (cell_of all (length all.classes) all.size)
-optimistic_none all row weighing weighs =
-    let table = weighs.sums.each (length all.classes) 0 all.size (omega arith) (omega arith) (omega arith) in
+pub optimistic_none : (all : Classes) (row : Row) → optimistic all row [] ≡ greatest_sum all.size all.classes row.a
+optimistic_none all row =
     let size : all.size - taken_by all [] ≡ all.size = omega (arith, taken_of_none all) in
     ap (λ z. z +ℤ greatest_sum (all.size - taken_by all []) all.classes row.a) (no_weight row.a)
-    ∙ ap (λ n. pos 0 +ℤ greatest_sum n all.classes row.a) size ∙ zero_first (greatest_sum all.size all.classes row.a) ∙ sym table
+    ∙ ap (λ n. pos 0 +ℤ greatest_sum n all.classes row.a) size ∙ zero_first (greatest_sum all.size all.classes row.a)
   where
     zero_first : (z : ℤ) → pos 0 +ℤ z ≡ z
     zero_first z = omega (arith, ints)
 
 -- ---- live fronts
 
-pub taken_few : (all : Classes) (front : List ℕ) → is_live all front ≡ true → taken_by all front ≤ all.size
+pub taken_few : (all : Classes) (front : List ℕ) → is_reachable all front ≡ true → taken_by all front ≤ all.size
 taken_few all front live =
     let parts = and_parts (size_reachable all front) (values_reachable all front) live in
     leb-true (taken_by all front) all.size (and_parts (leb (taken_by all front) all.size) _ parts.0).0

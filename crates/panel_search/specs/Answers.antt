@@ -1,14 +1,25 @@
 -- What a search under a budget of visits answers.
 use Rattle.std.specs.Prelude.{◌≡◌, ◌≤◌, ◌<◌, ℕ, List, Option, Result, Ok, Err}
 use Rattle.search_definitions.specs.Visits.{Search, Pricing}
+use Rattle.panel_search.specs.declared.searching.BudgetSpent.{BudgetSpent}
 use Rattle.panel_search.specs.declared.searching.SearchStop.{SearchStop}
 use Rattle.panel_search.specs.declared.searching.SearchStop.TheVariants.{Spent, OutOfMemory}
+
+-- what a search that has its memory answers: what it finds where its visits stay within the budget, else that the budget is spent
+abbrev pub AnswersWithin : Search → ℕ → Result (Option (List ℕ)) BudgetSpent → Type 0
+AnswersWithin search nodes (Ok found) = (search.visits ≤ nodes) × (found ≡ search.found)
+AnswersWithin search nodes (Err spent) = nodes < search.visits
 
 -- what the search finds where its visits stay within the budget, else that the budget is spent; want of memory may come at any time
 abbrev pub Answers : Search → ℕ → Result (Option (List ℕ)) SearchStop → Type 0
 Answers search nodes (Ok found) = (search.visits ≤ nodes) × (found ≡ search.found)
 Answers search nodes (Err Spent) = nodes < search.visits
 Answers search nodes (Err OutOfMemory) = Unit {0}
+
+-- the same of a search for the best composition: what it kept, and its visits
+abbrev pub AnswersBestWithin : Pricing → ℕ → Result (Option (List ℕ) × ℕ) BudgetSpent → Type 0
+AnswersBestWithin pricing nodes (Ok (found, visits)) = (pricing.visits ≤ nodes) × (found ≡ pricing.kept) × (visits ≡ pricing.visits)
+AnswersBestWithin pricing nodes (Err spent) = nodes < pricing.visits
 
 -- what the search for the best composition kept and its visits, where these stay within the budget, else that the budget is spent
 abbrev pub AnswersBest : Pricing → ℕ → Result (Option (List ℕ) × ℕ) SearchStop → Type 0

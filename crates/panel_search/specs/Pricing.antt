@@ -2,7 +2,7 @@
 use Rattle.std.specs.Prelude.{◌≡◌, ◌≤◌, ◌<◌, ◌+◌, ℕ, if◌then◌else◌, true, List, [], ◌∷◌, ◌++◌, length, take, fold, Result, Ok, Err, Some, None, slice_get}
 use Rattle.row_definitions.specs.Row.{Row}
 use Rattle.search_definitions.specs.Classes.{Class, Classes}
-use Rattle.search_definitions.specs.Fronts.{is_live, is_live_above}
+use Rattle.search_definitions.specs.Fronts.{is_reachable, is_live_above}
 use Rattle.search_definitions.specs.Visits.{Pricing, enter_best}
 use Rattle.panel_search.specs.Front.{Tracks}
 use Rattle.panel_search.specs.Weights.{AreWithin, Weighs, WeighEach}
@@ -14,7 +14,7 @@ pub record StandsAt (all : Classes) (closed : List Row) (row : Row) (depth : ℕ
   pub places : length search.counts.items ≡ length all.classes
   pub kept_places : length search.kept.items ≡ length all.classes
   pub within : depth ≤ length all.classes
-  pub live : is_live all (take depth search.counts.items) ≡ true
+  pub live : is_reachable all (take depth search.counts.items) ≡ true
   pub counts : AreWithin all (take depth search.counts.items)
   pub tally : Tracks all (take depth search.counts.items) rest search.tally
   pub priced : Weighs all row (take depth search.counts.items) search.priced
@@ -47,6 +47,6 @@ Moves all closed row depth rest due front nodes (Ok done) after =
 Moves all closed row depth rest due front nodes (Err spent) after = nodes < due.visits
 
 -- what a whole search comes to
-abbrev pub Ends : Pricing → ℕ → Result (Unit {0}) BudgetSpent → BestSearch → Type 0
-Ends due nodes (Ok done) after = (told after ≡ due) × (due.visits ≤ nodes)
-Ends due nodes (Err spent) after = nodes < due.visits
+abbrev pub EndsWithin : Pricing → ℕ → Result (Unit {0}) BudgetSpent → BestSearch → Type 0
+EndsWithin due nodes (Ok done) after = (told after ≡ due) × (due.visits ≤ nodes)
+EndsWithin due nodes (Err spent) after = nodes < due.visits

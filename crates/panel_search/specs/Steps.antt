@@ -2,8 +2,8 @@
 use Rattle.std.specs.Prelude.{◌≡◌, ◌≤◌, ◌<◌, ◌+◌, ℕ, if◌then◌else◌, Bool, true, false, List, [], ◌∷◌, ◌++◌, length, take, drop, filter, map, Result, Ok, Err, Some, None}
 use Rattle.search_definitions.specs.Classes.{Class, Classes}
 use Rattle.search_definitions.specs.Compositions.{counts_down}
-use Rattle.search_definitions.specs.Fronts.{is_live}
-use Rattle.search_definitions.specs.Visits.{Search as Due, in_turn, enter_first}
+use Rattle.search_definitions.specs.Fronts.{is_reachable}
+use Rattle.search_definitions.specs.Visits.{Search as Due, one_by_one, enter_first}
 use Rattle.panel_search.specs.Front.{Tracks}
 use Rattle.panel_search.specs.declared.searching.BudgetSpent.{BudgetSpent}
 use Rattle.panel_search.specs.declared.searching.Search.{Search}
@@ -12,16 +12,16 @@ use Rattle.panel_search.specs.declared.searching.Search.{Search}
 pub record StandsAt (all : Classes) (depth : ℕ) (rest : List Class) (search : Search) : Type 0 where
   pub places : length search.counts.items ≡ length all.classes
   pub within : depth ≤ length all.classes
-  pub live : is_live all (take depth search.counts.items) ≡ true
+  pub live : is_reachable all (take depth search.counts.items) ≡ true
   pub tally : Tracks all (take depth search.counts.items) rest search.tally
 
 -- a child where it is live, else nothing
 abbrev pub child_first : Classes → List Class → List ℕ → Due
-child_first all later child = if is_live all child then enter_first all later child else record { visits = 0; found = None }
+child_first all later child = if is_reachable all child then enter_first all later child else record { visits = 0; found = None }
 
 -- the children of a front, with these counts of the next class, one after the other
 abbrev pub children_first : Classes → List Class → List ℕ → List ℕ → Due
-children_first all later front counts = in_turn (map (λ child. enter_first all later child) (filter (is_live all) (map (λ c. front ++ c ∷ []) counts)))
+children_first all later front counts = one_by_one (map (λ child. enter_first all later child) (filter (is_reachable all) (map (λ c. front ++ c ∷ []) counts)))
 
 abbrev pub counts_among : List Class → ℕ → List ℕ
 counts_among [] above = []

@@ -2,13 +2,13 @@
 
 ghost use Rattle.std.specs.Prelude.{◌≡◌, ◌≤◌, ◌<◌, ◌+◌, ◌++◌, [], ◌∷◌, true, false, ◌&&◌, length, take, drop, int_le, int_lt, Some, None, if◌then◌else◌, IfOk, OnOk, OnErr};
 ghost use Rattle.std.specs.List.{list_all};
-ghost use Rattle.panel_search.specs.Answers.{AnswersBest};
+ghost use Rattle.panel_search.specs.Answers.{AnswersBest, AnswersBestWithin};
 ghost use Rattle.panel_search.specs.Front.{Tracks};
-ghost use Rattle.panel_search.specs.Pricing.{StandsAt, Moves, Ends, told, CanTake, CanTakeAbove, child_best, children_best};
+ghost use Rattle.panel_search.specs.Pricing.{StandsAt, Moves, EndsWithin, told, CanTake, CanTakeAbove, child_best, children_best};
 ghost use Rattle.panel_search.specs.Steps.{counts_at};
 ghost use Rattle.panel_search.specs.Weights.{AreNarrow, AreWithin, EachNarrow, Weighs, WeighEach};
 ghost use Rattle.search_definitions.specs.Compositions.{price, weight_in};
-ghost use Rattle.search_definitions.specs.Fronts.{HaveEntries, HaveReach, is_live, optimistic};
+ghost use Rattle.search_definitions.specs.Fronts.{HaveEntries, HaveReach, is_reachable, optimistic};
 ghost use Rattle.search_definitions.specs.Visits.{best_search, enter_best};
 
 use crate::rows::Row;
@@ -37,13 +37,8 @@ pub fn best(
     ensures best { IfOk result (λ answer. answer.0 ≡ price classes.now closed.now row.now) }
 {
     classes.facts();
-    let Ok(mut search) = BestSearch::new(alloc, classes, closed, row, nodes) else {
-        return Err(SearchStop::OutOfMemory);
-    };
-    match search.from_the_empty_front(classes, closed, row) {
-        Ok(()) => Ok(search.answer()),
-        Err(BudgetSpent) => Err(SearchStop::Spent),
-    }
+    let search = BestSearch::new(alloc, classes, closed, row, nodes)?;
+    Ok(search.run(classes, closed, row)?)
 }
 
 // Where a search for the best composition stands: the counts of the front's classes, of which there is a place for each class; what
@@ -92,6 +87,27 @@ impl BestSearch {
         })
     }
 
+    // The whole search. It has its memory, so it ends with what it kept, or with its budget spent.
+    fn run(
+        mut self,
+        classes: &Classes,
+        closed: &[Row],
+        row: &Row,
+    ) -> Result<(Option<Composition>, u64), BudgetSpent>
+        requires narrow { AreNarrow classes.now row.now.a }
+        requires closed_narrow { EachNarrow classes.now closed.now }
+        requires places { length self.counts.items ≡ length classes.now.classes }
+        requires kept_places { length self.kept.items ≡ length classes.now.classes }
+        requires told { told self ≡ record { visits = 0; floor = row.now.b; kept = None } }
+        requires tally { Tracks classes.now [] classes.now.classes self.tally }
+        requires priced { Weighs classes.now row.now [] self.priced }
+        requires closed { WeighEach classes.now closed.now [] self.closed.items }
+        ensures { AnswersBestWithin (best_search classes.now closed.now row.now) self.nodes result }
+    {
+        self.from_the_empty_front(classes, closed, row)?;
+        Ok(self.answer())
+    }
+
     // What was kept, and the visits.
     fn answer(self) -> (Option<Composition>, u64)
         ensures found { result.0 ≡ (told self).kept }
@@ -119,7 +135,7 @@ impl BestSearch {
         requires tally { Tracks classes.now [] classes.now.classes self.old.tally }
         requires priced { Weighs classes.now row.now [] self.old.priced }
         requires closed { WeighEach classes.now closed.now [] self.old.closed.items }
-        ensures { Ends (best_search classes.now closed.now row.now) self.old.nodes result self.new }
+        ensures { EndsWithin (best_search classes.now closed.now row.now) self.old.nodes result self.new }
     {
         if self.tally.is_alive(classes)
             && empty_attains(&self.closed, classes, closed)
@@ -175,7 +191,7 @@ impl BestSearch {
         requires narrow { AreNarrow classes.now row.now.a }
         requires closed_narrow { EachNarrow classes.now closed.now }
         requires below { depth < length classes.now.classes }
-        requires live { is_live classes.now (take depth self.old.counts.items ++ count ∷ []) ≡ true }
+        requires live { is_reachable classes.now (take depth self.old.counts.items ++ count ∷ []) ≡ true }
         requires can_take { CanTake classes.now depth count }
         requires stands { StandsAt classes.now closed.now row.now depth (drop (depth + 1) classes.now.classes) self.old }
         ensures value { result ≡ (list_all (λ r. int_le r.b (optimistic classes.now r (take depth self.old.counts.items ++ count ∷ []))) closed.now

@@ -1,7 +1,7 @@
 //! The search for the first composition, front by front: classes in their order, of each the greatest count first.
 
 ghost use Rattle.std.specs.Prelude.{◌≡◌, ◌≤◌, ◌<◌, ◌+◌, [], ◌∷◌, ◌++◌, length, take, drop, IfOk, OnOk, OnErr};
-ghost use Rattle.panel_search.specs.Answers.{Answers};
+ghost use Rattle.panel_search.specs.Answers.{Answers, AnswersWithin};
 ghost use Rattle.search_definitions.specs.Compositions.{first_composition};
 ghost use Rattle.panel_search.specs.Front.{Tracks};
 ghost use Rattle.panel_search.specs.Steps.{StandsAt, Steps, Finds, child_first, children_first, counts_at};
@@ -34,13 +34,29 @@ pub fn first(
     ensures first { IfOk result (λ found. found ≡ first_composition classes.now) }
 {
     classes.facts();
-    let Ok(mut search) = Search::new(alloc, classes, nodes) else {
-        return Err(SearchStop::OutOfMemory);
-    };
-    match search.from_the_empty_front(classes) {
-        Ok(true) => Ok(Some(Composition::new(search.counts))),
-        Ok(false) => Ok(None),
-        Err(BudgetSpent) => Err(SearchStop::Spent),
+    let search = Search::new(alloc, classes, nodes)?;
+    Ok(search.run(classes)?)
+}
+
+impl From<AllocError> for SearchStop {
+    ghost use Rattle.std.specs.Prelude.{◌≡◌};
+    ghost use Rattle.panel_search.specs.declared.searching.SearchStop.TheVariants.{OutOfMemory};
+
+    ghost from_gives = { λ _ e. e ≡ OutOfMemory };
+
+    fn from(_error: AllocError) -> SearchStop {
+        SearchStop::OutOfMemory
+    }
+}
+
+impl From<BudgetSpent> for SearchStop {
+    ghost use Rattle.std.specs.Prelude.{◌≡◌};
+    ghost use Rattle.panel_search.specs.declared.searching.SearchStop.TheVariants.{Spent};
+
+    ghost from_gives = { λ _ e. e ≡ Spent };
+
+    fn from(_spent: BudgetSpent) -> SearchStop {
+        SearchStop::Spent
     }
 }
 
@@ -68,6 +84,19 @@ impl Search {
             tally: Tally::new(alloc, classes)?,
             left: nodes,
         })
+    }
+
+    // The whole search. It has its memory, so it ends with what it finds, or with its budget spent.
+    fn run(mut self, classes: &Classes) -> Result<Option<Composition>, BudgetSpent>
+        requires places { length self.counts.items ≡ length classes.now.classes }
+        requires tally { Tracks classes.now [] classes.now.classes self.tally }
+        ensures { AnswersWithin (first_search classes.now) self.left result }
+    {
+        if self.from_the_empty_front(classes)? {
+            Ok(Some(Composition::new(self.counts)))
+        } else {
+            Ok(None)
+        }
     }
 
     // Enters the empty front, where it is live.

@@ -3,7 +3,7 @@
 ghost use Rattle.std.specs.Prelude.{◌≡◌, ◌+◌, ◌-◌, ◌*◌, ◌≤◌, ◌<◌, ◌++◌, ◌^◌, [], ◌∷◌, IfOk, true, nat_le, ◌&&◌, drop, length};
 ghost use Rattle.panel_search.specs.Front.{Gives, Tracks};
 ghost use Rattle.panel_search.specs.Tallies.{AreAtMost};
-ghost use Rattle.search_definitions.specs.Fronts.{is_live, taken_by};
+ghost use Rattle.search_definitions.specs.Fronts.{is_reachable, taken_by};
 
 use crate::tallies::{PLACES, add_to, all_within_reach, take_from, values_allow};
 use alike::Classes;
@@ -63,7 +63,7 @@ impl Tally {
     // The front goes on with so many of the next class.
     pub(crate) fn take(&mut self, classes: &Classes, front: &[usize], count: usize)
         requires below { length front.now < length classes.now.classes }
-        requires live { is_live classes.now front.now ≡ true }
+        requires live { is_reachable classes.now front.now ≡ true }
         requires few { count ≤ 1000 }
         requires stands { Tracks classes.now front.now (drop (length front.now + 1) classes.now.classes) self.old }
         ensures { Tracks classes.now (front.now ++ count ∷ []) (drop (length front.now + 1) classes.now.classes) self.new }
@@ -89,10 +89,10 @@ impl Tally {
     // Is the front live with so many of the next class?
     pub(crate) fn allows(&self, classes: &Classes, front: &[usize], count: usize) -> bool
         requires below { length front.now < length classes.now.classes }
-        requires live { is_live classes.now front.now ≡ true }
+        requires live { is_reachable classes.now front.now ≡ true }
         requires few { count ≤ 1000 }
         requires stands { Tracks classes.now front.now (drop (length front.now + 1) classes.now.classes) self.now }
-        ensures { result ≡ is_live classes.now (front.now ++ count ∷ []) }
+        ensures { result ≡ is_reachable classes.now (front.now ++ count ∷ []) }
     {
         classes.facts();
         let class = &classes.classes()[front.len()];
@@ -109,7 +109,7 @@ impl Tally {
     // Is the empty front live?
     pub(crate) fn is_alive(&self, classes: &Classes) -> bool
         requires { Tracks classes.now [] classes.now.classes self.now }
-        ensures { result ≡ is_live classes.now [] }
+        ensures { result ≡ is_reachable classes.now [] }
     {
         classes.facts();
         self.size_allows(classes.size(), 0)
@@ -119,7 +119,7 @@ impl Tally {
     // How many the size lacks where the front goes on with so many of the next class.
     pub(crate) fn lack(&self, classes: &Classes, front: &[usize], count: usize) -> usize
         requires below { length front.now < length classes.now.classes }
-        requires live { is_live classes.now (front.now ++ count ∷ []) ≡ true }
+        requires live { is_reachable classes.now (front.now ++ count ∷ []) ≡ true }
         requires stands { Tracks classes.now front.now (drop (length front.now + 1) classes.now.classes) self.now }
         ensures { result ≡ classes.now.size - taken_by classes.now (front.now ++ count ∷ []) }
     {

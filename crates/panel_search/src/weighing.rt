@@ -1,9 +1,9 @@
 //! What fronts weigh in rows.
 
-ghost use Rattle.std.specs.Prelude.{◌≡◌, ◌+◌, ◌-◌, ◌*◌, ◌<◌, ◌^◌, ◌++◌, [], ◌∷◌, true, length, pos, ◌+ℤ◌, ◌*ℤ◌, unsigned_abs, int_le, IfOk};
+ghost use Rattle.std.specs.Prelude.{◌≡◌, ◌+◌, ◌-◌, ◌*◌, ◌≤◌, ◌<◌, ◌^◌, ◌++◌, [], ◌∷◌, true, length, drop, pos, ◌+ℤ◌, ◌*ℤ◌, unsigned_abs, int_le, IfOk};
 ghost use Rattle.std.specs.List.{list_all};
-ghost use Rattle.panel_search.specs.Weights.{AreNarrow, AreWithin, EachNarrow, Weighs, WeighEach, at};
-ghost use Rattle.search_definitions.specs.Fronts.{optimistic, taken_by};
+ghost use Rattle.panel_search.specs.Weights.{AreNarrow, AreWithin, EachNarrow, HoldsSums, Weighs, WeighEach};
+ghost use Rattle.search_definitions.specs.Fronts.{greatest_sum, optimistic, taken_by};
 ghost use Rattle.search_definitions.specs.Compositions.{weight_in};
 
 use crate::greatest::greatest_sums;
@@ -41,13 +41,24 @@ impl Weighing {
         self.weights[front.len()]
     }
 
+    // The greatest sum of so many units out of the classes from a place on.
+    fn greatest_of(&self, classes: &Classes, row: &Row, place: usize, count: usize) -> i128
+        requires place { place ≤ length classes.now.classes }
+        requires count { count ≤ classes.now.size }
+        requires sums { HoldsSums classes.now row.now.a (length classes.now.classes + 1) self.now.greatest.items }
+        ensures { result ≡ greatest_sum count (drop place classes.now.classes) (drop place row.now.a) }
+    {
+        classes.facts();
+        let later = classes.classes().len() - place;
+        self.greatest[later * (classes.size() + 1) + count]
+    }
+
     // The optimistic weight of the empty front.
     pub(crate) fn empty(&self, classes: &Classes, row: &Row) -> i128
         requires { Weighs classes.now row.now [] self.now }
         ensures { result ≡ optimistic classes.now row.now [] }
     {
-        classes.facts();
-        self.greatest[classes.classes().len() * (classes.size() + 1) + classes.size()]
+        self.greatest_of(classes, row, 0, classes.size())
     }
 
     // The optimistic weight of the front with so many of the next class, where the size lacks so many then.
@@ -69,10 +80,14 @@ impl Weighing {
     {
         classes.facts();
         let depth = front.len();
-        let later = classes.classes().len() - depth - 1;
-        let weight = with_count(self.weights[depth], count, row.entries()[depth]);
+        let rest = self.greatest_of(classes, row, depth + 1, lack);
+        let weight = with_count(
+            self.weight(classes, row, front),
+            count,
+            row.entries()[depth],
+        );
         self.weights[depth + 1] = weight;
-        weight + self.greatest[later * (classes.size() + 1) + lack]
+        weight + rest
     }
 }
 

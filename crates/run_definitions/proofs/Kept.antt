@@ -1,6 +1,6 @@
 -- Each step of a run keeps what its tables keep.
 use Rattle.std.proofs.Common.{◌≡◌, ℕ, zero, suc, ◌+◌, ◌-◌, ◌^◌, ◌<◌, ◌≤◌, Bool, true, false, cond, leb, ltb, List, [], ◌∷◌, ◌++◌, length, length-append, map, take, Option, Some, None, Result, Ok, Err, refl, sym, ap, ap₂, ◌∙◌, subst, arith, inl, inr, ◌⊎◌}
-use Rattle.std.specs.Prelude.{◌==◌, slice_index, slice_get, slice_set, sum, Contains}
+use Rattle.std.specs.Prelude.{◌==◌, slice_index, slice_set, sum, Contains}
 use Rattle.std.specs.List.{All, AllByRecursion}
 use Rattle.std.proofs.lemmas.Bool.{cases_lt, eqb-true, and_parts, leb-false, ltb-true}
 use Rattle.std.proofs.lemmas.List.{get_or_append_left, get_or_push, map-append, take-append-le, length-map}
@@ -23,12 +23,13 @@ use Rattle.row_definitions.proofs.StepsKeep.{add-keeps, close-keeps, enter-keeps
 use Rattle.search_definitions.specs.Classes.{Class, Classes, KeepsLimits}
 use Rattle.search_definitions.specs.Compositions.{all_counts, compositions, first_composition, is_composition, meets_bounds, price, taken_of}
 use Rattle.search_definitions.specs.Fronts.{sizes_of}
-use Rattle.search_definitions.specs.Visits.{best_search, first_search}
+use Rattle.search_definitions.specs.Visits.{first_search}
+use Rattle.search_definitions.proofs.Contained.{each_contains, each_itself, filtered, first_there}
 use Rattle.search_definitions.proofs.Listed.{each_mapped}
-use Rattle.run_definitions.specs.Run.{Limits, Next, GoOn, Ended, NodesSpent, PivotsSpent, closed_rows, answered, follow, opened, opening, parts_of, pivoted, priced, started, step, step_in_stage}
-use Rattle.run_definitions.specs.Keeps.{AreLimits, IsPriced, IsReached, KeepsRun}
+use Rattle.run_definitions.specs.Run.{RunLimits, Next, GoOn, Ended, NodesSpent, PivotsSpent, closed_rows, answered, follow, opened, opening, parts_of, pivoted, priced, pricing_visits, started, step, step_in_stage}
+use Rattle.run_definitions.specs.Keeps.{AreRunLimits, IsPriced, IsReached, KeepsRun}
 use Rattle.spread_definitions.specs.Spreading.{spread}
-use Rattle.run_definitions.proofs.Found.{contains_first, each_contains, each_itself, filtered}
+use Rattle.run_definitions.proofs.StepCases.{StepIs, Enters, Answers, NoPivot, Pivots, Passes, NoVisits, Widens, Closes, step_is, OpeningIs, Spends, FindsNoPanel, IsWide, Begins, opening_is}
 use Rattle.run_definitions.proofs.Priced.{FitsSizes, better, composition_fits, may_be_added}
 
 map_same : {X Y : Type 0} (f g : X → Y) (xs : List X) → AllByRecursion (λ x. f x ≡ g x) xs → map f xs ≡ map g xs
@@ -49,7 +50,7 @@ closed_rows_stay table h open_now r v chosen made e =
 
 -- ---- one step
 
-module _ (all : Classes) (limits : Limits) (table : Table) (keeps : KeepsRun all limits table) where
+module _ (all : Classes) (limits : RunLimits) (table : Table) (keeps : KeepsRun all limits table) where
   pub entered_kept : table.in_stage ≡ false → settled_count table < length table.sizes → KeepsRun all limits (enter_stage table)
   unfolding enter_stage
   entered_kept shut some = record {
@@ -136,54 +137,25 @@ module _ (all : Classes) (limits : Limits) (table : Table) (keeps : KeepsRun all
 
   -- a step that goes on
   pub step_kept : KeepsLimits all → (made : Table) → step all limits table ≡ GoOn made → KeepsRun all limits made
-  unfolding step
-  step_kept limited made e = by table.in_stage refl e
+  step_kept limited made e = by (step all limits table) e (step_is all limits table)
     where
-      of_pivot : (r : ℕ) (v : Var) → table.in_stage ≡ true → choice table ≡ Some (r, v) → table.pivots < limits.pivots → (tried : Result Table Pass) → pivot table r v ≡ tried →
-          pivoted table tried ≡ GoOn made → KeepsRun all limits made
-      of_pivot r v open_now chosen few (Err pass) p f = absurd cc
-      of_pivot r v open_now chosen few (Ok after) p f = let same : after ≡ made = cc in pivoted_kept open_now r v chosen few made (p ∙ ap Ok same)
-
-      within : (r : ℕ) (v : Var) → table.in_stage ≡ true → choice table ≡ Some (r, v) → (b : Bool) → leb limits.pivots table.pivots ≡ b →
-          cond b (Ended (PivotsSpent table)) (pivoted table (pivot table r v)) ≡ GoOn made → KeepsRun all limits made
-      within r v open_now chosen true t f = absurd cc
-      within r v open_now chosen false t f = of_pivot r v open_now chosen (leb-false limits.pivots table.pivots t) (pivot table r v) refl f
-
-      of_price : table.in_stage ≡ true → choice table ≡ None → (found : Option (List ℕ)) → price all (closed_rows table) (row_at table (open_row table)) ≡ found →
-          priced table found ≡ GoOn made → KeepsRun all limits made
-      of_price open_now done None p f = let same : close_stage table ≡ made = cc in subst (KeepsRun all limits) same (closed_kept open_now done p)
-      of_price open_now done (Some counts) p f =
+      by : (next : Next) → next ≡ GoOn made → StepIs all limits table next → KeepsRun all limits made
+      by next f (Enters shut some is) = let same : enter_stage table ≡ made = cc in subst (KeepsRun all limits) same (entered_kept shut some)
+      by next f (Answers shut settled is) = absurd cc
+      by next f (NoPivot open_now most is) = absurd cc
+      by next f (Pivots open_now r v after chosen few p is) = let same : after ≡ made = cc in pivoted_kept open_now r v chosen few made (p ∙ ap Ok same)
+      by next f (Passes open_now r v pass chosen few p is) = absurd cc
+      by next f (NoVisits open_now done more is) = absurd cc
+      by next f (Widens open_now done counts p is) =
           let same : add_column table counts ≡ made = cc in
           subst (KeepsRun all limits) same (added_kept counts limited (record { keeps = keeps; open_now = open_now; done = done; found = p }))
-
-      budget : table.in_stage ≡ true → choice table ≡ None → (b : Bool) →
-          cond b (Ended (NodesSpent (Some table))) (priced table (price all (closed_rows table) (row_at table (open_row table)))) ≡ GoOn made → KeepsRun all limits made
-      budget open_now done true f = absurd cc
-      budget open_now done false f = of_price open_now done (price all (closed_rows table) (row_at table (open_row table))) refl f
-
-      in_stage : table.in_stage ≡ true → (chosen : Option (ℕ × Var)) → choice table ≡ chosen → step_in_stage all limits table chosen ≡ GoOn made → KeepsRun all limits made
-      in_stage open_now (Some (r, v)) c f = within r v open_now c (leb limits.pivots table.pivots) refl f
-      in_stage open_now None c f = budget open_now c (ltb limits.nodes (best_search all (closed_rows table) (row_at table (open_row table))).visits) f
-
-      between : table.in_stage ≡ false → (b : Bool) → ltb (settled_count table) (length table.sizes) ≡ b →
-          cond b (GoOn (enter_stage table)) (Ended (answered all table (spread all (parts_of table)))) ≡ GoOn made → KeepsRun all limits made
-      between shut true t f = let same : enter_stage table ≡ made = cc in subst (KeepsRun all limits) same (entered_kept shut (ltb-true (settled_count table) (length table.sizes) t))
-      between shut false t f = absurd cc
-
-      by : (b : Bool) → table.in_stage ≡ b → cond b (step_in_stage all limits table (choice table))
-          (cond (ltb (settled_count table) (length table.sizes)) (GoOn (enter_stage table)) (Ended (answered all table (spread all (parts_of table))))) ≡ GoOn made → KeepsRun all limits made
-      by true t f = in_stage t (choice table) refl f
-      by false t f = between t (ltb (settled_count table) (length table.sizes)) refl f
+      by next f (Closes open_now done p is) = let same : close_stage table ≡ made = cc in subst (KeepsRun all limits) same (closed_kept open_now done p)
 
 -- ---- the first table
 
 some_taken : (p : Class → Bool) (classes : List Class) (counts : List ℕ) → 0 < taken_of p classes counts → 0 < length (map (λ class. length class.members) classes)
 some_taken p [] counts l = absurd (omega arith)
 some_taken p (class ∷ classes) counts l = omega arith
-
-pub first_there : (xs : List (List ℕ)) (first : List ℕ) → slice_get xs 0 ≡ Some first → Contains xs first
-first_there [] first e = absurd cc
-first_there (x ∷ xs) first e = let same : x ≡ first = cc in subst (Contains (x ∷ xs)) same (contains_first x xs)
 
 -- what the first table needs
 pub record MayBegin (all : Classes) (first : List ℕ) : Type 0 where
@@ -214,7 +186,7 @@ first_table_is sizes first bits made e =
     let parts = after-Ok_parts (in_turn (reach_operations (most_of bits) sizes) 0 (first_rows first)) (λ reaches. Ok (first_table sizes first bits)) made e in
     let last : ◌≡◌ {A = Result Table Pass} (Ok (first_table sizes first bits)) (Ok made) = parts.2 in cc
 
-module _ (all : Classes) (limits : Limits) (limited : KeepsLimits all) (ranges : AreLimits limits) where
+module _ (all : Classes) (limits : RunLimits) (limited : KeepsLimits all) (ranges : AreRunLimits limits) where
   started_kept : (first : List ℕ) → Contains (compositions all) first → (made : Table) → start (sizes_of all) first limits.bits ≡ Ok made → KeepsRun all limits made
   started_kept first there made e =
       let may = may_begin all limited first there in
@@ -228,21 +200,14 @@ module _ (all : Classes) (limits : Limits) (limited : KeepsLimits all) (ranges :
         priced_out = λ k l. absurd (omega (arith, l, ap (λ t. length t.closed) same));
       }
 
-  opening_kept : (made : Table) → opening all limits ≡ GoOn made → KeepsRun all limits made
-  unfolding opening
-  opening_kept made e = by (ltb limits.nodes (first_search all).visits) e
+  pub opening_kept : (made : Table) → opening all limits ≡ GoOn made → KeepsRun all limits made
+  opening_kept made e = by (opening all limits) e (opening_is all limits)
     where
-      of_start : (first : List ℕ) → Contains (compositions all) first → (tried : Result Table Pass) → start (sizes_of all) first limits.bits ≡ tried → started tried ≡ GoOn made → KeepsRun all limits made
-      of_start first there (Err pass) p f = absurd cc
-      of_start first there (Ok table) p f = let same : table ≡ made = cc in started_kept first there made (p ∙ ap Ok same)
-
-      of_first : (found : Option (List ℕ)) → first_composition all ≡ found → opened all limits found ≡ GoOn made → KeepsRun all limits made
-      of_first None p f = absurd cc
-      of_first (Some first) p f = of_start first (first_there (compositions all) first p) (start (sizes_of all) first limits.bits) refl f
-
-      by : (b : Bool) → cond b (Ended (NodesSpent None)) (opened all limits (first_composition all)) ≡ GoOn made → KeepsRun all limits made
-      by true f = absurd cc
-      by false f = of_first (first_composition all) refl f
+      by : (next : Next) → next ≡ GoOn made → OpeningIs all limits next → KeepsRun all limits made
+      by next f (Spends more is) = absurd cc
+      by next f (FindsNoPanel within none is) = absurd cc
+      by next f (IsWide first pass found p is) = absurd cc
+      by next f (Begins first table found p is) = let same : table ≡ made = cc in started_kept first (first_there (compositions all) first found) made (p ∙ ap Ok same)
 
   -- ---- all steps
 

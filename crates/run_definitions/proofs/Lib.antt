@@ -1,5 +1,6 @@
-pub mod Ends
-pub mod Found
+pub mod StepCases
+pub mod Following
 pub mod Priced
 pub mod Kept
 pub mod Parts
+pub mod Work

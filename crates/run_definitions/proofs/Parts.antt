@@ -19,14 +19,14 @@ use Rattle.search_definitions.specs.Classes.{Classes}
 use Rattle.search_definitions.specs.Compositions.{compositions}
 use Rattle.search_definitions.proofs.Listed.{each_mapped, each_of_map}
 use Rattle.spread_definitions.specs.Spreading.{AreParts}
-use Rattle.run_definitions.specs.Run.{Limits, parts_of}
+use Rattle.run_definitions.specs.Run.{RunLimits, parts_of}
 use Rattle.run_definitions.specs.Keeps.{KeepsRun}
 
 not_true : (b : Bool) → b ≢ true → b ≡ false
 not_true true h = absurd (h refl)
 not_true false h = refl
 
-module _ (all : Classes) (limits : Limits) (table : Table) (keeps : KeepsRun all limits table) where
+module _ (all : Classes) (limits : RunLimits) (table : Table) (keeps : KeepsRun all limits table) where
   part_at : ColumnValue → List ℕ × Fraction
   part_at there = (get_or table.columns there.column [], lowest_of there.side there.coefficient)
 

@@ -20,16 +20,17 @@ use Rattle.row_definitions.proofs.StepsKeep.{add-keeps}
 use Rattle.search_definitions.specs.Classes.{Class, Classes, KeepsLimits}
 use Rattle.search_definitions.specs.Compositions.{all_counts, attains, compositions, is_composition, weight_in}
 use Rattle.search_definitions.specs.Fronts.{sizes_of}
+use Rattle.search_definitions.specs.Best.{Qualifies}
+use Rattle.search_definitions.proofs.Best.{price_found, price_none}
+use Rattle.search_definitions.proofs.Contained.{each_contains, filtered, first_pass}
 use Rattle.search_definitions.proofs.FirstSearch.{Gives, all_counts_give}
 use Rattle.search_definitions.proofs.Listed.{each_of_map, each_right}
-use Rattle.run_definitions.specs.Run.{Limits, closed_rows}
+use Rattle.run_definitions.specs.Run.{RunLimits, closed_rows}
 use Rattle.run_definitions.specs.Keeps.{KeepsRun, IsPriced}
-use Rattle.run_definitions.proofs.Found.{IsBetter, each_contains, filtered, first_pass, price_found, price_none, weight_is_sum}
 
 -- a column's coefficient in a row is the right side less the column's weight
 column_coefficient : (table : Table) (i c : ℕ) → coefficient_at table i (Column c) ≡ (row_at table i).b -ℤ weight_in (row_at table i).a (get_or table.columns c [])
-column_coefficient table i c =
-    coefficient-Column table (row_at table i) c ∙ ap (λ z. (row_at table i).b -ℤ z) (sym (weight_is_sum (row_at table i).a (get_or table.columns c [])))
+column_coefficient table i c = coefficient-Column table (row_at table i) c
 
 -- ---- nothing enters
 
@@ -98,7 +99,7 @@ no_better_column table e c l tight = by (int_lt (row_at table (open_row table)).
 
 -- ---- a composition that attains the closed rows
 
-module _ (all : Classes) (limits : Limits) (table : Table) (keeps : KeepsRun all limits table) where
+module _ (all : Classes) (limits : RunLimits) (table : Table) (keeps : KeepsRun all limits table) where
   pub tight : (counts : List ℕ) → Contains (compositions all) counts → attains (closed_rows table) counts ≡ true → IsTight table counts
   tight counts there attained =
       each_from_index (λ i. weight_in (row_at table i).a counts ≡ (row_at table i).b) table.closed (λ k l. let least = at_least k l in let most = at_most k l in omega (arith, ints))
@@ -144,8 +145,8 @@ composition_fits all keeps counts there =
 
 -- ---- the two laws
 
-module _ (all : Classes) (limits : Limits) (table : Table) (counts : List ℕ) (limited : KeepsLimits all) (priced : IsPriced all limits table counts) where
-  pub better : IsBetter all (closed_rows table) (row_at table (open_row table)) counts
+module _ (all : Classes) (limits : RunLimits) (table : Table) (counts : List ℕ) (limited : KeepsLimits all) (priced : IsPriced all limits table counts) where
+  pub better : Qualifies all (closed_rows table) (row_at table (open_row table)) counts
   better = price_found all (closed_rows table) (row_at table (open_row table)) counts priced.found
 
   fits : FitsSizes all counts

@@ -10,22 +10,24 @@ use Rattle.search_definitions.specs.Classes.{Classes, KeepsLimits}
 use Rattle.search_definitions.specs.Compositions.{compositions, price}
 use Rattle.search_definitions.specs.Fronts.{sizes_of}
 use Rattle.spread_definitions.specs.Spreading.{AreParts}
-use Rattle.run_definitions.specs.Run.{Limits, GoOn, closed_rows, follow, opening, parts_of}
+use Rattle.run_definitions.specs.Run.{Limits, RunLimits, GoOn, closed_rows, follow, opening, parts_of, run_limits}
 
 -- limits are in their ranges
-pub record AreLimits (limits : Limits) : Type 0 where
+pub record AreRunLimits (limits : RunLimits) : Type 0 where
   pub some_bits : 1 ≤ limits.bits
   pub few_bits : limits.bits ≤ 127
   pub few_pivots : limits.pivots ≤ 1000000000
-  pub few_nodes : limits.nodes ≤ 1000000000000
+
+abbrev pub AreLimits : Limits → Type 0
+AreLimits limits = AreRunLimits (run_limits limits)
 
 -- the run over classes comes to a table
-pub record IsReached (all : Classes) (limits : Limits) (table : Table) : Type 0 where
+pub record IsReached (all : Classes) (limits : RunLimits) (table : Table) : Type 0 where
   pub steps : ℕ
   pub there : follow all limits (opening all limits) steps ≡ GoOn table
 
 -- what each table of a run keeps
-pub record KeepsRun (all : Classes) (limits : Limits) (table : Table) : Type 0 where
+pub record KeepsRun (all : Classes) (limits : RunLimits) (table : Table) : Type 0 where
   pub in_order : IsInOrder table
   pub sizes : table.sizes ≡ sizes_of all
   pub width : table.bits ≡ limits.bits
@@ -37,10 +39,10 @@ pub record KeepsRun (all : Classes) (limits : Limits) (table : Table) : Type 0 w
 
 -- each table of a run over classes of a pool keeps this
 abbrev pub ReachedIsKept : Type 0
-ReachedIsKept = (all : Classes) (limits : Limits) (table : Table) → KeepsLimits all → AreLimits limits → IsReached all limits table → KeepsRun all limits table
+ReachedIsKept = (all : Classes) (limits : RunLimits) (table : Table) → KeepsLimits all → AreRunLimits limits → IsReached all limits table → KeepsRun all limits table
 
 -- a stage is open, nothing is chosen, and pricing found a composition
-pub record IsPriced (all : Classes) (limits : Limits) (table : Table) (counts : List ℕ) : Type 0 where
+pub record IsPriced (all : Classes) (limits : RunLimits) (table : Table) (counts : List ℕ) : Type 0 where
   pub keeps : KeepsRun all limits table
   pub open_now : table.in_stage ≡ true
   pub done : choice table ≡ None
@@ -48,11 +50,11 @@ pub record IsPriced (all : Classes) (limits : Limits) (table : Table) (counts : 
 
 -- then it may become a column, and with it something is chosen
 abbrev pub PricedMayBeAdded : Type 0
-PricedMayBeAdded = (all : Classes) (limits : Limits) (table : Table) (counts : List ℕ) → KeepsLimits all → IsPriced all limits table counts → MayAdd table counts
+PricedMayBeAdded = (all : Classes) (limits : RunLimits) (table : Table) (counts : List ℕ) → KeepsLimits all → IsPriced all limits table counts → MayAdd table counts
 
 abbrev pub PricedIsChosen : Type 0
-PricedIsChosen = (all : Classes) (limits : Limits) (table : Table) (counts : List ℕ) → KeepsLimits all → IsPriced all limits table counts → choice (add_column table counts) ≢ None
+PricedIsChosen = (all : Classes) (limits : RunLimits) (table : Table) (counts : List ℕ) → KeepsLimits all → IsPriced all limits table counts → choice (add_column table counts) ≢ None
 
 -- the columns of positive value are different compositions, with fractions that sum to one
 abbrev pub PartsSpread : Type 0
-PartsSpread = (all : Classes) (limits : Limits) (table : Table) → KeepsRun all limits table → AreParts all (parts_of table)
+PartsSpread = (all : Classes) (limits : RunLimits) (table : Table) → KeepsRun all limits table → AreParts all (parts_of table)

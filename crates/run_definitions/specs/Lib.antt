@@ -1,3 +1,4 @@
 pub mod Run
 pub mod Keeps
+pub mod Work
 pub mod WorkedRuns

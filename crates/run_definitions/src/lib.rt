@@ -9,15 +9,24 @@ ghost use Rattle.std.specs.Prelude.{◌≡◌, None, Some, pos};
 ghost use Rattle.pool_definitions.specs.Pool.{Pool};
 ghost use Rattle.pool_definitions.specs.WorkedExamples.{four};
 ghost use Rattle.row_definitions.specs.declared.Op.TheVariants.{Add};
-ghost use Rattle.row_definitions.specs.WorkedRun.{entered, widened};
-ghost use Rattle.run_definitions.specs.Run.{Ending, Limits, NoPanel, Found, TooWide, PivotsSpent, NodesSpent, RunEnds};
+ghost use Rattle.row_definitions.specs.WorkedRun.{ended, entered, widened};
+ghost use Rattle.run_definitions.specs.Run.{Ending, Limits, NoPanel, Found, TooWide, PivotsSpent, NodesSpent, RunEnds, RunFinds};
 ghost use Rattle.run_definitions.specs.Keeps.{ReachedIsKept, PricedMayBeAdded, PricedIsChosen, PartsSpread};
+ghost use Rattle.run_definitions.specs.Work.{EachEnds, EachRunEnds, StepLeavesLess};
 ghost use Rattle.run_definitions.specs.WorkedRuns.{limits, halves, pairs};
 ghost use Rattle.search_definitions.specs.WorkedSearches.{either};
 
 /// A run ends in one way.
 pub fn one_ending()
     ensures { (pool : Pool) (limits : Limits) (first second : Ending) → RunEnds pool limits first → RunEnds pool limits second → first ≡ second }
+{}
+
+/// Each step of a run that goes on leaves less of the run, so a run over classes that keep the limits of a pool has an ending, and so
+/// has the run over each pool.
+pub fn each_run_ends()
+    ensures less { StepLeavesLess }
+    ensures classes { EachEnds }
+    ensures pool { EachRunEnds }
 {}
 
 /// Each table of a run is in order and has compositions as its columns, and its closed rows were priced out.
@@ -42,10 +51,10 @@ pub fn parts_can_be_spread()
 
 /// One seat for one of two volunteers: two pivots, and a search of 3 visits at most.
 pub fn worked_runs()
-    ensures found { RunEnds either (limits 2 2 3) (Found halves) }
+    ensures found { RunEnds either (limits 2 2 3) (Found ended halves) }
     ensures too_wide { RunEnds either (limits 1 2 3) (TooWide None (record { row = 1; op = Add; x = pos 1; y = pos 1 })) }
     ensures one_pivot { RunEnds either (limits 2 1 3) (PivotsSpent widened) }
     ensures no_pivot { RunEnds either (limits 2 0 3) (PivotsSpent entered) }
     ensures few_nodes { RunEnds either (limits 2 2 2) (NodesSpent None) }
-    ensures four { RunEnds four (limits 127 4 100) (Found pairs) }
+    ensures four { RunFinds four (limits 127 4 100) pairs }
 {}

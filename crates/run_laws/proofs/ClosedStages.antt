@@ -15,7 +15,7 @@ use Rattle.search_definitions.specs.Stages.{row_of}
 use Rattle.search_definitions.proofs.NothingToPrice.{capped_where_nothing_priced}
 use Rattle.search_definitions.proofs.PoolClasses.{alone_makes_classes, filter_same}
 use Rattle.run_definitions.specs.Keeps.{KeepsRun}
-use Rattle.run_definitions.specs.Run.{Limits, closed_rows, stage_of}
+use Rattle.run_definitions.specs.Run.{RunLimits, closed_rows, stage_of}
 use Rattle.run_laws.proofs.StageRows.{class_count, from_places, row_back, weigh_alike}
 
 -- the row of a closed stage, and the stage
@@ -72,7 +72,7 @@ price_same all table k row =
 
 -- ---- the caps
 
-module _ (pool : Pool) (limits : Limits) (table : Table) (keeps : KeepsRun (classes_of pool) limits table) where
+module _ (pool : Pool) (limits : RunLimits) (table : Table) (keeps : KeepsRun (classes_of pool) limits table) where
   pub size_count : length table.sizes ≡ length pool.volunteers
   size_count = ap length keeps.sizes ∙ length-map (classes_of pool).classes (λ class. length class.members) ∙ class_count pool
 

@@ -1,5 +1,5 @@
 -- A run that finds an answer comes to a table with no stage open and everybody settled, whose columns it spreads.
-use Rattle.std.proofs.Common.{◌≡◌, ◌≤◌, true, false, length, map, Result, Ok, Err, refl, sym, ap, ◌∙◌, inl, inr, ◌⊎◌}
+use Rattle.std.proofs.Common.{◌≡◌, ◌≤◌, true, false, length, map, Result, Ok, Err, refl, sym, ap, ◌∙◌, subst, inl, inr, ◌⊎◌}
 use Rattle.std.proofs.lemmas.Bool.{false≢true}
 use Rattle.pool_definitions.specs.Certificate.{Answer}
 use Rattle.pool_definitions.specs.Lottery.{Lottery, IsLottery}
@@ -13,72 +13,71 @@ use Rattle.spread_definitions.specs.Spreading.{AreParts, TotalPass, greatest_tot
 use Rattle.spread_definitions.proofs.Alone.{pool_alone}
 use Rattle.spread_definitions.proofs.LotteryAlone.{is_spread_alone, pool_lottery}
 use Rattle.run_definitions.specs.Keeps.{AreLimits, IsReached, KeepsRun}
-use Rattle.run_definitions.specs.Run.{Ends, Limits, Ended, Found, NoPanel, RunEnds, answered, closed_rows, opening, parts_of, stage_of}
+use Rattle.run_definitions.specs.Run.{Ends, Limits, RunLimits, Ended, Found, NoPanel, RunEnds, answered, closed_rows, opening, parts_of, run_limits, stage_of}
 use Rattle.run_definitions.proofs.Kept.{reached_kept}
 use Rattle.run_definitions.proofs.Parts.{parts_are}
 use Rattle.run_laws.proofs.Endings.{EndsAt, FindsNone, IsAnswered, ends_at, is_refused, opening_tells, step_tells}
 
 -- the last table of a run that finds an answer
-pub record EndsFound (all : Classes) (limits : Limits) (answer : Answer) : Type 0 where
-  pub last : Table
+pub record EndsFound (all : Classes) (limits : RunLimits) (last : Table) (answer : Answer) : Type 0 where
   pub reached : IsReached all limits last
   pub shut : last.in_stage ≡ false
   pub settled : length last.sizes ≤ settled_count last
   pub lottery_is : spread all (parts_of last) ≡ Ok answer.lottery
   pub stages_are : map (stage_of all) (closed_rows last) ≡ answer.stages
 
-module _ (all : Classes) (limits : Limits) (answer : Answer) where
-  not_none : Found answer ≡ NoPanel → ⊥
+module _ (all : Classes) (limits : RunLimits) (last : Table) (answer : Answer) where
+  not_none : Found last answer ≡ NoPanel → ⊥
   not_none e = cc
 
-  of_answer : (table : Table) → IsReached all limits table → IsAnswered all limits table (Found answer) → EndsFound all limits answer
+  of_answer : (table : Table) → IsReached all limits table → IsAnswered all limits table (Found last answer) → EndsFound all limits last answer
   of_answer table reached told = by (spread all (parts_of table)) refl told.is
     where
-      by : (found : Result Lottery TotalPass) → spread all (parts_of table) ≡ found → Found answer ≡ answered all table found → EndsFound all limits answer
+      by : (found : Result Lottery TotalPass) → spread all (parts_of table) ≡ found → Found last answer ≡ answered all table found → EndsFound all limits last answer
       by (Ok lottery) e f =
+          let here : table ≡ last = cc in
           let same : ◌≡◌ {A = Answer} answer (record { lottery = lottery; stages = map (stage_of all) (closed_rows table) }) = cc in
-          record {
-            last = table;
+          subst (λ table. EndsFound all limits table answer) here (record {
             reached = reached;
             shut = told.shut;
             settled = told.settled;
             lottery_is = e ∙ ap (λ (answer : Answer). Ok answer.lottery) (sym same);
             stages_are = ap (λ (answer : Answer). answer.stages) (sym same);
-          }
+          })
       by (Err pass) e f = absurd cc
 
-  of_opening : FindsNone all limits (Found answer) ⊎ (is_refused (Found answer) ≡ true) → ⊥
+  of_opening : FindsNone all limits (Found last answer) ⊎ (is_refused (Found last answer) ≡ true) → ⊥
   of_opening (inl found) = not_none found.is
   of_opening (inr refused) = false≢true refused
 
-  of_step : (table : Table) → IsReached all limits table → IsAnswered all limits table (Found answer) ⊎ (is_refused (Found answer) ≡ true) → EndsFound all limits answer
+  of_step : (table : Table) → IsReached all limits table → IsAnswered all limits table (Found last answer) ⊎ (is_refused (Found last answer) ≡ true) → EndsFound all limits last answer
   of_step table reached (inl told) = of_answer table reached told
   of_step table reached (inr refused) = absurd (false≢true refused)
 
-  pub ends_found : Ends all limits (Found answer) → EndsFound all limits answer
-  ends_found ends = by (ends_at all limits ends.steps (Found answer) ends.there)
+  pub ends_found : Ends all limits (Found last answer) → EndsFound all limits last answer
+  ends_found ends = by (ends_at all limits ends.steps (Found last answer) ends.there)
     where
-      by : (opening all limits ≡ Ended (Found answer)) ⊎ EndsAt all limits (Found answer) → EndsFound all limits answer
-      by (inl now) = absurd (of_opening (opening_tells all limits (Found answer) now))
-      by (inr last) = of_step last.last last.reached (step_tells all limits last.last (Found answer) last.step_is)
+      by : (opening all limits ≡ Ended (Found last answer)) ⊎ EndsAt all limits (Found last answer) → EndsFound all limits last answer
+      by (inl now) = absurd (of_opening (opening_tells all limits (Found last answer) now))
+      by (inr at) = of_step at.last at.reached (step_tells all limits at.last (Found last answer) at.step_is)
 
 -- ---- over a pool
 
 pub pool_limits : (pool : Pool) → IsPool pool → KeepsLimits (classes_of pool)
 pool_limits pool is_pool = limits_kept pool (are_alike pool) is_pool (alone_makes_classes pool)
 
-module _ (pool : Pool) (limits : Limits) (answer : Answer) (is_pool : IsPool pool) (ranges : AreLimits limits) (ends : RunEnds pool limits (Found answer)) where
-  pub found : EndsFound (classes_of pool) limits answer
-  found = ends_found (classes_of pool) limits answer ends
+module _ (pool : Pool) (limits : Limits) (last : Table) (answer : Answer) (is_pool : IsPool pool) (ranges : AreLimits limits) (ends : RunEnds pool limits (Found last answer)) where
+  pub found : EndsFound (classes_of pool) (run_limits limits) last answer
+  found = ends_found (classes_of pool) (run_limits limits) last answer ends
 
-  pub keeps : KeepsRun (classes_of pool) limits found.last
-  keeps = reached_kept (classes_of pool) limits (pool_limits pool is_pool) ranges found.last found.reached
+  pub keeps : KeepsRun (classes_of pool) (run_limits limits) last
+  keeps = reached_kept (classes_of pool) (run_limits limits) (pool_limits pool is_pool) ranges last found.reached
 
-  pub parts : AreParts (classes_of pool) (parts_of found.last)
-  parts = parts_are (classes_of pool) limits found.last keeps
+  pub parts : AreParts (classes_of pool) (parts_of last)
+  parts = parts_are (classes_of pool) (run_limits limits) last keeps
 
   pub lottery : IsLottery pool answer.lottery
-  lottery = pool_lottery pool (parts_of found.last) answer.lottery parts found.lottery_is
+  lottery = pool_lottery pool (parts_of last) answer.lottery parts found.lottery_is
 
   pub within : answer.lottery.total ≤ greatest_total
-  within = (is_spread_alone (classes_of pool) (parts_of found.last) answer.lottery (pool_alone pool) parts found.lottery_is).common.within
+  within = (is_spread_alone (classes_of pool) (parts_of last) answer.lottery (pool_alone pool) parts found.lottery_is).common.within

@@ -5,11 +5,11 @@ use Rattle.pool_definitions.specs.Pool.{Pool}
 use Rattle.pool_definitions.specs.Lottery.{Lottery, count}
 use Rattle.pool_definitions.specs.Certificate.{Stage, is_positive, is_settled, StageHolds, StagesHold}
 use Rattle.pool_definitions.proofs.OneStage.{cancel}
-use Rattle.run_laws.specs.Levels.{Closed, CountsAreLevels, StageStands, StagesStand, levels_of}
+use Rattle.run_laws.specs.Levels.{Closed, CountsAreLevels, StageStands, StagesStand, levels_to_come}
 use Rattle.run_laws.proofs.StageFacts.{holds_from_facts}
 
 -- who is settled stays so, and gets no further level
-no_more_levels : (earlier : List Stage) (later : List Closed) (i : ℕ) → is_settled earlier i ≡ true → levels_of earlier later i ≡ 0
+no_more_levels : (earlier : List Stage) (later : List Closed) (i : ℕ) → is_settled earlier i ≡ true → levels_to_come earlier later i ≡ 0
 no_more_levels earlier [] i s = refl
 no_more_levels earlier (closed ∷ later) i s =
     let still : is_settled (closed.stage ∷ earlier) i ≡ true = after (is_positive closed.stage i) in
@@ -26,13 +26,13 @@ before false b h = h
 module _ (pool : Pool) (lottery : Lottery) (scale : ℕ) (some : 0 < scale) where
   -- the chance of each unsettled volunteer: the levels so far, Z, and those that come
   Rest : List Stage → List Closed → ℕ → Type 0
-  Rest earlier later Z = (i : ℕ) → i < length pool.volunteers → is_settled earlier i ≡ false → count lottery i * scale ≡ lottery.total * (Z + levels_of earlier later i)
+  Rest earlier later Z = (i : ℕ) → i < length pool.volunteers → is_settled earlier i ≡ false → count lottery i * scale ≡ lottery.total * (Z + levels_to_come earlier later i)
 
   next : (earlier : List Stage) (closed : Closed) (later : List Closed) (Z : ℕ) → Rest earlier (closed ∷ later) Z → Rest (closed.stage ∷ earlier) later (Z + closed.level)
   unfolding Rest
   next earlier closed later Z rest i l u =
       let was : is_settled earlier i ≡ false = before (is_positive closed.stage i) (is_settled earlier i) u in
-      let here : count lottery i * scale ≡ lottery.total * (Z + (closed.level + levels_of (closed.stage ∷ earlier) later i)) = rw was at (rest i l was) in
+      let here : count lottery i * scale ≡ lottery.total * (Z + (closed.level + levels_to_come (closed.stage ∷ earlier) later i)) = rw was at (rest i l was) in
       omega (arith, here)
 
   stage_holds : (earlier : List Stage) (closed : Closed) (later : List Closed) (Z : ℕ) → StageStands pool lottery earlier closed.stage → Rest earlier (closed ∷ later) Z → StageHolds pool lottery earlier closed.stage
@@ -52,15 +52,15 @@ module _ (pool : Pool) (lottery : Lottery) (scale : ℕ) (some : 0 < scale) wher
     where
       settles : (i : ℕ) → i < length pool.volunteers → is_settled earlier i ≡ false → is_positive closed.stage i ≡ true → count lottery i * scale ≡ lottery.total * (Z + closed.level)
       settles i l u p =
-          let here : count lottery i * scale ≡ lottery.total * (Z + (closed.level + levels_of (closed.stage ∷ earlier) later i)) = rw u at (rest i l u) in
+          let here : count lottery i * scale ≡ lottery.total * (Z + (closed.level + levels_to_come (closed.stage ∷ earlier) later i)) = rw u at (rest i l u) in
           let now : is_settled (closed.stage ∷ earlier) i ≡ true = rw p refl in
           let none = no_more_levels (closed.stage ∷ earlier) later i now in
           let short : count lottery i * scale ≡ lottery.total * (Z + (closed.level + 0)) = rw none at here in omega (arith, short)
 
       at_least : (i : ℕ) → i < length pool.volunteers → is_settled earlier i ≡ false → lottery.total * (Z + closed.level) ≤ count lottery i * scale
       at_least i l u =
-          let here : count lottery i * scale ≡ lottery.total * (Z + (closed.level + levels_of (closed.stage ∷ earlier) later i)) = rw u at (rest i l u) in
-          let more : Z + closed.level ≤ Z + (closed.level + levels_of (closed.stage ∷ earlier) later i) = omega arith in
+          let here : count lottery i * scale ≡ lottery.total * (Z + (closed.level + levels_to_come (closed.stage ∷ earlier) later i)) = rw u at (rest i l u) in
+          let more : Z + closed.level ≤ Z + (closed.level + levels_to_come (closed.stage ∷ earlier) later i) = omega arith in
           rw here (mul-le-mul_left lottery.total more)
 
   stages_hold : (earlier : List Stage) (later : List Closed) (Z : ℕ) → StagesStand pool lottery earlier later → Rest earlier later Z → StagesHold pool lottery earlier (map (λ closed. closed.stage) later)

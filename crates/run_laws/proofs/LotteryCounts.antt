@@ -13,8 +13,7 @@ use Rattle.pool_definitions.specs.Lottery.{Lottery, count}
 use Rattle.pool_definitions.specs.Pool.{IsPool, Pool}
 use Rattle.pool_definitions.proofs.Sums.{each_both, each_map, total, sum_by-is-total}
 use Rattle.row_definitions.specs.InOrder.{count_in}
-use Rattle.row_definitions.specs.Levels.{HasLevels, count_over}
-use Rattle.row_definitions.specs.Levels as table_levels
+use Rattle.row_definitions.specs.Levels.{HasLevels, count_over, levels_of}
 use Rattle.row_definitions.specs.Settled.{KeepsStages, was_unsettled}
 use Rattle.row_definitions.specs.Solutions.{IsTight, SolutionStands, numerator_over}
 use Rattle.row_definitions.specs.Steps.{ColumnValue, fraction_of, solution}
@@ -29,10 +28,9 @@ use Rattle.spread_definitions.proofs.Alone.{pool_alone}
 use Rattle.spread_definitions.proofs.CommonTotals.{each_den}
 use Rattle.spread_definitions.proofs.LotteryAlone.{IsSpreadAlone, is_spread_alone, pool_even}
 use Rattle.run_definitions.specs.Keeps.{KeepsRun}
-use Rattle.run_definitions.specs.Run.{Limits, parts_of}
-use Rattle.run_definitions.proofs.Found.{weight_is_sum}
+use Rattle.run_definitions.specs.Run.{RunLimits, parts_of}
 use Rattle.run_definitions.proofs.Parts.{parts_are}
-use Rattle.run_laws.specs.Levels.{Closed, levels_of}
+use Rattle.run_laws.specs.Levels.{Closed, levels_to_come}
 use Rattle.run_laws.proofs.ClosedStages.{closed_row, earlier, entry_each, size_count, stage_at}
 use Rattle.run_laws.proofs.Marks.{marked}
 use Rattle.run_laws.proofs.PanelWeights.{panel_weighs}
@@ -62,7 +60,7 @@ expected_is table common t (there ∷ theres) =
     turned : (a b : ℕ) → a * b ≡ b * a
     turned a b = omega arith
 
-module _ (pool : Pool) (limits : Limits) (table : Table) (keeps : KeepsRun (classes_of pool) limits table) (lottery : Lottery) (lottery_is : spread (classes_of pool) (parts_of table) ≡ Ok lottery) where
+module _ (pool : Pool) (limits : RunLimits) (table : Table) (keeps : KeepsRun (classes_of pool) limits table) (lottery : Lottery) (lottery_is : spread (classes_of pool) (parts_of table) ≡ Ok lottery) where
   abbrev all : Classes
   all = classes_of pool
 
@@ -85,7 +83,7 @@ module _ (pool : Pool) (limits : Limits) (table : Table) (keeps : KeepsRun (clas
       (each_map (λ there. (there.column < length table.columns) × All (IsTight table there.column) table.closed)
       (λ there. panel_weight (stage_at all table k) (first_panel all (get_or table.columns there.column [])) ≡ (closed_row table k).b)
       (λ there h. panel_weighs pool (closed_row table k) (entry_each pool limits table keeps k l) (get_or table.columns there.column []) (keeps.columns there.column [] h.0)
-      ∙ weight_is_sum (closed_row table k).a (get_or table.columns there.column []) ∙ h.1 k 0 l) (solution table)
+      ∙ h.1 k 0 l) (solution table)
       (each_both (λ there. there.column < length table.columns) (λ there. All (IsTight table there.column) table.closed) (solution table)
       (recursion_from_All (λ there. there.column < length table.columns) (solution table) solved.known)
       (recursion_from_All (λ there. All (IsTight table there.column) table.closed) (solution table) (solution-tight table keeps.in_order))))))
@@ -126,10 +124,10 @@ module _ (pool : Pool) (limits : Limits) (table : Table) (keeps : KeepsRun (clas
         ∙ ap length (members_alone 0 i all.classes (single pool.volunteers 0) (pool_alone pool) inside)
 
     -- over the scale of the levels
-    pub counts_are : (levels : HasLevels table) (i : ℕ) → i < length pool.volunteers → count lottery i * levels.scale ≡ lottery.total * table_levels.levels_of table levels.level i
+    pub counts_are : (levels : HasLevels table) (i : ℕ) → i < length pool.volunteers → count lottery i * levels.scale ≡ lottery.total * levels_of table levels.level i
     counts_are levels i l =
         let told = levels.counts_over lottery.total i divides (omega (arith, size_count pool limits table keeps)) in
-        scaled (count lottery i) (count_over table lottery.total i) levels.scale lottery.total (get_or table.sizes i 0) (table_levels.levels_of table levels.level i) (counted i l) told (one_size i l)
+        scaled (count lottery i) (count_over table lottery.total i) levels.scale lottery.total (get_or table.sizes i 0) (levels_of table levels.level i) (counted i l) told (one_size i l)
       where
         scaled : (n m scale sum size level : ℕ) → n ≡ m → scale * m ≡ sum * (size * level) → size ≡ 1 → n * scale ≡ sum * level
         scaled n m scale sum size level e f g =
@@ -148,14 +146,14 @@ module _ (pool : Pool) (limits : Limits) (table : Table) (keeps : KeepsRun (clas
 abbrev pub closed_at : Classes → Table → (ℕ → ℕ) → ℕ → Closed
 closed_at all table level k = record { stage = stage_at all table k; level = level k }
 
-module _ (pool : Pool) (limits : Limits) (table : Table) (keeps : KeepsRun (classes_of pool) limits table) (stages : KeepsStages table) (shut : table.in_stage ≡ false) (level : ℕ → ℕ) where
+module _ (pool : Pool) (limits : RunLimits) (table : Table) (keeps : KeepsRun (classes_of pool) limits table) (stages : KeepsStages table) (shut : table.in_stage ≡ false) (level : ℕ → ℕ) where
   levels_from : (more k i : ℕ) → k + more ≡ length table.closed → i < length pool.volunteers →
-      levels_of (earlier (classes_of pool) table k) (map (closed_at (classes_of pool) table level) (range_with_len k more)) i ≡ total (λ k. cond (was_unsettled table k i) (level k) 0) (range_with_len k more)
+      levels_to_come (earlier (classes_of pool) table k) (map (closed_at (classes_of pool) table level) (range_with_len k more)) i ≡ total (λ k. cond (was_unsettled table k i) (level k) 0) (range_with_len k more)
   levels_from zero k i e l = refl
   levels_from (suc more) k i e l =
       let next : k + 1 ≡ suc k = omega arith in
-      let rest : levels_of (earlier (classes_of pool) table (suc k)) (map (closed_at (classes_of pool) table level) (range_with_len (k + 1) more)) i ≡ total (λ k. cond (was_unsettled table k i) (level k) 0) (range_with_len (k + 1) more) =
-      ap (λ n. levels_of (earlier (classes_of pool) table n) (map (closed_at (classes_of pool) table level) (range_with_len (k + 1) more)) i) (sym next) ∙ levels_from more (k + 1) i (omega arith) l in
+      let rest : levels_to_come (earlier (classes_of pool) table (suc k)) (map (closed_at (classes_of pool) table level) (range_with_len (k + 1) more)) i ≡ total (λ k. cond (was_unsettled table k i) (level k) 0) (range_with_len (k + 1) more) =
+      ap (λ n. levels_to_come (earlier (classes_of pool) table n) (map (closed_at (classes_of pool) table level) (range_with_len (k + 1) more)) i) (sym next) ∙ levels_from more (k + 1) i (omega arith) l in
       ap₂ (λ a b. a + b) (ap (λ b. cond b 0 (level k)) (marked pool limits table keeps stages shut k i (omega arith) l) ∙ either (was_unsettled table k i)) rest
     where
       either : (b : Bool) → cond (not b) 0 (level k) ≡ cond b (level k) 0
@@ -163,7 +161,7 @@ module _ (pool : Pool) (limits : Limits) (table : Table) (keeps : KeepsRun (clas
       either false = refl
 
   pub levels_are : (i : ℕ) → i < length pool.volunteers →
-      levels_of [] (map (closed_at (classes_of pool) table level) (range_with_len 0 (length table.closed))) i ≡ table_levels.levels_of table level i
+      levels_to_come [] (map (closed_at (classes_of pool) table level) (range_with_len 0 (length table.closed))) i ≡ levels_of table level i
   levels_are i l =
       levels_from (length table.closed) 0 i (omega arith) l
       ∙ sym (sum_by-is-total (λ k. cond (was_unsettled table k i) (level k) 0) (range_with_len 0 (length table.closed)))

@@ -14,7 +14,7 @@ use Rattle.row_definitions.specs.Table.{Table}
 use Rattle.search_definitions.specs.Classes.{classes_of}
 use Rattle.search_definitions.proofs.Listed.{each_range, list_all_from_each}
 use Rattle.run_definitions.specs.Keeps.{KeepsRun}
-use Rattle.run_definitions.specs.Run.{Limits}
+use Rattle.run_definitions.specs.Run.{RunLimits}
 use Rattle.run_laws.proofs.ClosedStages.{closed_row, earlier, size_count, stage_at}
 use Rattle.run_laws.proofs.StageRows.{weight_is_entry}
 
@@ -43,7 +43,7 @@ or_true : (a b : Bool) → b ≡ true → (a || b) ≡ true
 or_true true b e = refl
 or_true false b e = e
 
-module _ (pool : Pool) (limits : Limits) (table : Table) (keeps : KeepsRun (classes_of pool) limits table) (stages : KeepsStages table) (shut : table.in_stage ≡ false) where
+module _ (pool : Pool) (limits : RunLimits) (table : Table) (keeps : KeepsRun (classes_of pool) limits table) (stages : KeepsStages table) (shut : table.in_stage ≡ false) where
   abbrev count : ℕ
   count = length pool.volunteers
 

@@ -5,14 +5,14 @@ use Rattle.std.specs.Prelude.{slice_get}
 use Rattle.pool_definitions.specs.Pool.{Pool, panels}
 use Rattle.pool_definitions.specs.Lottery.{Lottery}
 use Rattle.row_definitions.specs.Table.{Table}
-use Rattle.run_definitions.specs.Run.{Limits, Ended, NoPanel, NodesSpent, Ends, RunEnds, answered, opened, opening, parts_of}
+use Rattle.run_definitions.specs.Run.{Limits, RunLimits, Ended, NoPanel, NodesSpent, Ends, RunEnds, answered, opened, opening, parts_of, run_limits}
 use Rattle.search_definitions.specs.Classes.{Classes, are_alike, classes_of}
 use Rattle.search_definitions.specs.Compositions.{compositions, first_composition}
 use Rattle.search_definitions.specs.Visits.{first_search}
 use Rattle.search_definitions.proofs.FirstSearch.{search_finds_first}
 use Rattle.search_definitions.proofs.PoolClasses.{alone_makes_classes, classes_in_order, no_panel_of_classes, search_finds_none}
 use Rattle.spread_definitions.specs.Spreading.{TotalPass, spread}
-use Rattle.run_definitions.proofs.Ends.{ends_at_once}
+use Rattle.run_definitions.proofs.Following.{ends_at_once}
 use Rattle.run_laws.proofs.Endings.{EndsAt, FindsNone, IsAnswered, ends_at, is_refused, opening_tells, step_tells}
 
 nothing_first : (xs : List (List ℕ)) → slice_get xs 0 ≡ None → xs ≡ []
@@ -28,7 +28,7 @@ some_answer all table e = by (spread all (parts_of table)) e
     by (Err pass) f = cc
 
 -- a run that ends with no panel does so at its opening
-at_opening : (all : Classes) (limits : Limits) → Ends all limits NoPanel → FindsNone all limits NoPanel
+at_opening : (all : Classes) (limits : RunLimits) → Ends all limits NoPanel → FindsNone all limits NoPanel
 at_opening all limits ends = by (ends_at all limits ends.steps NoPanel ends.there)
   where
     opens : FindsNone all limits NoPanel ⊎ (is_refused NoPanel ≡ true) → FindsNone all limits NoPanel
@@ -44,16 +44,16 @@ at_opening all limits ends = by (ends_at all limits ends.steps NoPanel ends.ther
     by (inr last) = absurd (steps last.last (step_tells all limits last.last NoPanel last.step_is))
 
 pub no_panel_is_within : (pool : Pool) (limits : Limits) → RunEnds pool limits NoPanel → (first_search (classes_of pool)).visits ≤ limits.nodes
-no_panel_is_within pool limits ends = ltb-false _ _ (at_opening (classes_of pool) limits ends).within
+no_panel_is_within pool limits ends = (at_opening (classes_of pool) (run_limits limits) ends).within
 
 pub none_where_no_panel : (pool : Pool) (limits : Limits) → RunEnds pool limits NoPanel → panels pool ≡ []
 none_where_no_panel pool limits ends =
-    no_panel_of_classes pool (are_alike pool) (alone_makes_classes pool) (nothing_first (compositions (classes_of pool)) (at_opening (classes_of pool) limits ends).none)
+    no_panel_of_classes pool (are_alike pool) (alone_makes_classes pool) (nothing_first (compositions (classes_of pool)) (at_opening (classes_of pool) (run_limits limits) ends).none)
 
 pub no_panel_where_none : (pool : Pool) (limits : Limits) → panels pool ≡ [] → (first_search (classes_of pool)).visits ≤ limits.nodes → RunEnds pool limits NoPanel
 unfolding opening
 no_panel_where_none pool limits none few =
     let all = classes_of pool in
     let finds : first_composition all ≡ None = sym (search_finds_first all (classes_in_order pool (are_alike pool))) ∙ (search_finds_none pool (are_alike pool) (alone_makes_classes pool)).1 none in
-    ends_at_once all limits NoPanel
-    (ap (λ b. cond b (Ended (NodesSpent None)) (opened all limits (first_composition all))) (le-ltb limits.nodes (first_search all).visits few) ∙ ap (opened all limits) finds)
+    ends_at_once all (run_limits limits) NoPanel
+    (ap (λ b. cond b (Ended (NodesSpent None)) (opened all (run_limits limits) (first_composition all))) (le-ltb limits.nodes (first_search all).visits few) ∙ ap (opened all (run_limits limits)) finds)

@@ -10,13 +10,13 @@ use Rattle.pool_definitions.proofs.Sums.{each_from_list_all, each_map}
 use Rattle.row_definitions.specs.Row.{Row}
 use Rattle.search_definitions.specs.Classes.{are_alike, classes_of, leaders}
 use Rattle.search_definitions.specs.Compositions.{compositions, first_panel, weight_in}
+use Rattle.search_definitions.proofs.Contained.{each_contains}
 use Rattle.search_definitions.proofs.FirstPanel.{FitsAndComposes, each_first_panel}
 use Rattle.search_definitions.proofs.LeaderForm as by_leader
 use Rattle.search_definitions.proofs.NothingToPrice.{weight_same}
 use Rattle.search_definitions.proofs.PanelCompositions.{weighing}
 use Rattle.search_definitions.proofs.PoolClasses.{alone_makes_classes, compositions_same, first_panel_same}
 use Rattle.run_definitions.specs.Run.{stage_of}
-use Rattle.run_definitions.proofs.Found.{each_contains}
 use Rattle.run_laws.proofs.StageRows.{entries_back}
 
 module _ (pool : Pool) (row : Row) (entries : length row.a ≡ length pool.volunteers) (counts : List ℕ) (there : Contains (compositions (classes_of pool)) counts) where

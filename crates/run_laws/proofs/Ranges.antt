@@ -22,7 +22,7 @@ use Rattle.spread_definitions.specs.Singles.{AreAlone}
 use Rattle.spread_definitions.specs.Spreading.{greatest_total}
 use Rattle.spread_definitions.proofs.Alone.{each_leads, pool_alone}
 use Rattle.run_definitions.specs.Keeps.{AreLimits, KeepsRun}
-use Rattle.run_definitions.specs.Run.{Found, Limits, RunEnds, closed_rows, stage_of}
+use Rattle.run_definitions.specs.Run.{Found, Limits, RunLimits, RunEnds, closed_rows, run_limits, stage_of}
 use Rattle.run_laws.proofs.Certified.{found_certified}
 use Rattle.run_laws.proofs.ClosedStages.{closed_row, closed_rows_are, entry_each, size_count}
 use Rattle.run_laws.proofs.FoundEnds.{found, keeps, lottery, within}
@@ -108,7 +108,7 @@ module _ (pool : Pool) where
       ap (λ n. unsigned_abs row.b + n)
       (ap (sum_by unsigned_abs) (weights_back row e) ∙ sum_by-is-total unsigned_abs row.a ∙ sym (sum_of_ones (sizes_of (classes_of pool)) row.a (ones_alone 0 (classes_of pool).classes (pool_alone pool)) f))
 
-  module _ (limits : Limits) (table : Table) (kept : KeepsRun (classes_of pool) limits table) where
+  module _ (limits : RunLimits) (table : Table) (kept : KeepsRun (classes_of pool) limits table) where
     stage_in_ranges : (k : ℕ) → k < length table.closed → is_stage (length pool.volunteers) (stage_of (classes_of pool) (closed_row table k)) ≡ true
     stage_in_ranges k l =
         let row = closed_row table k in
@@ -131,18 +131,18 @@ module _ (pool : Pool) where
 
 -- ---- what a run finds
 
-module _ (pool : Pool) (limits : Limits) (answer : Answer) (is_pool : IsPool pool) (ranges : AreLimits limits) (ends : RunEnds pool limits (Found answer)) where
+module _ (pool : Pool) (limits : Limits) (last : Table) (answer : Answer) (is_pool : IsPool pool) (ranges : AreLimits limits) (ends : RunEnds pool limits (Found last answer)) where
   some_volunteer : 0 < length pool.volunteers
   some_volunteer =
-      let kept = keeps pool limits answer is_pool ranges ends in
-      omega (arith, kept.in_order.some_class, size_count pool limits (found pool limits answer is_pool ranges ends).last kept)
+      let kept = keeps pool limits last answer is_pool ranges ends in
+      omega (arith, kept.in_order.some_class, size_count pool (run_limits limits) last kept)
 
   pub found_in_ranges : IsInRanges pool answer
   found_in_ranges = record {
-    total = weight_ranges answer.lottery.total (some_total pool answer.lottery (lottery pool limits answer is_pool ranges ends)) (within pool limits answer is_pool ranges ends);
-    some_row = (lottery pool limits answer is_pool ranges ends).some;
-    rows = rows_in_ranges pool answer.lottery is_pool (lottery pool limits answer is_pool ranges ends) (within pool limits answer is_pool ranges ends);
-    some_stage = some_stage_holds pool answer.lottery answer.stages some_volunteer (found_certified pool limits answer is_pool ranges ends).stages_hold;
-    stages = subst (λ stages. list_all (is_stage (length pool.volunteers)) stages ≡ true) (found pool limits answer is_pool ranges ends).stages_are
-        (stages_in_ranges pool limits (found pool limits answer is_pool ranges ends).last (keeps pool limits answer is_pool ranges ends));
+    total = weight_ranges answer.lottery.total (some_total pool answer.lottery (lottery pool limits last answer is_pool ranges ends)) (within pool limits last answer is_pool ranges ends);
+    some_row = (lottery pool limits last answer is_pool ranges ends).some;
+    rows = rows_in_ranges pool answer.lottery is_pool (lottery pool limits last answer is_pool ranges ends) (within pool limits last answer is_pool ranges ends);
+    some_stage = some_stage_holds pool answer.lottery answer.stages some_volunteer (found_certified pool limits last answer is_pool ranges ends).stages_hold;
+    stages = subst (λ stages. list_all (is_stage (length pool.volunteers)) stages ≡ true) (found pool limits last answer is_pool ranges ends).stages_are
+        (stages_in_ranges pool (run_limits limits) last (keeps pool limits last answer is_pool ranges ends));
   }

@@ -1,6 +1,5 @@
 -- Where each volunteer is a class alone, a stage's weights are its row's entries, and its row is that row again.
-use Rattle.std.proofs.Common.{◌≡◌, ℕ, zero, suc, ◌+◌, ◌<◌, Bool, true, false, cond, ◌||◌, ltb, eqb, List, [], ◌∷◌, map, length, get_or, sum_by, Some, None, pos, refl, sym, ap, ap₂, ◌∙◌, arith}
-use Rattle.std.specs.Prelude.{unwrap_or}
+use Rattle.std.proofs.Common.{◌≡◌, ℕ, zero, suc, ◌+◌, ◌<◌, Bool, true, false, cond, ◌||◌, ltb, eqb, List, [], ◌∷◌, map, length, get_or, Some, None, pos, refl, sym, ap, ap₂, ◌∙◌, arith}
 use Rattle.std.specs.List.{position_or_len, range_with_len}
 use Rattle.std.proofs.lemmas.Bool.{eqb-true, eq-eqb, ne_eqb, lt-ltb}
 use Rattle.std.proofs.lemmas.List.FromFn.{get_or-map-range_with_len, length-map-range_with_len}
@@ -9,7 +8,7 @@ use Rattle.pool_definitions.specs.Certificate.{Stage, weight_of}
 use Rattle.pool_definitions.specs.Lists.{includes}
 use Rattle.pool_definitions.specs.Pool.{Pool}
 use Rattle.row_definitions.specs.Row.{Row, entry}
-use Rattle.search_definitions.specs.Classes.{Class, Classes, are_alike, classes_of, leaders}
+use Rattle.search_definitions.specs.Classes.{Class, Classes, are_alike, classes_of, leaders, volunteer_count}
 use Rattle.search_definitions.specs.Stages.{WeighAlike, row_of}
 use Rattle.search_definitions.proofs.Listed.{each_everywhere}
 use Rattle.spread_definitions.specs.Singles.{AreAlone, single}
@@ -34,9 +33,7 @@ members_alone first (suc k) (class ∷ classes) d alone l =
     let here : first + 1 + k ≡ first + suc k = omega arith in members_alone (first + 1) k classes d alone.1 (omega arith) ∙ ap (λ n. n ∷ []) here
 
 pub number_alone : (classes : List Class) (d : Class) (i : ℕ) → AreAlone 0 classes → i < length classes → class_number classes i ≡ i
-number_alone classes d i alone l =
-    ap (λ k. unwrap_or (cond (ltb k (length classes)) (Some k) None) 0) place
-    ∙ ap (λ b. unwrap_or (cond b (Some i) None) 0) (lt-ltb i (length classes) l)
+number_alone classes d i alone l = place
   where
     or_false : (b : Bool) → (b || false) ≡ b
     or_false true = refl
@@ -64,7 +61,7 @@ module _ (pool : Pool) where
   pub class_count : length all.classes ≡ count
   class_count = ap length (classes_alone pool) ∙ length-map-range_with_len (single pool.volunteers) 0 count
 
-  pub member_count : sum_by (λ class. length class.members) all.classes ≡ count
+  pub member_count : volunteer_count all ≡ count
   member_count = as_many 0 all.classes (pool_alone pool) ∙ class_count
 
   weights_are : (row : Row) → (stage_of all row).weights ≡ map (λ i. entry row (class_number all.classes i)) (range_with_len 0 count)

@@ -6,6 +6,7 @@ use Rattle.pool_definitions.specs.Lottery.{IsLottery, LeximinGreatest}
 use Rattle.pool_definitions.specs.Pool.{IsPool, Pool, panels}
 use Rattle.run_definitions.specs.Keeps.{AreLimits}
 use Rattle.run_definitions.specs.Run.{Found, Limits, NoPanel, RunEnds}
+use Rattle.row_definitions.specs.Table.{Table}
 use Rattle.search_definitions.specs.Classes.{classes_of}
 use Rattle.search_definitions.specs.Visits.{first_search}
 use Rattle.spread_definitions.specs.Spreading.{greatest_total}
@@ -24,19 +25,19 @@ NoneEndsSo = (pool : Pool) (limits : Limits) → panels pool ≡ [] → (first_s
 
 -- the lottery that a run finds is one over the pool's quota panels, of a total of at most 10 ^ 38
 abbrev pub FoundIsLottery : Type 0
-FoundIsLottery = (pool : Pool) (limits : Limits) (answer : Answer) → IsPool pool → AreLimits limits → RunEnds pool limits (Found answer) → IsLottery pool answer.lottery
+FoundIsLottery = (pool : Pool) (limits : Limits) (last : Table) (answer : Answer) → IsPool pool → AreLimits limits → RunEnds pool limits (Found last answer) → IsLottery pool answer.lottery
 
 abbrev pub FoundIsWithin : Type 0
-FoundIsWithin = (pool : Pool) (limits : Limits) (answer : Answer) → IsPool pool → AreLimits limits → RunEnds pool limits (Found answer) → answer.lottery.total ≤ greatest_total
+FoundIsWithin = (pool : Pool) (limits : Limits) (last : Table) (answer : Answer) → IsPool pool → AreLimits limits → RunEnds pool limits (Found last answer) → answer.lottery.total ≤ greatest_total
 
 -- its stages certify it
 abbrev pub FoundIsCertified : Type 0
-FoundIsCertified = (pool : Pool) (limits : Limits) (answer : Answer) → IsPool pool → AreLimits limits → RunEnds pool limits (Found answer) → Certifies pool answer.lottery answer.stages
+FoundIsCertified = (pool : Pool) (limits : Limits) (last : Table) (answer : Answer) → IsPool pool → AreLimits limits → RunEnds pool limits (Found last answer) → Certifies pool answer.lottery answer.stages
 
 -- so no lottery over the pool is above it
 abbrev pub FoundIsGreatest : Type 0
-FoundIsGreatest = (pool : Pool) (limits : Limits) (answer : Answer) → IsPool pool → AreLimits limits → RunEnds pool limits (Found answer) → LeximinGreatest pool answer.lottery
+FoundIsGreatest = (pool : Pool) (limits : Limits) (last : Table) (answer : Answer) → IsPool pool → AreLimits limits → RunEnds pool limits (Found last answer) → LeximinGreatest pool answer.lottery
 
 -- and its numbers keep the ranges that they have in the text of a bundle
 abbrev pub FoundIsInRanges : Type 0
-FoundIsInRanges = (pool : Pool) (limits : Limits) (answer : Answer) → IsPool pool → AreLimits limits → RunEnds pool limits (Found answer) → IsInRanges pool answer
+FoundIsInRanges = (pool : Pool) (limits : Limits) (last : Table) (answer : Answer) → IsPool pool → AreLimits limits → RunEnds pool limits (Found last answer) → IsInRanges pool answer

@@ -11,9 +11,9 @@ pub record Closed : Type 0 where
   pub level : ℕ
 
 -- the sum of the levels of the stages that come, at which a volunteer is unsettled
-abbrev pub levels_of : List Stage → List Closed → ℕ → ℕ
-levels_of earlier [] i = 0
-levels_of earlier (closed ∷ later) i = (if is_settled earlier i then 0 else closed.level) + levels_of (closed.stage ∷ earlier) later i
+abbrev pub levels_to_come : List Stage → List Closed → ℕ → ℕ
+levels_to_come earlier [] i = 0
+levels_to_come earlier (closed ∷ later) i = (if is_settled earlier i then 0 else closed.level) + levels_to_come (closed.stage ∷ earlier) later i
 
 -- what is known of a stage after earlier ones, but for the counts
 pub record StageStands (pool : Pool) (lottery : Lottery) (earlier : List Stage) (stage : Stage) : Type 0 where
@@ -38,7 +38,7 @@ StagesStand pool lottery earlier (closed ∷ later) = StageStands pool lottery e
 
 -- each volunteer's count is the total times the volunteer's levels, over the scale
 abbrev pub CountsAreLevels : Pool → Lottery → ℕ → List Closed → Type 0
-CountsAreLevels pool lottery scale closed = (i : ℕ) → i < length pool.volunteers → count lottery i * scale ≡ lottery.total * levels_of [] closed i
+CountsAreLevels pool lottery scale closed = (i : ℕ) → i < length pool.volunteers → count lottery i * scale ≡ lottery.total * levels_to_come [] closed i
 
 -- then the stages hold
 abbrev pub LevelsMakeStages : Type 0

@@ -28,6 +28,7 @@ pub struct Limits {
 }
 
 impl Model for Limits {
+    ghost use Rattle.std.specs.Prelude.{◌≤◌};
     ghost use Rattle.run_definitions.specs.Run.{Limits as Seen};
     ghost use Rattle.run_definitions.specs.Keeps.{AreLimits};
 
@@ -35,7 +36,7 @@ impl Model for Limits {
 
     ghost view = { λ l. record { bits = l.bits; pivots = l.pivots; nodes = l.nodes } };
 
-    ghost invariant = { λ l. AreLimits (record { bits = l.bits; pivots = l.pivots; nodes = l.nodes }) };
+    ghost invariant = { λ l. AreLimits (record { bits = l.bits; pivots = l.pivots; nodes = l.nodes }) × (l.nodes ≤ 1000000000000) };
 
     ghost inverse = { λ l. record { bits = l.bits; pivots = l.pivots; nodes = l.nodes } };
 }
@@ -76,6 +77,7 @@ impl Limits {
     /// How many visits each of its searches may take.
     pub fn nodes(self) -> u64
         ensures value { result ≡ self.nodes }
+        ensures few { self.nodes ≤ 1000000000000 }
         ensures ranges { AreLimits self }
     {
         self.nodes

@@ -11,7 +11,7 @@ use Rattle.pool_definitions.proofs.Sums.{each_map}
 use Rattle.row_definitions.specs.Row.{Row}
 use Rattle.search_definitions.specs.Classes.{Class, Classes, IsSearchable}
 use Rattle.search_definitions.specs.Compositions.{counts_of, all_counts, taken_of, meets_bounds, is_composition, compositions, weight_in, attains, first_greatest, price}
-use Rattle.search_definitions.specs.Fronts.{HaveEntries, later_than, taken_by, is_live, sum_of, greatest_sum, optimistic, is_live_above}
+use Rattle.search_definitions.specs.Fronts.{HaveEntries, later_than, taken_by, is_reachable, sum_of, greatest_sum, optimistic, is_live_above}
 use Rattle.search_definitions.specs.Visits.{Pricing, enter_best, best_search}
 use Rattle.search_definitions.proofs.Listed.{each_mapped, each_filter, append_nothing}
 use Rattle.search_definitions.proofs.FirstSearch.{Gives, InOrder, all_counts_give, Split, later_is, taken_split, live_from_composition, composition_from_live, completions, of_children, child_splits, completions_of_none, empty_splits}
@@ -57,8 +57,8 @@ live_from_better : (all : Classes) (closed : List Row) (row : Row) (floor : ℤ)
     is_composition all (front ++ counts) ≡ true → attains closed (front ++ counts) ≡ true → int_lt floor (weight_in row.a (front ++ counts)) ≡ true → is_live_above all closed row floor front ≡ true
 live_from_better all closed row floor pre later front counts split gives entries composes attained above =
     let live = live_from_composition all pre later front counts split gives composes in
-    and_from (is_live all front && list_all (λ r. int_le r.b (optimistic all r front)) closed) (int_lt floor (optimistic all row front))
-    (and_from (is_live all front) (list_all (λ r. int_le r.b (optimistic all r front)) closed) live (each_closed closed entries.1 attained))
+    and_from (is_reachable all front && list_all (λ r. int_le r.b (optimistic all r front)) closed) (int_lt floor (optimistic all row front))
+    (and_from (is_reachable all front) (list_all (λ r. int_le r.b (optimistic all r front)) closed) live (each_closed closed entries.1 attained))
     (above_of floor (weight_in row.a (front ++ counts)) (optimistic all row front) (weight_within_optimistic all pre later front counts row split gives entries.0 composes) above)
   where
     each_closed : (closed : List Row) → AllByRecursion (λ row. length row.a ≡ length all.classes) closed → attains closed (front ++ counts) ≡ true → list_all (λ r. int_le r.b (optimistic all r front)) closed ≡ true
@@ -146,8 +146,8 @@ none_better all closed row floor pre later front split order entries dead =
 enter_best_keeps : (all : Classes) (closed : List Row) (row : Row) (pre later : List Class) (front : List ℕ) (so_far : Pricing) → Split all pre later front → InOrder later → HaveEntries all (row ∷ closed) →
     is_live_above all closed row so_far.floor front ≡ true → told (enter_best all closed row later front so_far) ≡ fold (keep (weight_in row.a)) (told so_far) (sought all closed front later)
 enter_best_keeps all closed row pre [] front so_far split order entries live =
-    let all_parts = and_parts (is_live all front && list_all (λ r. int_le r.b (optimistic all r front)) closed) (int_lt so_far.floor (optimistic all row front)) live in
-    let parts = and_parts (is_live all front) (list_all (λ r. int_le r.b (optimistic all r front)) closed) all_parts.0 in
+    let all_parts = and_parts (is_reachable all front && list_all (λ r. int_le r.b (optimistic all r front)) closed) (int_lt so_far.floor (optimistic all row front)) live in
+    let parts = and_parts (is_reachable all front) (list_all (λ r. int_le r.b (optimistic all r front)) closed) all_parts.0 in
     let composes = composition_from_live all pre front split parts.0 in
     let attained = attained_from closed parts.1 in
     let above = rw (optimistic_of_all all pre front row split) at all_parts.1 in

@@ -9,8 +9,8 @@ use Rattle.std.proofs.Math.Seq.{drop-append_seam}
 use Rattle.pool_definitions.proofs.Sums.{sum_by-is-total, total, each_map}
 use Rattle.search_definitions.specs.Classes.{Class, Classes, IsSearchable}
 use Rattle.search_definitions.specs.Compositions.{counts_of, all_counts, taken_of, has_value, lies_within, meets_bounds, is_composition, compositions, first_composition}
-use Rattle.search_definitions.specs.Fronts.{later_than, most_of, taken_by, size_reachable, value_reachable, values_reachable, is_live}
-use Rattle.search_definitions.specs.Visits.{Search, in_turn, enter_first, first_search}
+use Rattle.search_definitions.specs.Fronts.{later_than, most_given, taken_by, size_reachable, value_reachable, values_reachable, is_reachable}
+use Rattle.search_definitions.specs.Visits.{Search, one_by_one, enter_first, first_search}
 use Rattle.search_definitions.proofs.Listed.{each_mapped, each_count, each_everywhere, none_pass, list_all_implies, append_nothing}
 
 -- ---- counts that classes can give
@@ -56,7 +56,7 @@ gives_most p (class ∷ later) (c ∷ counts) h =
       | false ↦ omega arith
     ]
 
-pub taken_within_most : (p : Class → Bool) (later : List Class) (counts : List ℕ) → Gives later counts → taken_of p later counts ≤ most_of p later
+pub taken_within_most : (p : Class → Bool) (later : List Class) (counts : List ℕ) → Gives later counts → taken_of p later counts ≤ most_given p later
 taken_within_most p later counts h = omega (arith, gives_most p later counts h, sum_by-is-total (λ class. cond (p class) class.most 0) later)
 
 -- ---- fronts of compositions are live
@@ -86,28 +86,28 @@ within_reach lower upper taken more most l e =
 
 -- a front that goes on to a composition is live
 pub live_from_composition : (all : Classes) (pre later : List Class) (front counts : List ℕ) → Split all pre later front → Gives later counts →
-    is_composition all (front ++ counts) ≡ true → is_live all front ≡ true
+    is_composition all (front ++ counts) ≡ true → is_reachable all front ≡ true
 live_from_composition all pre later front counts split gives composes =
     let parts = and_parts (eqb (taken_of (λ class. true) all.classes (front ++ counts)) all.size) (meets_bounds all.bounds all.classes (front ++ counts)) composes in
     let after = later_is all pre later front split in
     let taken = taken_split all pre later front counts split in
-    let size : size_reachable all front ≡ true = rw after (reached all.size (taken_by all front) (taken_of (λ class. true) later counts) (most_of (λ class. true) later) (taken_within_most (λ class. true) later counts gives) (rw (taken (λ class. true)) at parts.0)) in
+    let size : size_reachable all front ≡ true = rw after (reached all.size (taken_by all front) (taken_of (λ class. true) later counts) (most_given (λ class. true) later) (taken_within_most (λ class. true) later counts gives) (rw (taken (λ class. true)) at parts.0)) in
     let values : values_reachable all front ≡ true = list_all_implies
     (λ (c, values). list_all (λ (v, bound). lies_within bound (taken_of (has_value c v) all.classes (front ++ counts))) (enumerate_from 0 values))
     (λ (c, values). list_all (value_reachable all front c) (enumerate_from 0 values))
     (λ (c, values). list_all_implies (λ (v, bound). lies_within bound (taken_of (has_value c v) all.classes (front ++ counts))) (value_reachable all front c)
-    (λ (v, bound) within. rw after (within_reach bound.lower bound.upper (taken_of (has_value c v) all.classes front) (taken_of (has_value c v) later counts) (most_of (has_value c v) later)
+    (λ (v, bound) within. rw after (within_reach bound.lower bound.upper (taken_of (has_value c v) all.classes front) (taken_of (has_value c v) later counts) (most_given (has_value c v) later)
     (taken_within_most (has_value c v) later counts gives) (rw (taken (has_value c v)) at within)))
     (enumerate_from 0 values))
     (enumerate_from 0 all.bounds) parts.1 in
     and_from (size_reachable all front) (values_reachable all front) size values
 
 -- a live front of all classes is a composition
-pub composition_from_live : (all : Classes) (pre : List Class) (front : List ℕ) → Split all pre [] front → is_live all front ≡ true → is_composition all front ≡ true
+pub composition_from_live : (all : Classes) (pre : List Class) (front : List ℕ) → Split all pre [] front → is_reachable all front ≡ true → is_composition all front ≡ true
 composition_from_live all pre front split live =
     let parts = and_parts (size_reachable all front) (values_reachable all front) live in
     let after = later_is all pre [] front split in
-    let sizes = and_parts (leb (taken_by all front) all.size) (leb all.size (taken_by all front + most_of (λ class. true) (later_than front all.classes))) parts.0 in
+    let sizes = and_parts (leb (taken_by all front) all.size) (leb all.size (taken_by all front + most_given (λ class. true) (later_than front all.classes))) parts.0 in
     let low = leb-true (taken_by all front) all.size sizes.0 in
     let high : all.size ≤ taken_by all front + 0 = leb-true all.size (taken_by all front + 0) (rw after at sizes.1) in
     let bounds : meets_bounds all.bounds all.classes front ≡ true = list_all_implies
@@ -129,7 +129,7 @@ composition_from_live all pre front split live =
 abbrev pub completions : Classes → List ℕ → List Class → List (List ℕ)
 completions all front later = filter (is_composition all) (map (λ counts. front ++ counts) (all_counts later))
 
-pub none_from_dead : (all : Classes) (pre later : List Class) (front : List ℕ) → Split all pre later front → InOrder later → is_live all front ≡ false → completions all front later ≡ []
+pub none_from_dead : (all : Classes) (pre later : List Class) (front : List ℕ) → Split all pre later front → InOrder later → is_reachable all front ≡ false → completions all front later ≡ []
 none_from_dead all pre later front split order dead =
     none_pass (is_composition all) (map (λ counts. front ++ counts) (all_counts later))
     (each_mapped (λ counts. is_composition all counts ≡ false) (λ counts. front ++ counts) (all_counts later)
@@ -168,34 +168,34 @@ pub first : List (List ℕ) → Option (List ℕ)
 first [] = None
 first (x ∷ xs) = Some x
 
-found_first : (one : Search) (rest : List Search) (xs ys : List (List ℕ)) → one.found ≡ first xs → (in_turn rest).found ≡ first ys → (in_turn (one ∷ rest)).found ≡ first (xs ++ ys)
+found_first : (one : Search) (rest : List Search) (xs ys : List (List ℕ)) → one.found ≡ first xs → (one_by_one rest).found ≡ first ys → (one_by_one (one ∷ rest)).found ≡ first (xs ++ ys)
 unfolding first
 found_first one rest [] ys e f = rw e f
 found_first one rest (x ∷ xs) ys e f = rw e refl
 
 in_turn_finds : (G : List ℕ → List (List ℕ)) (enter : List ℕ → Search) (live : List ℕ → Bool) (children : List (List ℕ)) →
     AllByRecursion (λ child. (live child ≡ true → (enter child).found ≡ first (G child)) × (live child ≡ false → G child ≡ [])) children →
-    (in_turn (map enter (filter live children))).found ≡ first (flat_map G children)
+    (one_by_one (map enter (filter live children))).found ≡ first (flat_map G children)
 unfolding first
 in_turn_finds G enter live [] h = refl
 in_turn_finds G enter live (child ∷ children) h =
     let rest = in_turn_finds G enter live children h.1 in
-    (elim (live child) as (λ b. live child ≡ b → (in_turn (map enter (cond b (child ∷ filter live children) (filter live children)))).found ≡ first (G child ++ flat_map G children)) [
+    (elim (live child) as (λ b. live child ≡ b → (one_by_one (map enter (cond b (child ∷ filter live children) (filter live children)))).found ≡ first (G child ++ flat_map G children)) [
       | true ↦ λ e. found_first (enter child) (map enter (filter live children)) (G child) (flat_map G children) (h.0.0 e) rest
       | false ↦ λ e. let none = h.0.1 e in rw none rest
     ]) refl
 
-enter_first_finds : (all : Classes) (pre later : List Class) (front : List ℕ) → Split all pre later front → InOrder later → is_live all front ≡ true →
+enter_first_finds : (all : Classes) (pre later : List Class) (front : List ℕ) → Split all pre later front → InOrder later → is_reachable all front ≡ true →
     (enter_first all later front).found ≡ first (completions all front later)
 unfolding first
 enter_first_finds all pre [] front split order live =
     let composes = composition_from_live all pre front split live in
     let same = append_nothing front in rw (same, composes) refl
 enter_first_finds all pre (class ∷ later) front split order live =
-    in_turn_finds (λ child. completions all child later) (λ child. enter_first all later child) (is_live all) (map (λ c. front ++ c ∷ []) (counts_of class))
-    (each_mapped (λ child. (is_live all child ≡ true → (enter_first all later child).found ≡ first (completions all child later)) × (is_live all child ≡ false → completions all child later ≡ []))
+    in_turn_finds (λ child. completions all child later) (λ child. enter_first all later child) (is_reachable all) (map (λ c. front ++ c ∷ []) (counts_of class))
+    (each_mapped (λ child. (is_reachable all child ≡ true → (enter_first all later child).found ≡ first (completions all child later)) × (is_reachable all child ≡ false → completions all child later ≡ []))
     (λ c. front ++ c ∷ []) (counts_of class)
-    (each_everywhere (λ c. (is_live all (front ++ c ∷ []) ≡ true → (enter_first all later (front ++ c ∷ [])).found ≡ first (completions all (front ++ c ∷ []) later)) × (is_live all (front ++ c ∷ []) ≡ false → completions all (front ++ c ∷ []) later ≡ []))
+    (each_everywhere (λ c. (is_reachable all (front ++ c ∷ []) ≡ true → (enter_first all later (front ++ c ∷ [])).found ≡ first (completions all (front ++ c ∷ []) later)) × (is_reachable all (front ++ c ∷ []) ≡ false → completions all (front ++ c ∷ []) later ≡ []))
     (λ c. (
       λ live. enter_first_finds all (pre ++ class ∷ []) later (front ++ c ∷ []) (child_splits all pre later class front c split) order.1 live,
       λ dead. none_from_dead all (pre ++ class ∷ []) later (front ++ c ∷ []) (child_splits all pre later class front c split) order.1 dead,
@@ -216,7 +216,7 @@ get_first (x ∷ xs) = refl
 
 pub search_finds_first : (all : Classes) → IsSearchable all → (first_search all).found ≡ first_composition all
 search_finds_first all searchable =
-    (elim (is_live all []) as (λ b. is_live all [] ≡ b → (cond b (enter_first all all.classes []) (record { visits = 1; found = None })).found ≡ first_composition all) [
+    (elim (is_reachable all []) as (λ b. is_reachable all [] ≡ b → (cond b (enter_first all all.classes []) (record { visits = 1; found = None })).found ≡ first_composition all) [
       | true ↦ λ live. enter_first_finds all [] all.classes [] (empty_splits all) searchable.in_order live ∙ ap first (completions_of_none all) ∙ get_first (compositions all)
       | false ↦ λ dead. let none = none_from_dead all [] all.classes [] (empty_splits all) searchable.in_order dead in
           let empty : compositions all ≡ [] = sym (completions_of_none all) ∙ none in rw empty refl

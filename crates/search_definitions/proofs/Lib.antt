@@ -1,4 +1,7 @@
 pub mod Listed
+pub mod Contained
+pub mod Order
+pub mod Best
 pub mod FirstSearch
 pub mod LeaderForm
 pub mod ByClass
@@ -6,6 +9,7 @@ pub mod PanelCompositions
 pub mod FirstPanel
 pub mod PoolClasses
 pub mod Limits
+pub mod Parting
 pub mod GreatestSum
 pub mod BestSearch
 pub mod NothingToPrice

@@ -11,7 +11,8 @@ use Rattle.search_definitions.proofs.PoolClasses.{filter_same, compositions_same
 
 -- a composition weighs the same, taken class by class or by the classes' leaders
 pub weight_same : (w : ℕ → ℤ) (firsts counts : List ℕ) → weight_in (map w firsts) counts ≡ by_leader.composition_weight w firsts counts
-weight_same w [] counts = refl
+weight_same w [] [] = refl
+weight_same w [] (c ∷ counts) = refl
 weight_same w (l ∷ firsts) [] = refl
 weight_same w (l ∷ firsts) (c ∷ counts) = ap (λ rest. pos c *ℤ w l +ℤ rest) (weight_same w firsts counts)
 

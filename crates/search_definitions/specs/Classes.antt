@@ -1,8 +1,9 @@
 -- Classes of volunteers.
-use Rattle.std.specs.Prelude.{◌≡◌, ℕ, ◌==◌, ◌≤◌, ◌<◌, Bool, not, IsTrue, List, [], map, length, filter, slice_index, slice_index_or, sum_by}
+use Rattle.std.specs.Prelude.{◌≡◌, ℕ, ◌==◌, ◌≤◌, ◌<◌, Bool, not, IsTrue, List, [], map, length, filter, slice_index, slice_index_or, sum_by, count_by}
 use Rattle.std.specs.List.{list_any, range_with_len, All, AllByRecursion}
 use Rattle.pool_definitions.specs.declared.Standing.{Standing}
 use Rattle.pool_definitions.specs.declared.Standing.TheVariants.{Open, Seated, Gone}
+use Rattle.pool_definitions.specs.Lists.{includes, is_increasing}
 use Rattle.pool_definitions.specs.Pool.{Category, Pool, volunteer}
 use Rattle.search_definitions.specs.declared.Bounds.{Bounds}
 
@@ -31,6 +32,16 @@ pub record HasPlaces (bounds : List (List Bounds)) (class : Class) : Type 0 wher
 pub record IsSearchable (all : Classes) : Type 0 where
   pub in_order : AllByRecursion (λ class. class.least ≤ class.most) all.classes
 
+-- how many volunteers the classes hold in all
+abbrev pub volunteer_count : Classes → ℕ
+volunteer_count all = sum_by (λ class. length class.members) all.classes
+
+-- the classes part the volunteers: each number below their count is in exactly one class, and no other is in any
+pub record PartVolunteers (all : Classes) : Type 0 where
+  pub rising : AllByRecursion (λ class. IsTrue (is_increasing class.members)) all.classes
+  pub known : AllByRecursion (λ class. AllByRecursion (λ i. i < volunteer_count all) class.members) all.classes
+  pub once : (i : ℕ) → i < volunteer_count all → count_by (λ class. includes class.members i) all.classes ≡ 1
+
 -- what the classes of each pool keep: few of everything, so that sums over them stay small
 pub record KeepsLimits (all : Classes) : Type 0 where
   -- a panel has 1 to 200 members
@@ -41,7 +52,7 @@ pub record KeepsLimits (all : Classes) : Type 0 where
   pub bounds : All (λ values. All (λ bound. (bound.lower ≤ bound.upper) × (bound.upper ≤ 999)) values) all.bounds
   -- at most 400 classes, with at most 400 members in all
   pub few_classes : length all.classes ≤ 400
-  pub few_members : sum_by (λ class. length class.members) all.classes ≤ 400
+  pub few_members : volunteer_count all ≤ 400
   -- each class has a member, and at most all its members are taken
   pub members : All (λ class. 1 ≤ length class.members) all.classes
   pub most : All (λ class. class.most ≤ length class.members) all.classes

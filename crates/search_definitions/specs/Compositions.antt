@@ -1,10 +1,10 @@
 -- Compositions: how many of each class are taken.
-use Rattle.std.specs.Prelude.{ℕ, zero, suc, ◌+◌, ◌-◌, ◌==◌, nat_le, if◌then◌else◌, Bool, true, false, ◌&&◌, ◌||◌, List, [], ◌∷◌, map, length, count_by, filter, slice_get, slice_index, take, ℤ, pos, ◌+ℤ◌, ◌*ℤ◌, int_lt, int_le, Option, Some, None, unwrap_or, sum_by}
+use Rattle.std.specs.Prelude.{ℕ, zero, suc, ◌+◌, ◌-◌, ◌==◌, nat_le, if◌then◌else◌, Bool, true, false, ◌&&◌, ◌||◌, List, [], ◌∷◌, map, count_by, filter, slice_get, slice_index, take, ℤ, int_lt, int_le, Option, Some, None, unwrap_or}
 use Rattle.std.specs.List.{list_all, flat_map, enumerate_from, range_with_len}
 use Rattle.pool_definitions.specs.Lists.{includes}
-use Rattle.row_definitions.specs.Row.{Row}
+use Rattle.row_definitions.specs.Row.{Row, sum_of_products}
 use Rattle.search_definitions.specs.declared.Bounds.{Bounds}
-use Rattle.search_definitions.specs.Classes.{Class, Classes}
+use Rattle.search_definitions.specs.Classes.{Class, Classes, volunteer_count}
 
 -- the counts from the greatest, so many above the least, down to the least
 abbrev pub counts_down : ℕ → ℕ → List ℕ
@@ -61,7 +61,7 @@ is_taken (class ∷ classes) (c ∷ counts) i = includes (take c class.members) 
 
 -- the first members of each class, as many as a composition takes, in number order
 abbrev pub first_panel : Classes → List ℕ → List ℕ
-first_panel all counts = filter (is_taken all.classes counts) (range_with_len 0 (sum_by (λ class. length class.members) all.classes))
+first_panel all counts = filter (is_taken all.classes counts) (range_with_len 0 (volunteer_count all))
 
 -- how many members of a panel are of each class
 abbrev pub composition_of : Classes → List ℕ → List ℕ
@@ -69,9 +69,7 @@ composition_of all panel = map (λ class. count_by (includes class.members) pane
 
 -- a composition's weight in a row: the sum of count times entry
 abbrev pub weight_in : List ℤ → List ℕ → ℤ
-weight_in [] counts = pos 0
-weight_in (x ∷ xs) [] = pos 0
-weight_in (x ∷ xs) (c ∷ counts) = pos c *ℤ x +ℤ weight_in xs counts
+weight_in entries counts = sum_of_products counts entries
 
 -- a composition's weight in each closed row is at least that row's right side
 abbrev pub attains : List Row → List ℕ → Bool

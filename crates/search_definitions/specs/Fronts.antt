@@ -23,8 +23,8 @@ abbrev pub HaveReach : Classes → List Row → Type 0
 HaveReach all rows = AllByRecursion (λ row. reach (sizes_of all) row < 2 ^ 127) rows
 
 -- the most that later classes can give, of those that pass
-abbrev pub most_of : (Class → Bool) → List Class → ℕ
-most_of passes later = sum_by (λ class. if passes class then class.most else 0) later
+abbrev pub most_given : (Class → Bool) → List Class → ℕ
+most_given passes later = sum_by (λ class. if passes class then class.most else 0) later
 
 -- how many a front takes
 abbrev pub taken_by : Classes → List ℕ → ℕ
@@ -33,21 +33,21 @@ taken_by all front = taken_of (λ class. true) all.classes front
 -- at most the size is taken, and with all that later classes can give at least the size
 abbrev pub size_reachable : Classes → List ℕ → Bool
 size_reachable all front =
-    nat_le (taken_by all front) all.size && nat_le all.size (taken_by all front + most_of (λ class. true) (later_than front all.classes))
+    nat_le (taken_by all front) all.size && nat_le all.size (taken_by all front + most_given (λ class. true) (later_than front all.classes))
 
 -- a value's count is at most its upper bound, and with all that later classes can give at least its lower bound
 abbrev pub value_reachable : Classes → List ℕ → ℕ → ℕ × Bounds → Bool
 value_reachable all front c (v, bound) =
     let count = taken_of (has_value c v) all.classes front in
-    nat_le count bound.upper && nat_le bound.lower (count + most_of (has_value c v) (later_than front all.classes))
+    nat_le count bound.upper && nat_le bound.lower (count + most_given (has_value c v) (later_than front all.classes))
 
 abbrev pub values_reachable : Classes → List ℕ → Bool
 values_reachable all front =
     list_all (λ (c, values). list_all (value_reachable all front c) (enumerate_from 0 values)) (enumerate_from 0 all.bounds)
 
 -- a front is live for the first composition: size and values are in reach
-abbrev pub is_live : Classes → List ℕ → Bool
-is_live all front = size_reachable all front && values_reachable all front
+abbrev pub is_reachable : Classes → List ℕ → Bool
+is_reachable all front = size_reachable all front && values_reachable all front
 
 -- a number put into a falling list, in its place
 abbrev pub put_falling : ℤ → List ℤ → List ℤ
@@ -81,4 +81,4 @@ optimistic all row front =
 -- side, and in the priced row above the floor
 abbrev pub is_live_above : Classes → List Row → Row → ℤ → List ℕ → Bool
 is_live_above all closed row floor front =
-    is_live all front && list_all (λ r. int_le r.b (optimistic all r front)) closed && int_lt floor (optimistic all row front)
+    is_reachable all front && list_all (λ r. int_le r.b (optimistic all r front)) closed && int_lt floor (optimistic all row front)

@@ -5,7 +5,7 @@ use Rattle.std.specs.Prelude.{ℕ, ◌+◌, if◌then◌else◌, List, [], ◌�
 use Rattle.row_definitions.specs.Row.{Row}
 use Rattle.search_definitions.specs.Classes.{Class, Classes}
 use Rattle.search_definitions.specs.Compositions.{counts_of, weight_in}
-use Rattle.search_definitions.specs.Fronts.{is_live, is_live_above}
+use Rattle.search_definitions.specs.Fronts.{is_reachable, is_live_above}
 
 -- the visits of a search, and the composition that it found
 pub record Search : Type 0 where
@@ -13,22 +13,22 @@ pub record Search : Type 0 where
   pub found : Option (List ℕ)
 
 -- searches one after the other, up to the first that finds a composition
-abbrev pub in_turn : List Search → Search
-in_turn [] = record { visits = 0; found = None }
-in_turn (search ∷ later) =
+abbrev pub one_by_one : List Search → Search
+one_by_one [] = record { visits = 0; found = None }
+one_by_one (search ∷ later) =
     if is_some search.found then search
-    else record { visits = search.visits + (in_turn later).visits; found = (in_turn later).found }
+    else record { visits = search.visits + (one_by_one later).visits; found = (one_by_one later).found }
 
 -- a front is entered, where these classes come after it: a front of all classes is a composition
 abbrev pub enter_first : Classes → List Class → List ℕ → Search
 enter_first all [] front = record { visits = 1; found = Some front }
 enter_first all (class ∷ later) front =
-    let below = in_turn (map (λ child. enter_first all later child) (filter (is_live all) (map (λ c. front ++ c ∷ []) (counts_of class)))) in
+    let below = one_by_one (map (λ child. enter_first all later child) (filter (is_reachable all) (map (λ c. front ++ c ∷ []) (counts_of class)))) in
     record { visits = 1 + below.visits; found = below.found }
 
 -- the search for the first composition
 abbrev pub first_search : Classes → Search
-first_search all = if is_live all [] then enter_first all all.classes [] else record { visits = 1; found = None }
+first_search all = if is_reachable all [] then enter_first all all.classes [] else record { visits = 1; found = None }
 
 -- a search for the best composition so far: its visits, the floor, and the composition that was kept last
 pub record Pricing : Type 0 where

@@ -5,14 +5,15 @@
 //! The functions here have no body: their contracts are laws over the definitions, and worked examples.
 #![tactic(auto)]
 
-ghost use Rattle.std.specs.Prelude.{◌≡◌, ◌↔◌, ℕ, Bool, List, [], ◌∷◌, map, MatchOption, None, Some, IsTrue, pos};
+ghost use Rattle.std.specs.Prelude.{◌≡◌, ◌↔◌, ℕ, Bool, List, [], ◌∷◌, map, length, MatchOption, None, Some, IsTrue, pos};
 ghost use Rattle.std.specs.List.{AllByRecursion};
 ghost use Rattle.pool_definitions.specs.Certificate.{Stage, is_capped};
 ghost use Rattle.pool_definitions.specs.Lists.{is_increasing};
 ghost use Rattle.pool_definitions.specs.Pool.{Pool, IsPool, panels, is_quota_panel};
 ghost use Rattle.pool_definitions.specs.WorkedExamples.{four, crossed, nobody};
 ghost use Rattle.row_definitions.specs.Row.{Row};
-ghost use Rattle.search_definitions.specs.Classes.{Classes, IsSearchable, KeepsLimits, MakesClasses, are_alike, classes_by, classes_of};
+ghost use Rattle.search_definitions.specs.Best.{IsBest, Qualifies};
+ghost use Rattle.search_definitions.specs.Classes.{Classes, IsSearchable, KeepsLimits, MakesClasses, PartVolunteers, are_alike, classes_by, classes_of, volunteer_count};
 ghost use Rattle.search_definitions.specs.Compositions.{composition_of, compositions, first_composition, first_panel, price};
 ghost use Rattle.search_definitions.specs.Fronts.{HaveEntries};
 ghost use Rattle.search_definitions.specs.Stages.{WeighAlike, row_of};
@@ -41,6 +42,12 @@ pub fn classes_are_searchable()
 /// The classes of a pool keep limits like those of the pool.
 pub fn classes_keep_limits()
     ensures { (pool : Pool) (alike : ℕ → ℕ → Bool) → IsPool pool → MakesClasses pool alike → KeepsLimits (classes_by alike pool) }
+{}
+
+/// The classes of a pool part its volunteers: each is in exactly one.
+pub fn classes_part_volunteers()
+    ensures part { (pool : Pool) (alike : ℕ → ℕ → Bool) → MakesClasses pool alike → PartVolunteers (classes_by alike pool) }
+    ensures count { (pool : Pool) (alike : ℕ → ℕ → Bool) → MakesClasses pool alike → volunteer_count (classes_by alike pool) ≡ length pool.volunteers }
 {}
 
 /// Where there is no composition, there is no quota panel.
@@ -76,6 +83,13 @@ pub fn first_search_decides()
     ensures answer { (pool : Pool) (alike : ℕ → ℕ → Bool) → MakesClasses pool alike → MatchOption (first_search (classes_by alike pool)).found
         (panels pool ≡ []) (λ counts. IsTrue (is_quota_panel pool (first_panel (classes_by alike pool) counts))) }
     ensures none { (pool : Pool) (alike : ℕ → ℕ → Bool) → MakesClasses pool alike → (first_search (classes_by alike pool)).found ≡ None ↔ panels pool ≡ [] }
+{}
+
+/// The price is the best composition: it attains the closed rows and weighs more in the row than its right side, and of those that do
+/// none weighs more, and none before it in order weighs as much. There is none exactly where no composition does.
+pub fn price_is_best()
+    ensures best { (all : Classes) (closed : List Row) (priced : Row) (counts : List ℕ) → price all closed priced ≡ Some counts → IsBest all closed priced counts }
+    ensures none { (all : Classes) (closed : List Row) (priced : Row) → price all closed priced ≡ None ↔ ((counts : List ℕ) → Qualifies all closed priced counts → ⊥) }
 {}
 
 /// The search for the best composition keeps the price: of the compositions that attain the closed rows, the first of greatest weight

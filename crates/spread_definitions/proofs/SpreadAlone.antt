@@ -1,5 +1,5 @@
 -- Where each class is one volunteer alone, a composition's dial has one place, and its one panel is the first panel.
-use Rattle.std.proofs.Common.{◌≡◌, ℕ, zero, suc, ◌+◌, ◌*◌, ◌/◌, true, false, ◌&&◌, ltb, List, [], ◌∷◌, ◌++◌, map, length, sum_by, refl, ap, ◌∙◌, arith}
+use Rattle.std.proofs.Common.{◌≡◌, ℕ, zero, suc, ◌+◌, ◌*◌, ◌/◌, true, false, ◌&&◌, ltb, List, [], ◌∷◌, ◌++◌, map, refl, ap, ◌∙◌, arith}
 use Rattle.std.specs.Int.{◌∣◌}
 use Rattle.std.specs.List.{flat_map, range_with_len, AllByRecursion}
 use Rattle.std.proofs.lemmas.Bool.{lt-ltb, le-ltb}
@@ -8,9 +8,9 @@ use Rattle.std.proofs.Math.Nat.{mul-div_assoc}
 use Rattle.std.proofs.lemmas.List.Concat.{flat_map-cons}
 use Rattle.frac128.specs.Fractions.{Fraction}
 use Rattle.pool_definitions.specs.Lottery.{LotteryRow}
-use Rattle.search_definitions.specs.Classes.{Class, Classes}
+use Rattle.search_definitions.specs.Classes.{Class, Classes, volunteer_count}
 use Rattle.search_definitions.specs.Compositions.{is_taken, first_panel}
-use Rattle.spread_definitions.specs.Spreading.{partly_taken, dial, pieces, is_given, panel_at, rows_of}
+use Rattle.spread_definitions.specs.Spreading.{partly_taken, dial, arcs, is_given, panel_at, rows_of}
 use Rattle.spread_definitions.specs.Singles.{AreAlone, row_alone}
 
 -- ---- dials
@@ -31,8 +31,8 @@ none_partly first (class ∷ classes) (c ∷ counts) alone =
 pub dial_alone : (all : Classes) (counts : List ℕ) → AreAlone 0 all.classes → dial all counts ≡ 1
 dial_alone all counts alone = let none = none_partly 0 all.classes counts alone in rw none refl
 
-pieces_alone : (all : Classes) (counts : List ℕ) → AreAlone 0 all.classes → pieces all counts ≡ (0, 1) ∷ []
-pieces_alone all counts alone = let none = none_partly 0 all.classes counts alone in rw none refl
+arcs_alone : (all : Classes) (counts : List ℕ) → AreAlone 0 all.classes → arcs all counts ≡ (0, 1) ∷ []
+arcs_alone all counts alone = let none = none_partly 0 all.classes counts alone in rw none refl
 
 -- ---- panels
 
@@ -47,7 +47,7 @@ given_alone first (class ∷ classes) (c ∷ counts) i alone =
 panel_alone : (all : Classes) (counts : List ℕ) → AreAlone 0 all.classes → panel_at all counts 0 ≡ first_panel all counts
 panel_alone all counts alone =
     let one = dial_alone all counts alone in
-    rw one (filter_agree (is_given 1 0 all.classes counts) (is_taken all.classes counts) (λ i. given_alone 0 all.classes counts i alone) (range_with_len 0 (sum_by (λ class. length class.members) all.classes)))
+    rw one (filter_agree (is_given 1 0 all.classes counts) (is_taken all.classes counts) (λ i. given_alone 0 all.classes counts i alone) (range_with_len 0 (volunteer_count all)))
 
 weight_alone : (num total den : ℕ) → den ∣ total → 1 * num * total / (den * 1) ≡ num * (total / den)
 weight_alone num total den h =
@@ -62,7 +62,7 @@ pub rows_alone : (all : Classes) (total : ℕ) (part : List ℕ × Fraction) →
 rows_alone all total part alone h =
     let num = part.1.num in let den = part.1.den in
     let weigh : ℕ → ℕ × ℕ → LotteryRow = λ length_of_dial pair. row (panel_at all part.0 pair.0) (pair.1 * num * total / (den * length_of_dial)) in
-    ap (map (weigh (dial all part.0))) (pieces_alone all part.0 alone)
+    ap (map (weigh (dial all part.0))) (arcs_alone all part.0 alone)
     ∙ ap (λ (length_of_dial : ℕ). weigh length_of_dial (0, 1) ∷ []) (dial_alone all part.0 alone)
     ∙ ap (λ (weight : ℕ). row (panel_at all part.0 0) weight ∷ []) (weight_alone num total den h)
     ∙ ap (λ (panel : List ℕ). row panel (num * (total / den)) ∷ []) (panel_alone all part.0 alone)

@@ -6,7 +6,7 @@ use Rattle.frac128.specs.Divisors.{lcm_of}
 use Rattle.frac128.specs.Fractions.{Fraction, lowest_of}
 use Rattle.pool_definitions.specs.Lists.{all_different, includes, rising}
 use Rattle.pool_definitions.specs.Lottery.{LotteryRow, Lottery, count}
-use Rattle.search_definitions.specs.Classes.{Class, Classes}
+use Rattle.search_definitions.specs.Classes.{Class, Classes, volunteer_count}
 use Rattle.search_definitions.specs.Compositions.{compositions}
 
 -- a class is taken in part: some of its members are on a panel, and not all
@@ -38,36 +38,36 @@ once_each (x ∷ (y ∷ ys)) = if x == y then once_each (y ∷ ys) else x ∷ on
 abbrev pub cuts : Classes → List ℕ → List ℕ
 cuts all counts = once_each (rising (0 ∷ flat_map (marks (dial all counts)) (partly_taken all.classes counts)))
 
--- the pieces into which these cuts divide a dial of this length: where each begins, and its length
-abbrev pub pieces_between : ℕ → List ℕ → List (ℕ × ℕ)
-pieces_between end [] = []
-pieces_between end (x ∷ []) = (x, end - x) ∷ []
-pieces_between end (x ∷ (y ∷ ys)) = (x, y - x) ∷ pieces_between end (y ∷ ys)
+-- the arcs into which these cuts divide a dial of this length: where each begins, and its length
+abbrev pub arcs_between : ℕ → List ℕ → List (ℕ × ℕ)
+arcs_between end [] = []
+arcs_between end (x ∷ []) = (x, end - x) ∷ []
+arcs_between end (x ∷ (y ∷ ys)) = (x, y - x) ∷ arcs_between end (y ∷ ys)
 
--- the pieces of a composition's dial
-abbrev pub pieces : Classes → List ℕ → List (ℕ × ℕ)
-pieces all counts = pieces_between (dial all counts) (cuts all counts)
+-- the arcs of a composition's dial
+abbrev pub arcs : Classes → List ℕ → List (ℕ × ℕ)
+arcs all counts = arcs_between (dial all counts) (cuts all counts)
 
 -- so many members from a place on, turning round at the end
 abbrev pub turned : ℕ → ℕ → List ℕ → List ℕ
 turned place count members = take count (drop place members ++ take place members)
 
--- a number is among those whom the classes give on the piece that begins at a place of the dial
+-- a number is among those whom the classes give on the arc that begins at a place of the dial
 abbrev pub is_given : ℕ → ℕ → List Class → List ℕ → ℕ → Bool
 is_given length_of_dial at [] counts i = false
 is_given length_of_dial at (class ∷ classes) [] i = false
 is_given length_of_dial at (class ∷ classes) (count ∷ counts) i =
     includes (turned (at * length class.members / length_of_dial) count class.members) i || is_given length_of_dial at classes counts i
 
--- the panel of the piece that begins at a place
+-- the panel of the arc that begins at a place
 abbrev pub panel_at : Classes → List ℕ → ℕ → List ℕ
-panel_at all counts at = filter (is_given (dial all counts) at all.classes counts) (range_with_len 0 (sum_by (λ class. length class.members) all.classes))
+panel_at all counts at = filter (is_given (dial all counts) at all.classes counts) (range_with_len 0 (volunteer_count all))
 
--- the panels of a composition and its fraction, along the dial: a piece's weight is its length times the fraction of the total,
+-- the panels of a composition and its fraction, along the dial: an arc's weight is its length times the fraction of the total,
 -- over the dial's length
 abbrev pub rows_of : Classes → ℕ → List ℕ × Fraction → List LotteryRow
 rows_of all total (counts, fraction) =
-    map (λ (at, piece). record { panel = panel_at all counts at; weight = piece * fraction.num * total / (fraction.den * dial all counts) }) (pieces all counts)
+    map (λ (at, arc). record { panel = panel_at all counts at; weight = arc * fraction.num * total / (fraction.den * dial all counts) }) (arcs all counts)
 
 -- the greatest total of a lottery that is printed: 10 ^ 38
 abbrev pub greatest_total : ℕ

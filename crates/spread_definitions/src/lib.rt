@@ -11,7 +11,7 @@ ghost use Rattle.pool_definitions.specs.Lottery.{Lottery, IsLottery};
 ghost use Rattle.pool_definitions.specs.Pool.{Pool, IsPool};
 ghost use Rattle.search_definitions.specs.Classes.{Classes, classes_of};
 ghost use Rattle.search_definitions.specs.Compositions.{compositions};
-ghost use Rattle.spread_definitions.specs.Spreading.{AreParts, AreShares, HasEvenChances, IsCommonTotal, greatest_total, with_fraction, pieces, spread, total_from};
+ghost use Rattle.spread_definitions.specs.Spreading.{AreParts, AreShares, HasEvenChances, IsCommonTotal, greatest_total, with_fraction, arcs, spread, total_from};
 ghost use Rattle.spread_definitions.specs.WorkedSpreads.{one_of_three, three_and_two, over};
 
 /// Shares of a whole, as fractions in lowest terms, are positive fractions that sum to one.
@@ -42,7 +42,7 @@ pub fn alone_spread_has_even_chances()
 
 /// One of three and one of two: the dial has six places, cut at 0, 2, 3 and 4.
 pub fn worked_spread()
-    ensures pieces { pieces three_and_two (1 ∷ 1 ∷ []) ≡ (0, 2) ∷ (2, 1) ∷ (3, 1) ∷ (4, 2) ∷ [] }
+    ensures arcs { arcs three_and_two (1 ∷ 1 ∷ []) ≡ (0, 2) ∷ (2, 1) ∷ (3, 1) ∷ (4, 2) ∷ [] }
     ensures lottery { spread three_and_two ((1 ∷ 1 ∷ [], over 1 1) ∷ []) ≡ Ok (record {
       total = 6;
       rows =

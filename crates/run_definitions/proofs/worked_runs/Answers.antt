@@ -1,34 +1,64 @@
-use Rattle.std.proofs.Common.{refl}
+use Rattle.std.proofs.Common.{◌≡◌, Option, None, Some, refl, ap}
 use Rattle.frac128.specs.Divisors.{lcm_of, gcd_of, common_divisor_up_to}
 use Rattle.row_definitions.specs.Choice.{choice, entering, leaving}
 use Rattle.row_definitions.specs.Pivot.{start, pivot, row_after, eliminated}
 use Rattle.row_definitions.specs.Steps.{enter_stage, closed_by, add_column, solution}
-use Rattle.row_definitions.specs.Table.{coefficient}
+use Rattle.row_definitions.specs.Table.{Table, coefficient}
 use Rattle.row_definitions.specs.Width.{in_turn, operation, reach_from}
-use Rattle.run_definitions.specs.Run.{opening, step}
+use Rattle.pool_definitions.specs.Certificate.{Answer}
+use Rattle.pool_definitions.specs.WorkedExamples.{four}
+use Rattle.search_definitions.specs.Classes.{classes_of}
+use Rattle.run_definitions.specs.Run.{Next, GoOn, Ended, NoPanel, Found, TooWide, TotalPasses, PivotsSpent, NodesSpent, follow, opening, pricing_visits, run_limits, step}
+use Rattle.run_definitions.specs.WorkedRuns.{limits, pairs}
 use Rattle.spread_definitions.specs.Spreading.{spread}
 use Rattle.run_definitions.proofs.worked_runs.Goals as goal
 
 pub returns-clause-found : goal.returns-clause-found
-unfolding opening step start in_turn operation reach_from choice entering leaving coefficient pivot row_after eliminated enter_stage closed_by add_column solution spread lcm_of gcd_of common_divisor_up_to
+unfolding opening pricing_visits step start in_turn operation reach_from choice entering leaving coefficient pivot row_after eliminated enter_stage closed_by add_column solution spread lcm_of gcd_of common_divisor_up_to
 returns-clause-found c = record { steps = 8; there = refl }
 
 pub returns-clause-too_wide : goal.returns-clause-too_wide
-unfolding opening step start in_turn operation reach_from choice entering leaving coefficient pivot row_after eliminated enter_stage closed_by add_column solution spread lcm_of gcd_of common_divisor_up_to
+unfolding opening pricing_visits step start in_turn operation reach_from choice entering leaving coefficient pivot row_after eliminated enter_stage closed_by add_column solution spread lcm_of gcd_of common_divisor_up_to
 returns-clause-too_wide c = record { steps = 0; there = refl }
 
 pub returns-clause-one_pivot : goal.returns-clause-one_pivot
-unfolding opening step start in_turn operation reach_from choice entering leaving coefficient pivot row_after eliminated enter_stage closed_by add_column solution spread lcm_of gcd_of common_divisor_up_to
+unfolding opening pricing_visits step start in_turn operation reach_from choice entering leaving coefficient pivot row_after eliminated enter_stage closed_by add_column solution spread lcm_of gcd_of common_divisor_up_to
 returns-clause-one_pivot c = record { steps = 4; there = refl }
 
 pub returns-clause-no_pivot : goal.returns-clause-no_pivot
-unfolding opening step start in_turn operation reach_from choice entering leaving coefficient pivot row_after eliminated enter_stage closed_by add_column solution spread lcm_of gcd_of common_divisor_up_to
+unfolding opening pricing_visits step start in_turn operation reach_from choice entering leaving coefficient pivot row_after eliminated enter_stage closed_by add_column solution spread lcm_of gcd_of common_divisor_up_to
 returns-clause-no_pivot c = record { steps = 2; there = refl }
 
 pub returns-clause-few_nodes : goal.returns-clause-few_nodes
-unfolding opening step start in_turn operation reach_from choice entering leaving coefficient pivot row_after eliminated enter_stage closed_by add_column solution spread lcm_of gcd_of common_divisor_up_to
+unfolding opening pricing_visits step start in_turn operation reach_from choice entering leaving coefficient pivot row_after eliminated enter_stage closed_by add_column solution spread lcm_of gcd_of common_divisor_up_to
 returns-clause-few_nodes c = record { steps = 0; there = refl }
 
+-- ---- the run over four volunteers, whose last table isn't written out
+
+answer_of : Next → Option Answer
+answer_of (GoOn table) = None
+answer_of (Ended NoPanel) = None
+answer_of (Ended (Found last answer)) = Some answer
+answer_of (Ended (TooWide stood pass)) = None
+answer_of (Ended (TotalPasses stood pass)) = None
+answer_of (Ended (PivotsSpent stood)) = None
+answer_of (Ended (NodesSpent stood)) = None
+
+ends_with : (next : Next) (answer : Answer) → answer_of next ≡ Some answer → (last : Table) × (next ≡ Ended (Found last answer))
+unfolding answer_of
+ends_with (GoOn table) answer e = absurd cc
+ends_with (Ended NoPanel) answer e = absurd cc
+ends_with (Ended (Found last found)) answer e = let same : found ≡ answer = cc in (last, ap (λ found. Ended (Found last found)) same)
+ends_with (Ended (TooWide stood pass)) answer e = absurd cc
+ends_with (Ended (TotalPasses stood pass)) answer e = absurd cc
+ends_with (Ended (PivotsSpent stood)) answer e = absurd cc
+ends_with (Ended (NodesSpent stood)) answer e = absurd cc
+
+after_twenty : answer_of (follow (classes_of four) (run_limits (limits 127 4 100)) (opening (classes_of four) (run_limits (limits 127 4 100))) 20) ≡ Some pairs
+unfolding opening pricing_visits step start in_turn operation reach_from choice entering leaving coefficient pivot row_after eliminated enter_stage closed_by add_column solution spread lcm_of gcd_of common_divisor_up_to answer_of
+after_twenty = refl
+
 pub returns-clause-four : goal.returns-clause-four
-unfolding opening step start in_turn operation reach_from choice entering leaving coefficient pivot row_after eliminated enter_stage closed_by add_column solution spread lcm_of gcd_of common_divisor_up_to
-returns-clause-four c = record { steps = 20; there = refl }
+returns-clause-four c =
+    let ended = ends_with (follow (classes_of four) (run_limits (limits 127 4 100)) (opening (classes_of four) (run_limits (limits 127 4 100))) 20) pairs after_twenty in
+    (ended.0, record { steps = 20; there = ended.1 })

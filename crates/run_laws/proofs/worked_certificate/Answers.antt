@@ -13,5 +13,5 @@ unfolding is_utf8 chars encode
 four_is_pool = record { size = refl; few_categories = refl; categories = refl; different_categories = refl; few_volunteers = refl; ids = refl; different_ids = refl; values = refl }
 
 pub returns : goal.returns
-returns c = found_certified four (limits 127 4 100) pairs four_is_pool
-    (record { some_bits = omega arith; few_bits = omega arith; few_pivots = omega arith; few_nodes = omega arith }) c.worked_runs.ensures.four
+returns c = found_certified four (limits 127 4 100) c.worked_runs.ensures.four.0 pairs four_is_pool
+    (record { some_bits = omega arith; few_bits = omega arith; few_pivots = omega arith }) c.worked_runs.ensures.four.1

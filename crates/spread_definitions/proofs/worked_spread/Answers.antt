@@ -3,9 +3,9 @@ use Rattle.frac128.specs.Divisors.{lcm_of, gcd_of, common_divisor_up_to}
 use Rattle.spread_definitions.specs.Spreading.{spread}
 use Rattle.spread_definitions.proofs.worked_spread.Goals as goal
 
-pub returns-clause-pieces : goal.returns-clause-pieces
+pub returns-clause-arcs : goal.returns-clause-arcs
 unfolding lcm_of gcd_of common_divisor_up_to
-returns-clause-pieces c = refl
+returns-clause-arcs c = refl
 
 pub returns-clause-lottery : goal.returns-clause-lottery
 unfolding spread lcm_of gcd_of common_divisor_up_to

@@ -7,7 +7,7 @@ use Rattle.alike.proofs.composing.first_panel.Goals as goal
 
 pub unreachable-requires : goal.unreachable-requires
 unreachable-requires c =
-    let members : c.in_ok-members.members.items ≡ first_panel c.args.classes.now c.args.composition.now = members_are c.args.classes.now c.args.composition.now _ _ _ c.classes.ensures c.counts.ensures c.volunteers.ensures _ c.in_ok-members.ensures in
+    let members : c.in_ok-members.members.items ≡ first_panel c.args.classes.now c.args.composition.now = members_are c.args.classes.now c.args.composition.now _ _ _ c.classes.ensures c.counts.ensures c.volunteers.ensures.count _ c.in_ok-members.ensures in
     let rises : is_increasing c.in_ok-members.members.items ≡ true = rw members (first_panel_rises c.args.classes.now c.args.composition.now) in
     let some = rw rises at c.new.ensures in
     let none = c.in-None.is in
@@ -15,7 +15,7 @@ unreachable-requires c =
 
 pub returns : goal.returns
 returns c =
-    let members : c.in_ok-members.members.items ≡ first_panel c.args.classes.now c.args.composition.now = members_are c.args.classes.now c.args.composition.now _ _ _ c.classes.ensures c.counts.ensures c.volunteers.ensures _ c.in_ok-members.ensures in
+    let members : c.in_ok-members.members.items ≡ first_panel c.args.classes.now c.args.composition.now = members_are c.args.classes.now c.args.composition.now _ _ _ c.classes.ensures c.counts.ensures c.volunteers.ensures.count _ c.in_ok-members.ensures in
     let rises : is_increasing c.in_ok-members.members.items ≡ true = rw members (first_panel_rises c.args.classes.now c.args.composition.now) in
     let some = rw rises at c.new.ensures in
     let is = c.in-Some.is in

@@ -1,5 +1,5 @@
 use Rattle.std.proofs.Common.{Err, map, rules, refl, sym, ap, ◌∙◌, subst}
-use Rattle.run_definitions.specs.Run.{Ends, Found, stage_of}
+use Rattle.run_definitions.specs.Run.{Ends, Found, run_limits, stage_of}
 use Rattle.run_definitions.proofs.Parts.{parts_are}
 use Rattle.spread_definitions.specs.Spreading.{AreParts, spread}
 use Rattle.alike.specs.Spreads.{IsSpread}
@@ -9,16 +9,18 @@ use Rattle.leximin_run.proofs.solving.answer.Goals as goal
 pub spread-requires : goal.spread-requires
 spread-requires c =
     let run = c.args.run in
-    subst (AreParts run.classes) (sym (c.deref-2.ensures.value ∙ c.in-Ok.ensures)) (parts_are run.classes run.limits run.table c.requires.reached.stands.keeps)
+    subst (AreParts run.classes) (sym (c.deref-2.ensures.value ∙ c.in-Ok.ensures)) (parts_are run.classes (run_limits run.limits) run.table c.requires.reached.stands.keeps)
 
 pub returns-in-Ok-spread : goal.returns-in-Ok-spread
 returns-in-Ok-spread c =
     let run = c.args.run in
     let made = sym (ap (spread run.classes) (c.deref-2.ensures.value ∙ c.in-Ok.ensures)) ∙ c.in-Ok-spread.ensures.spread in
-    let found = found_at_end run.classes run.limits run.table run.closed.items c.requires.reached c.requires.shut c.requires.settled c.in-Ok-spread.lottery made in
-    let stages = c.in-Ok-certificate.ensures ∙ ap (map (stage_of run.classes)) c.deref.ensures.value in
-    subst (λ answer. Ends run.classes run.limits (Found answer)) (sym c.new.ensures)
-    (subst (λ ss. Ends run.classes run.limits (Found (record { lottery = c.in-Ok-spread.lottery; stages = ss }))) (sym stages) found)
+    let found = found_at_end run.classes (run_limits run.limits) run.table run.closed.items c.requires.reached c.requires.shut c.requires.settled c.in-Ok-spread.lottery made in
+    let stages = c.in-Ok-certificate.ensures ∙ ap (map (stage_of run.classes)) c.deref.ensures.value in (
+      run.table,
+      subst (λ answer. Ends run.classes (run_limits run.limits) (Found run.table answer)) (sym c.new.ensures)
+          (subst (λ ss. Ends run.classes (run_limits run.limits) (Found run.table (record { lottery = c.in-Ok-spread.lottery; stages = ss }))) (sym stages) found),
+    )
 
 pub returns-in-Err-TotalPasses : goal.returns-in-Err-TotalPasses
 returns-in-Err-TotalPasses c =
@@ -30,5 +32,5 @@ returns-in-Err-TotalPasses c =
       told.0,
       refl,
       record { place_is = place ∙ told.2; total_is = search rules; den_is = search rules },
-      passed_at_end run.classes run.limits run.table run.closed.items c.requires.reached c.requires.shut c.requires.settled told.0 passes,
+      passed_at_end run.classes (run_limits run.limits) run.table run.closed.items c.requires.reached c.requires.shut c.requires.settled told.0 passes,
     )

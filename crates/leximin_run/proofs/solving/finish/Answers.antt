@@ -1,19 +1,30 @@
-use Rattle.std.proofs.Common.{Ok, Err, sym, ◌∙◌, subst}
+use Rattle.std.proofs.Common.{◌<◌, Ok, Err, sym, ◌∙◌, subst}
+use Rattle.run_definitions.specs.Run.{run_limits}
+use Rattle.run_definitions.specs.Work.{work_left}
+use Rattle.run_definitions.proofs.Work.{step_lessens}
 use Rattle.leximin_run.specs.Advancing.{Advances, Reaches, Stands}
 use Rattle.leximin_run.specs.Answers.{TellsEnding, stop_of}
 use Rattle.leximin_run.proofs.Ending.{reaches_on, refused_at}
 use Rattle.leximin_run.proofs.solving.finish.Goals as goal
 
+pub loop-run-smaller : goal.loop-run-smaller
+loop-run-smaller c =
+    let run = c.loop-run.run in let after = c.advance.new.self in
+    let advanced = subst (λ went. Advances run.classes (run_limits run.limits) run.table (Ok went) after.table) c.in-Ok-true.field-0-test c.in-Ok-true.ensures.advances in
+    let stands = c.loop-run.invariant.reaches.stands in
+    subst (λ limits. work_left (run_limits limits) after.table < work_left (run_limits run.limits) run.table) (sym c.in-Ok-true.ensures.limits)
+    (step_lessens run.classes (run_limits run.limits) run.table stands.limited stands.ranges stands.keeps after.table advanced)
+
 pub loop-run-preserved : goal.loop-run-preserved
 loop-run-preserved c =
     let run = c.loop-run.run in let after = c.advance.new.self in
-    let advanced = subst (λ went. Advances run.classes run.limits run.table (Ok went) after.table) c.in-Ok-true.field-0-test c.in-Ok-true.ensures.advances in
-    let stands = subst (λ all. Stands all run.limits after.table after.closed.items) c.in-Ok-true.ensures.classes
-    (subst (λ limits. Stands after.classes limits after.table after.closed.items) c.in-Ok-true.ensures.limits c.in-Ok-true.ensures.stands) in
-    let on = reaches_on run.classes run.limits run.table run.closed.items c.loop-run.invariant.reaches after.table after.closed.items advanced.0 stands in
+    let advanced = subst (λ went. Advances run.classes (run_limits run.limits) run.table (Ok went) after.table) c.in-Ok-true.field-0-test c.in-Ok-true.ensures.advances in
+    let stands = subst (λ all. Stands all (run_limits run.limits) after.table after.closed.items) c.in-Ok-true.ensures.classes
+    (subst (λ limits. Stands after.classes (run_limits limits) after.table after.closed.items) c.in-Ok-true.ensures.limits c.in-Ok-true.ensures.stands) in
+    let on = reaches_on run.classes (run_limits run.limits) run.table run.closed.items c.loop-run.invariant.reaches after.table after.closed.items advanced stands in
     record {
-      reaches = subst (λ all. Reaches all after.limits after.table after.closed.items) (sym c.in-Ok-true.ensures.classes)
-          (subst (λ limits. Reaches run.classes limits after.table after.closed.items) (sym c.in-Ok-true.ensures.limits) on);
+      reaches = subst (λ all. Reaches all (run_limits after.limits) after.table after.closed.items) (sym c.in-Ok-true.ensures.classes)
+          (subst (λ limits. Reaches run.classes (run_limits limits) after.table after.closed.items) (sym c.in-Ok-true.ensures.limits) on);
       classes = c.in-Ok-true.ensures.classes ∙ c.loop-run.invariant.classes;
       limits = c.in-Ok-true.ensures.limits ∙ c.loop-run.invariant.limits;
     }
@@ -21,7 +32,7 @@ loop-run-preserved c =
 pub returns-in-Err : goal.returns-in-Err
 returns-in-Err c =
     let run = c.loop-run.run in let after = c.advance.new.self in
-    let told = refused_at run.classes run.limits run.table run.closed.items c.loop-run.invariant.reaches c.in-Err.refusal after.table c.in-Err.ensures.advances in
-    subst (λ stop. TellsEnding c.args.run.classes c.args.run.limits (Err stop)) (sym c.stop.ensures)
-    (subst (λ all. TellsEnding all c.args.run.limits (Err (stop_of after.table c.in-Err.refusal))) c.loop-run.invariant.classes
-    (subst (λ limits. TellsEnding run.classes limits (Err (stop_of after.table c.in-Err.refusal))) c.loop-run.invariant.limits told))
+    let told = refused_at run.classes (run_limits run.limits) run.table run.closed.items c.loop-run.invariant.reaches c.in-Err.refusal after.table c.in-Err.ensures.advances in
+    subst (λ stop. TellsEnding c.args.run.classes (run_limits c.args.run.limits) (Err stop)) (sym c.stop.ensures)
+    (subst (λ all. TellsEnding all (run_limits c.args.run.limits) (Err (stop_of after.table c.in-Err.refusal))) c.loop-run.invariant.classes
+    (subst (λ limits. TellsEnding run.classes (run_limits limits) (Err (stop_of after.table c.in-Err.refusal))) c.loop-run.invariant.limits told))

@@ -1,14 +1,16 @@
 use Rattle.std.proofs.Common.{◌≡◌}
-use Rattle.leximin_run.specs.Advancing.{Reaches, work_left}
+use Rattle.leximin_run.specs.Advancing.{Reaches}
+use Rattle.run_definitions.specs.Run.{run_limits}
+use Rattle.run_definitions.specs.Work.{work_left}
 use Rattle.leximin_run.proofs.solving.finish.Given as goal
 
 -- the run comes to its table, over the same classes under the same limits
 abbrev pub invariant-loop-run : goal.invariant-loop-run
 invariant-loop-run l = record {
-  reaches : Reaches l.run.classes l.run.limits l.run.table l.run.closed.items;
+  reaches : Reaches l.run.classes (run_limits l.run.limits) l.run.table l.run.closed.items;
   classes : l.run.classes ≡ l.initial.run.classes;
   limits : l.run.limits ≡ l.initial.run.limits;
 }
 
 abbrev pub decreases-loop-run : goal.decreases-loop-run
-decreases-loop-run l = work_left l.run.limits l.run.table
+decreases-loop-run l = work_left (run_limits l.run.limits) l.run.table

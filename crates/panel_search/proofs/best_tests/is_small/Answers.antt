@@ -30,4 +30,4 @@ returns-clause-reach c = λ _.
     let high : lt_z (pos 1000000000) c.side-side.result ≡ false = simp to_z-of_z at c.if-side-gt-GREATEST.false in
     let side = near_zero c.side-side.result low high in
     let sum = small_sum all.classes row.a 1000000000 (λ t l. c.loop-entry.invariant t (omega (arith, c.loop-entry-test.false, ap length c.entries-entry-items.ensures))) in
-    omega (arith, side, ap unsigned_abs c.side-side.ensures, sum, c.facts.ensures.few_members, sum_by-is-total (λ (class : Class). length class.members) all.classes)
+    (omega (arith, side, ap unsigned_abs c.side-side.ensures, sum, c.facts.ensures.few_members, sum_by-is-total (λ (class : Class). length class.members) all.classes), tt)

@@ -1,5 +1,5 @@
 use Rattle.std.proofs.Common.{rules, ◌≡◌, ◌+◌, ◌-◌, ◌<◌, [], ◌∷◌, ◌++◌, true, length, take, drop, set, refl, sym, ap, ◌∙◌, arith, subst}
-use Rattle.search_definitions.specs.Fronts.{is_live}
+use Rattle.search_definitions.specs.Fronts.{is_reachable}
 use Rattle.search_definitions.specs.Visits.{enter_best}
 use Rattle.panel_search.specs.Front.{Tracks}
 use Rattle.panel_search.specs.Pricing.{told, CanTake, CanTakeAbove}
@@ -110,7 +110,7 @@ pub try_child-enter-requires : goal.try_child-enter-requires
 try_child-enter-requires t c =
     let all = c.args.classes.now in let self = c.args.self.now in let depth = c.args.depth in let count = c.args.count in let mid = c.weights_allow.new.self in
     let items = ap (λ counts. counts.items) c.weights_allow.ensures.counts in
-    let live : is_live all (take depth self.counts.items ++ count ∷ []) ≡ true = ap (λ items. is_live all (take depth items ++ count ∷ [])) (sym c.deref.ensures.value) ∙ (sym c.allows.ensures ∙ c.if-not-allows.false) in (
+    let live : is_reachable all (take depth self.counts.items ++ count ∷ []) ≡ true = ap (λ items. is_reachable all (take depth items ++ count ∷ [])) (sym c.deref.ensures.value) ∙ (sym c.allows.ensures ∙ c.if-not-allows.false) in (
       search rules,
       (
         c.requires.narrow,
@@ -149,7 +149,7 @@ try_child-returns t c =
     ap (λ xs. take (depth + 1) (set xs depth count)) items ∙ placed depth count self.counts.items (omega (arith, c.requires.below, c.requires.stands.places)) in
     let steps = c.in_ok-enter.ensures in
     let same : take depth c.enter.new.self.counts.items ≡ front = front_of depth c.enter.new.self.counts.items front count long (steps.1 ∙ child) in
-    let live : is_live all (front ++ count ∷ []) ≡ true = ap (λ items. is_live all (take depth items ++ count ∷ [])) (sym c.deref.ensures.value) ∙ (sym c.allows.ensures ∙ c.if-not-allows.false) in
+    let live : is_reachable all (front ++ count ∷ []) ≡ true = ap (λ items. is_reachable all (take depth items ++ count ∷ [])) (sym c.deref.ensures.value) ∙ (sym c.allows.ensures ∙ c.if-not-allows.false) in
     let due = child_due all closed row later (front ++ count ∷ []) (told self) live (sym c.weights_allow.ensures.value ∙ c.if-not-weights_allow.false) in
     let here = ap (λ f. enter_best all closed row later f (told c.weights_allow.new.self)) child ∙ ap (enter_best all closed row later (front ++ count ∷ [])) c.weights_allow.ensures.told ∙ sym due in (
       steps.0 ∙ here,

@@ -1,5 +1,5 @@
 use Rattle.std.proofs.Common.{rules, ◌≡◌, ◌+◌, ◌-◌, ◌<◌, [], ◌∷◌, ◌++◌, true, length, take, drop, sym, ap, ◌∙◌, arith, subst}
-use Rattle.search_definitions.specs.Fronts.{is_live}
+use Rattle.search_definitions.specs.Fronts.{is_reachable}
 use Rattle.panel_search.specs.Front.{Tracks}
 use Rattle.panel_search.proofs.Tracking.{stands_there}
 use Rattle.panel_search.proofs.Stepping.{steps_err, steps_true, steps_false, first_spent, first_found, last_none, next_steps, enter_visits, enter_due, at_front, from_front, from_front_more, front_length, placed, front_of, at_child, child_due}
@@ -118,7 +118,7 @@ try_child-returns t c =
     let child = placed depth count counts below in
     let steps = steps_false all (depth + 1) (drop (depth + 1) all.classes) _ _ _ _ c.enter.new.self c.in_ok-enter.ensures c.if-branch.false in
     let same : take depth c.enter.new.self.counts.items ≡ front = front_of depth c.enter.new.self.counts.items front count long (steps.2 ∙ child) in
-    let live : is_live all (front ++ count ∷ []) ≡ true = ap (λ items. is_live all (take depth items ++ count ∷ [])) (sym c.deref.ensures.value) ∙ (sym c.allows.ensures ∙ c.if-not-allows.false) in
+    let live : is_reachable all (front ++ count ∷ []) ≡ true = ap (λ items. is_reachable all (take depth items ++ count ∷ [])) (sym c.deref.ensures.value) ∙ (sym c.allows.ensures ∙ c.if-not-allows.false) in
     let due = child_due all (drop (depth + 1) all.classes) (front ++ count ∷ []) _ live child in
     rw due (
       steps.0,
@@ -127,7 +127,7 @@ try_child-returns t c =
       record {
         places = steps.3.places;
         within = c.requires.stands.within;
-        live = ap (is_live all) same ∙ c.requires.stands.live;
+        live = ap (is_reachable all) same ∙ c.requires.stands.live;
         tally = from_front_more all depth _ c.enter.new.self.counts.items _ c.deref-3.ensures.value steps.3.places c.requires.stands.within c.give_back.ensures;
       },
     )
