@@ -1,3 +1,2 @@
-pub mod LineLemmas
 pub mod TellingLemmas
 pub mod CallLemmas

@@ -1,5 +1,5 @@
 -- What a command answers, and the number of a status.
-use Rattle.std.specs.Prelude.{◌≡◌, ℕ, List, string_bytes}
+use Rattle.std.specs.Prelude.{◌≡◌, ℕ, List}
 use Rattle.command_shell.specs.declared.answer.Answer.{Answer}
 use Rattle.command_shell.specs.declared.answer.Answer.TheVariants as answer
 use Rattle.command_shell.specs.declared.status.Printed.{Printed}
@@ -16,7 +16,7 @@ pub data Saying : Type 0 where
 
 abbrev pub saying : Answer → Saying
 saying (answer.Prints printed text) = Prints printed text.items
-saying (answer.Stops cause line) = Stops cause (string_bytes line)
+saying (answer.Stops cause line) = Stops cause line.items
 
 abbrev pub printed_number : Printed → ℕ
 printed_number Done = 0

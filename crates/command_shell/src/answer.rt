@@ -17,6 +17,6 @@ pub enum Answer {
         /// Why the command stops.
         cause: Cause,
         /// The line with its LF.
-        line: String,
+        line: Vec<u8>,
     },
 }

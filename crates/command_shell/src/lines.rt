@@ -1,20 +1,26 @@
 //! The lines that several commands tell.
 
-ghost use Rattle.std.specs.Prelude.{◌≡◌, IfOk, string_bytes};
+ghost use Rattle.std.specs.Prelude.{◌≡◌, IfOk};
 ghost use Rattle.command_shell.specs.Answers.{Prints, saying};
 ghost use Rattle.command_shell.specs.Lines.{input_line as words_of_input, no_panel_line};
 
 use crate::answer::Answer;
 use crate::status::Printed;
 use std::alloc::{AllocError, Global};
+use text_lines::{end_line, push_number};
 
 const NO_PANEL_LINE: &[u8] = b"no panel\n";
 
 /// Where the input first goes wrong: the line, counted from 1, and the lowest kind of fault in it.
-pub fn input_line(alloc: Global, line: usize, kind: u8) -> Result<String, AllocError>
-    ensures { IfOk result (λ text. string_bytes text ≡ words_of_input (record { line = line; kind = kind })) }
+pub fn input_line(alloc: Global, line: usize, kind: u8) -> Result<Vec<u8>, AllocError>
+    ensures { IfOk result (λ text. text.items ≡ words_of_input (record { line = line; kind = kind })) }
 {
-    format!(in alloc; "input\t{line}\t{kind}\n")
+    let mut text = Vec::new(alloc);
+    text.extend_from_slice(b"input")?;
+    push_number(&mut text, line)?;
+    push_number(&mut text, usize::from(kind))?;
+    end_line(&mut text)?;
+    Ok(text)
 }
 
 /// The answer that no quota panel exists.

@@ -35,7 +35,7 @@ pub(crate) fn tell<O: Sink, E: Sink>(out: &mut O, errs: &mut E, answer: &Answer)
             Err(_) => write_fault(errs),
         },
         Answer::Stops { cause, line } => {
-            complain(errs, line.as_bytes());
+            complain(errs, line);
             Status::Stopped(*cause)
         }
     }

@@ -40,7 +40,7 @@ impl Command for Halt {
     fn answer(&self, alloc: Global, _bytes: &[u8]) -> Result<Answer, AllocError> {
         Ok(Answer::Stops {
             cause: self.0,
-            line: String::from_str(alloc, "stopped\n")?,
+            line: Vec::from_slice(alloc, b"stopped\n")?,
         })
     }
 
