@@ -4,7 +4,7 @@ use Rattle.std.specs.Prelude.{◌≢◌, ◌⊎◌, IfSome, ⊤}
 use Rattle.std.proofs.lemmas.Bool.{ltb-true, ltb-false}
 use Rattle.pool_definitions.specs.Certificate.{Answer}
 use Rattle.pool_definitions.specs.Pool.{Pool, panels}
-use Rattle.text_definitions.specs.Lines.{Fault}
+use Rattle.line_definitions.specs.Lines.{Fault}
 use Rattle.text_definitions.specs.PoolText.{spelling}
 use Rattle.text_definitions.specs.PoolReading.{read}
 use Rattle.bundle_definitions.specs.BundleText.{bundle_text}
@@ -36,7 +36,7 @@ IsOfRun (Stops cause.Spent line) = ⊤
 IsOfRun (Stops cause.Rule line) = ⊥
 
 each_is_of_run : (limits : Limits) (pool : Pool) (ending : Ending) → IsOfRun (answer_of limits pool ending)
-each_is_of_run limits pool (Ending.Found found) = tt
+each_is_of_run limits pool (Ending.Found last found) = tt
 each_is_of_run limits pool Ending.NoPanel = tt
 each_is_of_run limits pool (Ending.TooWide stood pass) = tt
 each_is_of_run limits pool (Ending.TotalPasses stood pass) = tt
@@ -49,7 +49,7 @@ of_run limits pool answer means = subst IsOfRun (sym means.is) (each_is_of_run l
 -- a text that says that it is done is a bundle
 is_bundle : (limits : Limits) (pool : Pool) (text : List ℕ) (ending : Ending) → SaysOf limits pool ending → Prints printed.Done text ≡ answer_of limits pool ending →
     (answer : Answer) × FindsGreatest limits pool answer × (text ≡ bundle_text pool answer)
-is_bundle limits pool text (Ending.Found found) says is = (found, says, ap bytes_of is)
+is_bundle limits pool text (Ending.Found last found) says is = (found, says, ap bytes_of is)
 is_bundle limits pool text Ending.NoPanel says is = absurd (cc)
 is_bundle limits pool text (Ending.TooWide stood pass) says is = absurd (cc)
 is_bundle limits pool text (Ending.TotalPasses stood pass) says is = absurd (cc)
@@ -59,7 +59,7 @@ is_bundle limits pool text (Ending.NodesSpent stood) says is = absurd (cc)
 -- and one that says that there is none is the line for that
 is_none : (limits : Limits) (pool : Pool) (text : List ℕ) (ending : Ending) → SaysOf limits pool ending → Prints printed.NoPanel text ≡ answer_of limits pool ending →
     FindsNone limits pool × (text ≡ no_panel_line)
-is_none limits pool text (Ending.Found found) says is = absurd (cc)
+is_none limits pool text (Ending.Found last found) says is = absurd (cc)
 is_none limits pool text Ending.NoPanel says is = (says, ap bytes_of is)
 is_none limits pool text (Ending.TooWide stood pass) says is = absurd (cc)
 is_none limits pool text (Ending.TotalPasses stood pass) says is = absurd (cc)

@@ -3,11 +3,11 @@ use Rattle.std.specs.Prelude.{◌≡◌, ◌≢◌, ◌⊎◌, ◌≤◌, ℕ, L
 use Rattle.pool_definitions.specs.Certificate.{Answer, Certifies}
 use Rattle.pool_definitions.specs.Lottery.{LeximinGreatest}
 use Rattle.pool_definitions.specs.Pool.{Pool, panels}
-use Rattle.text_definitions.specs.Lines.{Fault}
+use Rattle.line_definitions.specs.Lines.{Fault}
 use Rattle.bundle_definitions.specs.BundleText.{bundle_text}
 use Rattle.search_definitions.specs.Classes.{classes_of}
 use Rattle.search_definitions.specs.Visits.{first_search}
-use Rattle.run_definitions.specs.Run.{Ending, Limits, RunEnds}
+use Rattle.run_definitions.specs.Run.{Ending, Limits, RunEnds, RunFinds}
 use Rattle.command_shell.specs.declared.status.Printed.{Printed}
 use Rattle.command_shell.specs.declared.status.Printed.TheVariants as printed
 use Rattle.command_shell.specs.declared.status.Cause.TheVariants as cause
@@ -20,7 +20,7 @@ use Rattle.pool_answers.specs.OfPool.{HoldsPool, TellsFault, pool_in}
 
 -- what is answered where a run ends so
 abbrev pub answer_of : Limits → Pool → Ending → Saying
-answer_of limits pool (Ending.Found found) = Prints printed.Done (bundle_text pool found)
+answer_of limits pool (Ending.Found last found) = Prints printed.Done (bundle_text pool found)
 answer_of limits pool Ending.NoPanel = Prints printed.NoPanel no_panel_line
 answer_of limits pool (Ending.TooWide stood pass) = Stops cause.Wide (wide_line stood pass)
 answer_of limits pool (Ending.TotalPasses stood pass) = Stops cause.Wide (total_line pass)
@@ -29,7 +29,7 @@ answer_of limits pool (Ending.NodesSpent stood) = Stops cause.Spent (nodes_spent
 
 -- the run finds this answer, whose lottery is certified by its stages: no lottery over the pool's quota panels is above it
 pub record FindsGreatest (limits : Limits) (pool : Pool) (answer : Answer) : Type 0 where
-  pub ends : RunEnds pool limits (Ending.Found answer)
+  pub ends : RunFinds pool limits answer
   pub certified : Certifies pool answer.lottery answer.stages
   pub greatest : LeximinGreatest pool answer.lottery
 
@@ -41,7 +41,7 @@ pub record FindsNone (limits : Limits) (pool : Pool) : Type 0 where
 
 -- what such an end says of the pool
 abbrev pub SaysOf : Limits → Pool → Ending → Type 0
-SaysOf limits pool (Ending.Found found) = FindsGreatest limits pool found
+SaysOf limits pool (Ending.Found last found) = FindsGreatest limits pool found
 SaysOf limits pool Ending.NoPanel = FindsNone limits pool
 SaysOf limits pool (Ending.TooWide stood pass) = ⊤
 SaysOf limits pool (Ending.TotalPasses stood pass) = ⊤

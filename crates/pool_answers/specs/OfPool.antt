@@ -1,8 +1,8 @@
 -- What a command about a pool answers about a text: it is about the pool whose text it is, or tells where it first goes wrong.
 use Rattle.std.specs.Prelude.{◌≡◌, ◌≤◌, ℕ, nat_lt, if◌then◌else◌, List, length, Result, Ok, Err}
-use Rattle.pool_definitions.specs.Pool.{Pool}
-use Rattle.text_definitions.specs.Lines.{Fault}
-use Rattle.text_definitions.specs.PoolText.{HasText, spelling}
+use Rattle.pool_definitions.specs.Pool.{IsPool, Pool}
+use Rattle.line_definitions.specs.Lines.{Fault}
+use Rattle.text_definitions.specs.PoolText.{spelling}
 use Rattle.text_definitions.specs.PoolReading.{read}
 use Rattle.command_shell.specs.declared.status.Cause.TheVariants.{Input}
 use Rattle.command_shell.specs.Answers.{Saying, Stops}
@@ -11,7 +11,7 @@ use Rattle.command_shell.specs.Told.{Bytes, Told, GainsLine, HasNoFault, HeldAll
 
 -- the bytes are the text of this pool
 pub record IsTextOf (pool : Pool) (bytes : List ℕ) : Type 0 where
-  pub has_text : HasText pool
+  pub is_pool : IsPool pool
   pub spelled : bytes ≡ spelling pool
   pub read : read bytes ≡ Ok pool
 

@@ -2,7 +2,7 @@
 use Rattle.std.proofs.Common.{◌≡◌, Err, Some, subst, sym}
 use Rattle.pool_definitions.specs.Pool.{Pool}
 use Rattle.search_definitions.specs.Classes.{classes_of}
-use Rattle.run_definitions.specs.Run.{Ending, Limits}
+use Rattle.run_definitions.specs.Run.{Ending, Limits, run_limits}
 use Rattle.leximin_run.specs.Answers.{TellsEnding, stood}
 use Rattle.leximin_run.specs.declared.stops.Stop.{Stop}
 use Rattle.leximin_run.specs.declared.stops.Stop.TheVariants.{TooWide, TotalPasses, PivotsSpent, NodesSpent, OutOfMemory}
@@ -12,7 +12,7 @@ use Rattle.pool_answers.specs.Lines.{pivots_spent_line}
 use Rattle.pool_answers.specs.Lottery.{LotteryMeans}
 use Rattle.pool_commands.specs.Found.{TellsStop}
 
-pub stop_is_meant : (limits : Limits) (pool : Pool) (stop : Stop) → TellsEnding (classes_of pool) limits (Err stop) → (answer : Saying) → TellsStop limits stop answer → LotteryMeans limits pool answer
+pub stop_is_meant : (limits : Limits) (pool : Pool) (stop : Stop) → TellsEnding (classes_of pool) (run_limits limits) (Err stop) → (answer : Saying) → TellsStop limits stop answer → LotteryMeans limits pool answer
 stop_is_meant limits pool (TooWide at pass) ends answer is = record { ending = Ending.TooWide (stood at) pass; ends = ends; says = tt; is = is }
 stop_is_meant limits pool (TotalPasses at place total den) ends answer is =
     record { ending = Ending.TotalPasses ends.0 ends.1; ends = ends.4; says = tt; is = is ends.1 ends.3 }

@@ -1,11 +1,9 @@
 //! The command `panel`: the first quota panel of a pool.
 
-ghost use Rattle.std.specs.Prelude.{◌≡◌, IfOk, string_bytes, IsTrue};
-ghost use Rattle.pool_definitions.specs.Pool.{is_quota_panel};
-ghost use Rattle.pool_answers.specs.Lines.{panel_line as words_of_panel};
+ghost use Rattle.std.specs.Prelude.{IfOk};
 ghost use Rattle.pool_commands.specs.Found.{FirstSays};
 
-use crate::lines::nodes_spent_line;
+use crate::lines::{nodes_spent_line, panel_line};
 use crate::of_pool::PoolCommand;
 use alike::{classes, first_panel};
 use command_shell::{Answer, Cause, Printed, no_panel};
@@ -32,7 +30,7 @@ impl PoolCommand for FirstPanel {
         match first_of(alloc, self.nodes, pool) {
             Ok(Some(panel)) => Ok(Answer::Prints {
                 printed: Printed::Done,
-                text: panel_line(alloc, pool, &panel)?.into_bytes(),
+                text: panel_line(alloc, pool, &panel)?,
             }),
             Ok(None) => no_panel(alloc),
             Err(SearchStop::Spent) => Ok(Answer::Stops {
@@ -62,18 +60,4 @@ fn first_of(alloc: Global, nodes: u64, pool: &Pool) -> Result<Option<Panel>, Sea
         Ok(panel) => Ok(Some(panel)),
         Err(_) => Err(SearchStop::OutOfMemory),
     }
-}
-
-/// The line of a quota panel: the ids of its members.
-fn panel_line(alloc: Global, pool: &Pool, panel: &Panel) -> Result<String, AllocError>
-    requires { IsTrue (is_quota_panel pool.now panel.now) }
-    ensures { IfOk result (λ line. string_bytes line ≡ words_of_panel pool.now panel.now) }
-{
-    let mut line = String::from_str(alloc, "panel")?;
-    for number in panel.members() {
-        line.push_str("\t")?;
-        line.push_str(pool.volunteers()[*number].id().as_str())?;
-    }
-    line.push_str("\n")?;
-    Ok(line)
 }

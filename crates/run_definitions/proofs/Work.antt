@@ -1,13 +1,13 @@
 -- Each step of a run leaves less of it, so each run ends.
-use Rattle.std.proofs.Common.{◌≡◌, ◌≢◌, ℕ, zero, suc, ◌+◌, ◌-◌, ◌*◌, ◌^◌, ◌<◌, ◌≤◌, Bool, true, false, cond, leb, ltb, List, length, Option, Some, None, Result, Ok, Err, refl, sym, ap, ◌∙◌, subst, arith}
+use Rattle.std.proofs.Common.{◌≡◌, ◌≢◌, ℕ, zero, suc, ◌+◌, ◌-◌, ◌*◌, ◌<◌, ◌≤◌, Bool, true, false, cond, leb, List, length, Option, Some, None, Result, Ok, Err, refl, sym, ap, ◌∙◌, subst, arith}
 use Rattle.std.specs.Prelude.{slice_set}
-use Rattle.std.proofs.lemmas.Bool.{leb-false, lt-ltb}
+use Rattle.std.proofs.lemmas.Bool.{leb-false}
 use Rattle.pool_definitions.specs.Pool.{IsPool, Pool}
 use Rattle.row_definitions.specs.declared.Pass.{Pass}
 use Rattle.row_definitions.specs.declared.Var.{Var}
 use Rattle.row_definitions.specs.Choice.{choice}
 use Rattle.row_definitions.specs.InOrder.{settled_count}
-use Rattle.row_definitions.specs.Pivot.{one_more, pivot, rows_after}
+use Rattle.row_definitions.specs.Pivot.{pivot, rows_after}
 use Rattle.row_definitions.specs.Steps.{add_column, close_stage, closed_by, enter_stage, open_row}
 use Rattle.row_definitions.specs.Table.{Table, row_at}
 use Rattle.row_definitions.proofs.PivotLaws.{after-Ok_parts}
@@ -40,18 +40,14 @@ less_by_pivot : (limits : RunLimits) (table : Table) (r : ℕ) (v : Var) (made :
     work_left limits made < work_left limits table
 unfolding work_left pivot
 less_by_pivot limits table r v made ranges open_now few e =
-    let parts = after-Ok_parts (rows_after table r v) (λ rows. Ok (record table { rows = rows; basic = slice_set table.basic r v; pivots = one_more table.pivots })) made e in
-    let last : ◌≡◌ {A = Result Table Pass} (Ok (record table { rows = parts.0; basic = slice_set table.basic r v; pivots = one_more table.pivots })) (Ok made) = parts.2 in
-    let same : ◌≡◌ {A = Table} (record table { rows = parts.0; basic = slice_set table.basic r v; pivots = one_more table.pivots }) made = cc in
+    let parts = after-Ok_parts (rows_after table r v) (λ rows. Ok (record table { rows = rows; basic = slice_set table.basic r v; pivots = table.pivots + 1 })) made e in
+    let last : ◌≡◌ {A = Result Table Pass} (Ok (record table { rows = parts.0; basic = slice_set table.basic r v; pivots = table.pivots + 1 })) (Ok made) = parts.2 in
+    let same : ◌≡◌ {A = Table} (record table { rows = parts.0; basic = slice_set table.basic r v; pivots = table.pivots + 1 }) made = cc in
     let sizes : length table.sizes ≡ length made.sizes = ap (λ t. length t.sizes) same in
     let settled : settled_count table ≡ settled_count made = ap settled_count same in
     let open_then : made.in_stage ≡ true = sym (ap (λ t. t.in_stage) same) ∙ open_now in
-    let counted : one_more table.pivots ≡ made.pivots = ap (λ t. t.pivots) same in
-    let more : one_more table.pivots ≡ table.pivots + 1 = one_more_is table.pivots (omega (arith, few, ranges.few_pivots)) in
-    omega (arith, sizes, settled, counted, more, few, in_stage_turns table open_now, in_stage_turns made open_then, turns_in_stage (choice table), turns_in_stage (choice made))
-  where
-    one_more_is : (n : ℕ) → n < 2 ^ 64 - 1 → one_more n ≡ n + 1
-    one_more_is n l = let t : ltb n (2 ^ 64 - 1) ≡ true = lt-ltb n (2 ^ 64 - 1) l in rw t refl
+    let counted : table.pivots + 1 ≡ made.pivots = ap (λ t. t.pivots) same in
+    omega (arith, sizes, settled, counted, few, in_stage_turns table open_now, in_stage_turns made open_then, turns_in_stage (choice table), turns_in_stage (choice made))
 
 less_by_column : (limits : RunLimits) (table : Table) (counts : List ℕ) → table.in_stage ≡ true → choice table ≡ None → choice (add_column table counts) ≢ None →
     work_left limits (add_column table counts) < work_left limits table

@@ -55,6 +55,3 @@ lines_before_end pool =
 abbrev pub spelling : Pool → List ℕ
 spelling pool = text_of (lines_before_end pool ++ end_line ∷ [])
 
--- the pools that have a text: all that keep the limits.
-abbrev pub HasText : Pool → Type 0
-HasText pool = IsPool pool

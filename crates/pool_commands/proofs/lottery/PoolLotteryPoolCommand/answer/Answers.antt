@@ -11,8 +11,8 @@ returns-in_ok-write_bundle-in-Ok-Found c =
     let ends = rw c.in-Ok-Found.field-0-is at c.in-Ok-Found.ensures.run in
     let certified = rw c.in-Ok-Found.field-0-is at c.in-Ok-Found.ensures.certified in
     record {
-      ending = Ending.Found c.in-Ok-Found.answer;
-      ends = ends;
+      ending = Ending.Found ends.0 c.in-Ok-Found.answer;
+      ends = ends.1;
       says = record { ends = ends; certified = certified.0; greatest = certified.1 };
       is = ap (Prints printed.Done) c.in_ok-write_bundle-in-Ok-Found.ensures;
     }
