@@ -1,11 +1,15 @@
 -- The parts of the table that are no rows, and what they keep.
-use Rattle.std.specs.Prelude.{◌≡◌, ◌≢◌, ℕ, ◌-◌, ◌<◌, ◌≤◌, ◌^◌, ◌≤ℤ◌, pos, Bool, true, if◌then◌else◌, List, [], length, take, slice_index, slice_index_or}
+use Rattle.std.specs.Prelude.{◌≡◌, ◌≢◌, ℕ, ◌+◌, ◌-◌, nat_lt, ◌<◌, ◌≤◌, ◌^◌, ◌≤ℤ◌, pos, Bool, true, if◌then◌else◌, List, [], length, take, slice_index, slice_index_or}
 use Rattle.std.specs.List.{All}
 use Rattle.row_definitions.specs.declared.Var.{Var}
 use Rattle.row_definitions.specs.Row.{Row, reach}
 use Rattle.row_definitions.specs.Table.{Table}
 use Rattle.row_definitions.specs.InOrder.{count_in, IsInOrder}
 use Rattle.exact_table.specs.Marks.{marks_of, settled_of, AreMarks}
+
+-- one more, of a count that stays at its last value 2 ^ 64 - 1
+abbrev pub counted_on : ℕ → ℕ
+counted_on count = if nat_lt count (2 ^ 64 - 1) then count + 1 else count
 
 -- how many stages are closed, of those entered
 abbrev pub closed_count : ℕ → Bool → ℕ

@@ -10,7 +10,7 @@ use Rattle.basic_laws.proofs.Tests.{or-true}
 use Rattle.row_definitions.specs.declared.Var.{Var}
 use Rattle.row_definitions.specs.Row.{Row, entry}
 use Rattle.row_definitions.specs.Table.{Table, row_at}
-use Rattle.row_definitions.specs.Pivot.{rows_after, one_more, pivot, first_rows, first_table, start}
+use Rattle.row_definitions.specs.Pivot.{rows_after, pivot, first_rows, first_table, start}
 use Rattle.row_definitions.specs.Width.{most_of, in_turn, reach_operations}
 use Rattle.row_definitions.specs.Steps.{enter_stage, open_row, settled_by, closed_by, close_stage, add_column}
 use Rattle.row_definitions.specs.InOrder.{IsInOrder, settled_count}
@@ -65,10 +65,10 @@ add-keeps_stages table counts h = record {
 -- ---- a pivot
 module _ (table : Table) (rows : List Row) (r : ℕ) (v : Var) where
   made : Table
-  made = record table { rows = rows; basic = set table.basic r v; pivots = one_more table.pivots }
+  made = record table { rows = rows; basic = set table.basic r v; pivots = table.pivots + 1 }
 
-  replaced-keeps : HasClosedRowsOf table (record table { rows = rows; basic = set table.basic r v; pivots = one_more table.pivots }) → KeepsStages table →
-      KeepsStages (record table { rows = rows; basic = set table.basic r v; pivots = one_more table.pivots })
+  replaced-keeps : HasClosedRowsOf table (record table { rows = rows; basic = set table.basic r v; pivots = table.pivots + 1 }) → KeepsStages table →
+      KeepsStages (record table { rows = rows; basic = set table.basic r v; pivots = table.pivots + 1 })
   unfolding made
   replaced-keeps kept h = record {
     none_below = λ k t l u. subst (λ z. pos 0 ≤ℤ z) (sym (same k t l)) (h.none_below k t l u);
@@ -88,8 +88,8 @@ module _ (table : Table) (rows : List Row) (r : ℕ) (v : Var) where
 pub pivot-keeps_stages : (table made : Table) (r : ℕ) (v : Var) → IsPivoted table made r v → KeepsStages table → KeepsStages made
 unfolding pivot
 pivot-keeps_stages table made r v p h =
-    let parts = after-Ok_parts (rows_after table r v) (λ rows. Ok (record table { rows = rows; basic = set table.basic r v; pivots = one_more table.pivots })) made p.pivoted in
-    let same : ◌≡◌ {A = Table} (record table { rows = parts.0; basic = set table.basic r v; pivots = one_more table.pivots }) made = cc in
+    let parts = after-Ok_parts (rows_after table r v) (λ rows. Ok (record table { rows = rows; basic = set table.basic r v; pivots = table.pivots + 1 })) made p.pivoted in
+    let same : ◌≡◌ {A = Table} (record table { rows = parts.0; basic = set table.basic r v; pivots = table.pivots + 1 }) made = cc in
     let kept = pivot-keeps_closed table p.in_order p.open_now r v p.chosen made p.pivoted in
     subst KeepsStages same (replaced-keeps table parts.0 r v (subst (HasClosedRowsOf table) (sym same) kept) h)
 

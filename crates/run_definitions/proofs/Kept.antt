@@ -11,7 +11,7 @@ use Rattle.row_definitions.specs.declared.Var.{Var}
 use Rattle.row_definitions.specs.Choice.{choice}
 use Rattle.row_definitions.specs.InOrder.{IsInOrder, settled_count}
 use Rattle.row_definitions.specs.Laws.{HasClosedRowsOf}
-use Rattle.row_definitions.specs.Pivot.{start, pivot, rows_after, one_more, first_table, first_rows}
+use Rattle.row_definitions.specs.Pivot.{start, pivot, rows_after, first_table, first_rows}
 use Rattle.row_definitions.specs.Row.{Row}
 use Rattle.row_definitions.specs.Steps.{add_column, close_stage, closed_by, enter_stage, open_row}
 use Rattle.row_definitions.specs.Table.{Table, row_at}
@@ -120,10 +120,10 @@ module _ (all : Classes) (limits : RunLimits) (table : Table) (keeps : KeepsRun 
         ap₂ (λ rows row. price all rows row) (ap (take k) rows_stay) (ap (row_at made) at_k ∙ stays.numbers k 0 before) ∙ keeps.priced_out k before;
   }
     where
-      parts : (rows : List Row) × (rows_after table r v ≡ Ok rows) × (◌≡◌ {A = Result Table Pass} (Ok (record table { rows = rows; basic = slice_set table.basic r v; pivots = one_more table.pivots })) (Ok made))
-      parts = after-Ok_parts (rows_after table r v) (λ rows. Ok (record table { rows = rows; basic = slice_set table.basic r v; pivots = one_more table.pivots })) made e
+      parts : (rows : List Row) × (rows_after table r v ≡ Ok rows) × (◌≡◌ {A = Result Table Pass} (Ok (record table { rows = rows; basic = slice_set table.basic r v; pivots = table.pivots + 1 })) (Ok made))
+      parts = after-Ok_parts (rows_after table r v) (λ rows. Ok (record table { rows = rows; basic = slice_set table.basic r v; pivots = table.pivots + 1 })) made e
 
-      same : ◌≡◌ {A = Table} (record table { rows = parts.0; basic = slice_set table.basic r v; pivots = one_more table.pivots }) made
+      same : ◌≡◌ {A = Table} (record table { rows = parts.0; basic = slice_set table.basic r v; pivots = table.pivots + 1 }) made
       same = let p = parts.2 in cc
 
       stays : HasClosedRowsOf table made
@@ -132,12 +132,8 @@ module _ (all : Classes) (limits : RunLimits) (table : Table) (keeps : KeepsRun 
       rows_stay : closed_rows made ≡ closed_rows table
       rows_stay = closed_rows_stay table keeps.in_order open_now r v chosen made e
 
-      more : (n : ℕ) → n < limits.pivots → one_more n ≤ limits.pivots
-      more n l = by (ltb n (2 ^ 64 - 1))
-        where
-          by : (b : Bool) → cond b (n + 1) n ≤ limits.pivots
-          by true = omega arith
-          by false = omega arith
+      more : (n : ℕ) → n < limits.pivots → n + 1 ≤ limits.pivots
+      more n l = omega arith
 
   -- a step that goes on
   pub step_kept : KeepsLimits all → (made : Table) → step all limits table ≡ GoOn made → KeepsRun all limits made

@@ -1,13 +1,13 @@
 -- Each step of a run leaves less of it, so each run ends.
 use Rattle.std.proofs.Common.{◌≡◌, ◌≢◌, ℕ, zero, suc, ◌+◌, ◌-◌, ◌*◌, ◌^◌, ◌<◌, ◌≤◌, Bool, true, false, cond, leb, ltb, List, length, Option, Some, None, Result, Ok, Err, refl, sym, ap, ◌∙◌, subst, arith}
 use Rattle.std.specs.Prelude.{slice_set}
-use Rattle.std.proofs.lemmas.Bool.{leb-false, lt-ltb}
+use Rattle.std.proofs.lemmas.Bool.{leb-false}
 use Rattle.pool_definitions.specs.Pool.{IsPool, Pool}
 use Rattle.row_definitions.specs.declared.Pass.{Pass}
 use Rattle.row_definitions.specs.declared.Var.{Var}
 use Rattle.row_definitions.specs.Choice.{choice}
 use Rattle.row_definitions.specs.InOrder.{settled_count}
-use Rattle.row_definitions.specs.Pivot.{one_more, pivot, rows_after}
+use Rattle.row_definitions.specs.Pivot.{pivot, rows_after}
 use Rattle.row_definitions.specs.Steps.{add_column, close_stage, closed_by, enter_stage, open_row}
 use Rattle.row_definitions.specs.Table.{Table, row_at}
 use Rattle.row_definitions.proofs.PivotLaws.{after-Ok_parts}
@@ -36,22 +36,18 @@ in_stage_turns table open_now = ap (λ s. cond s (turns_by (choice table)) 3) op
 shut_turns : (table : Table) → table.in_stage ≡ false → turns_left table ≡ 3
 shut_turns table shut = ap (λ s. cond s (turns_by (choice table)) 3) shut
 
-less_by_pivot : (limits : RunLimits) (table : Table) (r : ℕ) (v : Var) (made : Table) → AreRunLimits limits → table.in_stage ≡ true → table.pivots < limits.pivots → pivot table r v ≡ Ok made →
+less_by_pivot : (limits : RunLimits) (table : Table) (r : ℕ) (v : Var) (made : Table) → table.in_stage ≡ true → table.pivots < limits.pivots → pivot table r v ≡ Ok made →
     work_left limits made < work_left limits table
 unfolding work_left pivot
-less_by_pivot limits table r v made ranges open_now few e =
-    let parts = after-Ok_parts (rows_after table r v) (λ rows. Ok (record table { rows = rows; basic = slice_set table.basic r v; pivots = one_more table.pivots })) made e in
-    let last : ◌≡◌ {A = Result Table Pass} (Ok (record table { rows = parts.0; basic = slice_set table.basic r v; pivots = one_more table.pivots })) (Ok made) = parts.2 in
-    let same : ◌≡◌ {A = Table} (record table { rows = parts.0; basic = slice_set table.basic r v; pivots = one_more table.pivots }) made = cc in
+less_by_pivot limits table r v made open_now few e =
+    let parts = after-Ok_parts (rows_after table r v) (λ rows. Ok (record table { rows = rows; basic = slice_set table.basic r v; pivots = table.pivots + 1 })) made e in
+    let last : ◌≡◌ {A = Result Table Pass} (Ok (record table { rows = parts.0; basic = slice_set table.basic r v; pivots = table.pivots + 1 })) (Ok made) = parts.2 in
+    let same : ◌≡◌ {A = Table} (record table { rows = parts.0; basic = slice_set table.basic r v; pivots = table.pivots + 1 }) made = cc in
     let sizes : length table.sizes ≡ length made.sizes = ap (λ t. length t.sizes) same in
     let settled : settled_count table ≡ settled_count made = ap settled_count same in
     let open_then : made.in_stage ≡ true = sym (ap (λ t. t.in_stage) same) ∙ open_now in
-    let counted : one_more table.pivots ≡ made.pivots = ap (λ t. t.pivots) same in
-    let more : one_more table.pivots ≡ table.pivots + 1 = one_more_is table.pivots (omega (arith, few, ranges.few_pivots)) in
-    omega (arith, sizes, settled, counted, more, few, in_stage_turns table open_now, in_stage_turns made open_then, turns_in_stage (choice table), turns_in_stage (choice made))
-  where
-    one_more_is : (n : ℕ) → n < 2 ^ 64 - 1 → one_more n ≡ n + 1
-    one_more_is n l = let t : ltb n (2 ^ 64 - 1) ≡ true = lt-ltb n (2 ^ 64 - 1) l in rw t refl
+    let counted : table.pivots + 1 ≡ made.pivots = ap (λ t. t.pivots) same in
+    omega (arith, sizes, settled, counted, few, in_stage_turns table open_now, in_stage_turns made open_then, turns_in_stage (choice table), turns_in_stage (choice made))
 
 less_by_column : (limits : RunLimits) (table : Table) (counts : List ℕ) → table.in_stage ≡ true → choice table ≡ None → choice (add_column table counts) ≢ None →
     work_left limits (add_column table counts) < work_left limits table
@@ -77,7 +73,7 @@ unfolding work_left enter_stage
 less_by_enter limits table shut = omega (arith, shut_turns table shut, turns_in_stage (choice (enter_stage table)))
 
 -- a step that goes on
-module _ (all : Classes) (limits : RunLimits) (table : Table) (limited : KeepsLimits all) (ranges : AreRunLimits limits) (keeps : KeepsRun all limits table) where
+module _ (all : Classes) (limits : RunLimits) (table : Table) (limited : KeepsLimits all) (keeps : KeepsRun all limits table) where
   pub step_lessens : (made : Table) → step all limits table ≡ GoOn made → work_left limits made < work_left limits table
   step_lessens made e = by (step all limits table) e (step_is all limits table)
     where
@@ -88,7 +84,7 @@ module _ (all : Classes) (limits : RunLimits) (table : Table) (limited : KeepsLi
       by next f (Enters shut some is) = let same : enter_stage table ≡ made = cc in subst LeavesLess same (less_by_enter limits table shut)
       by next f (Answers shut settled is) = absurd cc
       by next f (NoPivot open_now most is) = absurd cc
-      by next f (Pivots open_now r v after chosen few p is) = let same : after ≡ made = cc in less_by_pivot limits table r v made ranges open_now few (p ∙ ap Ok same)
+      by next f (Pivots open_now r v after chosen few p is) = let same : after ≡ made = cc in less_by_pivot limits table r v made open_now few (p ∙ ap Ok same)
       by next f (Passes open_now r v pass chosen few p is) = absurd cc
       by next f (NoVisits open_now done more is) = absurd cc
       by next f (Widens open_now done counts p is) =
@@ -118,7 +114,7 @@ module _ (all : Classes) (limits : RunLimits) (limited : KeepsLimits all) (range
       by : ((made : Table) → KeepsRun all limits made → work_left limits made < more → ComesTo (GoOn made)) → (next : Next) → step all limits table ≡ next → ComesTo next
       by rest (Ended ending) e = record { ending = ending; steps = 0; there = refl }
       by rest (GoOn made) e =
-          let less = step_lessens all limits table limited ranges keeps made e in rest made (step_kept all limits table keeps limited made e) (omega arith)
+          let less = step_lessens all limits table limited keeps made e in rest made (step_kept all limits table keeps limited made e) (omega arith)
 
   pub every_end : (ending : Ending) × Ends all limits ending
   every_end = by (opening all limits) refl
