@@ -1,24 +1,21 @@
 -- Each step of a run leaves less of it, so each run ends.
-use Rattle.std.proofs.Common.{◌≡◌, ◌≢◌, ℕ, zero, suc, ◌+◌, ◌-◌, ◌*◌, ◌^◌, ◌<◌, ◌≤◌, Bool, true, false, cond, leb, ltb, List, length, Option, Some, None, Result, Ok, Err, refl, sym, ap, ◌∙◌, subst, arith}
+use Rattle.std.proofs.Common.{◌≡◌, ◌≢◌, ℕ, zero, suc, ◌+◌, ◌-◌, ◌*◌, ◌<◌, ◌≤◌, true, false, cond, List, length, Option, Some, None, Result, Ok, refl, sym, ap, ◌∙◌, subst, arith}
 use Rattle.std.specs.Prelude.{slice_set}
-use Rattle.std.proofs.lemmas.Bool.{leb-false}
 use Rattle.pool_definitions.specs.Pool.{IsPool, Pool}
 use Rattle.row_definitions.specs.declared.Pass.{Pass}
 use Rattle.row_definitions.specs.declared.Var.{Var}
 use Rattle.row_definitions.specs.Choice.{choice}
 use Rattle.row_definitions.specs.InOrder.{settled_count}
 use Rattle.row_definitions.specs.Pivot.{pivot, rows_after}
-use Rattle.row_definitions.specs.Steps.{add_column, close_stage, closed_by, enter_stage, open_row}
-use Rattle.row_definitions.specs.Table.{Table, row_at}
+use Rattle.row_definitions.specs.Steps.{add_column, close_stage, closed_by, enter_stage}
+use Rattle.row_definitions.specs.Table.{Table}
 use Rattle.row_definitions.proofs.PivotLaws.{after-Ok_parts}
 use Rattle.row_definitions.proofs.StepsKeep.{some_settle}
 use Rattle.search_definitions.specs.Classes.{Classes, KeepsLimits, are_alike, classes_of}
-use Rattle.search_definitions.specs.Compositions.{price}
 use Rattle.search_definitions.proofs.Limits.{limits_kept}
 use Rattle.search_definitions.proofs.PoolClasses.{alone_makes_classes}
-use Rattle.spread_definitions.specs.Spreading.{spread}
 use Rattle.run_definitions.specs.Keeps.{AreLimits, AreRunLimits, KeepsRun}
-use Rattle.run_definitions.specs.Run.{Ending, Ended, Ends, GoOn, Limits, Next, NodesSpent, PivotsSpent, RunEnds, RunLimits, answered, closed_rows, follow, opening, parts_of, pivoted, priced, pricing_visits, run_limits, step, step_in_stage}
+use Rattle.run_definitions.specs.Run.{Ending, Ended, Ends, GoOn, Limits, Next, RunEnds, RunLimits, follow, opening, run_limits, step}
 use Rattle.run_definitions.specs.Work.{turns_by, turns_left, work_left}
 use Rattle.run_definitions.proofs.Kept.{opening_kept, step_kept}
 use Rattle.run_definitions.proofs.Priced.{is_chosen}
