@@ -6,51 +6,22 @@ use std::alloc::Global;
 use std::process::Abort;
 use std::test::Fail;
 
-/// What is added to a pool.
-#[derive(Clone, Copy, Debug)]
-enum Step<'a> {
-    Category(&'a str),
-    Value(&'a str, usize, usize),
-    Volunteer(&'a str, &'a [&'a str]),
-}
-
-fn add(alloc: Global, pool: &mut Pool, step: Step<'_>) -> Result<(), BuildStop> {
-    match step {
-        Step::Category(name) => pool.add_category(name),
-        Step::Value(name, lower, upper) => pool.add_value(name, lower, upper),
-        Step::Volunteer(id, texts) => {
-            let mut values = Vec::new(alloc);
-            for text in texts {
-                values.push(Name::new(alloc, text)?)?;
-            }
-            pool.add_volunteer(id, &values)
-        }
-    }
-}
-
-fn built(alloc: Global, size: usize, steps: &[Step<'_>]) -> Result<Pool, BuildStop> {
-    let mut pool = Pool::new(alloc, size)?;
-    for step in steps {
-        add(alloc, &mut pool, *step)?;
-    }
-    Ok(pool)
-}
-
 /// Two women and two men, one of each to be chosen.
 fn four(alloc: Global) -> Result<Pool, BuildStop> {
-    built(
-        alloc,
-        2,
-        &[
-            Step::Category("gender"),
-            Step::Value("female", 1, 1),
-            Step::Value("male", 1, 1),
-            Step::Volunteer("a", &["female"]),
-            Step::Volunteer("b", &["female"]),
-            Step::Volunteer("c", &["male"]),
-            Step::Volunteer("d", &["male"]),
-        ],
-    )
+    let mut pool = Pool::new(alloc, 2)?;
+    pool.add_category("gender")?;
+    pool.add_value("female", 1, 1)?;
+    pool.add_value("male", 1, 1)?;
+    for (id, gender) in [
+        ("a", "female"),
+        ("b", "female"),
+        ("c", "male"),
+        ("d", "male"),
+    ] {
+        let value = Name::new(alloc, gender)?;
+        pool.add_volunteer(id, &[value])?;
+    }
+    Ok(pool)
 }
 
 /// Each class is one open volunteer, in order, with these values.

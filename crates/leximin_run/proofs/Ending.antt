@@ -3,6 +3,7 @@ use Rattle.std.proofs.Common.{◌≡◌, ◌<◌, ◌≤◌, false, cond, ltb, L
 use Rattle.std.specs.List.{All}
 use Rattle.std.proofs.lemmas.Bool.{le-ltb}
 use Rattle.std.proofs.lemmas.List.Elements.{All-from_recursion, recursion_from_All}
+use Rattle.basic_laws.proofs.Each.{each_mapped}
 use Rattle.pool_definitions.specs.Lottery.{Lottery}
 use Rattle.row_definitions.specs.Choice.{choice}
 use Rattle.row_definitions.specs.InOrder.{IsInOrder, settled_count}
@@ -11,7 +12,6 @@ use Rattle.row_definitions.specs.Steps.{enter_stage, fraction_of, solution}
 use Rattle.row_definitions.specs.Table.{Table}
 use Rattle.row_definitions.proofs.Satisfied.{solution-stands}
 use Rattle.search_definitions.specs.Classes.{Classes}
-use Rattle.search_definitions.proofs.Listed.{each_mapped}
 use Rattle.spread_definitions.specs.Spreading.{TotalPass, spread}
 use Rattle.run_definitions.specs.Run.{Ends, RunLimits, GoOn, Ended, Found, NodesSpent, PivotsSpent, TooWide, TotalPasses, answered, parts_of, stage_of, step, step_in_stage}
 use Rattle.run_definitions.proofs.Following.{comes_to_end, goes_on}

@@ -1,12 +1,12 @@
 -- What a step of the run needs, and what it makes.
-use Rattle.std.proofs.Common.{◌≡◌, ◌≢◌, ℕ, ◌+◌, ◌-◌, ◌*◌, ◌^◌, ◌<◌, ◌≤◌, Bool, true, false, cond, leb, ltb, List, [], ◌∷◌, ◌++◌, length, Option, Some, None, Result, Ok, pos, refl, sym, ap, ap₂, ◌∙◌, subst, arith}
+use Rattle.std.proofs.Common.{◌≡◌, ◌≢◌, ℕ, ◌+◌, ◌-◌, ◌*◌, ◌^◌, ◌<◌, ◌≤◌, Bool, true, false, cond, leb, ltb, List, [], ◌∷◌, ◌++◌, length, Option, Some, None, Result, Err, pos, refl, sym, ap, ap₂, ◌∙◌, subst, arith}
 use Rattle.std.specs.List.{AllByRecursion}
 use Rattle.std.proofs.Math.Nat.{pow-le-pow_right}
 use Rattle.std.proofs.lemmas.Bool.{le-ltb, lt-ltb}
 use Rattle.std.proofs.lemmas.Nat.{pow_pos}
 use Rattle.std.proofs.lemmas.List.{length-map, map-append}
 use Rattle.std.proofs.lemmas.List.Elements.{recursion_from_All}
-use Rattle.pool_definitions.proofs.Sums.{each_map}
+use Rattle.basic_laws.proofs.Each.{each_map, each_mapped}
 use Rattle.row_definitions.specs.declared.Var.{Var}
 use Rattle.row_definitions.specs.Choice.{choice}
 use Rattle.row_definitions.specs.InOrder.{settled_count}
@@ -18,12 +18,14 @@ use Rattle.search_definitions.specs.Classes.{Classes, KeepsLimits}
 use Rattle.search_definitions.specs.Compositions.{price}
 use Rattle.search_definitions.specs.Fronts.{HaveEntries, HaveReach, sizes_of}
 use Rattle.search_definitions.specs.Visits.{best_search}
-use Rattle.search_definitions.proofs.Listed.{each_mapped}
 use Rattle.run_definitions.specs.Run.{RunLimits, Next, GoOn, Ended, NodesSpent, PivotsSpent, answered, closed_rows, parts_of, pivoted, priced, pricing_visits, step, step_in_stage}
 use Rattle.spread_definitions.specs.Spreading.{spread}
 use Rattle.run_definitions.specs.Keeps.{IsPriced, KeepsRun}
 use Rattle.run_definitions.proofs.Kept.{step_kept}
-use Rattle.leximin_run.specs.Advancing.{Stands}
+use Rattle.panel_search.specs.Answers.{AnswersBest}
+use Rattle.panel_search.specs.declared.searching.SearchStop.{SearchStop}
+use Rattle.panel_search.specs.declared.searching.SearchStop.TheVariants.{Spent, OutOfMemory}
+use Rattle.leximin_run.specs.Advancing.{Refuses, Stands, refusal_of}
 
 -- ---- the rows that are priced
 
@@ -115,8 +117,12 @@ module _ (all : Classes) (limits : RunLimits) (table : Table) (closed : List Row
   pub priced_so : (counts : List ℕ) → Some counts ≡ price all closed row → IsPriced all limits table counts
   priced_so counts e = record { keeps = asked.stands.keeps; open_now = asked.open_now; done = asked.done; found = sym same_price ∙ sym e }
 
-  pub spent : limits.pricing < pricing_visits all closed row → step all limits table ≡ Ended (NodesSpent (Some table))
+  spent : limits.pricing < pricing_visits all closed row → step all limits table ≡ Ended (NodesSpent (Some table))
   spent l = price_due all limits table asked.open_now asked.done true (lt-ltb limits.pricing (pricing_visits all (closed_rows table) (row_at table (open_row table))) (omega (arith, l, same_visits)))
+
+  pub refused_so : (stop : SearchStop) (nodes : ℕ) → nodes ≡ limits.pricing → AnswersBest (best_search all closed row) nodes (Err stop) → Refuses all limits table (refusal_of stop) table
+  refused_so Spent nodes e answers = (spent (omega (arith, visits_are all closed row, answers, e)), refl)
+  refused_so OutOfMemory nodes e answers = tt
 
   within : (found : Option (List ℕ)) → pricing_visits all closed row ≤ limits.pricing → found ≡ price all closed row → step all limits table ≡ priced table found
   within found l e =

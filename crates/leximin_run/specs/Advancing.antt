@@ -6,6 +6,8 @@ use Rattle.row_definitions.specs.Table.{Table}
 use Rattle.run_definitions.specs.Keeps.{AreRunLimits, IsReached, KeepsRun}
 use Rattle.run_definitions.specs.Run.{RunLimits, GoOn, Ended, TooWide, PivotsSpent, NodesSpent, closed_rows, step}
 use Rattle.search_definitions.specs.Classes.{Classes, KeepsLimits}
+use Rattle.panel_search.specs.declared.searching.SearchStop.{SearchStop}
+use Rattle.panel_search.specs.declared.searching.SearchStop.TheVariants.{Spent, OutOfMemory}
 use Rattle.leximin_run.specs.declared.running.Refusal.{Refusal}
 use Rattle.leximin_run.specs.declared.running.Refusal.TheVariants.{Wide, NoPivot, NoVisit, NoMemory}
 
@@ -15,6 +17,11 @@ Refuses all limits before (Wide pass) after = (step all limits before ≡ Ended 
 Refuses all limits before NoPivot after = (step all limits before ≡ Ended (PivotsSpent before)) × (after ≡ before)
 Refuses all limits before NoVisit after = (step all limits before ≡ Ended (NodesSpent (Some before))) × (after ≡ before)
 Refuses all limits before NoMemory after = Unit {0}
+
+-- why a pricing finds no answer
+abbrev pub refusal_of : SearchStop → Refusal
+refusal_of Spent = NoVisit
+refusal_of OutOfMemory = NoMemory
 
 -- a step was made, or it is refused
 abbrev pub Makes : Classes → RunLimits → Table → Result (Unit {0}) Refusal → Table → Type 0

@@ -1,8 +1,9 @@
 //! The run's steps.
 
-ghost use Rattle.std.specs.Prelude.{◌≡◌, ◌<◌, true, OnOk, IfOk, Some, None, length};
+ghost use Rattle.std.specs.Prelude.{◌≡◌, ◌<◌, ◌++◌, [], ◌∷◌, true, OnOk, IfOk, Some, None, length};
 ghost use Rattle.leximin_run.specs.Advancing.{Advances, Makes, Stands};
 ghost use Rattle.row_definitions.specs.Choice.{choice};
+ghost use Rattle.row_definitions.specs.Steps.{close_stage};
 ghost use Rattle.row_definitions.specs.Table.{row_at};
 ghost use Rattle.run_definitions.specs.Run.{run_limits};
 
@@ -22,6 +23,43 @@ pub(crate) enum Refusal {
     // Pricing takes more visits than it may.
     NoVisit,
     NoMemory,
+}
+
+impl From<AllocError> for Refusal {
+    ghost use Rattle.std.specs.Prelude.{◌≡◌};
+    ghost use Rattle.leximin_run.specs.declared.running.Refusal.TheVariants.{NoMemory};
+
+    ghost from_gives = { λ _ e. e ≡ NoMemory };
+
+    fn from(_error: AllocError) -> Refusal {
+        Refusal::NoMemory
+    }
+}
+
+impl From<Pass> for Refusal {
+    ghost use Rattle.std.specs.Prelude.{◌≡◌};
+    ghost use Rattle.leximin_run.specs.declared.running.Refusal.TheVariants.{Wide};
+
+    ghost from_gives = { λ pass e. e ≡ Wide pass };
+
+    fn from(pass: Pass) -> Refusal {
+        Refusal::Wide(pass)
+    }
+}
+
+// Of a pricing.
+impl From<SearchStop> for Refusal {
+    ghost use Rattle.std.specs.Prelude.{◌≡◌};
+    ghost use Rattle.leximin_run.specs.Advancing.{refusal_of};
+
+    ghost from_gives = { λ stop e. e ≡ refusal_of stop };
+
+    fn from(stop: SearchStop) -> Refusal {
+        match stop {
+            SearchStop::Spent => Refusal::NoVisit,
+            SearchStop::OutOfMemory => Refusal::NoMemory,
+        }
+    }
 }
 
 // A run between two steps. The rows of the closed stages are kept beside the table, as pricing takes them.
@@ -69,10 +107,7 @@ impl Run {
         if self.limits.pivots() <= self.table.pivots() {
             return Err(Refusal::NoPivot);
         }
-        match self.table.pivot(row, variable) {
-            Ok(()) => Ok(()),
-            Err(pass) => Err(Refusal::Wide(pass)),
-        }
+        Ok(self.table.pivot(row, variable)?)
     }
 
     // No pivot is chosen: the open row is priced, and a column comes or the stage closes.
@@ -85,31 +120,32 @@ impl Run {
         ensures classes { self.new.classes ≡ self.old.classes }
         ensures limits { self.new.limits ≡ self.old.limits }
     {
-        let open = self.table.open_row();
-        let Ok(row) = copied_row(alloc, &self.table, open) else {
-            return Err(Refusal::NoMemory);
-        };
-        match best(
+        let row = copied_row(alloc, &self.table, self.table.open_row())?;
+        let (found, _) = best(
             alloc,
             &self.classes,
             &self.closed,
             &row,
             self.limits.nodes(),
-        ) {
-            Ok((Some(composition), _)) => match self.table.add_column(composition.counts()) {
-                Ok(()) => Ok(()),
-                Err(_) => Err(Refusal::NoMemory),
-            },
-            Ok((None, _)) => match self.closed.push(row) {
-                Ok(()) => {
-                    self.table.close_stage();
-                    Ok(())
-                }
-                Err(_) => Err(Refusal::NoMemory),
-            },
-            Err(SearchStop::Spent) => Err(Refusal::NoVisit),
-            Err(SearchStop::OutOfMemory) => Err(Refusal::NoMemory),
+        )?;
+        match found {
+            Some(composition) => Ok(self.table.add_column(composition.counts())?),
+            None => Ok(self.close(row)?),
         }
+    }
+
+    // No composition was found: the stage closes, and its row, which was priced, is kept.
+    fn close(&mut self, row: Row) -> Result<(), AllocError>
+        requires open { self.old.table.in_stage ≡ true }
+        requires done { choice self.old.table ≡ None }
+        ensures table { OnOk result (self.new.table ≡ close_stage self.old.table) }
+        ensures closed { OnOk result (self.new.closed.items ≡ self.old.closed.items ++ row ∷ []) }
+        ensures classes { self.new.classes ≡ self.old.classes }
+        ensures limits { self.new.limits ≡ self.old.limits }
+    {
+        self.closed.push(row)?;
+        self.table.close_stage();
+        Ok(())
     }
 }
 

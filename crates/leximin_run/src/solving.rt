@@ -38,9 +38,7 @@ pub fn solve(alloc: Global, pool: &Pool, limits: Limits) -> Result<Solved, Stop>
 fn run(alloc: Global, pool: &Pool, limits: Limits) -> Result<Solved, Stop>
     ensures { TellsEnding (classes_of pool.now) (run_limits limits) result }
 {
-    let Ok(classes) = classes(alloc, pool) else {
-        return Err(Stop::OutOfMemory);
-    };
+    let classes = classes(alloc, pool)?;
     match first(alloc, &classes, limits.nodes()) {
         Ok(Some(composition)) => begin(alloc, classes, limits, &composition),
         Ok(None) => Ok(Solved::NoPanel),
@@ -61,9 +59,7 @@ fn begin(
     ensures { TellsEnding classes (run_limits limits) result }
 {
     classes.facts();
-    let Ok(sizes) = sizes(alloc, &classes) else {
-        return Err(Stop::OutOfMemory);
-    };
+    let sizes = sizes(alloc, &classes)?;
     match Table::start(alloc, &sizes, composition.counts(), limits.bits()) {
         Ok(table) => finish(
             alloc,
@@ -124,12 +120,8 @@ fn answer(alloc: Global, run: Run) -> Result<Solved, Stop>
     requires settled { length run.table.sizes ≤ settled_count run.table }
     ensures { TellsEnding run.classes (run_limits run.limits) result }
 {
-    let Ok(parts) = parts(alloc, &run.table) else {
-        return Err(Stop::OutOfMemory);
-    };
-    let Ok(certificate) = certificate(alloc, &run.classes, &run.closed) else {
-        return Err(Stop::OutOfMemory);
-    };
+    let parts = parts(alloc, &run.table)?;
+    let certificate = certificate(alloc, &run.classes, &run.closed)?;
     match spread(alloc, &run.classes, &parts) {
         Ok(lottery) => Ok(Solved::Found(Answer::new(lottery, certificate))),
         Err(SpreadStop::TotalPasses { place, total, den }) => {

@@ -2,6 +2,7 @@
 
 use exact_table::{Pass, Table};
 use pool_model::Answer;
+use std::alloc::AllocError;
 
 /// Where a run stood when a step was refused.
 #[derive(Drop)]
@@ -35,4 +36,15 @@ pub enum Stop {
     NodesSpent(At),
     /// No memory was left.
     OutOfMemory,
+}
+
+impl From<AllocError> for Stop {
+    ghost use Rattle.std.specs.Prelude.{◌≡◌};
+    ghost use Rattle.leximin_run.specs.declared.stops.Stop.TheVariants.{OutOfMemory};
+
+    ghost from_gives = { λ _ e. e ≡ OutOfMemory };
+
+    fn from(_error: AllocError) -> Stop {
+        Stop::OutOfMemory
+    }
 }

@@ -6,7 +6,7 @@ use Rattle.std.proofs.lemmas.Bool.{eq-eqb, leb-true, and_parts}
 use Rattle.std.proofs.lemmas.List.{get_or-replicate, length-replicate, drop_more, take-append-drop, length-take-le}
 use Rattle.std.proofs.lemmas.List.Elements.{All-get_or}
 use Rattle.std.proofs.lemmas.List.Sums.{get_or-le-sum_by, sum_by-take-drop, sum_by-take-le}
-use Rattle.pool_definitions.proofs.Sums.{sum_by-is-total, total}
+use Rattle.basic_laws.proofs.Sums.{sum_by-is-total, total}
 use Rattle.search_definitions.specs.declared.Bounds.{Bounds}
 use Rattle.search_definitions.specs.Classes.{Class, Classes, HasPlaces, KeepsLimits}
 use Rattle.search_definitions.specs.Compositions.{taken_of, has_value}

@@ -10,7 +10,8 @@ use Rattle.std.proofs.lemmas.Nat.{mul-add-lt}
 use Rattle.std.proofs.lemmas.Grind.{get_or-set_at}
 use Rattle.std.proofs.lemmas.Int.{ints, clamps}
 use borrow.Author.Differences.{le-true, le-false}
-use Rattle.pool_definitions.proofs.Sums.{total, each_map}
+use Rattle.basic_laws.proofs.Each.{each_map}
+use Rattle.basic_laws.proofs.Sums.{total}
 use Rattle.row_definitions.specs.Row.{sum_of_sizes}
 use Rattle.row_definitions.proofs.SumLaws.{abs_sum_le}
 use Rattle.search_definitions.specs.Classes.{Class, Classes, KeepsLimits}

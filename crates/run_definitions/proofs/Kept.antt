@@ -1,11 +1,13 @@
 -- Each step of a run keeps what its tables keep.
-use Rattle.std.proofs.Common.{◌≡◌, ℕ, zero, suc, ◌+◌, ◌-◌, ◌^◌, ◌<◌, ◌≤◌, Bool, true, false, cond, leb, ltb, List, [], ◌∷◌, ◌++◌, length, length-append, map, take, Option, Some, None, Result, Ok, Err, refl, sym, ap, ap₂, ◌∙◌, subst, arith, inl, inr, ◌⊎◌}
+use Rattle.std.proofs.Common.{◌≡◌, ℕ, zero, suc, ◌+◌, ◌<◌, ◌≤◌, Bool, true, false, List, [], ◌∷◌, ◌++◌, length, length-append, map, take, Some, None, Result, Ok, refl, sym, ap, ap₂, ◌∙◌, subst, arith, inl, inr, ◌⊎◌}
 use Rattle.std.specs.Prelude.{◌==◌, slice_index, slice_set, sum, Contains}
-use Rattle.std.specs.List.{All, AllByRecursion}
-use Rattle.std.proofs.lemmas.Bool.{cases_lt, eqb-true, and_parts, leb-false, ltb-true}
+use Rattle.std.specs.List.{All}
+use Rattle.std.proofs.lemmas.Bool.{cases_lt, eqb-true, and_parts}
 use Rattle.std.proofs.lemmas.List.{get_or_append_left, get_or_push, map-append, take-append-le, length-map}
 use Rattle.std.proofs.lemmas.List.Elements.{All-cons, All-nil, All-push, All-from_recursion, recursion_from_All}
 use Rattle.std.proofs.lemmas.List.Sums.{sum-map}
+use Rattle.basic_laws.proofs.Lists.{map_same}
+use Rattle.basic_laws.proofs.Each.{each_mapped}
 use Rattle.row_definitions.specs.declared.Pass.{Pass}
 use Rattle.row_definitions.specs.declared.Var.{Var}
 use Rattle.row_definitions.specs.Choice.{choice}
@@ -21,20 +23,13 @@ use Rattle.row_definitions.proofs.PivotLaws.{after-Ok_parts}
 use Rattle.row_definitions.proofs.Starts.{start-keeps}
 use Rattle.row_definitions.proofs.StepsKeep.{add-keeps, close-keeps, enter-keeps}
 use Rattle.search_definitions.specs.Classes.{Class, Classes, KeepsLimits}
-use Rattle.search_definitions.specs.Compositions.{all_counts, compositions, first_composition, is_composition, meets_bounds, price, taken_of}
+use Rattle.search_definitions.specs.Compositions.{all_counts, compositions, is_composition, meets_bounds, price, taken_of}
 use Rattle.search_definitions.specs.Fronts.{sizes_of}
-use Rattle.search_definitions.specs.Visits.{first_search}
 use Rattle.search_definitions.proofs.Contained.{each_contains, each_itself, filtered, first_there}
-use Rattle.search_definitions.proofs.Listed.{each_mapped}
-use Rattle.run_definitions.specs.Run.{RunLimits, Next, GoOn, Ended, NodesSpent, PivotsSpent, closed_rows, answered, follow, opened, opening, parts_of, pivoted, priced, pricing_visits, started, step, step_in_stage}
+use Rattle.run_definitions.specs.Run.{RunLimits, Next, GoOn, Ended, closed_rows, follow, opening, priced, step}
 use Rattle.run_definitions.specs.Keeps.{AreRunLimits, IsPriced, IsReached, KeepsRun}
-use Rattle.spread_definitions.specs.Spreading.{spread}
 use Rattle.run_definitions.proofs.StepCases.{StepIs, Enters, Answers, NoPivot, Pivots, Passes, NoVisits, Widens, Closes, step_is, OpeningIs, Spends, FindsNoPanel, IsWide, Begins, opening_is}
 use Rattle.run_definitions.proofs.Priced.{FitsSizes, better, composition_fits, may_be_added}
-
-map_same : {X Y : Type 0} (f g : X → Y) (xs : List X) → AllByRecursion (λ x. f x ≡ g x) xs → map f xs ≡ map g xs
-map_same f g [] h = refl
-map_same f g (x ∷ xs) h = ap₂ (λ y ys. y ∷ ys) h.0 (map_same f g xs h.1)
 
 all_taken : {X : Type 0} (k : ℕ) (xs : List X) → length xs ≤ k → take k xs ≡ xs
 all_taken zero [] l = refl

@@ -1,30 +1,27 @@
 -- The columns of positive value are parts that can be spread.
-use Rattle.std.proofs.Common.{◌≡◌, ◌≢◌, ℕ, suc, ◌+◌, ◌*◌, ◌/◌, ◌<◌, Bool, true, false, not, ◌&&◌, ◌||◌, List, [], ◌∷◌, length, map, get_or, refl, sym, ap, ap₂, ◌∙◌, subst, arith}
+use Rattle.std.proofs.Common.{◌≡◌, ◌≢◌, ℕ, suc, ◌+◌, ◌*◌, ◌/◌, ◌<◌, true, false, not, ◌&&◌, ◌||◌, List, [], ◌∷◌, length, map, get_or, refl, sym, ap, ap₂, ◌∙◌, subst, arith}
 use Rattle.std.specs.Prelude.{Contains, bytes_eq}
 use Rattle.std.specs.Int.{◌∣◌}
 use Rattle.std.specs.List.{AllByRecursion, AllPairs}
 use Rattle.std.proofs.lemmas.List.Elements.{All-from_recursion, recursion_from_All}
 use Rattle.std.proofs.lemmas.Slice.Eq.{bytes_eq-Decides}
+use Rattle.std.proofs.lemmas.Bool.{false_from_ne_true}
+use Rattle.basic_laws.proofs.Sums.{total, sum_by-is-total}
+use Rattle.basic_laws.proofs.Each.{each_map, each_mapped, each_of_map}
 use Rattle.frac128.specs.Divisors.{gcd_of}
 use Rattle.frac128.specs.Fractions.{Fraction, lowest_of}
 use Rattle.frac128.proofs.DivisorLaws.{beyond-positive}
 use Rattle.frac128.proofs.FractionLaws.{IsLowest-divided}
 use Rattle.pool_definitions.specs.Lists.{all_different, includes_list}
-use Rattle.pool_definitions.proofs.Sums.{each_map, total, sum_by-is-total}
 use Rattle.row_definitions.specs.Table.{Table}
 use Rattle.row_definitions.specs.Steps.{ColumnValue, fraction_of, solution}
 use Rattle.row_definitions.specs.Solutions.{SolutionStands, numerator_over}
 use Rattle.row_definitions.proofs.Satisfied.{solution-stands}
 use Rattle.search_definitions.specs.Classes.{Classes}
 use Rattle.search_definitions.specs.Compositions.{compositions}
-use Rattle.search_definitions.proofs.Listed.{each_mapped, each_of_map}
 use Rattle.spread_definitions.specs.Spreading.{AreParts}
 use Rattle.run_definitions.specs.Run.{RunLimits, parts_of}
 use Rattle.run_definitions.specs.Keeps.{KeepsRun}
-
-not_true : (b : Bool) → b ≢ true → b ≡ false
-not_true true h = absurd (h refl)
-not_true false h = refl
 
 module _ (all : Classes) (limits : RunLimits) (table : Table) (keeps : KeepsRun all limits table) where
   part_at : ColumnValue → List ℕ × Fraction
@@ -67,7 +64,7 @@ module _ (all : Classes) (limits : RunLimits) (table : Table) (keeps : KeepsRun 
   stands_apart there (next ∷ theres) above within =
       let differ : get_or table.columns there.column [] ≢ get_or table.columns next.column [] = keeps.in_order.columns_different there.column next.column above.0 within.0 in
       let here : bytes_eq (get_or table.columns there.column []) (get_or table.columns next.column []) ≡ false =
-      not_true (bytes_eq (get_or table.columns there.column []) (get_or table.columns next.column []))
+      false_from_ne_true (bytes_eq (get_or table.columns there.column []) (get_or table.columns next.column []))
       (λ e. differ ((bytes_eq-Decides (get_or table.columns there.column []) (get_or table.columns next.column [])).0 e)) in
       ap₂ (λ a b. a || b) here (stands_apart there theres above.1 within.1)
 

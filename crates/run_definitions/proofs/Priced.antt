@@ -7,13 +7,14 @@ use Rattle.std.proofs.lemmas.Int.{ints}
 use Rattle.std.proofs.lemmas.Bool.Decides.{Decides-int_eq}
 use Rattle.std.proofs.lemmas.List.{get_or_push}
 use Rattle.std.proofs.lemmas.List.Elements.{All-from_recursion, recursion_from_All}
+use Rattle.basic_laws.proofs.Found.{find-none}
+use Rattle.basic_laws.proofs.Each.{list_all_from_each, each_from_list_all, each_of_map, each_right}
 use Rattle.row_definitions.specs.declared.Var.{Var}
 use Rattle.row_definitions.specs.declared.Var.TheVariants.{Slack, Stage, Column}
 use Rattle.row_definitions.specs.Choice.{is_eligible, row_of, entering_from, entering, choice}
 use Rattle.row_definitions.specs.Laws.{MayAdd}
 use Rattle.row_definitions.specs.Steps.{add_column, open_row}
 use Rattle.row_definitions.specs.Table.{Table, coefficient_at, row_at, stage_variable, variables}
-use Rattle.row_definitions.proofs.Chosen.{all_from_each, each_from_all, find-none}
 use Rattle.row_definitions.proofs.CoefficientLaws.{coefficient-Column}
 use Rattle.row_definitions.proofs.Leaving.{entering-none}
 use Rattle.row_definitions.proofs.StepsKeep.{add-keeps}
@@ -24,7 +25,6 @@ use Rattle.search_definitions.specs.Best.{Qualifies}
 use Rattle.search_definitions.proofs.Best.{price_found, price_none}
 use Rattle.search_definitions.proofs.Contained.{each_contains, filtered, first_pass}
 use Rattle.search_definitions.proofs.FirstSearch.{Gives, all_counts_give}
-use Rattle.search_definitions.proofs.Listed.{each_of_map, each_right}
 use Rattle.run_definitions.specs.Run.{RunLimits, closed_rows}
 use Rattle.run_definitions.specs.Keeps.{KeepsRun, IsPriced}
 
@@ -84,7 +84,7 @@ no_better_column table e c l tight = by (int_lt (row_at table (open_row table)).
         ((Decides-int_eq (coefficient_at table i (Column c)) (pos 0)).1 (omega (arith, ints, side, weight)), zero_in is h.1)
 
     eligible : is_eligible table (Column c) ≡ true
-    eligible = all_from_each (λ i. int_eq (coefficient_at table i (Column c)) (pos 0)) table.closed (zero_in table.closed tight)
+    eligible = list_all_from_each (λ i. int_eq (coefficient_at table i (Column c)) (pos 0)) table.closed (zero_in table.closed tight)
 
     refused : (is_eligible table (Column c) && int_lt (coefficient_at table rest.row (Column c)) (pos 0)) ≡ false
     refused = each_column table (λ v. (is_eligible table v && int_lt (coefficient_at table rest.row v) (pos 0)) ≡ false) c rest.none l
@@ -107,7 +107,7 @@ module _ (all : Classes) (limits : RunLimits) (table : Table) (keeps : KeepsRun 
       at_least : (k : ℕ) → k < length table.closed → int_le (row_at table (slice_index table.closed k)).b (weight_in (row_at table (slice_index table.closed k)).a counts) ≡ true
       at_least k l = All-from_recursion (λ i. int_le (row_at table i).b (weight_in (row_at table i).a counts) ≡ true) table.closed
           (each_of_map (λ row. int_le row.b (weight_in row.a counts) ≡ true) (row_at table) table.closed
-          (each_from_all (λ row. int_le row.b (weight_in row.a counts)) (closed_rows table) attained)) k 0 l
+          (each_from_list_all (λ row. int_le row.b (weight_in row.a counts)) (closed_rows table) attained)) k 0 l
 
       at_most : (k : ℕ) → k < length table.closed → int_lt (row_at table (slice_index table.closed k)).b (weight_in (row_at table (slice_index table.closed k)).a counts) ≡ false
       at_most k l = price_none all (take k (closed_rows table)) (row_at table (slice_index table.closed k)) counts (keeps.priced_out k l) there

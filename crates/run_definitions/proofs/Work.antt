@@ -1,24 +1,21 @@
 -- Each step of a run leaves less of it, so each run ends.
-use Rattle.std.proofs.Common.{◌≡◌, ◌≢◌, ℕ, zero, suc, ◌+◌, ◌-◌, ◌*◌, ◌<◌, ◌≤◌, Bool, true, false, cond, leb, List, length, Option, Some, None, Result, Ok, Err, refl, sym, ap, ◌∙◌, subst, arith}
+use Rattle.std.proofs.Common.{◌≡◌, ◌≢◌, ℕ, zero, suc, ◌+◌, ◌-◌, ◌*◌, ◌<◌, ◌≤◌, true, false, cond, List, length, Option, Some, None, Result, Ok, refl, sym, ap, ◌∙◌, subst, arith}
 use Rattle.std.specs.Prelude.{slice_set}
-use Rattle.std.proofs.lemmas.Bool.{leb-false}
 use Rattle.pool_definitions.specs.Pool.{IsPool, Pool}
 use Rattle.row_definitions.specs.declared.Pass.{Pass}
 use Rattle.row_definitions.specs.declared.Var.{Var}
 use Rattle.row_definitions.specs.Choice.{choice}
 use Rattle.row_definitions.specs.InOrder.{settled_count}
 use Rattle.row_definitions.specs.Pivot.{pivot, rows_after}
-use Rattle.row_definitions.specs.Steps.{add_column, close_stage, closed_by, enter_stage, open_row}
-use Rattle.row_definitions.specs.Table.{Table, row_at}
+use Rattle.row_definitions.specs.Steps.{add_column, close_stage, closed_by, enter_stage}
+use Rattle.row_definitions.specs.Table.{Table}
 use Rattle.row_definitions.proofs.PivotLaws.{after-Ok_parts}
 use Rattle.row_definitions.proofs.StepsKeep.{some_settle}
 use Rattle.search_definitions.specs.Classes.{Classes, KeepsLimits, are_alike, classes_of}
-use Rattle.search_definitions.specs.Compositions.{price}
 use Rattle.search_definitions.proofs.Limits.{limits_kept}
 use Rattle.search_definitions.proofs.PoolClasses.{alone_makes_classes}
-use Rattle.spread_definitions.specs.Spreading.{spread}
 use Rattle.run_definitions.specs.Keeps.{AreLimits, AreRunLimits, KeepsRun}
-use Rattle.run_definitions.specs.Run.{Ending, Ended, Ends, GoOn, Limits, Next, NodesSpent, PivotsSpent, RunEnds, RunLimits, answered, closed_rows, follow, opening, parts_of, pivoted, priced, pricing_visits, run_limits, step, step_in_stage}
+use Rattle.run_definitions.specs.Run.{Ending, Ended, Ends, GoOn, Limits, Next, RunEnds, RunLimits, follow, opening, run_limits, step}
 use Rattle.run_definitions.specs.Work.{turns_by, turns_left, work_left}
 use Rattle.run_definitions.proofs.Kept.{opening_kept, step_kept}
 use Rattle.run_definitions.proofs.Priced.{is_chosen}
@@ -36,10 +33,10 @@ in_stage_turns table open_now = ap (λ s. cond s (turns_by (choice table)) 3) op
 shut_turns : (table : Table) → table.in_stage ≡ false → turns_left table ≡ 3
 shut_turns table shut = ap (λ s. cond s (turns_by (choice table)) 3) shut
 
-less_by_pivot : (limits : RunLimits) (table : Table) (r : ℕ) (v : Var) (made : Table) → AreRunLimits limits → table.in_stage ≡ true → table.pivots < limits.pivots → pivot table r v ≡ Ok made →
+less_by_pivot : (limits : RunLimits) (table : Table) (r : ℕ) (v : Var) (made : Table) → table.in_stage ≡ true → table.pivots < limits.pivots → pivot table r v ≡ Ok made →
     work_left limits made < work_left limits table
 unfolding work_left pivot
-less_by_pivot limits table r v made ranges open_now few e =
+less_by_pivot limits table r v made open_now few e =
     let parts = after-Ok_parts (rows_after table r v) (λ rows. Ok (record table { rows = rows; basic = slice_set table.basic r v; pivots = table.pivots + 1 })) made e in
     let last : ◌≡◌ {A = Result Table Pass} (Ok (record table { rows = parts.0; basic = slice_set table.basic r v; pivots = table.pivots + 1 })) (Ok made) = parts.2 in
     let same : ◌≡◌ {A = Table} (record table { rows = parts.0; basic = slice_set table.basic r v; pivots = table.pivots + 1 }) made = cc in
@@ -73,7 +70,7 @@ unfolding work_left enter_stage
 less_by_enter limits table shut = omega (arith, shut_turns table shut, turns_in_stage (choice (enter_stage table)))
 
 -- a step that goes on
-module _ (all : Classes) (limits : RunLimits) (table : Table) (limited : KeepsLimits all) (ranges : AreRunLimits limits) (keeps : KeepsRun all limits table) where
+module _ (all : Classes) (limits : RunLimits) (table : Table) (limited : KeepsLimits all) (keeps : KeepsRun all limits table) where
   pub step_lessens : (made : Table) → step all limits table ≡ GoOn made → work_left limits made < work_left limits table
   step_lessens made e = by (step all limits table) e (step_is all limits table)
     where
@@ -84,7 +81,7 @@ module _ (all : Classes) (limits : RunLimits) (table : Table) (limited : KeepsLi
       by next f (Enters shut some is) = let same : enter_stage table ≡ made = cc in subst LeavesLess same (less_by_enter limits table shut)
       by next f (Answers shut settled is) = absurd cc
       by next f (NoPivot open_now most is) = absurd cc
-      by next f (Pivots open_now r v after chosen few p is) = let same : after ≡ made = cc in less_by_pivot limits table r v made ranges open_now few (p ∙ ap Ok same)
+      by next f (Pivots open_now r v after chosen few p is) = let same : after ≡ made = cc in less_by_pivot limits table r v made open_now few (p ∙ ap Ok same)
       by next f (Passes open_now r v pass chosen few p is) = absurd cc
       by next f (NoVisits open_now done more is) = absurd cc
       by next f (Widens open_now done counts p is) =
@@ -114,7 +111,7 @@ module _ (all : Classes) (limits : RunLimits) (limited : KeepsLimits all) (range
       by : ((made : Table) → KeepsRun all limits made → work_left limits made < more → ComesTo (GoOn made)) → (next : Next) → step all limits table ≡ next → ComesTo next
       by rest (Ended ending) e = record { ending = ending; steps = 0; there = refl }
       by rest (GoOn made) e =
-          let less = step_lessens all limits table limited ranges keeps made e in rest made (step_kept all limits table keeps limited made e) (omega arith)
+          let less = step_lessens all limits table limited keeps made e in rest made (step_kept all limits table keeps limited made e) (omega arith)
 
   pub every_end : (ending : Ending) × Ends all limits ending
   every_end = by (opening all limits) refl

@@ -22,7 +22,7 @@ unfoldable pub work_left : RunLimits → Table → ℕ
 work_left limits table = 8 * (length table.sizes - settled_count table) + 4 * (limits.pivots - table.pivots) + turns_left table
 
 abbrev pub StepLeavesLess : Type 0
-StepLeavesLess = (all : Classes) (limits : RunLimits) (table next : Table) → KeepsLimits all → AreRunLimits limits → KeepsRun all limits table → step all limits table ≡ GoOn next →
+StepLeavesLess = (all : Classes) (limits : RunLimits) (table next : Table) → KeepsLimits all → KeepsRun all limits table → step all limits table ≡ GoOn next →
     work_left limits next < work_left limits table
 
 -- the run over classes has an ending

@@ -1,9 +1,10 @@
 -- What a run finds is certified by its stages.
-use Rattle.std.proofs.Common.{◌≡◌, ℕ, zero, suc, ◌+◌, ◌*◌, ◌<◌, Bool, false, true, not, List, [], ◌∷◌, map, length, ℤ, pos, ◌≤ℤ◌, refl, sym, ap, ◌∙◌, subst, arith}
+use Rattle.std.proofs.Common.{◌≡◌, ℕ, zero, suc, ◌+◌, ◌*◌, ◌<◌, Bool, false, true, not, List, [], map, length, ℤ, pos, ◌≤ℤ◌, refl, sym, ap, ◌∙◌, subst, arith}
 use Rattle.std.specs.Prelude.{int_le}
 use Rattle.std.specs.List.{list_all, range_with_len}
 use Rattle.std.proofs.lemmas.Int.{ints}
 use Rattle.std.proofs.lemmas.List.Sums.{count_by-le-length}
+use Rattle.basic_laws.proofs.Lists.{map-map}
 use Rattle.pool_definitions.specs.Certificate.{Answer, Certifies, StagesHold, is_settled}
 use Rattle.pool_definitions.specs.Pool.{IsPool, Pool, everybody}
 use Rattle.row_definitions.specs.Levels.{HasLevels}
@@ -21,10 +22,6 @@ use Rattle.run_laws.proofs.LotteryCounts.{caps_reached, closed_at, counts_are, l
 use Rattle.run_laws.proofs.Marks.{all_settled, marked, positive_at, was_left, within}
 use Rattle.run_laws.proofs.StageRows.{one_weight_each, weight_is_entry}
 use Rattle.run_laws.proofs.StagesKept.{reached_stages}
-
-map_twice : {X Y Z : Type 0} (g : Y → Z) (f : X → Y) (xs : List X) → map g (map f xs) ≡ map (λ x. g (f x)) xs
-map_twice g f [] = refl
-map_twice g f (x ∷ xs) = ap (λ ys. g (f x) ∷ ys) (map_twice g f xs)
 
 module _ (pool : Pool) (limits : Limits) (last : Table) (answer : Answer) (is_pool : IsPool pool) (ranges : AreLimits limits) (ends : RunEnds pool limits (Found last answer)) where
   abbrev all : Classes
@@ -97,8 +94,8 @@ module _ (pool : Pool) (limits : Limits) (last : Table) (answer : Answer) (is_po
 
   stages_are : map (λ closed. closed.stage) closed ≡ answer.stages
   stages_are =
-      map_twice (λ (closed : Closed). closed.stage) (closed_at all last levels.level) (range_with_len 0 closed_count)
-      ∙ sym (map_twice (stage_of all) (closed_row last) (range_with_len 0 closed_count))
+      map-map (λ (closed : Closed). closed.stage) (closed_at all last levels.level) (range_with_len 0 closed_count)
+      ∙ sym (map-map (stage_of all) (closed_row last) (range_with_len 0 closed_count))
       ∙ ap (map (stage_of all)) (closed_rows_are last)
       ∙ (found pool limits last answer is_pool ranges ends).stages_are
 

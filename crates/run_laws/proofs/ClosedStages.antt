@@ -5,6 +5,7 @@ use Rattle.std.specs.List.{range_with_len}
 use Rattle.std.proofs.lemmas.List.{get_or-map, length-map}
 use Rattle.std.proofs.lemmas.List.Folds.{list_all-append}
 use Rattle.std.proofs.lemmas.List.FromFn.{map-range_with_len_more, take-map-range_with_len}
+use Rattle.std.proofs.lemmas.List.Elements.{filter_agree}
 use Rattle.pool_definitions.specs.Certificate.{Stage, is_capped}
 use Rattle.pool_definitions.specs.Pool.{Pool}
 use Rattle.row_definitions.specs.Row.{Row}
@@ -13,7 +14,7 @@ use Rattle.search_definitions.specs.Classes.{Classes, are_alike, classes_of}
 use Rattle.search_definitions.specs.Compositions.{attains, compositions, first_greatest, price, weight_in}
 use Rattle.search_definitions.specs.Stages.{row_of}
 use Rattle.search_definitions.proofs.NothingToPrice.{capped_where_nothing_priced}
-use Rattle.search_definitions.proofs.PoolClasses.{alone_makes_classes, filter_same}
+use Rattle.search_definitions.proofs.PoolClasses.{alone_makes_classes}
 use Rattle.run_definitions.specs.Keeps.{KeepsRun}
 use Rattle.run_definitions.specs.Run.{RunLimits, closed_rows, stage_of}
 use Rattle.run_laws.proofs.StageRows.{class_count, from_places, row_back, weigh_alike}
@@ -68,7 +69,7 @@ attained_same table (suc k) counts =
 price_same : (all : Classes) (table : Table) (k : ℕ) (row : Row) → price all (rows_before table k) row ≡ price all (map (closed_row table) (range_with_len 0 k)) row
 price_same all table k row =
     ap (first_greatest (weight_in row.a) row.b)
-    (filter_same (attains (rows_before table k)) (attains (map (closed_row table) (range_with_len 0 k))) (attained_same table k) (compositions all))
+    (filter_agree (attains (rows_before table k)) (attains (map (closed_row table) (range_with_len 0 k))) (attained_same table k) (compositions all))
 
 -- ---- the caps
 

@@ -1,18 +1,11 @@
 -- From what step a run ends, and how the step tells.
-use Rattle.std.proofs.Common.{◌≡◌, ℕ, zero, suc, ◌≤◌, Bool, true, false, cond, leb, ltb, List, length, Option, None, Some, Result, Ok, Err, refl, sym, ap, inl, inr, ◌⊎◌}
-use Rattle.std.proofs.lemmas.Bool.{ltb-false}
-use Rattle.row_definitions.specs.declared.Pass.{Pass}
-use Rattle.row_definitions.specs.declared.Var.{Var}
-use Rattle.row_definitions.specs.Choice.{choice}
+use Rattle.std.proofs.Common.{◌≡◌, ℕ, zero, suc, ◌≤◌, Bool, true, false, length, None, Some, refl, sym, ap, inl, inr, ◌⊎◌}
 use Rattle.row_definitions.specs.InOrder.{settled_count}
-use Rattle.row_definitions.specs.Pivot.{start, pivot}
-use Rattle.row_definitions.specs.Steps.{enter_stage, open_row}
-use Rattle.row_definitions.specs.Table.{Table, row_at}
+use Rattle.row_definitions.specs.Table.{Table}
 use Rattle.run_definitions.specs.Keeps.{IsReached}
-use Rattle.run_definitions.specs.Run.{Ending, RunLimits, Next, GoOn, Ended, NoPanel, Found, TooWide, TotalPasses, PivotsSpent, NodesSpent, answered, closed_rows, follow, opened, opening, parts_of, pivoted, priced, pricing_visits, started, step, step_in_stage}
+use Rattle.run_definitions.specs.Run.{Ending, RunLimits, Next, GoOn, Ended, NoPanel, Found, TooWide, TotalPasses, PivotsSpent, NodesSpent, answered, follow, opening, parts_of, step}
 use Rattle.search_definitions.specs.Classes.{Classes}
-use Rattle.search_definitions.specs.Compositions.{first_composition, price}
-use Rattle.search_definitions.specs.Fronts.{sizes_of}
+use Rattle.search_definitions.specs.Compositions.{first_composition}
 use Rattle.search_definitions.specs.Visits.{first_search}
 use Rattle.spread_definitions.specs.Spreading.{spread}
 use Rattle.run_definitions.proofs.StepCases.{StepIs, Enters, Answers, NoPivot, Pivots, Passes, NoVisits, Widens, Closes, step_is, OpeningIs, Spends, FindsNoPanel, IsWide, Begins, opening_is}

@@ -6,12 +6,13 @@ use Rattle.std.proofs.lemmas.Bool.{eq-eqb}
 use Rattle.std.proofs.lemmas.List.{get_or-map}
 use Rattle.std.proofs.lemmas.List.Elements.{All-from_recursion, recursion_from_All}
 use Rattle.std.proofs.lemmas.Option.{slice_get-get_or}
+use Rattle.basic_laws.proofs.Sums.{total, sum_by-is-total}
+use Rattle.basic_laws.proofs.Each.{each_both, each_map, each_mapped}
 use Rattle.frac128.specs.Fractions.{Fraction, lowest_of}
 use Rattle.pool_definitions.specs.Certificate.{panel_weight}
 use Rattle.pool_definitions.specs.Lists.{includes}
 use Rattle.pool_definitions.specs.Lottery.{Lottery, count}
 use Rattle.pool_definitions.specs.Pool.{IsPool, Pool}
-use Rattle.pool_definitions.proofs.Sums.{each_both, each_map, total, sum_by-is-total}
 use Rattle.row_definitions.specs.InOrder.{count_in}
 use Rattle.row_definitions.specs.Levels.{HasLevels, count_over, levels_of}
 use Rattle.row_definitions.specs.Settled.{KeepsStages, was_unsettled}
@@ -21,7 +22,6 @@ use Rattle.row_definitions.specs.Table.{Table}
 use Rattle.row_definitions.proofs.Satisfied.{solution-stands, solution-tight}
 use Rattle.search_definitions.specs.Classes.{Classes, classes_of}
 use Rattle.search_definitions.specs.Compositions.{first_panel}
-use Rattle.search_definitions.proofs.Listed.{each_mapped}
 use Rattle.spread_definitions.specs.Singles.{row_alone, single}
 use Rattle.spread_definitions.specs.Spreading.{AreParts, expected, spread}
 use Rattle.spread_definitions.proofs.Alone.{pool_alone}

@@ -1,29 +1,23 @@
 -- Who is settled by the stages before a stage: exactly who was settled when it was entered.
-use Rattle.std.proofs.Common.{◌≡◌, ℕ, zero, suc, ◌+◌, ◌<◌, ◌≤◌, Bool, true, false, cond, not, ◌||◌, List, [], ◌∷◌, length, get_or, ℤ, pos, ◌<ℤ◌, ◌≤ℤ◌, refl, sym, ap, ap₂, ◌∙◌, subst, arith, inl, inr, ◌⊎◌}
+use Rattle.std.proofs.Common.{◌≡◌, ℕ, zero, suc, ◌+◌, ◌<◌, ◌≤◌, Bool, true, false, cond, not, ◌||◌, [], length, get_or, ℤ, pos, ◌<ℤ◌, ◌≤ℤ◌, refl, sym, ap, ap₂, ◌∙◌, subst, arith, inl, inr, ◌⊎◌}
 use Rattle.std.specs.Prelude.{count_by, int_lt}
 use Rattle.std.specs.List.{list_all}
 use Rattle.std.proofs.lemmas.Bool.{cases_lt, false≢true}
 use Rattle.std.proofs.lemmas.Int.{ints}
 use Rattle.std.proofs.lemmas.List.{get_or_past}
-use Rattle.std.proofs.lemmas.List.Sums.{count_by-le-length, sum_by-cons}
+use Rattle.std.proofs.lemmas.List.Sums.{count_by-le-length}
+use Rattle.basic_laws.proofs.Lists.{all_pass}
+use Rattle.basic_laws.proofs.Each.{each_range, list_all_from_each}
 use Rattle.pool_definitions.specs.Certificate.{is_positive, is_settled}
 use Rattle.pool_definitions.specs.Pool.{Pool, everybody}
 use Rattle.row_definitions.specs.InOrder.{settled_count}
 use Rattle.row_definitions.specs.Settled.{KeepsStages, closed_entry, was_unsettled}
 use Rattle.row_definitions.specs.Table.{Table}
 use Rattle.search_definitions.specs.Classes.{classes_of}
-use Rattle.search_definitions.proofs.Listed.{each_range, list_all_from_each}
 use Rattle.run_definitions.specs.Keeps.{KeepsRun}
 use Rattle.run_definitions.specs.Run.{RunLimits}
 use Rattle.run_laws.proofs.ClosedStages.{closed_row, earlier, size_count, stage_at}
 use Rattle.run_laws.proofs.StageRows.{weight_is_entry}
-
--- where all pass, each does
-all_pass : (xs : List Bool) (t : ℕ) → count_by (λ s. s) xs ≡ length xs → t < length xs → get_or xs t false ≡ true
-all_pass [] t e l = absurd (omega arith)
-all_pass (false ∷ xs) t e l = absurd (omega (arith, sum_by-cons (λ (b : Bool). cond b 1 0) false xs, count_by-le-length (λ (b : Bool). b) xs))
-all_pass (true ∷ xs) zero e l = refl
-all_pass (true ∷ xs) (suc t) e l = all_pass xs t (omega (arith, sum_by-cons (λ (b : Bool). cond b 1 0) true xs)) (omega arith)
 
 not_above : (z : ℤ) → z ≤ℤ pos 0 → int_lt (pos 0) z ≡ false
 not_above z low = by (int_lt (pos 0) z) refl

@@ -1,6 +1,6 @@
 -- A run ends with no panel where the pool has no quota panel.
 use Rattle.std.proofs.Common.{◌≡◌, ℕ, ◌≤◌, true, cond, List, [], ◌∷◌, None, Result, Ok, Err, refl, sym, ap, ◌∙◌, inl, inr, ◌⊎◌}
-use Rattle.std.proofs.lemmas.Bool.{false≢true, le-ltb, ltb-false}
+use Rattle.std.proofs.lemmas.Bool.{false≢true, le-ltb}
 use Rattle.std.specs.Prelude.{slice_get}
 use Rattle.pool_definitions.specs.Pool.{Pool, panels}
 use Rattle.pool_definitions.specs.Lottery.{Lottery}

@@ -3,10 +3,10 @@ use Rattle.std.proofs.Common.{◌≡◌, ℕ, ◌<◌, true, ltb, List, length, 
 use Rattle.std.specs.Prelude.{Contains}
 use Rattle.std.specs.List.{AllByRecursion}
 use Rattle.std.proofs.lemmas.Bool.{eqb-true, ltb-true}
+use Rattle.basic_laws.proofs.Each.{each_from_list_all, each_map}
 use Rattle.pool_definitions.specs.Certificate.{panel_weight, weight_of}
 use Rattle.pool_definitions.specs.Pool.{Pool}
 use Rattle.pool_definitions.proofs.AllPanels.{quota_parts}
-use Rattle.pool_definitions.proofs.Sums.{each_from_list_all, each_map}
 use Rattle.row_definitions.specs.Row.{Row}
 use Rattle.search_definitions.specs.Classes.{are_alike, classes_of, leaders}
 use Rattle.search_definitions.specs.Compositions.{compositions, first_panel, weight_in}

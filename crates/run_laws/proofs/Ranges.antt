@@ -4,20 +4,20 @@ use Rattle.std.specs.Prelude.{unsigned_abs}
 use Rattle.std.specs.List.{AllByRecursion, list_all, range_with_len}
 use Rattle.std.proofs.lemmas.Bool.{and_from, eq-eqb, false≢true, le-leb, leb-true, lt-ltb, and_parts}
 use Rattle.std.proofs.Math.Pow.{pow_mono}
+use Rattle.basic_laws.proofs.Sums.{sum_by-is-total, total}
+use Rattle.basic_laws.proofs.Each.{each_both, each_from_list_all, each_map, each_mapped, each_range, list_all_from_each}
 use Rattle.bundle_definitions.specs.Ranges.{IsInRanges, is_group, is_row, is_stage, is_weight, reach}
 use Rattle.pool_definitions.specs.Certificate.{Answer, Stage, StagesHold, is_settled, weight_of}
 use Rattle.pool_definitions.specs.Lists.{is_increasing}
 use Rattle.pool_definitions.specs.Lottery.{IsLottery, Lottery, LotteryRow}
 use Rattle.pool_definitions.specs.Pool.{IsPool, Pool, is_quota_panel}
 use Rattle.pool_definitions.proofs.AllPanels.{quota_parts}
-use Rattle.pool_definitions.proofs.Sums.{each_both, each_from_list_all, each_map, sum_by-is-total, total}
 use Rattle.row_definitions.specs.Row as rows
 use Rattle.row_definitions.specs.Row.{entry, sum_of_sizes}
 use Rattle.row_definitions.specs.Table.{Table}
 use Rattle.row_definitions.specs.Width.{most_of}
 use Rattle.search_definitions.specs.Classes.{Class, classes_of}
 use Rattle.search_definitions.specs.Fronts.{sizes_of}
-use Rattle.search_definitions.proofs.Listed.{each_mapped, each_range, list_all_from_each}
 use Rattle.spread_definitions.specs.Singles.{AreAlone}
 use Rattle.spread_definitions.specs.Spreading.{greatest_total}
 use Rattle.spread_definitions.proofs.Alone.{each_leads, pool_alone}

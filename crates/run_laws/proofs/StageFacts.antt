@@ -1,15 +1,14 @@
 -- A stage holds where these facts hold of each volunteer, each quota panel and each row.
-use Rattle.std.proofs.Common.{◌≡◌, ℕ, zero, suc, ◌+◌, ◌≤◌, ◌<◌, Bool, true, false, cond, not, eqb, leb, List, [], ◌∷◌, length, filter, get_or, pos, refl, sym, ◌∙◌, subst, arith, ⊎_elim}
+use Rattle.std.proofs.Common.{◌≡◌, ℕ, zero, suc, ◌+◌, ◌≤◌, ◌<◌, Bool, true, false, cond, not, eqb, leb, List, ◌∷◌, length, filter, pos, refl, sym, subst, arith, ⊎_elim}
 use Rattle.std.specs.Prelude.{int_le}
 use Rattle.std.specs.Ordering.{int_eq}
 use Rattle.std.specs.List.{AllByRecursion, range_with_len}
 use Rattle.std.proofs.lemmas.Bool.{eq-eqb, le-leb, lt-ltb, cases_lt}
 use Rattle.std.proofs.lemmas.Bool.Decides.{Decides-int_eq}
+use Rattle.basic_laws.proofs.Each.{each_map, each_filter, each_range, list_all_from_each}
 use Rattle.pool_definitions.specs.Pool.{Pool, everybody}
 use Rattle.pool_definitions.specs.Lottery.{Lottery, count}
 use Rattle.pool_definitions.specs.Certificate.{Stage, StageHolds, is_capped, is_positive, is_settled, panel_weight, settling, unsettled, weight_of}
-use Rattle.pool_definitions.proofs.Sums.{each_map}
-use Rattle.search_definitions.proofs.Listed.{each_filter, each_range, list_all_from_each}
 
 -- some element of a range stays after two filters
 some_left : (p q : ℕ → Bool) (i first many : ℕ) → first ≤ i → i < first + many → p i ≡ true → q i ≡ true → 0 < length (filter q (filter p (range_with_len first many)))

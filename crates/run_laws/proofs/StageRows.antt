@@ -1,16 +1,16 @@
 -- Where each volunteer is a class alone, a stage's weights are its row's entries, and its row is that row again.
-use Rattle.std.proofs.Common.{◌≡◌, ℕ, zero, suc, ◌+◌, ◌<◌, Bool, true, false, cond, ◌||◌, ltb, eqb, List, [], ◌∷◌, map, length, get_or, Some, None, pos, refl, sym, ap, ap₂, ◌∙◌, arith}
+use Rattle.std.proofs.Common.{◌≡◌, ℕ, zero, suc, ◌+◌, ◌<◌, Bool, true, false, ◌||◌, eqb, List, [], ◌∷◌, map, length, get_or, pos, refl, sym, ap, ap₂, ◌∙◌, arith}
 use Rattle.std.specs.List.{position_or_len, range_with_len}
-use Rattle.std.proofs.lemmas.Bool.{eqb-true, eq-eqb, ne_eqb, lt-ltb}
+use Rattle.std.proofs.lemmas.Bool.{eqb-true, eq-eqb, ne_eqb}
 use Rattle.std.proofs.lemmas.List.FromFn.{get_or-map-range_with_len, length-map-range_with_len}
 use Rattle.std.proofs.lemmas.List.Sums.{position_or_len_is}
+use Rattle.basic_laws.proofs.Each.{each_everywhere}
 use Rattle.pool_definitions.specs.Certificate.{Stage, weight_of}
 use Rattle.pool_definitions.specs.Lists.{includes}
 use Rattle.pool_definitions.specs.Pool.{Pool}
 use Rattle.row_definitions.specs.Row.{Row, entry}
 use Rattle.search_definitions.specs.Classes.{Class, Classes, are_alike, classes_of, leaders, volunteer_count}
 use Rattle.search_definitions.specs.Stages.{WeighAlike, row_of}
-use Rattle.search_definitions.proofs.Listed.{each_everywhere}
 use Rattle.spread_definitions.specs.Singles.{AreAlone, single}
 use Rattle.spread_definitions.proofs.Alone.{classes_alone, each_leads, pool_alone}
 use Rattle.spread_definitions.proofs.EvenAlone.{as_many}

@@ -1,22 +1,13 @@
 -- Each table of a run keeps which classes its closed stages settled.
-use Rattle.std.proofs.Common.{◌≡◌, ℕ, zero, suc, Bool, true, false, cond, leb, ltb, List, length, Option, Some, None, Result, Ok, Err, refl, ap, ◌∙◌, subst}
-use Rattle.std.proofs.lemmas.Bool.{ltb-true}
-use Rattle.row_definitions.specs.declared.Pass.{Pass}
-use Rattle.row_definitions.specs.declared.Var.{Var}
-use Rattle.row_definitions.specs.Choice.{choice}
-use Rattle.row_definitions.specs.InOrder.{settled_count}
-use Rattle.row_definitions.specs.Pivot.{start, pivot}
+use Rattle.std.proofs.Common.{◌≡◌, ℕ, zero, suc, Ok, refl, ap, ◌∙◌, subst}
 use Rattle.row_definitions.specs.Settled.{KeepsStages}
-use Rattle.row_definitions.specs.Steps.{add_column, close_stage, enter_stage, open_row}
-use Rattle.row_definitions.specs.Table.{Table, row_at}
+use Rattle.row_definitions.specs.Steps.{add_column, close_stage, enter_stage}
+use Rattle.row_definitions.specs.Table.{Table}
 use Rattle.row_definitions.proofs.SettledKeep.{add-keeps_stages, close-keeps_stages, enter-keeps_stages, pivot-keeps_stages, start-keeps_stages}
 use Rattle.search_definitions.specs.Classes.{Classes, KeepsLimits}
-use Rattle.search_definitions.specs.Compositions.{first_composition, price}
 use Rattle.search_definitions.specs.Fronts.{sizes_of}
-use Rattle.search_definitions.specs.Visits.{first_search}
-use Rattle.spread_definitions.specs.Spreading.{spread}
 use Rattle.run_definitions.specs.Keeps.{AreRunLimits, IsReached, KeepsRun}
-use Rattle.run_definitions.specs.Run.{RunLimits, Next, GoOn, Ended, NodesSpent, PivotsSpent, answered, closed_rows, follow, opened, opening, parts_of, pivoted, priced, pricing_visits, started, step, step_in_stage}
+use Rattle.run_definitions.specs.Run.{RunLimits, Next, GoOn, Ended, follow, opening, step}
 use Rattle.run_definitions.proofs.StepCases.{StepIs, Enters, Answers, NoPivot, Pivots, Passes, NoVisits, Widens, Closes, step_is, OpeningIs, Spends, FindsNoPanel, IsWide, Begins, opening_is}
 use Rattle.run_definitions.proofs.Kept.{step_kept, reached_kept}
 

@@ -3,13 +3,12 @@ use Rattle.std.proofs.Common.{◌≡◌, ℕ, Bool, true, false, cond, List, [],
 use Rattle.std.specs.Prelude.{int_le, int_lt, Contains, unwrap_or, ◌↔◌}
 use Rattle.std.specs.List.{AllByRecursion}
 use borrow.Author.Differences.{lt-true, lt-false, true_is_le, true_is_lt}
-use Rattle.pool_definitions.proofs.Sums.{each_map}
+use Rattle.basic_laws.proofs.Each.{each_map, each_append}
 use Rattle.row_definitions.specs.Row.{Row}
 use Rattle.search_definitions.specs.Best.{IsBest, Qualifies, comes_before}
 use Rattle.search_definitions.specs.Classes.{Classes}
 use Rattle.search_definitions.specs.Compositions.{attains, compositions, first_greatest, price, weight_in}
 use Rattle.search_definitions.proofs.Contained.{contains_filter, each_contains, each_itself, filtered}
-use Rattle.search_definitions.proofs.Listed.{each_append}
 use Rattle.search_definitions.proofs.Order.{Ordered, compositions_ordered, not_back, ordered_after}
 
 -- ---- the first of greatest weight above a floor

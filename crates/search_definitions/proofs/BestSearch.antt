@@ -3,17 +3,16 @@ use Rattle.std.proofs.Common.{◌≡◌, ℕ, zero, suc, ◌+◌, ◌-◌, Bool,
 use Rattle.std.specs.Prelude.{int_le, int_lt, unwrap_or}
 use Rattle.std.specs.List.{list_all, flat_map, AllByRecursion}
 use Rattle.std.proofs.lemmas.Bool.{and_parts, and_from, eqb-true, false≢true, false_from_ne_true}
-use Rattle.std.proofs.lemmas.List.{length-drop}
+use Rattle.std.proofs.lemmas.List.{length-drop, append-nil}
 use Rattle.std.proofs.lemmas.List.Elements.{filter-append}
 use Rattle.std.proofs.lemmas.List.Sums.{fold-append}
 use borrow.Author.Differences.{sum_is_lem, same_in, le-true, lt-true, true_is_le, true_is_lt}
-use Rattle.pool_definitions.proofs.Sums.{each_map}
+use Rattle.basic_laws.proofs.Each.{each_map, each_mapped, each_filter}
 use Rattle.row_definitions.specs.Row.{Row}
 use Rattle.search_definitions.specs.Classes.{Class, Classes, IsSearchable}
 use Rattle.search_definitions.specs.Compositions.{counts_of, all_counts, taken_of, meets_bounds, is_composition, compositions, weight_in, attains, first_greatest, price}
 use Rattle.search_definitions.specs.Fronts.{HaveEntries, later_than, taken_by, is_reachable, sum_of, greatest_sum, optimistic, is_live_above}
 use Rattle.search_definitions.specs.Visits.{Pricing, enter_best, best_search}
-use Rattle.search_definitions.proofs.Listed.{each_mapped, each_filter, append_nothing}
 use Rattle.search_definitions.proofs.FirstSearch.{Gives, InOrder, all_counts_give, Split, later_is, taken_split, live_from_composition, composition_from_live, completions, of_children, child_splits, completions_of_none, empty_splits}
 use Rattle.search_definitions.proofs.GreatestSum.{AtMost, weight_within_greatest, weight-append}
 
@@ -151,7 +150,7 @@ enter_best_keeps all closed row pre [] front so_far split order entries live =
     let composes = composition_from_live all pre front split parts.0 in
     let attained = attained_from closed parts.1 in
     let above = rw (optimistic_of_all all pre front row split) at all_parts.1 in
-    let same = append_nothing front in
+    let same = append-nil front in
     rw (same, composes, attained, above) refl
   where
     attained_from : (closed : List Row) → list_all (λ r. int_le r.b (optimistic all r front)) closed ≡ true → attains closed front ≡ true

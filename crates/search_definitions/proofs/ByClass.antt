@@ -1,9 +1,9 @@
 -- Sums over a panel, class by class.
-use Rattle.std.proofs.Common.{◌≡◌, ℕ, zero, suc, ◌+◌, ◌*◌, ◌≤◌, ◌<◌, Bool, true, false, cond, not, ◌||◌, eqb, List, [], ◌∷◌, filter, refl, sym, ap, ◌∙◌, ⊎_elim, arith, subst, le_of_eq}
+use Rattle.std.proofs.Common.{◌≡◌, ℕ, zero, suc, ◌+◌, ◌*◌, ◌≤◌, ◌<◌, Bool, true, false, cond, not, ◌||◌, eqb, List, [], ◌∷◌, refl, sym, ap, ◌∙◌, ⊎_elim, arith, subst, le_of_eq}
 use Rattle.std.specs.List.{list_any, AllByRecursion, range_with_len}
 use Rattle.std.proofs.lemmas.Bool.{cases_Bool, cases_lt, eqb-true, eq-eqb, false≢true}
+use Rattle.basic_laws.proofs.Sums.{total, total_ext, total-add, total-scaled, total-zero, one_if, total-filter}
 use Rattle.search_definitions.specs.Classes.{leaders, IsEquivalenceTest}
-use Rattle.pool_definitions.proofs.Sums.{total, total_ext, total-add, total-scaled, total-zero}
 use Rattle.pool_definitions.proofs.Weights.{one_member}
 
 -- the least number that passes
@@ -43,19 +43,6 @@ any_true q first (suc count) k l m e =
       | true ↦ λ _. refl
       | false ↦ λ f. any_true q (first + 1) count k (⊎_elim (λ (lt : first < k). omega arith) (λ (le : k ≤ first). let s : k ≡ first = omega arith in absurd (false≢true (sym f ∙ ap q (sym s) ∙ e))) (cases_lt first k)) (omega arith) e
     ]) refl
-
-pub total-filter : {X : Type 0} (f : X → ℕ) (p : X → Bool) (xs : List X) → total f (filter p xs) ≡ total (λ x. cond (p x) (f x) 0) xs
-total-filter f p [] = refl
-total-filter f p (x ∷ xs) =
-    let rest = total-filter f p xs in
-    elim (p x) as (λ b. total f (cond b (x ∷ filter p xs) (filter p xs)) ≡ cond b (f x) 0 + total (λ x. cond (p x) (f x) 0) xs) [
-      | true ↦ ap (λ z. f x + z) rest
-      | false ↦ omega (arith, rest)
-    ]
-
--- 1 where two are alike
-abbrev pub one_if : Bool → ℕ
-one_if b = cond b 1 0
 
 -- how many of a panel are alike a leader
 abbrev pub taken : (ℕ → ℕ → Bool) → ℕ → List ℕ → ℕ

@@ -2,17 +2,18 @@
 use Rattle.std.proofs.Common.{◌≡◌, ℕ, zero, suc, ◌+◌, ◌-◌, ◌≤◌, ◌<◌, min, Bool, true, false, cond, ◌&&◌, eqb, ltb, List, [], ◌∷◌, map, length, filter, count_by, get_or, slice_index, refl, sym, ap, ◌∙◌, ⊎_elim, arith, subst, le_of_eq}
 use Rattle.std.specs.List.{list_all, AllByRecursion, range_with_len, enumerate_from}
 use Rattle.std.proofs.lemmas.Bool.{and_parts, and_from, cases_Bool, cases_lt, cases_eq, eqb-true, eq-eqb, ne_eqb, ltb-true, lt-ltb, le-ltb, false≢true}
+use Rattle.basic_laws.proofs.Sums.{total, total_eq, total_ext, one_if, total-filter, length-filter-total, count_by-total}
+use Rattle.basic_laws.proofs.Each.{each_both, each_from_filter, each_from_list_all, each_map, each_mapped, each_filter, each_range, list_all_equal}
 use Rattle.pool_definitions.specs.declared.Standing.{Standing}
 use Rattle.pool_definitions.specs.declared.Standing.TheVariants.{Open, Seated, Gone}
 use Rattle.pool_definitions.specs.Lists.{includes, is_increasing}
 use Rattle.pool_definitions.specs.Pool.{Pool, Volunteer, volunteer, is_quota_panel, allows, keeps_standings, meets_quotas, members_with, is_within}
 use Rattle.search_definitions.specs.Classes.{leaders, class_of, least_taken, most_taken, IsEquivalenceTest, MakesClasses}
 use Rattle.search_definitions.proofs.LeaderForm.{all_counts, compositions, composition_of, taken_of, is_composition, first_panel}
-use Rattle.pool_definitions.proofs.Sums.{each_both, each_from_filter, each_from_list_all, total, total_eq, total_ext, each_map}
 use Rattle.pool_definitions.proofs.Weights.{one_member}
-use Rattle.search_definitions.proofs.ByClass.{one_if, Least, least_passing, is_first, leads, total-filter}
-use Rattle.search_definitions.proofs.Listed.{each_count, each_mapped, each_filter, each_range, list_all_equal}
-use Rattle.search_definitions.proofs.PanelCompositions.{length-filter-total, counted_is, passing}
+use Rattle.search_definitions.proofs.ByClass.{Least, least_passing, is_first, leads}
+use Rattle.search_definitions.proofs.Listed.{each_count}
+use Rattle.search_definitions.proofs.PanelCompositions.{passing}
 
 -- ---- filters of a range
 
@@ -173,7 +174,7 @@ module _ (alike : ℕ → ℕ → Bool) (same : IsEquivalenceTest alike) (count 
 
   in_class : (l i : ℕ) → leads alike same count l ≡ true → i < count → alike l i ≡ true → in_panel i ≡ ltb (rank (alike l) i) (g l)
   in_class l i lead below t =
-      let e : count_by (alike i) (range_with_len 0 i) ≡ rank (alike l) i = counted_is (alike i) (range_with_len 0 i) ∙ total_ext (λ j. one_if (alike i j)) (λ j. one_if (alike l j)) (λ j. ap one_if (alike_as l i j t)) (range_with_len 0 i) in
+      let e : count_by (alike i) (range_with_len 0 i) ≡ rank (alike l) i = count_by-total (alike i) (range_with_len 0 i) ∙ total_ext (λ j. one_if (alike i j)) (λ j. one_if (alike l j)) (λ j. ap one_if (alike_as l i j t)) (range_with_len 0 i) in
       let f : taken_of (λ leader. alike leader i) firsts (map g firsts) ≡ g l = own i below ∙ ap g (leader_is l i lead t) in
       rw (e, f) refl
 
@@ -185,7 +186,7 @@ module _ (alike : ℕ → ℕ → Bool) (same : IsEquivalenceTest alike) (count 
   -- as many of the class are taken as the composition says
   takes : (l : ℕ) → leads alike same count l ≡ true → g l ≤ rank (alike l) count → count_by (alike l) panel ≡ g l
   takes l lead fits =
-      let a = counted_is (alike l) panel in
+      let a = count_by-total (alike l) panel in
       let b = total-filter (λ i. one_if (alike l i)) in_panel (range_with_len 0 count) in
       let c = total_eq (λ i. cond (in_panel i) (one_if (alike l i)) 0) (λ i. cond (ltb (rank (alike l) i) (g l)) (one_if (alike l i)) 0) (range_with_len 0 count)
       (each_range (λ i. cond (in_panel i) (one_if (alike l i)) 0 ≡ cond (ltb (rank (alike l) i) (g l)) (one_if (alike l i)) 0) 0 count (λ i f m. term l i lead (omega arith))) in
@@ -249,7 +250,7 @@ module _ (pool : Pool) (alike : ℕ → ℕ → Bool) (makes : MakesClasses pool
     size_is : length chosen ≡ pool.size
     size_is =
         let parts = and_parts (eqb (taken_of (λ leader. true) (leaders alike n) (map g (leaders alike n))) pool.size) _ composes in
-        sym (ones chosen) ∙ sym (counted_is (λ leader. true) chosen) ∙ sym (passing alike makes.same n (λ leader. true) (λ i j e. refl) chosen each_below)
+        sym (ones chosen) ∙ sym (count_by-total (λ leader. true) chosen) ∙ sym (passing alike makes.same n (λ leader. true) (λ i j e. refl) chosen each_below)
         ∙ ap (taken_of (λ leader. true) (leaders alike n)) same_composition ∙ eqb-true (taken_of (λ leader. true) (leaders alike n) (map g (leaders alike n))) pool.size parts.0
       where
         ones : (xs : List ℕ) → total (λ i. 1) xs ≡ length xs

@@ -3,15 +3,16 @@ use Rattle.std.proofs.Common.{◌≡◌, ℕ, ◌+◌, ◌-◌, ◌≤◌, Bool,
 use Rattle.std.specs.Prelude.{slice_get}
 use Rattle.std.specs.List.{list_all, flat_map, enumerate_from, AllByRecursion}
 use Rattle.std.proofs.lemmas.Bool.{and_parts, and_from, eqb-true, eq-eqb, leb-true, le-leb, false≢true, false_from_ne_true}
-use Rattle.std.proofs.lemmas.List.{map-append, map-id}
+use Rattle.std.proofs.lemmas.List.{map-append, map-id, append-nil}
 use Rattle.std.proofs.lemmas.List.Elements.{filter-append}
 use Rattle.std.proofs.Math.Seq.{drop-append_seam}
-use Rattle.pool_definitions.proofs.Sums.{sum_by-is-total, total, each_map}
+use Rattle.basic_laws.proofs.Each.{each_map, each_mapped, each_everywhere, none_pass, list_all_implies}
+use Rattle.basic_laws.proofs.Sums.{sum_by-is-total, total}
 use Rattle.search_definitions.specs.Classes.{Class, Classes, IsSearchable}
 use Rattle.search_definitions.specs.Compositions.{counts_of, all_counts, taken_of, has_value, lies_within, meets_bounds, is_composition, compositions, first_composition}
 use Rattle.search_definitions.specs.Fronts.{later_than, most_given, taken_by, size_reachable, value_reachable, values_reachable, is_reachable}
 use Rattle.search_definitions.specs.Visits.{Search, one_by_one, enter_first, first_search}
-use Rattle.search_definitions.proofs.Listed.{each_mapped, each_count, each_everywhere, none_pass, list_all_implies, append_nothing}
+use Rattle.search_definitions.proofs.Listed.{each_count}
 
 -- ---- counts that classes can give
 
@@ -190,7 +191,7 @@ enter_first_finds : (all : Classes) (pre later : List Class) (front : List ℕ) 
 unfolding first
 enter_first_finds all pre [] front split order live =
     let composes = composition_from_live all pre front split live in
-    let same = append_nothing front in rw (same, composes) refl
+    let same = append-nil front in rw (same, composes) refl
 enter_first_finds all pre (class ∷ later) front split order live =
     in_turn_finds (λ child. completions all child later) (λ child. enter_first all later child) (is_reachable all) (map (λ c. front ++ c ∷ []) (counts_of class))
     (each_mapped (λ child. (is_reachable all child ≡ true → (enter_first all later child).found ≡ first (completions all child later)) × (is_reachable all child ≡ false → completions all child later ≡ []))

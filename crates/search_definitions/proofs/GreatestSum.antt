@@ -3,7 +3,8 @@ use Rattle.std.proofs.Common.{◌≡◌, ℕ, zero, suc, ◌+◌, ◌*◌, ◌�
 use Rattle.std.specs.Prelude.{int_le, replicate}
 use Rattle.std.specs.List.{AllByRecursion}
 use borrow.Author.Differences.{up, down, sum_is_lem, le-true, le-false}
-use Rattle.pool_definitions.proofs.Sums.{total, each_map}
+use Rattle.basic_laws.proofs.Each.{each_map}
+use Rattle.basic_laws.proofs.Sums.{total}
 use Rattle.search_definitions.specs.Classes.{Class}
 use Rattle.search_definitions.specs.Compositions.{taken_of, weight_in}
 use Rattle.search_definitions.specs.Fronts.{put_falling, falling, units, sum_of, greatest_sum}

@@ -3,15 +3,14 @@ use Rattle.std.proofs.Common.{◌≡◌, ℕ, zero, suc, ◌≤◌, ◌<◌, Boo
 use Rattle.std.specs.Prelude.{not}
 use Rattle.std.specs.List.{All, AllByRecursion, list_all, list_any, range_with_len}
 use Rattle.std.proofs.lemmas.Bool.{and_parts, leb-true, ltb-true, false≢true}
+use Rattle.basic_laws.proofs.Each.{each_map, each_from_list_all, each_mapped, each_range, each_filter}
+use Rattle.basic_laws.proofs.Sums.{total, sum_by-is-total, length-filter-total}
 use Rattle.pool_definitions.specs.declared.Standing.{Standing}
 use Rattle.pool_definitions.specs.declared.Standing.TheVariants.{Open, Seated, Gone}
 use Rattle.pool_definitions.specs.Lists.{all_different}
 use Rattle.pool_definitions.specs.Pool.{Pool, IsPool, Category, BoundedValue, volunteer, is_name, are_bounds, is_value, is_category, has_values}
-use Rattle.pool_definitions.proofs.Sums.{total, sum_by-is-total, each_map, each_from_list_all}
 use Rattle.search_definitions.specs.declared.Bounds.{Bounds}
 use Rattle.search_definitions.specs.Classes.{Class, HasPlaces, KeepsLimits, MakesClasses, leaders, class_of, class_by, classes_by, bounds_of, most_taken}
-use Rattle.search_definitions.proofs.Listed.{each_mapped, each_range, each_filter}
-use Rattle.search_definitions.proofs.PanelCompositions.{length-filter-total}
 use Rattle.search_definitions.proofs.FirstPanel.{rank_below}
 use Rattle.search_definitions.proofs.PoolClasses.{members_in_all, classes_in_order}
 

@@ -1,5 +1,6 @@
 -- Where pricing over the classes of a pool finds nothing, no quota panel that attains the earlier caps passes the cap.
 use Rattle.std.proofs.Common.{◌≡◌, ℕ, Bool, true, List, [], ◌∷◌, map, length, filter, ℤ, pos, ◌+ℤ◌, ◌*ℤ◌, None, refl, sym, ap, ◌∙◌}
+use Rattle.std.proofs.lemmas.List.Elements.{filter_agree}
 use Rattle.pool_definitions.specs.Certificate.{Stage, weight_of, is_capped}
 use Rattle.pool_definitions.specs.Pool.{Pool}
 use Rattle.search_definitions.specs.Classes.{MakesClasses, leaders, classes_by}
@@ -7,7 +8,7 @@ use Rattle.search_definitions.specs.Compositions.{weight_in, attains, first_grea
 use Rattle.search_definitions.specs.Stages.{WeighAlike, row_of}
 use Rattle.search_definitions.proofs.LeaderForm as by_leader
 use Rattle.search_definitions.proofs.PanelCompositions.{is_capped-from_price}
-use Rattle.search_definitions.proofs.PoolClasses.{filter_same, compositions_same}
+use Rattle.search_definitions.proofs.PoolClasses.{compositions_same}
 
 -- a composition weighs the same, taken class by class or by the classes' leaders
 pub weight_same : (w : ℕ → ℤ) (firsts counts : List ℕ) → weight_in (map w firsts) counts ≡ by_leader.composition_weight w firsts counts
@@ -37,7 +38,7 @@ module _ (pool : Pool) (alike : ℕ → ℕ → Bool) where
       is_capped-from_price pool alike makes earlier stage weigh
       (sym (ap (λ all. first_greatest (by_leader.composition_weight (weight_of stage) firsts) stage.cap (filter (by_leader.composition_attains earlier firsts) all)) (compositions_same pool alike))
       ∙ sym (ap (first_greatest (by_leader.composition_weight (weight_of stage) firsts) stage.cap)
-      (filter_same (attains (map (row_of alike pool) earlier)) (by_leader.composition_attains earlier firsts) (attains_same earlier) (compositions (classes_by alike pool))))
+      (filter_agree (attains (map (row_of alike pool) earlier)) (by_leader.composition_attains earlier firsts) (attains_same earlier) (compositions (classes_by alike pool))))
       ∙ sym (greatest_same (weight_in (row_of alike pool stage).a) (by_leader.composition_weight (weight_of stage) firsts) (weight_same (weight_of stage) firsts) stage.cap
       (filter (attains (map (row_of alike pool) earlier)) (compositions (classes_by alike pool))))
       ∙ none)

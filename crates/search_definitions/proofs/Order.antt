@@ -2,11 +2,11 @@
 use Rattle.std.proofs.Common.{◌≡◌, ℕ, zero, suc, ◌+◌, ◌-◌, ◌<◌, Bool, true, false, cond, ◌&&◌, ◌||◌, eqb, ltb, List, [], ◌∷◌, ◌++◌, map, filter, refl, arith, inl, inr, ◌⊎◌}
 use Rattle.std.specs.List.{flat_map, AllByRecursion}
 use Rattle.std.proofs.lemmas.Bool.{and_parts, eq-eqb, eqb-true, lt-ltb, ltb-true, le-ltb}
-use Rattle.pool_definitions.proofs.Sums.{each_map}
+use Rattle.basic_laws.proofs.Each.{each_map, each_append, each_everywhere, each_filter, each_mapped}
 use Rattle.search_definitions.specs.Best.{comes_before}
 use Rattle.search_definitions.specs.Classes.{Class, Classes}
 use Rattle.search_definitions.specs.Compositions.{all_counts, compositions, counts_down, is_composition}
-use Rattle.search_definitions.proofs.Listed.{each_append, each_count, each_everywhere, each_filter, each_mapped}
+use Rattle.search_definitions.proofs.Listed.{each_count}
 
 -- each comes before all that follow
 abbrev pub Ordered : List (List ℕ) → Type 0

@@ -4,6 +4,8 @@ use Rattle.std.specs.Prelude.{int_le, int_lt, unwrap_or, Some, None}
 use Rattle.std.specs.List.{list_all, AllByRecursion, range_with_len, flat_map, enumerate_from}
 use Rattle.std.proofs.lemmas.Bool.{and_parts, and_from, cases_lt, eq-eqb, ltb-true, false≢true}
 use borrow.Author.Differences.{up, down, sum_is_lem, same_in, true_is_le, lt-false}
+use Rattle.basic_laws.proofs.Sums.{total, total_le, total-zero, one_if, length-filter-total, count_by-total}
+use Rattle.basic_laws.proofs.Each.{each_left, each_right, each_of_map, each_range, each_everywhere, list_all_from_each, list_all_equal, each_map, each_from_list_all, each_from_filter}
 use Rattle.pool_definitions.specs.declared.Standing.{Standing}
 use Rattle.pool_definitions.specs.declared.Standing.TheVariants.{Open, Seated, Gone}
 use Rattle.pool_definitions.specs.Lists.{includes, is_increasing, choices}
@@ -12,13 +14,11 @@ use Rattle.pool_definitions.specs.Certificate.{Stage, weight_of, panel_weight, a
 use Rattle.search_definitions.specs.Classes.{leaders, class_of, least_taken, most_taken, IsEquivalenceTest, MakesClasses}
 use Rattle.search_definitions.specs.Compositions.{counts_down, first_greatest}
 use Rattle.search_definitions.specs.Stages.{WeighAlike}
-use Rattle.search_definitions.proofs.Listed.{each_left, each_right, each_of_map, each_range, each_everywhere, list_all_from_each, list_all_equal}
 use Rattle.search_definitions.proofs.LeaderForm.{composition_of, all_counts, taken_of, composition_weight, is_composition, compositions, composition_attains}
-use Rattle.pool_definitions.proofs.Sums.{total, total_le, total-zero, sum_by-is-total, each_map, each_from_list_all, each_from_filter}
 use Rattle.pool_definitions.proofs.Weights.{total_panel}
 use Rattle.pool_definitions.proofs.AllPanels.{Quota, quota_parts}
 use Rattle.pool_definitions.proofs.Greatest.{weight_parts}
-use Rattle.search_definitions.proofs.ByClass.{one_if, taken, by_class}
+use Rattle.search_definitions.proofs.ByClass.{taken, by_class}
 
 -- ---- lists with a count for each leader
 
@@ -44,15 +44,12 @@ among_counts P low high g (l ∷ firsts) within each =
 
 -- ---- sums by composition
 
-pub counted_is : (p : ℕ → Bool) (xs : List ℕ) → count_by p xs ≡ total (λ i. one_if (p i)) xs
-counted_is p xs = sum_by-is-total (λ i. cond (p i) 1 0) xs
-
 taken_of-is : (alike : ℕ → ℕ → Bool) (passes : ℕ → Bool) (panel firsts : List ℕ) →
     taken_of passes firsts (composition_of alike firsts panel) ≡ total (λ l. taken alike l panel * one_if (passes l)) firsts
 taken_of-is alike passes panel [] = refl
 taken_of-is alike passes panel (l ∷ firsts) =
     let rest = taken_of-is alike passes panel firsts in
-    let here = counted_is (alike l) panel in
+    let here = count_by-total (alike l) panel in
     elim (passes l) as (λ b. cond b (count_by (alike l) panel) 0 + taken_of passes firsts (composition_of alike firsts panel) ≡ taken alike l panel * one_if b + total (λ l. taken alike l panel * one_if (passes l)) firsts) [
       | true ↦ omega (arith, rest, here)
       | false ↦ omega (arith, rest)
@@ -72,7 +69,7 @@ weight_is : (alike : ℕ → ℕ → Bool) (w : ℕ → ℤ) (panel firsts : Lis
 weight_is alike w panel [] = refl
 weight_is alike w panel (l ∷ firsts) =
     let rest = weight_is alike w panel firsts in
-    let here = counted_is (alike l) panel in
+    let here = count_by-total (alike l) panel in
     let c = count_by (alike l) panel in
     let parts = product_parts c (w l) in
     let upper : c * up (w l) ≡ taken alike l panel * up (w l) = ap (λ z. z * up (w l)) here in
@@ -86,7 +83,7 @@ module _ (alike : ℕ → ℕ → Bool) (same : IsEquivalenceTest alike) (count 
   passing passes respects panel below =
       taken_of-is alike passes panel (leaders alike count)
       ∙ sym (by_class alike same count (λ i. one_if (passes i)) (λ i j e. ap one_if (respects i j e)) panel below)
-      ∙ sym (counted_is passes panel)
+      ∙ sym (count_by-total passes panel)
 
   -- a panel's weight, by composition
   pub weighing : (stage : Stage) → ((i j : ℕ) → alike i j ≡ true → weight_of stage i ≡ weight_of stage j) → (panel : List ℕ) → AllByRecursion (λ i. i < count) panel →
@@ -108,15 +105,6 @@ at_place q first (v ∷ vs) h zero d l =
 at_place q first (v ∷ vs) h (suc k) d l =
     let s : first + suc k ≡ first + 1 + k = omega arith in
     rw s (at_place q (first + 1) vs ((and_parts (q first v) (list_all (λ (i, v). q i v) (enumerate_from (first + 1) vs)) h).1) k d (omega arith))
-
-pub length-filter-total : {X : Type 0} (p : X → Bool) (xs : List X) → length (filter p xs) ≡ total (λ x. one_if (p x)) xs
-length-filter-total p [] = refl
-length-filter-total p (x ∷ xs) =
-    let rest = length-filter-total p xs in
-    elim (p x) as (λ b. length (cond b (x ∷ filter p xs) (filter p xs)) ≡ one_if b + total (λ x. one_if (p x)) xs) [
-      | true ↦ omega (arith, rest)
-      | false ↦ omega (arith, rest)
-    ]
 
 pub each_filter_passes : {X : Type 0} (P : X → Type 0) (p : X → Bool) → ((x : X) → p x ≡ true → P x) → (xs : List X) → AllByRecursion P (filter p xs)
 each_filter_passes P p f [] = tt
@@ -174,7 +162,7 @@ module _ (pool : Pool) (alike : ℕ → ℕ → Bool) (respects : MakesClasses p
       let e : 0 + i ≡ i = omega arith in subst (λ z. allows (standing_of i) (includes panel z) ≡ true) e here
 
   taken_here : (l : ℕ) → count_by (alike l) panel ≡ total (λ i. cond (includes panel i) (one_if (alike l i)) 0) (range_with_len 0 n)
-  taken_here l = counted_is (alike l) panel ∙ total_panel (λ i. one_if (alike l i)) n panel parts.up parts.below
+  taken_here l = count_by-total (alike l) panel ∙ total_panel (λ i. one_if (alike l i)) n panel parts.up parts.below
 
   class_size : (l : ℕ) → length (class_of alike n l) ≡ total (λ i. one_if (alike l i)) (range_with_len 0 n)
   class_size l = length-filter-total (alike l) (range_with_len 0 n)
@@ -209,7 +197,7 @@ module _ (pool : Pool) (alike : ℕ → ℕ → Bool) (respects : MakesClasses p
   mine = composition_of alike (leaders alike n) panel
 
   size_is : taken_of (λ leader. true) (leaders alike n) mine ≡ pool.size
-  size_is = passing alike respects.same n (λ leader. true) (λ i j e. refl) panel below ∙ counted_is (λ leader. true) panel ∙ all_ones panel ∙ parts.size
+  size_is = passing alike respects.same n (λ leader. true) (λ i j e. refl) panel below ∙ count_by-total (λ leader. true) panel ∙ all_ones panel ∙ parts.size
     where
       all_ones : (xs : List ℕ) → total (λ i. 1) xs ≡ length xs
       all_ones [] = refl

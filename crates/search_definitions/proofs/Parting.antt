@@ -1,13 +1,13 @@
 -- The classes of a pool part its volunteers.
 use Rattle.std.proofs.Common.{◌≡◌, ℕ, ◌<◌, Bool, true, List, [], ◌∷◌, map, length, cond, refl, sym, ◌∙◌, subst, arith}
 use Rattle.std.specs.List.{AllByRecursion, range_with_len}
+use Rattle.basic_laws.proofs.Each.{each_everywhere, each_filter, each_mapped, each_range}
+use Rattle.basic_laws.proofs.Sums.{sum_by-is-total, total, one_if}
 use Rattle.pool_definitions.specs.Lists.{includes, is_increasing}
 use Rattle.pool_definitions.specs.Pool.{Pool}
-use Rattle.pool_definitions.proofs.Sums.{sum_by-is-total, total}
 use Rattle.search_definitions.specs.Classes.{Class, MakesClasses, PartVolunteers, class_of, class_by, classes_by, leaders, volunteer_count}
-use Rattle.search_definitions.proofs.ByClass.{one_if, one_leader}
+use Rattle.search_definitions.proofs.ByClass.{one_leader}
 use Rattle.search_definitions.proofs.FirstPanel.{filter_increases, holds_filter}
-use Rattle.search_definitions.proofs.Listed.{each_everywhere, each_filter, each_mapped, each_range}
 use Rattle.search_definitions.proofs.PoolClasses.{members_in_all}
 
 module _ (pool : Pool) (alike : ℕ → ℕ → Bool) (makes : MakesClasses pool alike) where

@@ -2,19 +2,21 @@
 use Rattle.std.proofs.Common.{◌≡◌, ℕ, zero, suc, ◌+◌, ◌*◌, ◌≤◌, ◌<◌, Bool, true, false, cond, ◌&&◌, ◌||◌, eqb, ltb, List, [], ◌∷◌, map, length, filter, take, count_by, sum_by, slice_index, Option, None, Some, refl, sym, ap, ◌∙◌, ⊎_elim, arith, subst}
 use Rattle.std.specs.Prelude.{MatchOption, ◌↔◌, slice_get}
 use Rattle.std.specs.List.{flat_map, list_all, AllByRecursion, range_with_len, enumerate_from}
-use Rattle.std.proofs.lemmas.Bool.{cases_Bool, eqb-true, eq-eqb, ne_eqb, cases_lt, false≢true, le-ltb, lt-ltb}
+use Rattle.std.proofs.lemmas.Bool.{cases_Bool, eqb-true, eq-eqb, ne_eqb, false≢true, le-ltb, lt-ltb}
+use Rattle.std.proofs.lemmas.List.Elements.{filter_agree}
+use Rattle.basic_laws.proofs.Tests.{and-false, ltb-more}
+use Rattle.basic_laws.proofs.Each.{each_map, each_mapped, each_filter, each_everywhere, each_range, list_all_equal}
+use Rattle.basic_laws.proofs.Sums.{total, total_eq, total_ext, sum_by-is-total, one_if, length-filter-total, count_by-total}
 use Rattle.pool_definitions.specs.Lists.{includes, is_increasing}
 use Rattle.pool_definitions.specs.Pool.{Pool, volunteer, is_within, is_quota_panel, panels}
-use Rattle.pool_definitions.proofs.Sums.{total, total_eq, total_ext, sum_by-is-total, each_map}
 use Rattle.pool_definitions.proofs.AllPanels.{each_panel}
 use Rattle.search_definitions.specs.Classes.{Class, Classes, IsSearchable, MakesClasses, leaders, class_of, class_by, classes_by, are_alike}
 use Rattle.search_definitions.specs.Compositions.{counts_of, has_value, lies_within, is_taken, composition_of, first_panel, compositions, all_counts, taken_of, is_composition}
 use Rattle.search_definitions.specs.Visits.{first_search}
-use Rattle.search_definitions.proofs.Listed.{each_mapped, each_filter, each_everywhere, each_range, list_all_equal}
 use Rattle.search_definitions.proofs.FirstSearch.{search_finds_first}
 use Rattle.search_definitions.proofs.LeaderForm as by_leader
-use Rattle.search_definitions.proofs.ByClass.{one_if, taken, by_class, one_leader}
-use Rattle.search_definitions.proofs.PanelCompositions.{length-filter-total, counted_is, no_panel}
+use Rattle.search_definitions.proofs.ByClass.{taken, by_class, one_leader}
+use Rattle.search_definitions.proofs.PanelCompositions.{no_panel}
 use Rattle.search_definitions.proofs.FirstPanel.{FitsAndComposes, filter_increases, holds_filter, each_first_panel, least_to_most}
 
 -- ---- classes
@@ -38,10 +40,6 @@ classes_in_order pool alike = record {
 }
 
 -- ---- compositions
-
-pub filter_same : {X : Type 0} (p q : X → Bool) → ((x : X) → p x ≡ q x) → (xs : List X) → filter p xs ≡ filter q xs
-filter_same p q e [] = refl
-filter_same p q e (x ∷ xs) = rw (e x, filter_same p q e xs) refl
 
 filter_range_same : (p q : ℕ → Bool) (first count : ℕ) → ((i : ℕ) → i < first + count → p i ≡ q i) → filter p (range_with_len first count) ≡ filter q (range_with_len first count)
 filter_range_same p q first zero e = refl
@@ -89,7 +87,7 @@ module _ (pool : Pool) (alike : ℕ → ℕ → Bool) where
 
   pub compositions_same : compositions (classes_by alike pool) ≡ by_leader.compositions pool alike
   compositions_same =
-      filter_same (is_composition (classes_by alike pool)) (by_leader.is_composition pool firsts) composition_same (all_counts (map of_leader firsts))
+      filter_agree (is_composition (classes_by alike pool)) (by_leader.is_composition pool firsts) composition_same (all_counts (map of_leader firsts))
       ∙ ap (filter (by_leader.is_composition pool firsts)) (counts_same firsts)
 
   pub no_panel_of_classes : MakesClasses pool alike → compositions (classes_by alike pool) ≡ [] → panels pool ≡ []
@@ -115,13 +113,6 @@ not_before p i c first (suc count) l =
     with_first : (c : ℕ) → eqb first i ≡ false → ((c : ℕ) → includes (take c (filter p (range_with_len (first + 1) count))) i ≡ false) → includes (take c (first ∷ filter p (range_with_len (first + 1) count))) i ≡ false
     with_first zero e rest = refl
     with_first (suc c) e rest = let r = rest c in rw (e, r) refl
-
-and_false : (b : Bool) → (b && false) ≡ false
-and_false true = refl
-and_false false = refl
-
-below_more : (k c : ℕ) → ltb (1 + k) (suc c) ≡ ltb k c
-below_more k c = ⊎_elim (λ (l : k < c). lt-ltb (1 + k) (suc c) (omega arith) ∙ sym (lt-ltb k c l)) (λ (l : c ≤ k). le-ltb (1 + k) (suc c) (omega arith) ∙ sym (le-ltb k c l)) (cases_lt k c)
 
 -- the first c that pass hold who passes and has fewer than c before
 first_holds : (p : ℕ → Bool) (c first count d : ℕ) → d < count →
@@ -153,8 +144,8 @@ first_holds p c first (suc count) (suc d) l =
         includes (take c (first ∷ filter p (range_with_len (first + 1) count))) (first + 1 + d) ≡ (p (first + 1 + d) && ltb (1 + total (λ j. one_if (p j)) (range_with_len (first + 1) d)) c)
     after zero e rest =
         let none : ltb (1 + total (λ j. one_if (p j)) (range_with_len (first + 1) d)) 0 ≡ false = le-ltb (1 + total (λ j. one_if (p j)) (range_with_len (first + 1) d)) 0 (omega arith) in
-        rw none (sym (and_false (p (first + 1 + d))))
-    after (suc c) e rest = let r = rest c in let z = below_more (total (λ j. one_if (p j)) (range_with_len (first + 1) d)) c in rw (e, z) r
+        rw none (sym (and-false (p (first + 1 + d))))
+    after (suc c) e rest = let r = rest c in let z = ltb-more (total (λ j. one_if (p j)) (range_with_len (first + 1) d)) c in rw (e, z) r
 
 module _ (pool : Pool) (alike : ℕ → ℕ → Bool) (makes : MakesClasses pool alike) where
   abbrev many : ℕ
@@ -179,7 +170,7 @@ module _ (pool : Pool) (alike : ℕ → ℕ → Bool) (makes : MakesClasses pool
       subst (λ k. includes (take c (class_of alike many l)) k ≡ (alike l k && ltb (total (λ j. one_if (alike l j)) (range_with_len 0 i)) c)) s (first_holds (alike l) c 0 many i below) in
       ⊎_elim (λ (t : alike l i ≡ true).
       let same : total (λ j. one_if (alike l j)) (range_with_len 0 i) ≡ before i =
-      total_ext (λ j. one_if (alike l j)) (λ j. one_if (alike i j)) (λ j. ap one_if (alike_as l i j t)) (range_with_len 0 i) ∙ sym (counted_is (alike i) (range_with_len 0 i)) in
+      total_ext (λ j. one_if (alike l j)) (λ j. one_if (alike i j)) (λ j. ap one_if (alike_as l i j t)) (range_with_len 0 i) ∙ sym (count_by-total (alike i) (range_with_len 0 i)) in
       here ∙ ap (λ k. alike l i && ltb k c) same)
       (λ (f : alike l i ≡ false). let h : includes (take c (class_of alike many l)) i ≡ false = here ∙ ap (λ b. b && ltb (total (λ j. one_if (alike l j)) (range_with_len 0 i)) c) f in rw (h, f) refl)
       (cases_Bool (alike l i))
@@ -256,10 +247,10 @@ module _ (pool : Pool) (alike : ℕ → ℕ → Bool) (makes : MakesClasses pool
   composition_of_same panel below [] = refl
   composition_of_same panel below (l ∷ xs) =
       let here : count_by (includes (class_of alike many l)) panel ≡ count_by (alike l) panel =
-      counted_is (includes (class_of alike many l)) panel
+      count_by-total (includes (class_of alike many l)) panel
       ∙ total_eq (λ i. one_if (includes (class_of alike many l) i)) (λ i. one_if (alike l i)) panel
       (each_map (λ i. i < many) (λ i. one_if (includes (class_of alike many l) i) ≡ one_if (alike l i)) (λ i b. ap one_if (holds_filter (alike l) i 0 many (omega arith) (omega arith))) panel below)
-      ∙ sym (counted_is (alike l) panel) in
+      ∙ sym (count_by-total (alike l) panel) in
       let rest = composition_of_same panel below xs in rw (here, rest) refl
 
   pub first_panels_compose : AllByRecursion (λ counts. composition_of (classes_by alike pool) (first_panel (classes_by alike pool) counts) ≡ counts) (compositions (classes_by alike pool))

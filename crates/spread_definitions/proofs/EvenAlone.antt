@@ -3,14 +3,15 @@ use Rattle.std.proofs.Common.{◌≡◌, ℕ, zero, suc, ◌+◌, ◌-◌, ◌*�
 use Rattle.std.specs.List.{AllByRecursion}
 use Rattle.std.proofs.lemmas.Bool.{lt-ltb, eqb-true, ne_eqb, eq-eqb}
 use Rattle.std.proofs.lemmas.List.Elements.{recursion_from_All}
+use Rattle.basic_laws.proofs.Sums.{total, sum_by-is-total}
+use Rattle.basic_laws.proofs.Each.{each_map, each_filter, each_mapped}
 use Rattle.frac128.specs.Fractions.{Fraction}
 use Rattle.pool_definitions.specs.Lists.{includes}
 use Rattle.pool_definitions.specs.Lottery.{LotteryRow, count}
-use Rattle.pool_definitions.proofs.Sums.{each_map, total, sum_by-is-total}
 use Rattle.search_definitions.specs.Classes.{Class, Classes, KeepsLimits}
 use Rattle.search_definitions.specs.Compositions.{all_counts, compositions, first_panel, is_composition, is_taken}
 use Rattle.search_definitions.proofs.FirstPanel.{holds_filter}
-use Rattle.search_definitions.proofs.Listed.{each_count, each_filter, each_mapped}
+use Rattle.search_definitions.proofs.Listed.{each_count}
 use Rattle.spread_definitions.specs.Spreading.{AreParts, HasEvenChances, expected}
 use Rattle.spread_definitions.proofs.Parts.{each_composition}
 use Rattle.spread_definitions.specs.Singles.{AreAlone, row_alone}
@@ -68,9 +69,9 @@ held_one (suc c) first i =
 held : (first c i : ℕ) (members : List ℕ) → members ≡ first ∷ [] → includes (take c members) i ≡ (ltb 0 c && eqb first i)
 held first c i members e = ap (λ xs. includes (take c xs) i) e ∙ held_one c first i
 
-and_false : (b : Bool) → (b && false) ≡ false
-and_false true = refl
-and_false false = refl
+and-false : (b : Bool) → (b && false) ≡ false
+and-false true = refl
+and-false false = refl
 
 and_true : (b : Bool) → (b && true) ≡ b
 and_true true = refl
@@ -83,7 +84,7 @@ not_taken first (class ∷ classes) (c ∷ counts) i below alone =
     let here = held first c i class.members alone.0 in
     let other : eqb first i ≡ false = ne_eqb first i (λ e. omega arith) in
     let rest = not_taken (first + 1) classes counts i (omega arith) alone.1 in
-    rw (here, other, and_false, rest) refl
+    rw (here, other, and-false, rest) refl
 
 taken_at : (first t : ℕ) (classes : List Class) (counts : List ℕ) → AreAlone first classes → t < length classes → is_taken classes counts (first + t) ≡ ltb 0 (get_or counts t 0)
 taken_at first t [] counts alone inside = absurd (omega arith)
@@ -102,7 +103,7 @@ taken_at first (suc t) (class ∷ classes) (c ∷ counts) alone inside =
     let other : eqb first (first + suc t) ≡ false = ne_eqb first (first + suc t) (λ e. omega arith) in
     let same : first + suc t ≡ first + 1 + t = omega arith in
     let rest = taken_at (first + 1) t classes counts alone.1 (omega arith) in
-    rw (here, other, and_false, same) rest
+    rw (here, other, and-false, same) rest
 
 -- ---- a volunteer is in one class
 

@@ -2,15 +2,15 @@
 use Rattle.std.proofs.Common.{◌≡◌, ℕ, ◌+◌, ◌*◌, ◌/◌, ◌<◌, true, leb, List, [], ◌∷◌, map, length, Result, Ok, Err, refl, sym, ap, subst, ◌∙◌, arith}
 use Rattle.std.specs.List.{AllByRecursion}
 use Rattle.std.proofs.lemmas.Bool.{lt-ltb, le-leb}
+use Rattle.basic_laws.proofs.Sums.{total, sum_by-is-total}
+use Rattle.basic_laws.proofs.Each.{each_map, each_mapped, list_all_from_each}
 use Rattle.frac128.specs.Fractions.{Fraction}
 use Rattle.pool_definitions.specs.Lists.{all_different}
 use Rattle.pool_definitions.specs.Lottery.{Lottery, IsLottery}
 use Rattle.pool_definitions.specs.Pool.{Pool, IsPool, is_quota_panel}
-use Rattle.pool_definitions.proofs.Sums.{each_map, total, sum_by-is-total}
 use Rattle.search_definitions.specs.Classes.{Classes, are_alike, classes_of}
 use Rattle.search_definitions.specs.Compositions.{compositions, composition_of, first_panel}
 use Rattle.search_definitions.proofs.Limits.{limits_kept}
-use Rattle.search_definitions.proofs.Listed.{each_mapped, list_all_from_each}
 use Rattle.search_definitions.proofs.PoolClasses.{alone_makes_classes, first_panels_compose, first_panels_fit}
 use Rattle.spread_definitions.specs.Spreading.{AreParts, HasEvenChances, IsCommonTotal, TotalPass, lottery_of, spread, total_from}
 use Rattle.spread_definitions.proofs.CommonTotals.{common_total, each_den}

@@ -7,9 +7,10 @@ use Rattle.std.proofs.lemmas.Bool.{and_parts, and_from, or_parts, or_from, not-t
 use Rattle.std.proofs.lemmas.List.Elements.{All-contains, All-from_recursion, All-weaker, recursion_from_All}
 use Rattle.std.proofs.lemmas.Slice.Eq.{bytes_eq-Decides}
 use Rattle.std.proofs.Math.Nat.{mul-pos, mul-div_cancel'}
+use Rattle.basic_laws.proofs.Sums.{total}
+use Rattle.basic_laws.proofs.Each.{each_both, each_map}
 use Rattle.frac128.specs.Fractions.{Fraction}
 use Rattle.pool_definitions.specs.Lists.{all_different, includes_list}
-use Rattle.pool_definitions.proofs.Sums.{each_both, each_map}
 use Rattle.search_definitions.specs.Classes.{Classes}
 use Rattle.search_definitions.specs.Compositions.{compositions}
 use Rattle.spread_definitions.specs.Spreading.{AreParts, IsCommonTotal}

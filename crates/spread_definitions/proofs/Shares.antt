@@ -4,15 +4,15 @@ use Rattle.std.specs.Int.{◌∣◌}
 use Rattle.std.specs.List.{AllByRecursion, Contains}
 use Rattle.std.proofs.lemmas.List.Elements.{All-from_recursion, recursion_from_All}
 use Rattle.std.proofs.Math.Nat.{mul-div_cancel', eq_of_mul-eq-mul_right}
+use Rattle.basic_laws.proofs.Sums.{total, sum_by-is-total}
+use Rattle.basic_laws.proofs.Each.{each_map, each_everywhere, each_mapped}
 use Rattle.frac128.specs.Divisors.{gcd_of}
 use Rattle.frac128.specs.Fractions.{lowest_of}
 use Rattle.frac128.proofs.DivisorLaws.{beyond-positive}
 use Rattle.frac128.proofs.FractionLaws.{IsLowest-divided, products-divided}
 use Rattle.pool_definitions.specs.Lists.{all_different}
-use Rattle.pool_definitions.proofs.Sums.{each_map, total, sum_by-is-total}
 use Rattle.search_definitions.specs.Classes.{Classes}
 use Rattle.search_definitions.specs.Compositions.{compositions}
-use Rattle.search_definitions.proofs.Listed.{each_everywhere, each_mapped}
 use Rattle.spread_definitions.specs.Spreading.{AreParts, AreShares, with_fraction}
 
 -- one share: its part of a common multiple, times the whole

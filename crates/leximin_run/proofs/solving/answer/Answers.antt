@@ -9,24 +9,24 @@ use Rattle.leximin_run.proofs.solving.answer.Goals as goal
 pub spread-requires : goal.spread-requires
 spread-requires c =
     let run = c.args.run in
-    subst (AreParts run.classes) (sym (c.deref-2.ensures.value ∙ c.in-Ok.ensures)) (parts_are run.classes (run_limits run.limits) run.table c.requires.reached.stands.keeps)
+    subst (AreParts run.classes) (sym (c.deref-2.ensures.value ∙ c.in_ok-parts.ensures)) (parts_are run.classes (run_limits run.limits) run.table c.requires.reached.stands.keeps)
 
-pub returns-in-Ok-spread : goal.returns-in-Ok-spread
-returns-in-Ok-spread c =
+pub returns-in-Ok : goal.returns-in-Ok
+returns-in-Ok c =
     let run = c.args.run in
-    let made = sym (ap (spread run.classes) (c.deref-2.ensures.value ∙ c.in-Ok.ensures)) ∙ c.in-Ok-spread.ensures.spread in
-    let found = found_at_end run.classes (run_limits run.limits) run.table run.closed.items c.requires.reached c.requires.shut c.requires.settled c.in-Ok-spread.lottery made in
-    let stages = c.in-Ok-certificate.ensures ∙ ap (map (stage_of run.classes)) c.deref.ensures.value in (
+    let made = sym (ap (spread run.classes) (c.deref-2.ensures.value ∙ c.in_ok-parts.ensures)) ∙ c.in-Ok.ensures.spread in
+    let found = found_at_end run.classes (run_limits run.limits) run.table run.closed.items c.requires.reached c.requires.shut c.requires.settled c.in-Ok.lottery made in
+    let stages = c.in_ok-certificate.ensures ∙ ap (map (stage_of run.classes)) c.deref.ensures.value in (
       run.table,
       subst (λ answer. Ends run.classes (run_limits run.limits) (Found run.table answer)) (sym c.new.ensures)
-          (subst (λ ss. Ends run.classes (run_limits run.limits) (Found run.table (record { lottery = c.in-Ok-spread.lottery; stages = ss }))) (sym stages) found),
+          (subst (λ ss. Ends run.classes (run_limits run.limits) (Found run.table (record { lottery = c.in-Ok.lottery; stages = ss }))) (sym stages) found),
     )
 
 pub returns-in-Err-TotalPasses : goal.returns-in-Err-TotalPasses
 returns-in-Err-TotalPasses c =
     let run = c.args.run in
     let told = subst (λ stop. IsSpread (Err stop) (spread run.classes c.deref-2.result.now)) c.in-Err-TotalPasses.field-0-is c.in-Err-TotalPasses.ensures.spread in
-    let passes = sym (ap (spread run.classes) (c.deref-2.ensures.value ∙ c.in-Ok.ensures)) ∙ told.1 in
+    let passes = sym (ap (spread run.classes) (c.deref-2.ensures.value ∙ c.in_ok-parts.ensures)) ∙ told.1 in
     let place = c.in-Err-TotalPasses.place-is in let total = c.in-Err-TotalPasses.total-is in let den = c.in-Err-TotalPasses.den-is in (
       run.table,
       told.0,

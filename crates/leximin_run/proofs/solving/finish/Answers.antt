@@ -13,7 +13,7 @@ loop-run-smaller c =
     let advanced = subst (λ went. Advances run.classes (run_limits run.limits) run.table (Ok went) after.table) c.in-Ok-true.field-0-test c.in-Ok-true.ensures.advances in
     let stands = c.loop-run.invariant.reaches.stands in
     subst (λ limits. work_left (run_limits limits) after.table < work_left (run_limits run.limits) run.table) (sym c.in-Ok-true.ensures.limits)
-    (step_lessens run.classes (run_limits run.limits) run.table stands.limited stands.ranges stands.keeps after.table advanced)
+    (step_lessens run.classes (run_limits run.limits) run.table stands.limited stands.keeps after.table advanced)
 
 pub loop-run-preserved : goal.loop-run-preserved
 loop-run-preserved c =

@@ -3,10 +3,10 @@ use Rattle.std.specs.Prelude.{unsigned_abs}
 use Rattle.std.specs.Int.{w128}
 use Rattle.std.proofs.lemmas.Int.{to_z-of_z}
 use Rattle.std.proofs.lemmas.Bool.{ltb-false}
+use Rattle.basic_laws.proofs.Sums.{total, sum_by-is-total}
 use lib.Signed.{lt_z}
 use Rattle.row_definitions.specs.Row.{sum_of_sizes}
 use Rattle.search_definitions.specs.Classes.{Class}
-use Rattle.pool_definitions.proofs.Sums.{total, sum_by-is-total}
 use Rattle.panel_search.specs.Weights.{at}
 use Rattle.panel_search.proofs.best_tests.is_small.Goals as goal
 

@@ -1,5 +1,6 @@
 use Rattle.std.proofs.Common.{◌≡◌, ℕ, ◌+◌, ◌-◌, ◌^◌, ◌<◌, ◌≤◌, ltb, Ok, true, false, refl, sym, ap, ◌∙◌, arith}
 use Rattle.std.proofs.lemmas.Bool.{le-leb, lt-leb, lt-ltb}
+use Rattle.std.proofs.lemmas.Result.{err_from_is_err_and}
 use Rattle.row_definitions.specs.declared.Var.{Var}
 use Rattle.row_definitions.specs.Table.{Table}
 use Rattle.row_definitions.specs.Pivot.{pivot}
@@ -25,30 +26,31 @@ returns-then-pivots-clause-makes c =
       refl,
     )
 
-pub returns-in-Ok-clause-makes : goal.returns-in-Ok-clause-makes
-returns-in-Ok-clause-makes c =
+pub returns-clause-makes : goal.returns-clause-makes
+returns-clause-makes c =
     let run = c.args.self.now in
     let few : run.table.pivots < run.limits.pivots = omega (arith, c.if-pivots.false, c.pivots.ensures.value, c.pivots-2.ensures) in
-    let made = made_whole run.table c.pivot.new.self c.args.row c.args.variable run.limits.pivots few (omega (arith, c.pivots.ensures.ranges.few_pivots)) c.in-Ok.ensures.counted c.in-Ok.ensures.made in
     pivot_due run.classes (run_limits run.limits) run.table c.args.row c.args.variable c.requires.open c.requires.chosen false (lt-leb run.limits.pivots run.table.pivots few)
-    ∙ ap (pivoted run.table) made
+    ∙ ap (pivoted run.table) (made_whole run.table c.pivot.new.self c.args.row c.args.variable run.limits.pivots few (omega (arith, c.pivots.ensures.ranges.few_pivots)) c.in_ok-pivot.ensures.counted c.in_ok-pivot.ensures.made)
 
-pub returns-in-Ok-clause-stands : goal.returns-in-Ok-clause-stands
-returns-in-Ok-clause-stands c =
+pub returns-clause-stands : goal.returns-clause-stands
+returns-clause-stands c =
     let run = c.args.self.now in
     let few : run.table.pivots < run.limits.pivots = omega (arith, c.if-pivots.false, c.pivots.ensures.value, c.pivots-2.ensures) in
-    let made = made_whole run.table c.pivot.new.self c.args.row c.args.variable run.limits.pivots few (omega (arith, c.pivots.ensures.ranges.few_pivots)) c.in-Ok.ensures.counted c.in-Ok.ensures.made in
+    let made = made_whole run.table c.pivot.new.self c.args.row c.args.variable run.limits.pivots few (omega (arith, c.pivots.ensures.ranges.few_pivots)) c.in_ok-pivot.ensures.counted c.in_ok-pivot.ensures.made in
     let due = pivot_due run.classes (run_limits run.limits) run.table c.args.row c.args.variable c.requires.open c.requires.chosen false (lt-leb run.limits.pivots run.table.pivots few)
     ∙ ap (pivoted run.table) made in
     let stands = c.requires.stands in
     stands_on run.classes (run_limits run.limits) run.table run.closed.items stands c.pivot.new.self due run.closed.items
     (stands.closed_are ∙ sym (closed_rows_stay run.table stands.keeps.in_order c.requires.open c.args.row c.args.variable c.requires.chosen c.pivot.new.self made))
 
-pub returns-in-Err-clause-makes : goal.returns-in-Err-clause-makes
-returns-in-Err-clause-makes c =
+pub returns-in_err-pivot-clause-makes : goal.returns-in_err-pivot-clause-makes
+returns-in_err-pivot-clause-makes c =
     let run = c.args.self.now in
-    let few : run.table.pivots < run.limits.pivots = omega (arith, c.if-pivots.false, c.pivots.ensures.value, c.pivots-2.ensures) in (
+    let few : run.table.pivots < run.limits.pivots = omega (arith, c.if-pivots.false, c.pivots.ensures.value, c.pivots-2.ensures) in
+    let out = err_from_is_err_and c.from_residual.result c.from_residual.ensures.1 in
+    rw (out.1, out.2) (
       pivot_due run.classes (run_limits run.limits) run.table c.args.row c.args.variable c.requires.open c.requires.chosen false (lt-leb run.limits.pivots run.table.pivots few)
-          ∙ ap (pivoted run.table) (sym c.in-Err.ensures.made),
-      c.in-Err.ensures.kept,
+          ∙ ap (pivoted run.table) (sym c.in_err-pivot.ensures.made),
+      c.in_err-pivot.ensures.kept,
     )
