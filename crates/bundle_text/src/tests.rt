@@ -83,25 +83,15 @@ fn with_lines(alloc: Global, lines: &str) -> Result<Vec<u8>, AllocError> {
     spelled(alloc, &shown)
 }
 
-#[test]
-fn writes_a_bundle(rt: HostRuntime) -> Result<(), Fail> {
-    let text = written(
-        rt.alloc(),
+/// Answers for the four with the lines that they have.
+const WRITTEN: [(i128, &[Row<'static>], &[Numbers<'static>], &str); 2] = [
+    (
         2,
         &[(1, &[0, 2]), (1, &[1, 3])],
         &[(1, &[1, 1, 0, 0]), (0, &[-1, -1, 1, 1])],
-    )?
-    .ok_or("out of range")?;
-    assert_eq!(rt; text.len(), 218);
-    let lines = "total 2/panel 1 0 2/panel 1 1 3/stage 1 1 1 0 0/stage 0 -1 -1 1 1/done/";
-    assert!(rt; text == with_lines(rt.alloc(), lines)?);
-    Ok(())
-}
-
-#[test]
-fn writes_the_widest_numbers(rt: HostRuntime) -> Result<(), Fail> {
-    let text = written(
-        rt.alloc(),
+        "total 2/panel 1 0 2/panel 1 1 3/stage 1 1 1 0 0/stage 0 -1 -1 1 1/done/",
+    ),
+    (
         MOST,
         &[(MOST, &[3]), (MOST - 1, &[0, 1, 2, 3])],
         &[
@@ -109,53 +99,47 @@ fn writes_the_widest_numbers(rt: HostRuntime) -> Result<(), Fail> {
             (0, &[i128::MAX, 0, 0, 0]),
             (-1, &[1 - i128::MAX, 0, 0, 0]),
         ],
-    )?
-    .ok_or("out of range")?;
-    let mut lines = String::new(rt.alloc());
-    lines.push_str("total 100000000000000000000000000000000000000/")?;
-    lines.push_str("panel 100000000000000000000000000000000000000 3/")?;
-    lines.push_str("panel 99999999999999999999999999999999999999 0 1 2 3/")?;
-    lines.push_str("stage -170141183460469231731687303715884105727 0 0 0 0/")?;
-    lines.push_str("stage 0 170141183460469231731687303715884105727 0 0 0/")?;
-    lines.push_str("stage -1 -170141183460469231731687303715884105726 0 0 0/done/")?;
-    assert!(rt; text == with_lines(rt.alloc(), &lines)?);
+        "total 100000000000000000000000000000000000000/panel 100000000000000000000000000000000000000 3/panel 99999999999999999999999999999999999999 0 1 2 3/stage -170141183460469231731687303715884105727 0 0 0 0/stage 0 170141183460469231731687303715884105727 0 0 0/stage -1 -170141183460469231731687303715884105726 0 0 0/done/",
+    ),
+];
+
+#[test]
+fn writes_bundles(rt: HostRuntime) -> Result<(), Fail> {
+    for (total, rows, stages, lines) in WRITTEN {
+        let text = written(rt.alloc(), total, rows, stages)?.ok_or("out of range")?;
+        assert!(rt; text == with_lines(rt.alloc(), lines)?);
+    }
     Ok(())
 }
 
-/// The answer for the four is in the ranges.
-fn is_kept(
-    alloc: Global,
-    total: i128,
-    rows: &[Row<'_>],
-    stages: &[Numbers<'_>],
-) -> Result<bool, Fail> {
-    Ok(written(alloc, total, rows, stages)?.is_some())
-}
+/// A row of the four, and a stage.
+const ROW: &[Row<'static>] = &[(1, &[0, 2])];
+
+const STAGE: &[Numbers<'static>] = &[(1, &[1, 1, 0, 0])];
+
+/// Answers for the four, one in the ranges and the others not.
+const RANGES: [(bool, i128, &[Row<'static>], &[Numbers<'static>]); 14] = [
+    (true, 1, ROW, STAGE),
+    (false, 0, ROW, STAGE),
+    (false, MOST + 1, ROW, STAGE),
+    (false, 1, &[], STAGE),
+    (false, 1, &[(1, &[0, 2]), (0, &[1, 3])], STAGE),
+    (false, 1, &[(MOST + 1, &[0, 2])], STAGE),
+    (false, 1, &[(1, &[])], STAGE),
+    (false, 1, &[(1, &[0, 4])], STAGE),
+    (false, 1, ROW, &[]),
+    (false, 1, ROW, &[(1, &[1, 1, 0])]),
+    (false, 1, ROW, &[(1, &[1, 1, 0, 0, 0])]),
+    (false, 1, ROW, &[(1, &[i128::MAX, 0, 0, 0])]),
+    (false, 1, ROW, &[(i128::MIN, &[0, 0, 0, 0])]),
+    (false, 1, ROW, &[(0, &[i128::MIN, i128::MIN, 0, 0])]),
+];
 
 #[test]
-fn keeps_the_ranges_of_rows(rt: HostRuntime) -> Result<(), Fail> {
-    let alloc = rt.alloc();
-    let stages: [Numbers<'_>; 1] = [(1, &[1, 1, 0, 0])];
-    assert!(rt; is_kept(alloc, 1, &[(1, &[0, 2])], &stages)?);
-    assert!(rt; !is_kept(alloc, 0, &[(1, &[0, 2])], &stages)?);
-    assert!(rt; !is_kept(alloc, MOST + 1, &[(1, &[0, 2])], &stages)?);
-    assert!(rt; !is_kept(alloc, 1, &[], &stages)?);
-    assert!(rt; !is_kept(alloc, 1, &[(1, &[0, 2]), (0, &[1, 3])], &stages)?);
-    assert!(rt; !is_kept(alloc, 1, &[(MOST + 1, &[0, 2])], &stages)?);
-    assert!(rt; !is_kept(alloc, 1, &[(1, &[])], &stages)?);
-    assert!(rt; !is_kept(alloc, 1, &[(1, &[0, 4])], &stages)?);
-    Ok(())
-}
-
-#[test]
-fn keeps_the_ranges_of_stages(rt: HostRuntime) -> Result<(), Fail> {
-    let alloc = rt.alloc();
-    let rows: [Row<'_>; 1] = [(1, &[0, 2])];
-    assert!(rt; !is_kept(alloc, 1, &rows, &[])?);
-    assert!(rt; !is_kept(alloc, 1, &rows, &[(1, &[1, 1, 0])])?);
-    assert!(rt; !is_kept(alloc, 1, &rows, &[(1, &[1, 1, 0, 0, 0])])?);
-    assert!(rt; !is_kept(alloc, 1, &rows, &[(1, &[i128::MAX, 0, 0, 0])])?);
-    assert!(rt; !is_kept(alloc, 1, &rows, &[(i128::MIN, &[0, 0, 0, 0])])?);
-    assert!(rt; !is_kept(alloc, 1, &rows, &[(0, &[i128::MIN, i128::MIN, 0, 0])])?);
+fn keeps_the_ranges(rt: HostRuntime) -> Result<(), Fail> {
+    for (want, total, rows, stages) in RANGES {
+        let kept = written(rt.alloc(), total, rows, stages)?.is_some();
+        assert_eq!(rt; kept, want, "at {total}, {rows:?}, {stages:?}");
+    }
     Ok(())
 }

@@ -110,3 +110,14 @@ pub line_added : (text word first : List ℕ) (fields : List (List ℕ)) →
 line_added text word first fields =
     let regrouped : (((text ++ word) ++ (tab ∷ first)) ++ tabbed fields) ++ line_feed ∷ [] ≡ text ++ ((word ++ tabbed (first ∷ fields)) ++ line_feed ∷ []) = simp append_assoc in
     regrouped ∙ ap (λ line. text ++ line) (line_written word (first ∷ fields))
+
+-- one field more
+pub line_of-more : (first : List ℕ) (fields : List (List ℕ)) (field : List ℕ) → line_of (first ∷ (fields ++ field ∷ [])) ≡ line_of (first ∷ fields) ++ (tab ∷ field)
+line_of-more first [] field = refl
+line_of-more first (next ∷ fields) field =
+    ap (λ rest. first ++ (tab ∷ rest)) (line_of-more next fields field)
+    ∙ sym (append_assoc first (tab ∷ line_of (next ∷ fields)) (tab ∷ field))
+
+-- a line and LF
+pub line_ended : (line : List ℕ) → line ++ line_feed ∷ [] ≡ text_of (line ∷ [])
+line_ended line = sym (append-nil (line ++ line_feed ∷ []))

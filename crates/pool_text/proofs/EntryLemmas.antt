@@ -1,14 +1,9 @@
 -- What a line of fields that are text says is text, and a line that isn't UTF-8 has that kind.
 use Rattle.std.proofs.Common.{◌≡◌, ℕ, true, false, not, cond, List, [], ◌∷◌, map, sym, ◌∙◌, ap, subst, Option, Some, None}
 use Rattle.std.proofs.Common.{Bor}
-use Rattle.std.specs.Prelude.{bytes_eq, codes}
-use Rattle.std.specs.List.{All, AllByRecursion}
+use Rattle.std.specs.List.{AllByRecursion}
 use Rattle.std.specs.Str.{IsUtf8, is_utf8}
-use Rattle.std.proofs.lemmas.Bool.{cond_both}
-use Rattle.std.proofs.lemmas.List.Elements.{All-from_recursion}
 use Rattle.std.proofs.lemmas.Str.{IsUtf8-from_is_utf8}
-use Rattle.pool_definitions.specs.declared.Standing.{Standing}
-use Rattle.pool_definitions.specs.declared.Standing.TheVariants.{Seated, Gone}
 use Rattle.pool_definitions.specs.Pool.{Pool}
 use Rattle.basic_laws.proofs.Each.{each_map}
 use Rattle.line_definitions.specs.Lines.{fields_of}

