@@ -5,3 +5,4 @@ pub mod BestLaws
 pub mod OrderLaws
 pub mod ValueLaws
 pub mod BoundLaws
+pub mod SmallLaws

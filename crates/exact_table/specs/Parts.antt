@@ -1,5 +1,5 @@
 -- The parts of the table that are no rows, and what they keep.
-use Rattle.std.specs.Prelude.{◌≡◌, ◌≢◌, ℕ, ◌+◌, ◌-◌, nat_lt, ◌<◌, ◌≤◌, ◌^◌, ◌≤ℤ◌, pos, Bool, true, if◌then◌else◌, List, [], length, take, slice_index, slice_index_or}
+use Rattle.std.specs.Prelude.{◌≡◌, ◌≢◌, ℕ, ◌+◌, ◌-◌, nat_lt, ◌<◌, ◌≤◌, ◌^◌, ◌≤ℤ◌, pos, unsigned_abs, Bool, true, if◌then◌else◌, List, [], length, take, slice_index, slice_index_or}
 use Rattle.std.specs.List.{All}
 use Rattle.row_definitions.specs.declared.Var.{Var}
 use Rattle.row_definitions.specs.Row.{Row, reach}
@@ -53,6 +53,11 @@ pub record AreRows (table : Table) : Type 0 where
   pub entry_count : All (λ row. length row.a ≡ length table.sizes) table.rows
   pub small : All (λ row. reach table.sizes row < 2 ^ 127) table.rows
   pub sides : All (λ row. pos 0 ≤ℤ row.b) table.rows
+
+-- each number of a row fits 128 bits with a sign
+pub record IsSmall (row : Row) : Type 0 where
+  pub side : unsigned_abs row.b < 2 ^ 127
+  pub entries : All (λ x. unsigned_abs x < 2 ^ 127) row.a
 
 -- the counts are those of no column
 abbrev pub IsNew : Table → List ℕ → Type 0

@@ -15,49 +15,49 @@ use frac128::compare;
 use row_definitions::Var;
 use std::cmp::Ordering;
 
-fn is_same(x: Var, y: Var) -> bool
-    ensures { result ≡ is_same x y }
+fn is_same(first: Var, second: Var) -> bool
+    ensures { result ≡ is_same first second }
 {
-    match (x, y) {
-        (Var::Slack(t), Var::Slack(u)) => t == u,
-        (Var::Stage(r), Var::Stage(s)) => r == s,
-        (Var::Column(c), Var::Column(d)) => c == d,
+    match (first, second) {
+        (Var::Slack(first_class), Var::Slack(second_class)) => first_class == second_class,
+        (Var::Stage(first_stage), Var::Stage(second_stage)) => first_stage == second_stage,
+        (Var::Column(first_column), Var::Column(second_column)) => first_column == second_column,
         _ => false,
     }
 }
 
-fn comes_before(x: Var, y: Var) -> bool
-    ensures { result ≡ comes_before x y }
+fn comes_before(first: Var, second: Var) -> bool
+    ensures { result ≡ comes_before first second }
 {
-    match (x, y) {
-        (Var::Slack(t), Var::Slack(u)) => t < u,
+    match (first, second) {
+        (Var::Slack(first_class), Var::Slack(second_class)) => first_class < second_class,
         (Var::Slack(_), Var::Stage(_)) => true,
         (Var::Slack(_), Var::Column(_)) => true,
         (Var::Stage(_), Var::Slack(_)) => false,
-        (Var::Stage(r), Var::Stage(s)) => r < s,
+        (Var::Stage(first_stage), Var::Stage(second_stage)) => first_stage < second_stage,
         (Var::Stage(_), Var::Column(_)) => true,
         (Var::Column(_), Var::Slack(_)) => false,
         (Var::Column(_), Var::Stage(_)) => false,
-        (Var::Column(c), Var::Column(d)) => c < d,
+        (Var::Column(first_column), Var::Column(second_column)) => first_column < second_column,
     }
 }
 
 // The row in which a variable is basic.
-pub(crate) fn row_of(basic: &[Var], variable: Var) -> Option<usize>
+pub(crate) fn basic_row(basic: &[Var], variable: Var) -> Option<usize>
     ensures { result ≡ position (λ x. is_same x variable) basic.now }
 {
     basic.iter().position(|x| is_same(*x, variable))
 }
 
-// A variable's coefficient in row i.
-pub(crate) fn coefficient_in(frame: &Frame, rows: &[Line], i: usize, variable: Var) -> i128
+// A variable's coefficient in a row.
+pub(crate) fn coefficient_in(frame: &Frame, rows: &[Line], row: usize, variable: Var) -> i128
     requires known { IsKnown frame.now variable }
     requires rows { AreRows (with_rows frame.now rows.now []) }
-    requires i { i < length rows.now }
-    ensures value { result ≡ coefficient_at (with_rows frame.now rows.now []) i variable }
+    requires row { row < length rows.now }
+    ensures value { result ≡ coefficient_at (with_rows frame.now rows.now []) row variable }
     ensures small { unsigned_abs result < 2 ^ 127 }
 {
-    frame.coefficient(&rows[i], variable)
+    frame.coefficient(&rows[row], variable)
 }
 
 // A variable's coefficient is 0 in each closed row.
@@ -68,8 +68,8 @@ fn is_eligible(frame: &Frame, rows: &[Line], variable: Var) -> bool
     ensures { result ≡ is_eligible (with_rows frame.now rows.now []) variable }
 {
     let closed = frame.closed();
-    for k in 0..closed.len() {
-        if coefficient_in(frame, rows, closed[k], variable) != 0 {
+    for place in 0..closed.len() {
+        if coefficient_in(frame, rows, closed[place], variable) != 0 {
             return false;
         }
     }
@@ -99,9 +99,9 @@ fn first_slack(frame: &Frame, rows: &[Line], at: usize) -> Option<Var>
     ensures { result ≡ find (may_enter (with_rows frame.now rows.now []) at) (map Var.Slack (range_with_len 0 (length frame.now.sizes))) }
 {
     let count = frame.sizes().len();
-    for t in 0..count {
-        if may_enter(frame, rows, at, Var::Slack(t)) {
-            return Some(Var::Slack(t));
+    for class in 0..count {
+        if may_enter(frame, rows, at, Var::Slack(class)) {
+            return Some(Var::Slack(class));
         }
     }
     None
@@ -115,9 +115,9 @@ fn first_stage(frame: &Frame, rows: &[Line], at: usize) -> Option<Var>
     ensures { result ≡ find (may_enter (with_rows frame.now rows.now []) at) (map Var.Stage (range_with_len 0 (length frame.now.stages))) }
 {
     let count = frame.stages();
-    for r in 0..count {
-        if may_enter(frame, rows, at, Var::Stage(r)) {
-            return Some(Var::Stage(r));
+    for stage in 0..count {
+        if may_enter(frame, rows, at, Var::Stage(stage)) {
+            return Some(Var::Stage(stage));
         }
     }
     None
@@ -131,9 +131,9 @@ fn first_column(frame: &Frame, rows: &[Line], at: usize) -> Option<Var>
     ensures { result ≡ find (may_enter (with_rows frame.now rows.now []) at) (map Var.Column (range_with_len 0 (length frame.now.columns))) }
 {
     let count = frame.columns().len();
-    for c in 0..count {
-        if may_enter(frame, rows, at, Var::Column(c)) {
-            return Some(Var::Column(c));
+    for column in 0..count {
+        if may_enter(frame, rows, at, Var::Column(column)) {
+            return Some(Var::Column(column));
         }
     }
     None
@@ -180,49 +180,55 @@ fn goes_before(one: Leaver, other: Leaver) -> bool
     }
 }
 
-// Row i, where it has a positive coefficient on a variable.
-fn leaver_at(frame: &Frame, rows: &[Line], basic: &[Var], variable: Var, i: usize) -> Option<Leaver>
+// A row, where it has a positive coefficient on a variable.
+fn leaver_at(
+    frame: &Frame,
+    rows: &[Line],
+    basic: &[Var],
+    variable: Var,
+    row: usize,
+) -> Option<Leaver>
     requires known { IsKnown frame.now variable }
     requires rows { AreRows (with_rows frame.now rows.now []) }
     requires basic { length basic.now ≡ length rows.now }
-    requires i { i < length rows.now }
-    ensures none { IfNone result (may_leave (with_rows frame.now rows.now basic.now) variable i ≡ false) }
-    ensures row { IfSome result (λ here. here.row ≡ i) }
+    requires row { row < length rows.now }
+    ensures none { IfNone result (may_leave (with_rows frame.now rows.now basic.now) variable row ≡ false) }
+    ensures row { IfSome result (λ here. here.row ≡ row) }
     ensures some { IfSome result (λ here. IsLeaver (with_rows frame.now rows.now basic.now) variable here.row here.side here.coefficient here.basic) }
 {
-    let coefficient = coefficient_in(frame, rows, i, variable);
+    let coefficient = coefficient_in(frame, rows, row, variable);
     if coefficient > 0 {
-        let side = rows[i].side();
+        let side = rows[row].side();
         Some(Leaver {
-            row: i,
+            row,
             side,
             coefficient,
-            basic: basic[i],
+            basic: basic[row],
         })
     } else {
         None
     }
 }
 
-// The best row once row i was looked at.
+// The best row once one more was looked at.
 fn next_best(
     frame: &Frame,
     rows: &[Line],
     basic: &[Var],
     variable: Var,
-    i: usize,
+    row: usize,
     best: Option<Leaver>,
 ) -> Option<Leaver>
     requires known { IsKnown frame.now variable }
     requires rows { AreRows (with_rows frame.now rows.now []) }
     requires basic { length basic.now ≡ length rows.now }
-    requires i { i < length rows.now }
+    requires row { row < length rows.now }
     requires best { IfSome best (λ so_far. IsLeaver (with_rows frame.now rows.now basic.now) variable so_far.row so_far.side so_far.coefficient so_far.basic) }
     ensures row { option_map (λ here. here.row) result
-        ≡ next_best (with_rows frame.now rows.now basic.now) variable i (option_map (λ so_far. so_far.row) best) }
+        ≡ next_best (with_rows frame.now rows.now basic.now) variable row (option_map (λ so_far. so_far.row) best) }
     ensures leaver { IfSome result (λ here. IsLeaver (with_rows frame.now rows.now basic.now) variable here.row here.side here.coefficient here.basic) }
 {
-    match leaver_at(frame, rows, basic, variable, i) {
+    match leaver_at(frame, rows, basic, variable, row) {
         None => best,
         Some(here) => match best {
             None => Some(here),
@@ -246,8 +252,8 @@ fn row_to_leave(frame: &Frame, rows: &[Line], basic: &[Var], variable: Var) -> O
     ensures { result ≡ leaving (with_rows frame.now rows.now basic.now) variable }
 {
     let mut best = None;
-    for i in 0..rows.len() {
-        best = next_best(frame, rows, basic, variable, i, best);
+    for row in 0..rows.len() {
+        best = next_best(frame, rows, basic, variable, row, best);
     }
     match best {
         None => None,
@@ -264,7 +270,7 @@ fn entering(frame: &Frame, rows: &[Line], basic: &[Var]) -> Option<Var>
     ensures { result ≡ entering (with_rows frame.now rows.now basic.now) }
 {
     let variable = Var::Stage(frame.stages() - 1);
-    match row_of(basic, variable) {
+    match basic_row(basic, variable) {
         None => Some(variable),
         Some(at) => first_to_enter(frame, rows, at),
     }

@@ -8,11 +8,11 @@ use std::alloc::{AllocError, Global};
 // The mark of a class that is not settled.
 pub(crate) const NEVER: usize = usize::MAX;
 
-// The marks of m classes of which none is settled.
-pub(crate) fn none_settled(alloc: Global, m: usize) -> Result<Vec<usize>, AllocError>
-    ensures { IfOk result (λ marks. marks.items ≡ replicate m never) }
+// The marks of so many classes of which none is settled.
+pub(crate) fn none_settled(alloc: Global, classes: usize) -> Result<Vec<usize>, AllocError>
+    ensures { IfOk result (λ marks. marks.items ≡ replicate classes never) }
 {
-    vec![in alloc; NEVER; m]
+    vec![in alloc; NEVER; classes]
 }
 
 // How many classes are settled.
@@ -34,7 +34,7 @@ pub(crate) fn settle(stage: usize, entries: &[i128], settled_at: &mut [usize])
     requires { length entries.now ≡ length settled_at.old }
     ensures { settled_at.new ≡ settled_marks stage entries.now settled_at.old }
 {
-    for t in 0..settled_at.len() {
-        settled_at[t] = mark_after(stage, entries[t], settled_at[t]);
+    for class in 0..settled_at.len() {
+        settled_at[class] = mark_after(stage, entries[class], settled_at[class]);
     }
 }

@@ -3,7 +3,7 @@
 ghost use Rattle.std.specs.Prelude.{◌≡◌, ◌+◌, ◌<◌, ◌^◌, ◌∷◌, map, length, IfOk, Ok, pos, ◌≤ℤ◌, unsigned_abs};
 ghost use Rattle.std.specs.List.{All, range_with_len};
 ghost use Rattle.row_definitions.specs.Row.{reach};
-ghost use Rattle.row_definitions.specs.Width.{in_turn, reach_operations};
+ghost use Rattle.row_definitions.specs.Width.{all_in_turn, reach_operations};
 ghost use Rattle.row_definitions.specs.Pivot.{first_rows};
 ghost use Rattle.exact_table.specs.Starting.{PassesWith};
 
@@ -15,11 +15,11 @@ use std::alloc::{AllocError, Global};
 pub(crate) fn first_rows(alloc: Global, first: &[usize]) -> Result<Vec<Line>, AllocError>
     ensures { IfOk result (λ rows. rows.items ≡ first_rows first.now) }
 {
-    let m = first.len();
+    let classes = first.len();
     let mut rows = Vec::new(alloc);
-    rows.push(Line::total(alloc, m)?)?;
-    for t in 0..m {
-        rows.push(Line::of_class(alloc, m, t, first[t])?)?;
+    rows.push(Line::total(alloc, classes)?)?;
+    for class in 0..classes {
+        rows.push(Line::of_class(alloc, classes, class, first[class])?)?;
     }
     Ok(rows)
 }
@@ -30,11 +30,11 @@ pub(crate) fn check_reaches(most: i128, sizes: &[usize], rows: &[Line]) -> Resul
     requires entries { All (λ row. length row.a ≡ length sizes.now) rows.now }
     requires sides { All (λ row. unsigned_abs row.b < 2 ^ 127) rows.now }
     requires small { All (λ row. All (λ x. unsigned_abs x < 2 ^ 127) row.a) rows.now }
-    ensures { PassesWith result (in_turn (reach_operations (unsigned_abs most) sizes.now) 0 rows.now) }
+    ensures { PassesWith result (all_in_turn (reach_operations (unsigned_abs most) sizes.now) 0 rows.now) }
 {
-    for i in 0..rows.len() {
-        let row = &rows[i];
-        match row.reach_operations(most, i, sizes) {
+    for place in 0..rows.len() {
+        let row = &rows[place];
+        match row.reach_operations(most, place, sizes) {
             Ok(_) => {}
             Err(pass) => return Err(pass),
         }
@@ -43,13 +43,13 @@ pub(crate) fn check_reaches(most: i128, sizes: &[usize], rows: &[Line]) -> Resul
 }
 
 // The basic variables of the first table: column 0, then the slacks.
-pub(crate) fn first_basic(alloc: Global, m: usize) -> Result<Vec<Var>, AllocError>
-    ensures { IfOk result (λ basic. basic.items ≡ Var.Column 0 ∷ map Var.Slack (range_with_len 0 m)) }
+pub(crate) fn first_basic(alloc: Global, classes: usize) -> Result<Vec<Var>, AllocError>
+    ensures { IfOk result (λ basic. basic.items ≡ Var.Column 0 ∷ map Var.Slack (range_with_len 0 classes)) }
 {
     let mut basic = Vec::new(alloc);
     basic.push(Var::Column(0))?;
-    for t in 0..m {
-        basic.push(Var::Slack(t))?;
+    for class in 0..classes {
+        basic.push(Var::Slack(class))?;
     }
     Ok(basic)
 }

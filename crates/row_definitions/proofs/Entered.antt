@@ -15,7 +15,7 @@ use Rattle.row_definitions.specs.declared.Var.{Var}
 use Rattle.row_definitions.specs.declared.Var.TheVariants.{Slack, Stage, Column}
 use Rattle.row_definitions.specs.Row.{sum_of_products}
 use Rattle.row_definitions.specs.Table.{Table, coefficient_at, row_at, basic_at, variables, is_same, stage_variable, sizes_where}
-use Rattle.row_definitions.specs.Choice.{is_eligible, row_of, entering_from, entering}
+use Rattle.row_definitions.specs.Choice.{is_eligible, basic_row, entering_from, entering}
 use Rattle.row_definitions.specs.InOrder.{IsKnown, IsUnsettled, IsInOrder}
 use Rattle.row_definitions.proofs.CoefficientLaws.{coefficient-Stage}
 use Rattle.row_definitions.proofs.Chosen.{each_variable}
@@ -48,7 +48,7 @@ is_same-true (Column c) (Stage s) e = absurd cc
 is_same-true (Column c) (Column d) e = ap Column (eqb-true c d e)
 
 -- a place that is found holds what was looked for
-pub place_of : (table : Table) (v : Var) (i : ℕ) → row_of table v ≡ Some i → (i < length table.basic) × (basic_at table i ≡ v)
+pub place_of : (table : Table) (v : Var) (i : ℕ) → basic_row table v ≡ Some i → (i < length table.basic) × (basic_at table i ≡ v)
 place_of table v i e =
     let found = position-Some (λ x. is_same x v) table.basic i (Slack (length table.sizes)) e in
     (found.0, is_same-true (basic_at table i) v found.1)
@@ -84,12 +84,12 @@ module _ (table : Table) (h : IsInOrder table) (open_now : table.in_stage ≡ tr
       (u.0, omega (arith, u.1, h.settled_each), get_or-map not table.settled u.0 true false u.1 ∙ ap not u.2)
 
   module _ (v : Var) (entered : entering table ≡ Some v) where
-    cases : (v ≡ stage_variable table) ⊎ ((row : ℕ) × (row_of table (stage_variable table) ≡ Some row) × (IsKnown table v) × (is_eligible table v ≡ true) × (int_lt (coefficient_at table row v) (pos 0) ≡ true))
+    cases : (v ≡ stage_variable table) ⊎ ((row : ℕ) × (basic_row table (stage_variable table) ≡ Some row) × (IsKnown table v) × (is_eligible table v ≡ true) × (int_lt (coefficient_at table row v) (pos 0) ≡ true))
     unfolding entering
-    cases = by (row_of table (stage_variable table)) refl entered
+    cases = by (basic_row table (stage_variable table)) refl entered
       where
-        by : (o : Option ℕ) → row_of table (stage_variable table) ≡ o → entering_from table o ≡ Some v →
-            (v ≡ stage_variable table) ⊎ ((row : ℕ) × (row_of table (stage_variable table) ≡ Some row) × (IsKnown table v) × (is_eligible table v ≡ true) × (int_lt (coefficient_at table row v) (pos 0) ≡ true))
+        by : (o : Option ℕ) → basic_row table (stage_variable table) ≡ o → entering_from table o ≡ Some v →
+            (v ≡ stage_variable table) ⊎ ((row : ℕ) × (basic_row table (stage_variable table) ≡ Some row) × (IsKnown table v) × (is_eligible table v ≡ true) × (int_lt (coefficient_at table row v) (pos 0) ≡ true))
         by None e f = inl cc
         by (Some row) e f =
             let p : Var → Bool = λ v. is_eligible table v && int_lt (coefficient_at table row v) (pos 0) in
@@ -117,7 +117,7 @@ module _ (table : Table) (h : IsInOrder table) (open_now : table.in_stage ≡ tr
         newest : r ≡ length table.stages - 1 → (t : ℕ) × (t < length table.sizes) × (get_or (get_or table.stages r []) t false ≡ true)
         newest n = let u = some_unsettled in (u.0, u.1, ap (λ m. get_or m u.0 false) (ap (λ k. get_or table.stages k []) n ∙ marks_now) ∙ u.2)
 
-        older : (row : ℕ) → row_of table (stage_variable table) ≡ Some row → IsKnown table v → int_lt (coefficient_at table row v) (pos 0) ≡ true → ⊥
+        older : (row : ℕ) → basic_row table (stage_variable table) ≡ Some row → IsKnown table v → int_lt (coefficient_at table row v) (pos 0) ≡ true → ⊥
         older row found known negative = ⊎_elim closed_one newest_one (cases_lt r (length table.closed))
           where
             place : (row < length table.basic) × (basic_at table row ≡ stage_variable table)

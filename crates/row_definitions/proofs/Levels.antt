@@ -14,12 +14,12 @@ use Rattle.frac128.specs.Fractions.{lowest_of}
 use Rattle.row_definitions.specs.declared.Var.{Var}
 use Rattle.row_definitions.specs.declared.Var.TheVariants.{Slack, Stage, Column}
 use Rattle.row_definitions.specs.Table.{Table, coefficient_at, row_at, basic_at, is_same, sizes_where}
-use Rattle.row_definitions.specs.Choice.{row_of}
+use Rattle.row_definitions.specs.Choice.{basic_row}
 use Rattle.row_definitions.specs.Steps.{ColumnValue, value_in, value_of, solution}
 use Rattle.row_definitions.specs.InOrder.{IsKnown, count_in, unit}
 use Rattle.row_definitions.specs.Solutions.{numerator_over}
 use Rattle.row_definitions.specs.Settled.{was_unsettled, is_settled}
-use Rattle.row_definitions.specs.Levels.{count_of, count_over, levels_of, AllSettled, HasLevels}
+use Rattle.row_definitions.specs.Levels.{count_of, count_over, class_levels, AllSettled, HasLevels}
 use Rattle.row_definitions.proofs.CoefficientLaws.{coefficient-Slack}
 use Rattle.row_definitions.proofs.Linear.{value, unit-same, unit-other, dot-picks}
 use Rattle.row_definitions.proofs.SumLaws.{get_or-sizes_where}
@@ -136,7 +136,7 @@ module _ (table : Table) (a : AllSettled table) where
   amount_at (Some i) = amount_of i
 
   value_of_column : ℕ → ℕ
-  value_of_column c = amount_at (row_of table (Column c))
+  value_of_column c = amount_at (basic_row table (Column c))
 
   value-basic : (i c : ℕ) → i < length table.rows → basic_at table i ≡ Column c → value_of_column c ≡ amount_of i
   unfolding value_of_column amount_at
@@ -156,9 +156,9 @@ module _ (table : Table) (a : AllSettled table) where
 
   value-none : (c : ℕ) → All (λ there. there.column ≢ c) (solution table) → value_of_column c ≡ 0
   unfolding value_of_column amount_at
-  value-none c none = by (row_of table (Column c)) refl
+  value-none c none = by (basic_row table (Column c)) refl
     where
-      by : (o : Option ℕ) → row_of table (Column c) ≡ o → amount_at o ≡ 0
+      by : (o : Option ℕ) → basic_row table (Column c) ≡ o → amount_at o ≡ 0
       by None e = refl
       by (Some i) e = test (int_lt (pos 0) (row_at table i).b) refl
         where
@@ -261,17 +261,17 @@ module _ (table : Table) (a : AllSettled table) where
         omega (arith, ints, zero, apart)
 
     -- the stages' terms are the class's size times its levels
-    stages_total : total (length table.rows) stage_terms ≡ pos (slice_index table.sizes t * levels_of table level_of t)
+    stages_total : total (length table.rows) stage_terms ≡ pos (slice_index table.sizes t * class_levels table level_of t)
     unfolding stage_terms level_of weight
     stages_total =
         by-variable table a.in_order Stage (length table.stages) (λ i r. pos (weight r) *ℤ pos (amount_of i))
-        ∙ total-same (length table.stages) (λ r. in_row (row_of table (Stage r)) (λ i. pos (weight r) *ℤ pos (amount_of i))) (λ r. pos (slice_index table.sizes t) *ℤ pos (cond (was_unsettled table r t) (level_of r) 0))
+        ∙ total-same (length table.stages) (λ r. in_row (basic_row table (Stage r)) (λ i. pos (weight r) *ℤ pos (amount_of i))) (λ r. pos (slice_index table.sizes t) *ℤ pos (cond (was_unsettled table r t) (level_of r) 0))
         (λ r m. ap (λ o. in_row o (λ i. pos (weight r) *ℤ pos (amount_of i))) (found r (omega (arith, all_closed))) ∙ weighed (was_unsettled table r t) (slice_index table.sizes t) (level_of r))
         ∙ total-scaled (length table.stages) (pos (slice_index table.sizes t)) (λ r. pos (cond (was_unsettled table r t) (level_of r) 0))
         ∙ ap (λ n. pos (slice_index table.sizes t) *ℤ total n (λ r. pos (cond (was_unsettled table r t) (level_of r) 0))) all_closed
         ∙ ap (λ z. pos (slice_index table.sizes t) *ℤ z) (sym (ranged-total (λ r. cond (was_unsettled table r t) (level_of r) 0) (length table.closed)))
       where
-        found : (r : ℕ) → r < length table.closed → row_of table (Stage r) ≡ Some (slice_index table.closed r)
+        found : (r : ℕ) → r < length table.closed → basic_row table (Stage r) ≡ Some (slice_index table.closed r)
         found r m = found-basic table a.in_order (slice_index table.closed r) (Stage r) (a.in_order.closed_known r 0 m) (a.in_order.closed_basic r m)
 
         weighed : (b : Bool) (size level : ℕ) → pos (cond b size 0) *ℤ pos level ≡ pos size *ℤ pos (cond b level 0)
@@ -297,8 +297,8 @@ module _ (table : Table) (a : AllSettled table) where
             by true f = ap pos ((let z : count c * amount_of i ≡ amount_of i * count c = omega arith in z) ∙ ap (λ n. n * count c) (sym (value-basic i c m e)))
             by false f = ap (λ n. pos (count c) *ℤ pos n) (amount-none i m f) ∙ mul-zero (pos (count c))
 
-    class-counts : count_of table value_of_column t ≡ slice_index table.sizes t * levels_of table level_of t
-    class-counts = same_pos (count_of table value_of_column t) (slice_index table.sizes t * levels_of table level_of t) (sym columns_total ∙ sym balanced ∙ stages_total)
+    class-counts : count_of table value_of_column t ≡ slice_index table.sizes t * class_levels table level_of t
+    class-counts = same_pos (count_of table value_of_column t) (slice_index table.sizes t * class_levels table level_of t) (sym columns_total ∙ sym balanced ∙ stages_total)
 
   -- over a common multiple each value is the same but for the scales
   numerator-same : (common c t : ℕ) (there : ColumnValue) → StandsAt table c there → (lowest_of there.side there.coefficient).den ∣ common →
@@ -322,7 +322,7 @@ module _ (table : Table) (a : AllSettled table) where
       joined x y m n k e = sym (apart x m k) ∙ ap (λ z. z * k) e ∙ apart y n k
 
   counts-over : (common t : ℕ) → All (λ there. (lowest_of there.side there.coefficient).den ∣ common) (solution table) → t < length table.sizes →
-      the_scale * count_over table common t ≡ common * (slice_index table.sizes t * levels_of table level_of t)
+      the_scale * count_over table common t ≡ common * (slice_index table.sizes t * class_levels table level_of t)
   counts-over common t all l =
       sums-same the_scale common (λ there. numerator_over common there * count_in table.columns there.column t) (λ there. value_of_column there.column * count_in table.columns there.column t) (solution table)
       (recursion_from_All (λ there. the_scale * (numerator_over common there * count_in table.columns there.column t) ≡ common * (value_of_column there.column * count_in table.columns there.column t)) (solution table)

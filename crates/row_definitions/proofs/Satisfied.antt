@@ -15,7 +15,7 @@ use Rattle.frac128.proofs.DivisorLaws.{IsGcd-gcd_of}
 use Rattle.row_definitions.specs.declared.Var.{Var}
 use Rattle.row_definitions.specs.declared.Var.TheVariants.{Slack, Stage, Column}
 use Rattle.row_definitions.specs.Table.{Table, coefficient_at, row_at, basic_at, is_same, sizes_where}
-use Rattle.row_definitions.specs.Choice.{row_of}
+use Rattle.row_definitions.specs.Choice.{basic_row}
 use Rattle.row_definitions.specs.Steps.{ColumnValue, value_in, value_of, solution}
 use Rattle.row_definitions.specs.InOrder.{IsInOrder, IsKnown, IsSpanned, combination, unit}
 use Rattle.row_definitions.specs.Solutions.{numerator_over, SolutionStands, IsTight}
@@ -83,12 +83,12 @@ module _ (table : Table) (h : IsInOrder table) where
           ∙ total-scaled (length table.rows) scale (λ i. s.factors i *ℤ (row_at table i).b) ∙ ap (λ z. scale *ℤ z) (sym (combination-total s.factors table.rows 0) ∙ s.sums 0) ∙ mul-left_comm scale (pos s.multiple) (unit place 0)
 
   -- a sum over the rows whose basic variable is of a kind, as a sum over the variables of that kind
-  pub by-variable : (kind : ℕ → Var) (n : ℕ) (f : ℕ → ℕ → ℤ) → total (length table.rows) (λ i. only (basic_at table i) kind n (f i)) ≡ total n (λ c. in_row (row_of table (kind c)) (λ i. f i c))
+  pub by-variable : (kind : ℕ → Var) (n : ℕ) (f : ℕ → ℕ → ℤ) → total (length table.rows) (λ i. only (basic_at table i) kind n (f i)) ≡ total n (λ c. in_row (basic_row table (kind c)) (λ i. f i c))
   by-variable kind n f =
       total-swap (length table.rows) n (λ i c. cond (is_same (basic_at table i) (kind c)) (f i c) (pos 0))
-      ∙ total-same n (λ c. total (length table.rows) (λ i. cond (is_same (basic_at table i) (kind c)) (f i c) (pos 0))) (λ c. in_row (row_of table (kind c)) (λ i. f i c)) (λ c l. by c (row_of table (kind c)) refl)
+      ∙ total-same n (λ c. total (length table.rows) (λ i. cond (is_same (basic_at table i) (kind c)) (f i c) (pos 0))) (λ c. in_row (basic_row table (kind c)) (λ i. f i c)) (λ c l. by c (basic_row table (kind c)) refl)
     where
-      by : (c : ℕ) (o : Option ℕ) → row_of table (kind c) ≡ o → total (length table.rows) (λ i. cond (is_same (basic_at table i) (kind c)) (f i c) (pos 0)) ≡ in_row o (λ i. f i c)
+      by : (c : ℕ) (o : Option ℕ) → basic_row table (kind c) ≡ o → total (length table.rows) (λ i. cond (is_same (basic_at table i) (kind c)) (f i c) (pos 0)) ≡ in_row o (λ i. f i c)
       by c None e =
           total-none (length table.rows) (λ i. cond (is_same (basic_at table i) (kind c)) (f i c) (pos 0))
           (λ i l. ap (λ b. cond b (f i c) (pos 0)) (position-None (λ x. is_same x (kind c)) table.basic i (Slack (length table.sizes)) e (omega (arith, h.basic_count, h.row_count))))
@@ -115,7 +115,7 @@ module _ (table : Table) (h : IsInOrder table) where
   unfolding solution
   solution-total f =
       filtered-total f (value_of table) (length table.columns)
-      ∙ total-same (length table.columns) (λ c. amount f (value_of table c)) (λ c. in_row (row_of table (Column c)) (λ i. amount f (value_in table c i))) (λ c l. by c (row_of table (Column c)))
+      ∙ total-same (length table.columns) (λ c. amount f (value_of table c)) (λ c. in_row (basic_row table (Column c)) (λ i. amount f (value_in table c i))) (λ c l. by c (basic_row table (Column c)))
       ∙ sym (by-variable Column (length table.columns) (λ i c. amount f (value_in table c i)))
     where
       by : (c : ℕ) (o : Option ℕ) → amount f (option_and_then (value_in table c) o) ≡ in_row o (λ i. amount f (value_in table c i))

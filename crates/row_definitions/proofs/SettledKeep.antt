@@ -11,7 +11,7 @@ use Rattle.row_definitions.specs.declared.Var.{Var}
 use Rattle.row_definitions.specs.Row.{Row, entry}
 use Rattle.row_definitions.specs.Table.{Table, row_at}
 use Rattle.row_definitions.specs.Pivot.{rows_after, pivot, first_rows, first_table, start}
-use Rattle.row_definitions.specs.Width.{most_of, in_turn, reach_operations}
+use Rattle.row_definitions.specs.Width.{width_limit, all_in_turn, reach_operations}
 use Rattle.row_definitions.specs.Steps.{enter_stage, open_row, settled_by, closed_by, close_stage, add_column}
 use Rattle.row_definitions.specs.InOrder.{IsInOrder, settled_count}
 use Rattle.row_definitions.specs.Laws.{HasClosedRowsOf, IsPivoted, MayClose, MayEnter}
@@ -44,7 +44,7 @@ first-keeps sizes first bits = record {
 pub start-keeps_stages : (sizes first : List ℕ) (bits : ℕ) (made : Table) → start sizes first bits ≡ Ok made → KeepsStages made
 unfolding start
 start-keeps_stages sizes first bits made e =
-    let parts = after-Ok_parts (in_turn (reach_operations (most_of bits) sizes) 0 (first_rows first)) (λ reaches. Ok (first_table sizes first bits)) made e in
+    let parts = after-Ok_parts (all_in_turn (reach_operations (width_limit bits) sizes) 0 (first_rows first)) (λ reaches. Ok (first_table sizes first bits)) made e in
     let same : ◌≡◌ {A = Table} (first_table sizes first bits) made = cc in subst KeepsStages same (first-keeps sizes first bits)
 
 -- ---- a column is added

@@ -12,7 +12,7 @@ use Rattle.basic_laws.proofs.Found.{position-None}
 use Rattle.row_definitions.specs.declared.Var.{Var}
 use Rattle.row_definitions.specs.declared.Var.TheVariants.{Slack, Stage, Column}
 use Rattle.row_definitions.specs.Table.{Table, coefficient_at, row_at, basic_at, is_same}
-use Rattle.row_definitions.specs.Choice.{row_of}
+use Rattle.row_definitions.specs.Choice.{basic_row}
 use Rattle.row_definitions.specs.Steps.{ColumnValue, value_in, value_of, solution}
 use Rattle.row_definitions.specs.InOrder.{IsInOrder}
 use Rattle.row_definitions.proofs.Entered.{place_of}
@@ -56,7 +56,7 @@ filtered_rises {X} number g a (suc n) h = by (g a) refl (filtered_rises number g
 -- a value of the solution is that of a column, which is basic in a row of right side above 0
 pub record StandsAt (table : Table) (c : ℕ) (there : ColumnValue) : Type 0 where
   pub row : ℕ
-  pub found : row_of table (Column c) ≡ Some row
+  pub found : basic_row table (Column c) ≡ Some row
   pub in_rows : row < length table.rows
   pub basic : basic_at table row ≡ Column c
   pub above : pos 0 <ℤ (row_at table row).b
@@ -66,9 +66,9 @@ pub record StandsAt (table : Table) (c : ℕ) (there : ColumnValue) : Type 0 whe
 
 module _ (table : Table) (h : IsInOrder table) where
   pub stands-at : (c : ℕ) (there : ColumnValue) → value_of table c ≡ Some there → StandsAt table c there
-  stands-at c there e = by (row_of table (Column c)) refl e
+  stands-at c there e = by (basic_row table (Column c)) refl e
     where
-      by : (o : Option ℕ) → row_of table (Column c) ≡ o → option_and_then (value_in table c) o ≡ Some there → StandsAt table c there
+      by : (o : Option ℕ) → basic_row table (Column c) ≡ o → option_and_then (value_in table c) o ≡ Some there → StandsAt table c there
       by None f k = absurd cc
       by (Some i) f k = test (int_lt (pos 0) (row_at table i).b) refl k
         where
@@ -124,10 +124,10 @@ module _ (table : Table) (h : IsInOrder table) where
       above_abs z n l e = omega (arith, ints)
 
   -- a basic variable's row is the one that is found
-  pub found-basic : (i : ℕ) (v : Var) → i < length table.rows → basic_at table i ≡ v → row_of table v ≡ Some i
-  found-basic i v l e = by (row_of table v) refl
+  pub found-basic : (i : ℕ) (v : Var) → i < length table.rows → basic_at table i ≡ v → basic_row table v ≡ Some i
+  found-basic i v l e = by (basic_row table v) refl
     where
-      by : (o : Option ℕ) → row_of table v ≡ o → row_of table v ≡ Some i
+      by : (o : Option ℕ) → basic_row table v ≡ o → basic_row table v ≡ Some i
       by None f =
           let fails = position-None (λ x. is_same x v) table.basic i (Slack (length table.sizes)) f (omega (arith, h.basic_count, h.row_count)) in
           let passes : is_same (basic_at table i) v ≡ true = ap (λ x. is_same x v) e ∙ is_same_refl v in absurd cc

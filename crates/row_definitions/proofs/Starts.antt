@@ -17,12 +17,12 @@ use Rattle.frac128.proofs.DivisorLaws.{gcd_of_list-divides}
 use Rattle.row_definitions.specs.declared.Var.TheVariants.{Slack, Column}
 use Rattle.row_definitions.specs.Row.{Row, numbers, common_divisor, reach}
 use Rattle.row_definitions.specs.Table.{Table, coefficient, coefficient_at, basic_at}
-use Rattle.row_definitions.specs.Width.{most_of, in_turn, reach_operations}
+use Rattle.row_definitions.specs.Width.{width_limit, all_in_turn, reach_operations}
 use Rattle.row_definitions.specs.Pivot.{total_row, class_row, first_rows, first_table, start}
 use Rattle.row_definitions.specs.InOrder.{number_at, unit, IsSpanned, IsKnown, IsInOrder}
 use Rattle.row_definitions.proofs.CoefficientLaws.{coefficient-Slack}
 use Rattle.row_definitions.proofs.Linear.{coefficient-value, dot-picks, dot-none, unit-same, unit-other}
-use Rattle.row_definitions.proofs.PivotLaws.{after-Ok_parts, in_turn-each}
+use Rattle.row_definitions.proofs.PivotLaws.{after-Ok_parts, all_in_turn-each}
 use Rattle.row_definitions.proofs.Eliminations.{reach-within}
 use Rattle.row_definitions.proofs.Spans.{span-member, span-same, span-two}
 
@@ -178,7 +178,7 @@ module _ (sizes first : List ℕ) (bits : ℕ) (some : 0 < length sizes) (each :
       zeros : (n : ℕ) → All (λ x. unsigned_abs x < 2 ^ 127) (replicate n (pos 0))
       zeros n = All-replicate (λ x. unsigned_abs x < 2 ^ 127) n (pos 0) (omega arith)
 
-  pub started : (reaches : List ℤ) → in_turn (reach_operations (most_of bits) sizes) 0 (first_rows first) ≡ Ok reaches → IsInOrder (first_table sizes first bits)
+  pub started : (reaches : List ℤ) → all_in_turn (reach_operations (width_limit bits) sizes) 0 (first_rows first) ≡ Ok reaches → IsInOrder (first_table sizes first bits)
   unfolding table
   started reaches e = record {
     some_class = some;
@@ -192,9 +192,9 @@ module _ (sizes first : List ℕ) (bits : ℕ) (some : 0 < length sizes) (each :
     divisor_one = all_rows (λ row. common_divisor row ≡ 1) (row_divisor_one (total_row (length first)) 0 (omega arith) refl)
         (λ t l. row_divisor_one (class_row (length first) (t, get_or first t 0)) (suc t) (omega (arith, length-set (replicate (length first) (pos 0)) t (pos 1), length-replicate (length first) (pos 0)))
         (class_entry t t l ∙ unit-same (suc t) (suc t) refl));
-    within_width = All-from_get_or (λ row. reach sizes row ≤ most_of bits) (first_rows first) (record { b = pos 0; a = [] })
-        (λ i l. reach-within (most_of bits) (0 + i) sizes (get_or (first_rows first) i (record { b = pos 0; a = [] })) (get_or reaches i (pos 0)) some (entry_counts i (record { b = pos 0; a = [] }) l)
-        (in_turn-each (reach_operations (most_of bits) sizes) 0 (first_rows first) reaches i (record { b = pos 0; a = [] }) (pos 0) e l));
+    within_width = All-from_get_or (λ row. reach sizes row ≤ width_limit bits) (first_rows first) (record { b = pos 0; a = [] })
+        (λ i l. reach-within (width_limit bits) (0 + i) sizes (get_or (first_rows first) i (record { b = pos 0; a = [] })) (get_or reaches i (pos 0)) some (entry_counts i (record { b = pos 0; a = [] }) l)
+        (all_in_turn-each (reach_operations (width_limit bits) sizes) 0 (first_rows first) reaches i (record { b = pos 0; a = [] }) (pos 0) e l));
     sides = all_rows (λ row. pos 0 ≤ℤ row.b) (omega (arith, ints)) (λ t l. omega (arith, ints));
     basic_known = All-from_get_or (IsKnown (first_table sizes first bits)) (Column 0 ∷ map Slack (range_with_len 0 (length sizes))) (Slack (length sizes)) knowns;
     basic_different = λ i j l k s. ⊎_elim (λ q. q) (λ n. absurd (omega (arith, ints, own i l, others i j l k n, ap (coefficient_at (first_table sizes first bits) i) s))) (cases_eq i j);
@@ -230,5 +230,5 @@ module _ (sizes first : List ℕ) (bits : ℕ) (some : 0 < length sizes) (each :
   pub start-keeps : (made : Table) → start sizes first bits ≡ Ok made → IsInOrder made
   unfolding start
   start-keeps made e =
-      let parts = after-Ok_parts (in_turn (reach_operations (most_of bits) sizes) 0 (first_rows first)) (λ reaches. Ok (first_table sizes first bits)) made e in
+      let parts = after-Ok_parts (all_in_turn (reach_operations (width_limit bits) sizes) 0 (first_rows first)) (λ reaches. Ok (first_table sizes first bits)) made e in
       let same : ◌≡◌ {A = Table} (first_table sizes first bits) made = cc in subst IsInOrder same (started parts.0 parts.1)

@@ -15,7 +15,7 @@ use Rattle.row_definitions.specs.declared.Var.{Var}
 use Rattle.row_definitions.specs.declared.Var.TheVariants.{Slack, Stage, Column}
 use Rattle.row_definitions.specs.Row.{Row, entry, sum_of_products}
 use Rattle.row_definitions.specs.Table.{Table, coefficient, coefficient_at, row_at, basic_at, stage_variable, sizes_where, variables}
-use Rattle.row_definitions.specs.Choice.{row_of, is_eligible, entering, entering_from, choice}
+use Rattle.row_definitions.specs.Choice.{basic_row, is_eligible, entering, entering_from, choice}
 use Rattle.row_definitions.specs.Steps.{enter_stage, open_row, settled_by, closed_by, close_stage, add_column}
 use Rattle.row_definitions.specs.InOrder.{IsKnown, IsUnsettled, IsInOrder, settled_count}
 use Rattle.row_definitions.proofs.CoefficientLaws.{coefficient-Slack, coefficient-Stage, coefficient-Column}
@@ -198,12 +198,12 @@ some_term (true ∷ marks) (size ∷ sizes) (x ∷ xs) l = by (int_lt (pos 0) x)
 
 module _ (table : Table) (h : IsInOrder table) (open_now : table.in_stage ≡ true) (none : choice table ≡ None) where
   -- the stage's variable is basic, and nobody may enter
-  pub open_found : (r : ℕ) × (row_of table (stage_variable table) ≡ Some r) × ((t : ℕ) → t < length table.sizes → (is_eligible table (Slack t) && int_lt (coefficient_at table r (Slack t)) (pos 0)) ≡ false)
+  pub open_found : (r : ℕ) × (basic_row table (stage_variable table) ≡ Some r) × ((t : ℕ) → t < length table.sizes → (is_eligible table (Slack t) && int_lt (coefficient_at table r (Slack t)) (pos 0)) ≡ false)
   unfolding entering
-  open_found = by (row_of table (stage_variable table)) refl (entering-none table h open_now none)
+  open_found = by (basic_row table (stage_variable table)) refl (entering-none table h open_now none)
     where
-      by : (o : Option ℕ) → row_of table (stage_variable table) ≡ o → entering_from table o ≡ None →
-          (r : ℕ) × (row_of table (stage_variable table) ≡ Some r) × ((t : ℕ) → t < length table.sizes → (is_eligible table (Slack t) && int_lt (coefficient_at table r (Slack t)) (pos 0)) ≡ false)
+      by : (o : Option ℕ) → basic_row table (stage_variable table) ≡ o → entering_from table o ≡ None →
+          (r : ℕ) × (basic_row table (stage_variable table) ≡ Some r) × ((t : ℕ) → t < length table.sizes → (is_eligible table (Slack t) && int_lt (coefficient_at table r (Slack t)) (pos 0)) ≡ false)
       by None e f = absurd cc
       by (Some r) e f =
           let p : Var → Bool = λ v. is_eligible table v && int_lt (coefficient_at table r v) (pos 0) in

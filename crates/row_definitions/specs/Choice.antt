@@ -11,8 +11,8 @@ abbrev pub is_eligible : Table → Var → Bool
 is_eligible table v = list_all (λ i. int_eq (coefficient_at table i v) (pos 0)) table.closed
 
 -- the row in which a variable is basic
-abbrev pub row_of : Table → Var → Option ℕ
-row_of table v = position (λ x. is_same x v) table.basic
+abbrev pub basic_row : Table → Var → Option ℕ
+basic_row table v = position (λ x. is_same x v) table.basic
 
 -- the variable that enters, given the open row, if the stage's variable is basic: that variable where it is not, else the
 -- one of least number among the eligible ones whose coefficient in the open row is below 0
@@ -22,7 +22,7 @@ entering_from table (Some open_row) = find (λ v. is_eligible table v && int_lt 
 
 -- the variable that enters
 unfoldable pub entering : Table → Option Var
-entering table = entering_from table (row_of table (stage_variable table))
+entering table = entering_from table (basic_row table (stage_variable table))
 
 -- row i has a positive coefficient on a variable
 abbrev pub may_leave : Table → Var → ℕ → Bool

@@ -19,8 +19,8 @@ abbrev pub count_over : Table → ℕ → ℕ → ℕ
 count_over table common t = sum_by (λ there. numerator_over common there * count_in table.columns there.column t) (solution table)
 
 -- the sum of the levels of the closed stages at whose entering a class was unsettled
-abbrev pub levels_of : Table → (ℕ → ℕ) → ℕ → ℕ
-levels_of table level t = sum_by (λ k. if was_unsettled table k t then level k else 0) (range_with_len 0 (length table.closed))
+abbrev pub class_levels : Table → (ℕ → ℕ) → ℕ → ℕ
+class_levels table level t = sum_by (λ k. if was_unsettled table k t then level k else 0) (range_with_len 0 (length table.closed))
 
 -- a table in order whose stages are closed and whose classes are all settled
 pub record AllSettled (table : Table) : Type 0 where
@@ -42,10 +42,10 @@ pub record HasLevels (table : Table) : Type 0 where
   -- the values sum to the scale
   pub whole : sum_by (λ there. value there.column) (solution table) ≡ scale
   -- a class's count is its size times its levels
-  pub counts : (t : ℕ) → t < length table.sizes → count_of table value t ≡ slice_index table.sizes t * levels_of table level t
+  pub counts : (t : ℕ) → t < length table.sizes → count_of table value t ≡ slice_index table.sizes t * class_levels table level t
   -- also where the values are over a common multiple of their denominators
   pub counts_over : (common t : ℕ) → All (λ there. (lowest_of there.side there.coefficient).den ∣ common) (solution table) → t < length table.sizes →
-      scale * count_over table common t ≡ common * (slice_index table.sizes t * levels_of table level t)
+      scale * count_over table common t ≡ common * (slice_index table.sizes t * class_levels table level t)
 
 -- such a table has levels
 abbrev pub SettledHasLevels : Type 0

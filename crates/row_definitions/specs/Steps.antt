@@ -5,7 +5,7 @@ use Rattle.std.specs.Option.{option_and_then}
 use Rattle.frac128.specs.Fractions.{Fraction, lowest_of}
 use Rattle.row_definitions.specs.declared.Var.TheVariants.{Column}
 use Rattle.row_definitions.specs.Table.{Table, row_at, coefficient_at, stage_variable}
-use Rattle.row_definitions.specs.Choice.{row_of}
+use Rattle.row_definitions.specs.Choice.{basic_row}
 
 -- a stage is entered: the classes unsettled now are its own
 unfoldable pub enter_stage : Table → Table
@@ -13,7 +13,7 @@ enter_stage table = record table { stages = table.stages ++ map not table.settle
 
 -- the number of the open row, in which the stage's variable is basic
 abbrev pub open_row : Table → ℕ
-open_row table = unwrap_or (row_of table (stage_variable table)) 0
+open_row table = unwrap_or (basic_row table (stage_variable table)) 0
 
 -- who is settled once a row closes: who was, and the classes of positive entry
 abbrev pub settled_by : List ℤ → List Bool → List Bool
@@ -58,7 +58,7 @@ value_in table c i =
 
 -- a column's value, where it is positive
 abbrev pub value_of : Table → ℕ → Option ColumnValue
-value_of table c = option_and_then (value_in table c) (row_of table (Column c))
+value_of table c = option_and_then (value_in table c) (basic_row table (Column c))
 
 -- the columns of positive value, rising
 unfoldable pub solution : Table → List ColumnValue

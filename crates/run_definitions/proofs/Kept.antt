@@ -17,7 +17,7 @@ use Rattle.row_definitions.specs.Pivot.{start, pivot, rows_after, first_table, f
 use Rattle.row_definitions.specs.Row.{Row}
 use Rattle.row_definitions.specs.Steps.{add_column, close_stage, closed_by, enter_stage, open_row}
 use Rattle.row_definitions.specs.Table.{Table, row_at}
-use Rattle.row_definitions.specs.Width.{in_turn, most_of, reach_operations}
+use Rattle.row_definitions.specs.Width.{all_in_turn, width_limit, reach_operations}
 use Rattle.row_definitions.proofs.Keeps.{pivot-keeps, pivot-keeps_closed}
 use Rattle.row_definitions.proofs.PivotLaws.{after-Ok_parts}
 use Rattle.row_definitions.proofs.Starts.{start-keeps}
@@ -178,7 +178,7 @@ may_begin all limited first there = record {
 pub first_table_is : (sizes first : List ℕ) (bits : ℕ) (made : Table) → start sizes first bits ≡ Ok made → ◌≡◌ {A = Table} (first_table sizes first bits) made
 unfolding start
 first_table_is sizes first bits made e =
-    let parts = after-Ok_parts (in_turn (reach_operations (most_of bits) sizes) 0 (first_rows first)) (λ reaches. Ok (first_table sizes first bits)) made e in
+    let parts = after-Ok_parts (all_in_turn (reach_operations (width_limit bits) sizes) 0 (first_rows first)) (λ reaches. Ok (first_table sizes first bits)) made e in
     let last : ◌≡◌ {A = Result Table Pass} (Ok (first_table sizes first bits)) (Ok made) = parts.2 in cc
 
 module _ (all : Classes) (limits : RunLimits) (limited : KeepsLimits all) (ranges : AreRunLimits limits) where

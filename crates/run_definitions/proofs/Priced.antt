@@ -11,7 +11,7 @@ use Rattle.basic_laws.proofs.Found.{find-none}
 use Rattle.basic_laws.proofs.Each.{list_all_from_each, each_from_list_all, each_of_map, each_right}
 use Rattle.row_definitions.specs.declared.Var.{Var}
 use Rattle.row_definitions.specs.declared.Var.TheVariants.{Slack, Stage, Column}
-use Rattle.row_definitions.specs.Choice.{is_eligible, row_of, entering_from, entering, choice}
+use Rattle.row_definitions.specs.Choice.{is_eligible, basic_row, entering_from, entering, choice}
 use Rattle.row_definitions.specs.Laws.{MayAdd}
 use Rattle.row_definitions.specs.Steps.{add_column, open_row}
 use Rattle.row_definitions.specs.Table.{Table, coefficient_at, row_at, stage_variable, variables}
@@ -36,14 +36,14 @@ column_coefficient table i c = coefficient-Column table (row_at table i) c
 
 pub record IsAtRest (table : Table) : Type 0 where
   pub row : ℕ
-  pub found : row_of table (stage_variable table) ≡ Some row
+  pub found : basic_row table (stage_variable table) ≡ Some row
   pub none : AllByRecursion (λ v. (is_eligible table v && int_lt (coefficient_at table row v) (pos 0)) ≡ false) (variables table)
 
 at_rest : (table : Table) → entering table ≡ None → IsAtRest table
 unfolding entering
-at_rest table e = by (row_of table (stage_variable table)) refl e
+at_rest table e = by (basic_row table (stage_variable table)) refl e
   where
-    by : (o : Option ℕ) → row_of table (stage_variable table) ≡ o → entering_from table o ≡ None → IsAtRest table
+    by : (o : Option ℕ) → basic_row table (stage_variable table) ≡ o → entering_from table o ≡ None → IsAtRest table
     by None f k = absurd cc
     by (Some row) f k = record { row = row; found = f; none = find-none (λ v. is_eligible table v && int_lt (coefficient_at table row v) (pos 0)) (variables table) k }
 

@@ -14,7 +14,7 @@ use Rattle.pool_definitions.specs.Lists.{includes}
 use Rattle.pool_definitions.specs.Lottery.{Lottery, count}
 use Rattle.pool_definitions.specs.Pool.{IsPool, Pool}
 use Rattle.row_definitions.specs.InOrder.{count_in}
-use Rattle.row_definitions.specs.Levels.{HasLevels, count_over, levels_of}
+use Rattle.row_definitions.specs.Levels.{HasLevels, count_over, class_levels}
 use Rattle.row_definitions.specs.Settled.{KeepsStages, was_unsettled}
 use Rattle.row_definitions.specs.Solutions.{IsTight, SolutionStands, numerator_over}
 use Rattle.row_definitions.specs.Steps.{ColumnValue, fraction_of, solution}
@@ -124,10 +124,10 @@ module _ (pool : Pool) (limits : RunLimits) (table : Table) (keeps : KeepsRun (c
         ∙ ap length (members_alone 0 i all.classes (single pool.volunteers 0) (pool_alone pool) inside)
 
     -- over the scale of the levels
-    pub counts_are : (levels : HasLevels table) (i : ℕ) → i < length pool.volunteers → count lottery i * levels.scale ≡ lottery.total * levels_of table levels.level i
+    pub counts_are : (levels : HasLevels table) (i : ℕ) → i < length pool.volunteers → count lottery i * levels.scale ≡ lottery.total * class_levels table levels.level i
     counts_are levels i l =
         let told = levels.counts_over lottery.total i divides (omega (arith, size_count pool limits table keeps)) in
-        scaled (count lottery i) (count_over table lottery.total i) levels.scale lottery.total (get_or table.sizes i 0) (levels_of table levels.level i) (counted i l) told (one_size i l)
+        scaled (count lottery i) (count_over table lottery.total i) levels.scale lottery.total (get_or table.sizes i 0) (class_levels table levels.level i) (counted i l) told (one_size i l)
       where
         scaled : (n m scale sum size level : ℕ) → n ≡ m → scale * m ≡ sum * (size * level) → size ≡ 1 → n * scale ≡ sum * level
         scaled n m scale sum size level e f g =
@@ -161,7 +161,7 @@ module _ (pool : Pool) (limits : RunLimits) (table : Table) (keeps : KeepsRun (c
       either false = refl
 
   pub levels_are : (i : ℕ) → i < length pool.volunteers →
-      levels_to_come [] (map (closed_at (classes_of pool) table level) (range_with_len 0 (length table.closed))) i ≡ levels_of table level i
+      levels_to_come [] (map (closed_at (classes_of pool) table level) (range_with_len 0 (length table.closed))) i ≡ class_levels table level i
   levels_are i l =
       levels_from (length table.closed) 0 i (omega arith) l
       ∙ sym (sum_by-is-total (λ k. cond (was_unsettled table k i) (level k) 0) (range_with_len 0 (length table.closed)))

@@ -15,7 +15,7 @@ use Rattle.pool_definitions.proofs.AllPanels.{quota_parts}
 use Rattle.row_definitions.specs.Row as rows
 use Rattle.row_definitions.specs.Row.{entry, sum_of_sizes}
 use Rattle.row_definitions.specs.Table.{Table}
-use Rattle.row_definitions.specs.Width.{most_of}
+use Rattle.row_definitions.specs.Width.{width_limit}
 use Rattle.search_definitions.specs.Classes.{Class, classes_of}
 use Rattle.search_definitions.specs.Fronts.{sizes_of}
 use Rattle.spread_definitions.specs.Singles.{AreAlone}
@@ -114,7 +114,7 @@ module _ (pool : Pool) where
         let row = closed_row table k in
         let entries = entry_each pool limits table kept k l in
         let sizes = size_count pool limits table kept in
-        let narrow : rows.reach table.sizes row ≤ most_of table.bits = kept.in_order.within_width _ _ (kept.in_order.closed_known k 0 l) in
+        let narrow : rows.reach table.sizes row ≤ width_limit table.bits = kept.in_order.within_width _ _ (kept.in_order.closed_known k 0 l) in
         let here = reach_is row entries (entries ∙ sym sizes ∙ ap length kept.sizes) ∙ ap (λ sizes. rows.reach sizes row) (sym kept.sizes) in
         let wide = pow_mono kept.in_order.few_bits in
         and_from (eqb (length (stage_of (classes_of pool) row).weights) (length pool.volunteers)) (leb (reach (stage_of (classes_of pool) row)) (2 ^ 127 - 1))

@@ -4,7 +4,7 @@ use Rattle.row_definitions.specs.Choice.{choice, entering, leaving}
 use Rattle.row_definitions.specs.Pivot.{start, pivot, row_after, eliminated}
 use Rattle.row_definitions.specs.Steps.{enter_stage, closed_by, add_column, solution}
 use Rattle.row_definitions.specs.Table.{Table, coefficient}
-use Rattle.row_definitions.specs.Width.{in_turn, operation, reach_from}
+use Rattle.row_definitions.specs.Width.{all_in_turn, operation, reach_from}
 use Rattle.pool_definitions.specs.Certificate.{Answer}
 use Rattle.pool_definitions.specs.WorkedExamples.{four}
 use Rattle.search_definitions.specs.Classes.{classes_of}
@@ -14,23 +14,23 @@ use Rattle.spread_definitions.specs.Spreading.{spread}
 use Rattle.run_definitions.proofs.worked_runs.Goals as goal
 
 pub returns-clause-found : goal.returns-clause-found
-unfolding opening pricing_visits step start in_turn operation reach_from choice entering leaving coefficient pivot row_after eliminated enter_stage closed_by add_column solution spread lcm_of gcd_of common_divisor_up_to
+unfolding opening pricing_visits step start all_in_turn operation reach_from choice entering leaving coefficient pivot row_after eliminated enter_stage closed_by add_column solution spread lcm_of gcd_of common_divisor_up_to
 returns-clause-found c = record { steps = 8; there = refl }
 
 pub returns-clause-too_wide : goal.returns-clause-too_wide
-unfolding opening pricing_visits step start in_turn operation reach_from choice entering leaving coefficient pivot row_after eliminated enter_stage closed_by add_column solution spread lcm_of gcd_of common_divisor_up_to
+unfolding opening pricing_visits step start all_in_turn operation reach_from choice entering leaving coefficient pivot row_after eliminated enter_stage closed_by add_column solution spread lcm_of gcd_of common_divisor_up_to
 returns-clause-too_wide c = record { steps = 0; there = refl }
 
 pub returns-clause-one_pivot : goal.returns-clause-one_pivot
-unfolding opening pricing_visits step start in_turn operation reach_from choice entering leaving coefficient pivot row_after eliminated enter_stage closed_by add_column solution spread lcm_of gcd_of common_divisor_up_to
+unfolding opening pricing_visits step start all_in_turn operation reach_from choice entering leaving coefficient pivot row_after eliminated enter_stage closed_by add_column solution spread lcm_of gcd_of common_divisor_up_to
 returns-clause-one_pivot c = record { steps = 4; there = refl }
 
 pub returns-clause-no_pivot : goal.returns-clause-no_pivot
-unfolding opening pricing_visits step start in_turn operation reach_from choice entering leaving coefficient pivot row_after eliminated enter_stage closed_by add_column solution spread lcm_of gcd_of common_divisor_up_to
+unfolding opening pricing_visits step start all_in_turn operation reach_from choice entering leaving coefficient pivot row_after eliminated enter_stage closed_by add_column solution spread lcm_of gcd_of common_divisor_up_to
 returns-clause-no_pivot c = record { steps = 2; there = refl }
 
 pub returns-clause-few_nodes : goal.returns-clause-few_nodes
-unfolding opening pricing_visits step start in_turn operation reach_from choice entering leaving coefficient pivot row_after eliminated enter_stage closed_by add_column solution spread lcm_of gcd_of common_divisor_up_to
+unfolding opening pricing_visits step start all_in_turn operation reach_from choice entering leaving coefficient pivot row_after eliminated enter_stage closed_by add_column solution spread lcm_of gcd_of common_divisor_up_to
 returns-clause-few_nodes c = record { steps = 0; there = refl }
 
 -- ---- the run over four volunteers, whose last table isn't written out
@@ -55,7 +55,7 @@ ends_with (Ended (PivotsSpent stood)) answer e = absurd cc
 ends_with (Ended (NodesSpent stood)) answer e = absurd cc
 
 after_twenty : answer_of (follow (classes_of four) (run_limits (limits 127 4 100)) (opening (classes_of four) (run_limits (limits 127 4 100))) 20) ≡ Some pairs
-unfolding opening pricing_visits step start in_turn operation reach_from choice entering leaving coefficient pivot row_after eliminated enter_stage closed_by add_column solution spread lcm_of gcd_of common_divisor_up_to answer_of
+unfolding opening pricing_visits step start all_in_turn operation reach_from choice entering leaving coefficient pivot row_after eliminated enter_stage closed_by add_column solution spread lcm_of gcd_of common_divisor_up_to answer_of
 after_twenty = refl
 
 pub returns-clause-four : goal.returns-clause-four

@@ -6,8 +6,8 @@ use Rattle.exact_table.specs.Best.{may_enter}
 use Rattle.exact_table.proofs.BestLaws.{find_from-more}
 use Rattle.exact_table.proofs.choosing.first_slack.Goals as goal
 
-pub loop-t-preserved : goal.loop-t-preserved
-loop-t-preserved c =
+pub loop-class-preserved : goal.loop-class-preserved
+loop-class-preserved c =
     let same : length c.sizes-count.result.now ≡ length c.args.frame.now.sizes = ap length c.sizes-count.ensures in
-    c.loop-t.invariant
-    ∙ find_from-more (may_enter (with_rows c.args.frame.now c.args.rows.now []) c.args.at) Slack c.loop-t.t (length c.args.frame.now.sizes) (omega arith) (sym c.may_enter.ensures ∙ c.if-may_enter.false)
+    c.loop-class.invariant
+    ∙ find_from-more (may_enter (with_rows c.args.frame.now c.args.rows.now []) c.args.at) Slack c.loop-class.class (length c.args.frame.now.sizes) (omega arith) (sym c.may_enter.ensures ∙ c.if-may_enter.false)

@@ -6,7 +6,7 @@ use Rattle.exact_table.specs.Best.{may_enter}
 use Rattle.exact_table.proofs.BestLaws.{find_from-more}
 use Rattle.exact_table.proofs.choosing.first_stage.Goals as goal
 
-pub loop-r-preserved : goal.loop-r-preserved
-loop-r-preserved c =
-    c.loop-r.invariant
-    ∙ find_from-more (may_enter (with_rows c.args.frame.now c.args.rows.now []) c.args.at) Stage c.loop-r.r (length c.args.frame.now.stages) (omega (arith, c.stages-count.ensures)) (sym c.may_enter.ensures ∙ c.if-may_enter.false)
+pub loop-stage-preserved : goal.loop-stage-preserved
+loop-stage-preserved c =
+    c.loop-stage.invariant
+    ∙ find_from-more (may_enter (with_rows c.args.frame.now c.args.rows.now []) c.args.at) Stage c.loop-stage.stage (length c.args.frame.now.stages) (omega (arith, c.stages-count.ensures)) (sym c.may_enter.ensures ∙ c.if-may_enter.false)

@@ -5,7 +5,7 @@ use Rattle.exact_table.specs.Parts.{with_rows}
 use Rattle.exact_table.specs.Best.{may_enter}
 use Rattle.exact_table.proofs.choosing.first_stage.Given as goal
 
-abbrev pub invariant-loop-r : goal.invariant-loop-r
-invariant-loop-r l =
+abbrev pub invariant-loop-stage : goal.invariant-loop-stage
+invariant-loop-stage l =
     find (may_enter (with_rows l.frame l.rows []) l.at) (map Stage (range_with_len 0 (length l.frame.stages)))
-    ≡ find (may_enter (with_rows l.frame l.rows []) l.at) (map Stage (range_with_len l.r (length l.frame.stages - l.r)))
+    ≡ find (may_enter (with_rows l.frame l.rows []) l.at) (map Stage (range_with_len l.stage (length l.frame.stages - l.stage)))

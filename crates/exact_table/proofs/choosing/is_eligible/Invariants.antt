@@ -6,6 +6,6 @@ use Rattle.row_definitions.specs.Choice.{is_eligible}
 use Rattle.exact_table.specs.Parts.{with_rows}
 use Rattle.exact_table.proofs.choosing.is_eligible.Given as goal
 
-abbrev pub invariant-loop-k : goal.invariant-loop-k
-invariant-loop-k l =
-    is_eligible (with_rows l.frame l.rows []) l.variable ≡ list_all (λ i. int_eq (coefficient_at (with_rows l.frame l.rows []) i l.variable) (pos 0)) (drop l.k l.closed)
+abbrev pub invariant-loop-place : goal.invariant-loop-place
+invariant-loop-place l =
+    is_eligible (with_rows l.frame l.rows []) l.variable ≡ list_all (λ i. int_eq (coefficient_at (with_rows l.frame l.rows []) i l.variable) (pos 0)) (drop l.place l.closed)

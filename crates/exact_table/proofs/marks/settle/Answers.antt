@@ -16,14 +16,14 @@ turn stage xs marks t y l m e =
     ∙ ap (λ z. take t marks ++ z ∷ settled_marks stage (drop (t + 1) xs) (drop (t + 1) marks)) e
     ∙ sym (ap₂ (λ zs ms. take t marks ++ settled_marks stage zs ms) (drop_more xs t (pos 0) l) (drop_more marks t 0 m))
 
-pub loop-t-preserved : goal.loop-t-preserved
-loop-t-preserved c =
-    let fx : FitsSigned w128 (get_or c.args.entries.now c.loop-t.t (pos 0)) = search rules in
-    let e : c.mark_after.result ≡ cond (eqb (get_or c.loop-t.settled_at c.loop-t.t 0) never && int_lt (pos 0) (get_or c.args.entries.now c.loop-t.t (pos 0))) c.args.stage (get_or c.loop-t.settled_at c.loop-t.t 0) = simp to_z-of_z at c.mark_after.ensures in
-    turn c.args.stage c.args.entries.now c.loop-t.settled_at c.loop-t.t c.mark_after.result (omega arith) (omega arith) e ∙ c.loop-t.invariant
+pub loop-class-preserved : goal.loop-class-preserved
+loop-class-preserved c =
+    let fx : FitsSigned w128 (get_or c.args.entries.now c.loop-class.class (pos 0)) = search rules in
+    let e : c.mark_after.result ≡ cond (eqb (get_or c.loop-class.settled_at c.loop-class.class 0) never && int_lt (pos 0) (get_or c.args.entries.now c.loop-class.class (pos 0))) c.args.stage (get_or c.loop-class.settled_at c.loop-class.class 0) = simp to_z-of_z at c.mark_after.ensures in
+    turn c.args.stage c.args.entries.now c.loop-class.settled_at c.loop-class.class c.mark_after.result (omega arith) (omega arith) e ∙ c.loop-class.invariant
 
 pub returns : goal.returns
 returns c =
-    let ends : settled_marks c.args.stage (drop c.loop-t.t c.args.entries.now) (drop c.loop-t.t c.loop-t.settled_at) ≡ [] =
-    ap₂ (settled_marks c.args.stage) (drop_all c.loop-t.t c.args.entries.now (omega arith)) (drop_all c.loop-t.t c.loop-t.settled_at (omega arith)) in
-    sym (take_all c.loop-t.t c.loop-t.settled_at (omega arith)) ∙ sym (append-nil (take c.loop-t.t c.loop-t.settled_at)) ∙ ap (λ rest. take c.loop-t.t c.loop-t.settled_at ++ rest) (sym ends) ∙ c.loop-t.invariant
+    let ends : settled_marks c.args.stage (drop c.loop-class.class c.args.entries.now) (drop c.loop-class.class c.loop-class.settled_at) ≡ [] =
+    ap₂ (settled_marks c.args.stage) (drop_all c.loop-class.class c.args.entries.now (omega arith)) (drop_all c.loop-class.class c.loop-class.settled_at (omega arith)) in
+    sym (take_all c.loop-class.class c.loop-class.settled_at (omega arith)) ∙ sym (append-nil (take c.loop-class.class c.loop-class.settled_at)) ∙ ap (λ rest. take c.loop-class.class c.loop-class.settled_at ++ rest) (sym ends) ∙ c.loop-class.invariant

@@ -7,5 +7,5 @@ use Rattle.exact_table.proofs.starting.first_basic.Goals as goal
 more : (t : ℕ) → (Column 0 ∷ map Slack (range_with_len 0 t)) ++ Slack t ∷ [] ≡ Column 0 ∷ map Slack (range_with_len 0 (t + 1))
 more t = ap (λ vs. Column 0 ∷ vs) (sym (map-range_with_len_more Slack 0 t t (omega arith)))
 
-pub loop-t-preserved : goal.loop-t-preserved
-loop-t-preserved c = c.in_ok-push-2.ensures.items ∙ ap (λ vs. vs ++ Slack c.loop-t.t ∷ []) c.loop-t.invariant ∙ more c.loop-t.t
+pub loop-class-preserved : goal.loop-class-preserved
+loop-class-preserved c = c.in_ok-push-2.ensures.items ∙ ap (λ vs. vs ++ Slack c.loop-class.class ∷ []) c.loop-class.invariant ∙ more c.loop-class.class

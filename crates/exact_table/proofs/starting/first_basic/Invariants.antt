@@ -3,5 +3,5 @@ use Rattle.std.specs.List.{range_with_len}
 use Rattle.row_definitions.specs.declared.Var.TheVariants.{Slack, Column}
 use Rattle.exact_table.proofs.starting.first_basic.Given as goal
 
-abbrev pub invariant-loop-t : goal.invariant-loop-t
-invariant-loop-t l = l.basic.items ≡ Column 0 ∷ map Slack (range_with_len 0 l.t)
+abbrev pub invariant-loop-class : goal.invariant-loop-class
+invariant-loop-class l = l.basic.items ≡ Column 0 ∷ map Slack (range_with_len 0 l.class)

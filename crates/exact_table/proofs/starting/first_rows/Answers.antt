@@ -30,11 +30,11 @@ more : (first : List ℕ) (t : ℕ) →
 unfolding row_of
 more first t = ap (λ rows. total_row (length first) ∷ rows) (sym (map-range_with_len_more (row_of first) 0 t t (omega arith)))
 
-pub loop-t-preserved : goal.loop-t-preserved
-loop-t-preserved c = c.in_ok-push-2.ensures.items ∙ ap₂ (λ rows row. rows ++ row ∷ []) c.loop-t.invariant c.in_ok-of_class.ensures ∙ more c.args.first.now c.loop-t.t
+pub loop-class-preserved : goal.loop-class-preserved
+loop-class-preserved c = c.in_ok-push-2.ensures.items ∙ ap₂ (λ rows row. rows ++ row ∷ []) c.loop-class.invariant c.in_ok-of_class.ensures ∙ more c.args.first.now c.loop-class.class
 
 pub returns : goal.returns
 returns c =
-    let t : c.loop-t.t ≡ length c.args.first.now = omega arith in
-    c.loop-t.invariant ∙ ap (λ n. total_row (length c.args.first.now) ∷ map (λ t. class_row (length c.args.first.now) (t, get_or c.args.first.now t 0)) (range_with_len 0 n)) t
+    let t : c.loop-class.class ≡ length c.args.first.now = omega arith in
+    c.loop-class.invariant ∙ ap (λ n. total_row (length c.args.first.now) ∷ map (λ t. class_row (length c.args.first.now) (t, get_or c.args.first.now t 0)) (range_with_len 0 n)) t
     ∙ ap (λ rows. total_row (length c.args.first.now) ∷ rows) (same_rows c.args.first.now)
