@@ -1,6 +1,7 @@
 -- What the calls on the parts do to the table that they show.
 use Rattle.std.proofs.Common.{◌≡◌, ℕ, ◌+◌, ◌-◌, ◌<◌, ◌≤◌, Bool, true, false, List, length, set, take, refl, ap, ap₂, ◌∙◌, arith, ℤ}
 use Rattle.std.proofs.lemmas.List.{take_more_set}
+use Rattle.std.proofs.lemmas.Bool.{true≢false, false≢true}
 use Rattle.row_definitions.specs.Steps.{enter_stage, closed_by, settled_by}
 use Rattle.exact_table.specs.Marks.{marks_of, settled_of, settled_marks}
 use Rattle.exact_table.specs.Parts.{frame_of, IsFrame}
@@ -10,10 +11,7 @@ module _ (sizes marks : List ℕ) (stages : ℕ) (columns : List (List ℕ)) (cl
   pub frame_entered : (in_stage : Bool) → in_stage ≡ false → IsFrame sizes marks stages columns closed in_stage bits →
       frame_of sizes marks (stages + 1) columns closed true bits pivots ≡ enter_stage (frame_of sizes marks stages columns closed in_stage bits pivots)
   unfolding enter_stage
-  frame_entered true e h = absurd (no e)
-    where
-      no : true ≡ false → ⊥
-      no e = cc
+  frame_entered true e h = absurd (true≢false e)
   frame_entered false e h =
       ap₂ (λ m k. record (frame_of sizes marks stages columns closed true bits pivots) { stages = m; closed = take k closed })
       (marks_of-more stages marks h.few h.marks) (let k : stages + 1 - 1 ≡ stages - 0 = omega arith in k)
@@ -22,10 +20,7 @@ module _ (sizes marks : List ℕ) (stages : ℕ) (columns : List (List ℕ)) (cl
       frame_of sizes (settled_marks (stages - 1) xs marks) stages columns (set closed (stages - 1) row) false bits pivots
       ≡ closed_by row xs (frame_of sizes marks stages columns closed in_stage bits pivots)
   unfolding closed_by
-  frame_closed row xs false e h l = absurd (no e)
-    where
-      no : false ≡ true → ⊥
-      no e = cc
+  frame_closed row xs false e h l = absurd (false≢true e)
   frame_closed row xs true e h l =
       let some : 0 < stages = h.entered refl in
       let k : stages - 0 ≡ (stages - 1) + 1 = omega arith in

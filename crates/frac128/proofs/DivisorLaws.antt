@@ -1,5 +1,5 @@
 -- Laws of the greatest common divisor.
-use Rattle.std.proofs.Common.{◌≡◌, ◌≢◌, ℕ, ℤ, zero, suc, pos, negsuc, neg_ℤ, unsigned_abs, ◌*◌, ◌/◌, ◌%◌, ◌<◌, ◌≤◌, max, Bool, true, false, List, [], ◌∷◌, map, refl, sym, ◌∙◌, ap, subst, inl, inr, ◌⊎◌, arith, zero-mul}
+use Rattle.std.proofs.Common.{◌≡◌, ◌≢◌, ℕ, ℤ, zero, suc, pos, negsuc, neg_ℤ, unsigned_abs, ◌*◌, ◌/◌, ◌%◌, ◌<◌, ◌≤◌, max, Bool, true, false, List, [], ◌∷◌, map, refl, sym, ◌∙◌, ap, subst, inl, inr, ◌⊎◌, arith, zero-mul, eq-zero-or-pos}
 use Rattle.std.specs.Prelude.{◌&&◌, if◌then◌else◌, int_div}
 use Rattle.std.specs.Int.{IsGcd, ◌∣◌}
 use Rattle.std.proofs.lemmas.Nat.Gcd.{IsGcd-from_zero, IsGcd-from_mod, IsGcd-swap, dvd_refl, dvd-zero, dvd_trans, dvd_of_mod-eq-zero, mod-eq-zero_of_dvd, le_of_dvd}
@@ -7,26 +7,20 @@ use Rattle.std.proofs.lemmas.List.Elements.{All-nil, All-cons, All-head, All-tai
 use Rattle.std.specs.List.{fold, All, Contains}
 use Rattle.std.proofs.lemmas.Bool.Decides.{nat_tests}
 use Rattle.std.proofs.Math.Nat.{eq-zero_of_zero-dvd, pos_of_dvd_of_pos, mul-div_cancel', mul-div_right, div_self, dvd-mul_right, dvd-mul_left, dvd_of_mul-dvd-mul_left, mul-dvd-mul_left, mul-dvd-mul_right}
+use Rattle.std.proofs.lemmas.Bool.{false≢true}
 use Rattle.frac128.specs.Divisors.{divides, common_divisor_up_to, gcd_of, gcd_of_list, lcm_of, IsLeastCommonMultiple}
-
-zero_or_more : (n : ℕ) → (n ≡ 0) ⊎ (0 < n)
-zero_or_more zero = inl refl
-zero_or_more (suc n) = inr (omega arith)
 
 -- Euclid's algorithm finds one
 some_IsGcd : (turns x y : ℕ) → y < turns → (g : ℕ) × IsGcd x y g
 some_IsGcd zero x y h = absurd (omega arith)
 some_IsGcd (suc t) x y h =
-    elim (zero_or_more y) [
+    elim (eq-zero-or-pos y) [
       | inl e ↦ (x, IsGcd-from_zero x y e)
       | inr more ↦
           let less : x % y < t = omega arith in
           let found = some_IsGcd t y (x % y) less in
           (found.0, IsGcd-from_mod x y found.0 found.1)
     ]
-
-differs : false ≡ true → ⊥
-differs e = cc
 
 both_divided : (d x y : ℕ) → (divides d x && divides d y) ≡ true → (d ∣ x) × (d ∣ y)
 both_divided d x y h =
@@ -54,7 +48,7 @@ common_divisor_up_to-found (suc d) x y g h some small =
           let low : suc d ≤ g = le_of_dvd some (h.2 (suc d) both.0 both.1) in
           omega arith
       | false ↦ λ e.
-          let other : g ≢ suc d = λ same. differs (sym e ∙ both_tested (suc d) x y (subst (λ n. n ∣ x) same h.0) (subst (λ n. n ∣ y) same h.1)) in
+          let other : g ≢ suc d = λ same. false≢true (sym e ∙ both_tested (suc d) x y (subst (λ n. n ∣ x) same h.0) (subst (λ n. n ∣ y) same h.1)) in
           common_divisor_up_to-found d x y g h some (omega arith)
     ]) refl
 
@@ -120,7 +114,7 @@ IsGcd-scale k x y g some h =
 
 pub gcd_of-scale : (k x y : ℕ) → gcd_of (k * x) (k * y) ≡ k * gcd_of x y
 gcd_of-scale k x y =
-    elim (zero_or_more k) [
+    elim (eq-zero-or-pos k) [
       | inl e ↦
           let Goal : ℕ → Type 0 = λ n. gcd_of (n * x) (n * y) ≡ n * gcd_of x y in
           subst Goal (sym e) (simp zero-mul (gcd_of-zero 0))
