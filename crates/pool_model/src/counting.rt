@@ -15,7 +15,6 @@ pub fn chances(alloc: Global, pool: &Pool, lottery: &Lottery) -> Result<Vec<i128
     requires { TotalAgrees lottery.now }
     ensures { IfOk result (λ chances. chances.items ≡ map pos (counts pool.now lottery.now)) }
 {
-    lottery.facts();
     let mut chances = vec![in alloc; 0; pool.volunteers().len()]?;
     for row in lottery.rows() {
         add_weight(&mut chances, row.panel().members(), row.weight());

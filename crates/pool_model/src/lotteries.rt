@@ -92,18 +92,13 @@ impl Lottery {
         self.total
     }
 
-    /// The panels with their weights.
+    /// The panels with their weights. The total is one of 128 bits with a sign.
     pub fn rows(&self) -> &[LotteryRow]
-        ensures { result.now ≡ self.now.rows }
-    {
-        &self.rows
-    }
-
-    /// Does nothing; its contract tells what each lottery keeps.
-    pub fn facts(&self)
-        ensures { self.now.total < 2 ^ 127 }
+        ensures value { result.now ≡ self.now.rows }
+        ensures total { self.now.total < 2 ^ 127 }
     {
         let _total = self.total;
+        &self.rows
     }
 
     /// An equal lottery.

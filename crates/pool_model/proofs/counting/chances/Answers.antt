@@ -56,11 +56,11 @@ add_weight-requires-clause-room c i l =
     let weight : to_z w128 (of_z w128 c.weight.result) ≡ pos row.weight = stored c.weight.result row.weight (search rules) c.weight.ensures in
     let here : get_or c.deref_mut.result.now i (pos 0) ≡ pos (counted (take j rows) i) =
     ap (λ xs. get_or xs i (pos 0)) c.deref_mut.ensures.value ∙ c.loop-row.invariant.each i (omega (arith, ap (λ (xs : List ℤ). length xs) c.deref_mut.ensures.value)) in
-    let count_of_rows = ap (λ (rs : List LotteryRow). length rs) c.rows-row-items.ensures in
+    let count_of_rows = ap (λ (rs : List LotteryRow). length rs) c.rows-row-items.ensures.value in
     let room = counted_room rows j i row (omega (arith, count_of_rows)) in
     let all : c.args.lottery.now.total ≡ total (λ (r : LotteryRow). r.weight) rows = c.requires.total ∙ sum_by-is-total (λ (r : LotteryRow). r.weight) rows in
-    let same : row.weight ≡ (get_or rows j row).weight = ap (λ (r : LotteryRow). r.weight) (c.row-item.is ∙ ap (λ rs. get_or rs j row) c.rows-row-items.ensures) in
-    let small = c.facts.ensures in
+    let same : row.weight ≡ (get_or rows j row).weight = ap (λ (r : LotteryRow). r.weight) (c.row-item.is ∙ ap (λ rs. get_or rs j row) c.rows-row-items.ensures.value) in
+    let small = c.rows-row-items.ensures.total in
     rw (here, weight) (fits (counted (take j rows) i + row.weight) (omega arith))
 
 pub loop-row-preserved : goal.loop-row-preserved
@@ -73,8 +73,8 @@ loop-row-preserved c =
     let kept : length new ≡ length c.deref_mut.result.now = c.add_weight.auto.chances in
     let whole = with_items_is c.loop-row.chances new (kept ∙ c.deref_mut.ensures.len) in
     let weight : to_z w128 (of_z w128 c.weight.result) ≡ pos row.weight = stored c.weight.result row.weight (search rules) c.weight.ensures in
-    let same : row ≡ get_or rows j row = c.row-item.is ∙ ap (λ rs. get_or rs j row) c.rows-row-items.ensures in
-    let count_of_rows = ap (λ (rs : List LotteryRow). length rs) c.rows-row-items.ensures in
+    let same : row ≡ get_or rows j row = c.row-item.is ∙ ap (λ rs. get_or rs j row) c.rows-row-items.ensures.value in
+    let count_of_rows = ap (λ (rs : List LotteryRow). length rs) c.rows-row-items.ensures.value in
     rw whole (record {
       each = λ k l.
           let here : get_or c.deref_mut.result.now k (pos 0) ≡ pos (counted (take j rows) k) =
@@ -90,7 +90,7 @@ loop-row-preserved c =
 pub returns : goal.returns
 returns c =
     let rows = c.args.lottery.now.rows in
-    let all : take c.loop-row.row-index rows ≡ rows = take_all c.loop-row.row-index rows (omega (arith, ap (λ (rs : List LotteryRow). length rs) c.rows-row-items.ensures)) in
+    let all : take c.loop-row.row-index rows ≡ rows = take_all c.loop-row.row-index rows (omega (arith, ap (λ (rs : List LotteryRow). length rs) c.rows-row-items.ensures.value)) in
     fill_by_all (λ i. pos (count c.args.lottery.now i)) c.loop-row.chances.items (length c.args.pool.now.volunteers) (pos 0) c.loop-row.invariant.size
     (λ k l. c.loop-row.invariant.each k (omega arith) ∙ ap pos (ap (λ rs. counted rs k) all ∙ sym (count-is c.args.lottery.now k)))
     ∙ sym (map-map (λ n. pos n) (count c.args.lottery.now) (everybody c.args.pool.now))
