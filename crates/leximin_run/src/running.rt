@@ -7,10 +7,10 @@ ghost use Rattle.row_definitions.specs.Steps.{close_stage};
 ghost use Rattle.row_definitions.specs.Table.{row_at};
 ghost use Rattle.run_definitions.specs.Run.{run_limits};
 
-use run_limits::Limits;
 use alike::Classes;
 use exact_table::{Pass, Table, Var};
 use panel_search::{Row, SearchStop, best};
+use run_limits::Limits;
 use std::alloc::{AllocError, Global};
 
 // Why a step that is due is not made.

@@ -11,7 +11,6 @@ ghost use Rattle.search_definitions.specs.Fronts.{sizes_of};
 ghost use Rattle.search_definitions.specs.Visits.{first_search};
 
 use crate::certifying::certificate;
-use run_limits::Limits;
 use crate::running::{Refusal, Run};
 use crate::stops::{At, Solved, Stop};
 use alike::{Classes, Composition, SpreadStop, classes, spread};
@@ -19,6 +18,7 @@ use exact_table::{Table, TableStop};
 use frac128::Frac;
 use panel_search::{SearchStop, first};
 use pool_model::{Answer, Pool};
+use run_limits::Limits;
 use std::alloc::{AllocError, Global};
 
 /// The run over a pool under limits: the lottery with its certificate, or that the pool has no quota panel, or the first step that is

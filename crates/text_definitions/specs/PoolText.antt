@@ -54,4 +54,3 @@ lines_before_end pool =
 -- the text of a pool
 abbrev pub spelling : Pool → List ℕ
 spelling pool = text_of (lines_before_end pool ++ end_line ∷ [])
-
