@@ -1,11 +1,11 @@
-//! A small pool with its quota panels, standings and chances, copies, and the kinds of fault at their edges.
+//! A small pool with its quota panels, standings, households and chances, copies, and the kinds of fault at their edges.
 
 ghost use Rattle.std.specs.Prelude.{IfOk};
 ghost use Rattle.pool_definitions.specs.Lottery.{TotalAgrees};
 
 use crate::{
     Answer, BuildStop, Certificate, Lottery, LotteryRow, Name, Panel, Pool, Stage, Standing,
-    chances, fits,
+    chances, fits, has_households,
 };
 use std::alloc::{AllocError, Global};
 use std::process::Abort;
@@ -77,6 +77,26 @@ fn take(
         shown(alloc, pool)? == before,
         want.is_some(),
         "at {step:?}"
+    );
+    Ok(())
+}
+
+/// Sets a household of a volunteer who is there. It must tell this kind of fault, and change the pool exactly where there is none.
+fn house(
+    rt: &impl Abort,
+    alloc: Global,
+    pool: &mut Pool,
+    number: usize,
+    name: &str,
+    want: Option<u8>,
+) -> Result<(), AllocError> {
+    let before = shown(alloc, pool)?;
+    assert!(rt; number < pool.volunteers().len());
+    assert_eq!(rt; told(pool.set_household(number, name)), want, "at {name:?}");
+    assert_eq!(rt;
+        shown(alloc, pool)? == before,
+        want.is_some(),
+        "at {name:?}"
     );
     Ok(())
 }
@@ -204,6 +224,24 @@ fn keeps_standings(rt: HostRuntime) -> Result<(), Fail> {
     Ok(())
 }
 
+#[test]
+fn keeps_households(rt: HostRuntime) -> Result<(), Fail> {
+    let alloc = rt.alloc();
+    let mut pool = four(alloc)?;
+    assert!(rt; !has_households(&pool));
+    house(&rt, alloc, &mut pool, 2, "first", None)?;
+    house(&rt, alloc, &mut pool, 2, "second", None)?;
+    house(&rt, alloc, &mut pool, 3, "second", None)?;
+    let copy = pool.copy()?;
+    assert!(rt; has_households(&copy));
+    let wants = [None, None, Some("second"), Some("second")];
+    for (volunteer, want) in copy.volunteers().iter().zip(wants) {
+        let household = volunteer.household().map(|name| name.as_str());
+        assert_eq!(rt; household, want);
+    }
+    Ok(())
+}
+
 /// Three of the four's panels, with weights 3, 1 and 2.
 fn three_panels(alloc: Global) -> Result<Lottery, Fail>
     ensures { IfOk result (λ lottery. TotalAgrees lottery) }
@@ -282,6 +320,9 @@ fn tests_sizes_and_names(rt: HostRuntime) -> Result<(), Fail> {
         pool = Pool::new(alloc, 1)?;
         pool.add_category("category")?;
         take(&rt, alloc, &mut pool, Step::Value(name, 0, 1), want)?;
+        pool = Pool::new(alloc, 1)?;
+        pool.add_volunteer("volunteer", &[])?;
+        house(&rt, alloc, &mut pool, 0, name, want)?;
     }
     Ok(())
 }
