@@ -1,6 +1,7 @@
 //! Writing the text of a bundle, line by line into one growing buffer.
 
-ghost use Rattle.std.specs.Prelude.{◌≡◌, ◌++◌, ◌∷◌, [], map, IfOk, OnOk};
+ghost use Rattle.std.specs.Prelude.{◌≡◌, false, ◌++◌, ◌∷◌, [], map, IfOk, OnOk};
+ghost use Rattle.pool_definitions.specs.Pool.{has_households};
 ghost use Rattle.line_definitions.specs.Lines.{text_of};
 ghost use Rattle.bundle_definitions.specs.Ranges.{IsInRanges};
 ghost use Rattle.bundle_definitions.specs.BundleText.{total_line, panel_line, stage_line, done_line, answer_lines, bundle_text};
@@ -10,9 +11,10 @@ use pool_text::push_pool;
 use std::alloc::{AllocError, Global};
 use text_lines::{end_line, push_line, push_numbers, push_signed, push_signed_numbers};
 
-/// The text of the pool with this answer, whose numbers keep the ranges of a bundle.
+/// The text of the pool, which has no households, with this answer, whose numbers keep the ranges of a bundle.
 pub fn write_bundle(alloc: Global, pool: &Pool, answer: &Answer) -> Result<Vec<u8>, AllocError>
-    requires { IsInRanges pool.now answer.now }
+    requires households { has_households pool.now ≡ false }
+    requires ranges { IsInRanges pool.now answer.now }
     ensures { IfOk result (λ bytes. bytes.items ≡ bundle_text pool.now answer.now) }
 {
     let mut text = Vec::new(alloc);

@@ -12,8 +12,8 @@ use Rattle.pool_definitions.specs.declared.Standing.TheVariants.{Open}
 pub use Rattle.basic_laws.proofs.Each.{list_all-push as list_all_push}
 use Rattle.basic_laws.proofs.Each.{list_all-push}
 use Rattle.pool_definitions.specs.Lists.{includes_list, all_different}
-use Rattle.pool_definitions.specs.Pool.{BoundedValue, Category, Volunteer, Pool, keeps_name_limits, is_name, is_size, are_bounds, is_value, is_category, has_values, IsPool}
-use Rattle.pool_definitions.specs.Building.{lowest_kind, category_names, value_names, ids, last_values, with_value, place_of, places_of, are_known, empty_pool, size_kind, category_added, category_kind, value_added, value_kind, volunteer_added, volunteer_kind, with_standing, standing_set}
+use Rattle.pool_definitions.specs.Pool.{BoundedValue, Category, Volunteer, Pool, keeps_name_limits, is_name, is_size, are_bounds, is_value, is_category, has_values, is_household, IsPool}
+use Rattle.pool_definitions.specs.Building.{lowest_kind, category_names, value_names, ids, last_values, with_value, place_of, places_of, are_known, empty_pool, size_kind, category_added, category_kind, value_added, value_kind, volunteer_added, volunteer_kind, with_standing, standing_set, with_household, household_set, household_kind}
 
 -- where no kind is answered the first test is false, and the others answer none
 pub no_kind : (test : Bool) (kind : ℕ) (rest : Option ℕ) → cond test (Some kind) rest ≡ None → (test ≡ false) × (rest ≡ None)
@@ -58,6 +58,7 @@ IsPool-empty_pool size h = record {
   ids = refl;
   different_ids = refl;
   values = refl;
+  households = refl;
 }
 
 -- what no kind says of a category
@@ -91,6 +92,7 @@ IsPool-category_added pool name p kind utf8 =
       ids = p.ids;
       different_ids = p.different_ids;
       values = rw fits.nobody refl;
+      households = p.households;
     }
 
 -- a value added to the last category
@@ -170,6 +172,7 @@ IsPool-value_added pool value p kind utf8 =
       ids = p.ids;
       different_ids = p.different_ids;
       values = rw fits.nobody refl;
+      households = p.households;
     }
 
 -- a name that stands among the values of a category has a place there
@@ -221,7 +224,7 @@ volunteer_fits pool id names h =
 pub IsPool-volunteer_added : (pool : Pool) (id : List ℕ) (names : List (List ℕ)) → IsPool pool → volunteer_kind pool id names ≡ None → is_utf8 id ≡ true → IsPool (volunteer_added pool id names)
 IsPool-volunteer_added pool id names p kind utf8 =
     let fits = volunteer_fits pool id names kind in
-    let volunteer : Volunteer = record { id = id; values = places_of pool.categories names; standing = Open } in
+    let volunteer : Volunteer = record { id = id; values = places_of pool.categories names; standing = Open; household = None } in
     record {
       size = p.size;
       few_categories = p.few_categories;
@@ -231,6 +234,7 @@ IsPool-volunteer_added pool id names p kind utf8 =
       ids = list_all-push (λ (v : Volunteer). is_name v.id) pool.volunteers volunteer p.ids (and_from (keeps_name_limits id) (is_utf8 id) fits.limits utf8);
       different_ids = rw (map_push (λ (v : Volunteer). v.id) pool.volunteers volunteer) (all_different_push (ids pool.volunteers) id p.different_ids fits.new);
       values = list_all-push (λ (v : Volunteer). has_values pool.categories v.values) pool.volunteers volunteer p.values (has_values_places pool.categories names fits.known fits.each);
+      households = list_all-push (λ (v : Volunteer). is_household v.household) pool.volunteers volunteer p.households refl;
     }
 
 -- another standing of one volunteer changes nothing else
@@ -257,6 +261,12 @@ values-with_standing categories (volunteer ∷ volunteers) zero standing = refl
 values-with_standing categories (volunteer ∷ volunteers) (suc number) standing =
     ap (λ b. has_values categories volunteer.values && b) (values-with_standing categories volunteers number standing)
 
+households-with_standing : (volunteers : List Volunteer) (number : ℕ) (standing : Standing) →
+    list_all (λ (v : Volunteer). is_household v.household) (with_standing volunteers number standing) ≡ list_all (λ (v : Volunteer). is_household v.household) volunteers
+households-with_standing [] number standing = refl
+households-with_standing (volunteer ∷ volunteers) zero standing = refl
+households-with_standing (volunteer ∷ volunteers) (suc number) standing = ap (λ b. is_household volunteer.household && b) (households-with_standing volunteers number standing)
+
 pub IsPool-standing_set : (pool : Pool) (number : ℕ) (standing : Standing) → IsPool pool → IsPool (standing_set pool number standing)
 IsPool-standing_set pool number standing p = record {
   size = p.size;
@@ -267,4 +277,55 @@ IsPool-standing_set pool number standing p = record {
   ids = rw (names-with_standing pool.volunteers number standing) p.ids;
   different_ids = rw (ids-with_standing pool.volunteers number standing) p.different_ids;
   values = rw (values-with_standing pool.categories pool.volunteers number standing) p.values;
+  households = rw (households-with_standing pool.volunteers number standing) p.households;
 }
+
+-- another household of one volunteer changes nothing else
+pub length-with_household : (volunteers : List Volunteer) (number : ℕ) (name : List ℕ) → length (with_household volunteers number name) ≡ length volunteers
+length-with_household [] number name = refl
+length-with_household (volunteer ∷ volunteers) zero name = refl
+length-with_household (volunteer ∷ volunteers) (suc number) name = ap suc (length-with_household volunteers number name)
+
+ids-with_household : (volunteers : List Volunteer) (number : ℕ) (name : List ℕ) → ids (with_household volunteers number name) ≡ ids volunteers
+ids-with_household [] number name = refl
+ids-with_household (volunteer ∷ volunteers) zero name = refl
+ids-with_household (volunteer ∷ volunteers) (suc number) name = ap (λ rest. volunteer.id ∷ rest) (ids-with_household volunteers number name)
+
+names-with_household : (volunteers : List Volunteer) (number : ℕ) (name : List ℕ) →
+    list_all (λ (v : Volunteer). is_name v.id) (with_household volunteers number name) ≡ list_all (λ (v : Volunteer). is_name v.id) volunteers
+names-with_household [] number name = refl
+names-with_household (volunteer ∷ volunteers) zero name = refl
+names-with_household (volunteer ∷ volunteers) (suc number) name = ap (λ b. is_name volunteer.id && b) (names-with_household volunteers number name)
+
+values-with_household : (categories : List Category) (volunteers : List Volunteer) (number : ℕ) (name : List ℕ) →
+    list_all (λ (v : Volunteer). has_values categories v.values) (with_household volunteers number name) ≡ list_all (λ (v : Volunteer). has_values categories v.values) volunteers
+values-with_household categories [] number name = refl
+values-with_household categories (volunteer ∷ volunteers) zero name = refl
+values-with_household categories (volunteer ∷ volunteers) (suc number) name =
+    ap (λ b. has_values categories volunteer.values && b) (values-with_household categories volunteers number name)
+
+households-with_household : (volunteers : List Volunteer) (number : ℕ) (name : List ℕ) → list_all (λ (v : Volunteer). is_household v.household) volunteers ≡ true → is_name name ≡ true →
+    list_all (λ (v : Volunteer). is_household v.household) (with_household volunteers number name) ≡ true
+households-with_household [] number name h named = refl
+households-with_household (volunteer ∷ volunteers) zero name h named =
+    let parts = and_parts (is_household volunteer.household) (list_all (λ (v : Volunteer). is_household v.household) volunteers) h in
+    and_from (is_name name) (list_all (λ (v : Volunteer). is_household v.household) volunteers) named parts.1
+households-with_household (volunteer ∷ volunteers) (suc number) name h named =
+    let parts = and_parts (is_household volunteer.household) (list_all (λ (v : Volunteer). is_household v.household) volunteers) h in
+    and_from (is_household volunteer.household) (list_all (λ (v : Volunteer). is_household v.household) (with_household volunteers number name)) parts.0
+    (households-with_household volunteers number name parts.1 named)
+
+pub IsPool-household_set : (pool : Pool) (number : ℕ) (name : List ℕ) → IsPool pool → household_kind name ≡ None → is_utf8 name ≡ true → IsPool (household_set pool number name)
+IsPool-household_set pool number name p kind utf8 =
+    let limits = not-false (keeps_name_limits name) (no_kind _ _ _ kind).0 in
+    record {
+      size = p.size;
+      few_categories = p.few_categories;
+      categories = p.categories;
+      different_categories = p.different_categories;
+      few_volunteers = rw (length-with_household pool.volunteers number name) p.few_volunteers;
+      ids = rw (names-with_household pool.volunteers number name) p.ids;
+      different_ids = rw (ids-with_household pool.volunteers number name) p.different_ids;
+      values = rw (values-with_household pool.categories pool.volunteers number name) p.values;
+      households = households-with_household pool.volunteers number name p.households (and_from (keeps_name_limits name) (is_utf8 name) limits utf8);
+    }

@@ -90,10 +90,10 @@ value_kinds pool value =
 abbrev pub value_kind : Pool → BoundedValue → Option ℕ
 value_kind pool value = lowest_kind (value_kinds pool value)
 
--- a volunteer with the values of these names
+-- a volunteer with the values of these names, without a household
 abbrev pub volunteer_added : Pool → List ℕ → List (List ℕ) → Pool
 volunteer_added pool id names =
-    record pool { volunteers = pool.volunteers ++ record { id = id; values = places_of pool.categories names; standing = Open } ∷ [] }
+    record pool { volunteers = pool.volunteers ++ record { id = id; values = places_of pool.categories names; standing = Open; household = None } ∷ [] }
 
 -- 6: a name given for a category is none of its values; 7: not one name per category; 8: the id stood before; 10: no such
 -- id may be, or a 401st volunteer
@@ -116,3 +116,19 @@ with_standing (volunteer ∷ volunteers) (suc number) standing = volunteer ∷ w
 
 abbrev pub standing_set : Pool → ℕ → Standing → Pool
 standing_set pool number standing = record pool { volunteers = with_standing pool.volunteers number standing }
+
+-- volunteers of whom the one of a number, counted from 0, has the household of a name
+abbrev pub with_household : List Volunteer → ℕ → List ℕ → List Volunteer
+with_household [] number name = []
+with_household (volunteer ∷ volunteers) zero name = record volunteer { household = Some name } ∷ volunteers
+with_household (volunteer ∷ volunteers) (suc number) name = volunteer ∷ with_household volunteers number name
+
+abbrev pub household_set : Pool → ℕ → List ℕ → Pool
+household_set pool number name = record pool { volunteers = with_household pool.volunteers number name }
+
+-- 10: no such name may be
+abbrev pub household_kinds : List ℕ → List (ℕ × Bool)
+household_kinds name = (10, not (keeps_name_limits name)) ∷ []
+
+abbrev pub household_kind : List ℕ → Option ℕ
+household_kind name = lowest_kind (household_kinds name)

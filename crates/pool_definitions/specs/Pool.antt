@@ -1,6 +1,6 @@
 -- Pools, quota panels, and the quota panels of a pool.
-use Rattle.std.specs.Prelude.{ℕ, ◌==◌, nat_lt, nat_le, Bool, true, false, not, ◌&&◌, IsTrue, List, [], ◌∷◌, map, length, count_by, filter, slice_index, slice_index_or}
-use Rattle.std.specs.List.{list_all, enumerate_from, range_with_len}
+use Rattle.std.specs.Prelude.{ℕ, ◌==◌, nat_lt, nat_le, Bool, true, false, not, ◌&&◌, IsTrue, List, [], ◌∷◌, map, length, count_by, filter, slice_index, slice_index_or, Option, Some, None, is_some}
+use Rattle.std.specs.List.{list_all, list_any, enumerate_from, range_with_len}
 use Rattle.std.specs.Str.{is_utf8}
 use Rattle.pool_definitions.specs.declared.Standing.{Standing}
 use Rattle.pool_definitions.specs.declared.Standing.TheVariants.{Open, Seated, Gone}
@@ -17,11 +17,12 @@ pub record Category : Type 0 where
   pub name : List ℕ
   pub values : List BoundedValue
 
--- a volunteer: for each category the place of a value
+-- a volunteer: for each category the place of a value, and the name of a household, if one is known
 pub record Volunteer : Type 0 where
   pub id : List ℕ
   pub values : List ℕ
   pub standing : Standing
+  pub household : Option (List ℕ)
 
 -- a pool: the size of its panels, its categories, and its volunteers, who are numbered from 0
 pub record Pool : Type 0 where
@@ -37,6 +38,11 @@ keeps_name_limits name =
 -- a name or an id: a text of UTF-8 within these limits
 abbrev pub is_name : List ℕ → Bool
 is_name name = keeps_name_limits name && is_utf8 name
+
+-- no household, or one of a name
+abbrev pub is_household : Option (List ℕ) → Bool
+is_household None = true
+is_household (Some name) = is_name name
 
 -- a panel has 1 to 200 members
 abbrev pub is_size : ℕ → Bool
@@ -73,6 +79,11 @@ pub record IsPool (pool : Pool) : Type 0 where
   pub ids : IsTrue (list_all (λ volunteer. is_name volunteer.id) pool.volunteers)
   pub different_ids : IsTrue (all_different (map (λ volunteer. volunteer.id) pool.volunteers))
   pub values : IsTrue (list_all (λ volunteer. has_values pool.categories volunteer.values) pool.volunteers)
+  pub households : IsTrue (list_all (λ volunteer. is_household volunteer.household) pool.volunteers)
+
+-- some volunteer has a household
+abbrev pub has_households : Pool → Bool
+has_households pool = list_any (λ volunteer. is_some volunteer.household) pool.volunteers
 
 -- the numbers of all volunteers
 abbrev pub everybody : Pool → List ℕ
@@ -80,7 +91,7 @@ everybody pool = range_with_len 0 (length pool.volunteers)
 
 -- the volunteer of a number
 abbrev pub volunteer : List Volunteer → ℕ → Volunteer
-volunteer volunteers i = slice_index_or volunteers i (record { id = []; values = []; standing = Gone })
+volunteer volunteers i = slice_index_or volunteers i (record { id = []; values = []; standing = Gone; household = None })
 
 -- how many members of a panel have the value of a place in the category of a place
 abbrev pub members_with : List Volunteer → List ℕ → ℕ → ℕ → ℕ

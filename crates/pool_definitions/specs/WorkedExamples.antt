@@ -1,14 +1,14 @@
 -- Small pools with their lotteries and certificates, on which the definitions compute.
-use Rattle.std.specs.Prelude.{ℕ, List, [], ◌∷◌, ℤ, pos, negsuc, codes}
+use Rattle.std.specs.Prelude.{ℕ, List, [], ◌∷◌, ℤ, pos, negsuc, codes, None}
 use Rattle.pool_definitions.specs.declared.Standing.TheVariants.{Open, Seated, Gone}
 use Rattle.pool_definitions.specs.Pool.{BoundedValue, Category, Volunteer, Pool}
 use Rattle.pool_definitions.specs.Lottery.{LotteryRow, Lottery}
 use Rattle.pool_definitions.specs.Certificate.{Stage}
 use Rattle.pool_definitions.specs.Building.{standing_set}
 
--- an open volunteer with the places of the values
+-- an open volunteer with the places of the values, without a household
 abbrev pub person : List ℕ → List ℕ → Volunteer
-person id values = record { id = id; values = values; standing = Open }
+person id values = record { id = id; values = values; standing = Open; household = None }
 
 -- a value with its bounds
 abbrev pub bounded : List ℕ → ℕ → ℕ → BoundedValue

@@ -6,6 +6,7 @@
 mod building;
 mod certificates;
 mod counting;
+mod households;
 mod lotteries;
 mod names;
 mod panels;
@@ -18,6 +19,7 @@ mod tests;
 pub use building::BuildStop;
 pub use certificates::{Answer, Certificate, Stage};
 pub use counting::chances;
+pub use households::has_households;
 pub use lotteries::{Lottery, LotteryRow};
 pub use panels::Panel;
 pub use parts::{Bound, BoundedValue, Category, Name, Volunteer};

@@ -1,6 +1,6 @@
 //! The parts of a pool: names, categories with bounded values, volunteers.
 
-ghost use Rattle.std.specs.Prelude.{◌≡◌, [], ◌∷◌, ◌++◌, IfOk, OnOk, OnErr};
+ghost use Rattle.std.specs.Prelude.{◌≡◌, [], ◌∷◌, ◌++◌, IfOk, OnOk, OnErr, Some, None, option_map};
 ghost use Rattle.pool_definitions.specs.declared.Standing.TheVariants.{Open};
 
 use pool_definitions::Standing;
@@ -192,12 +192,13 @@ fn copied_values(alloc: Global, values: &[BoundedValue]) -> Result<Vec<BoundedVa
     Ok(copies)
 }
 
-/// A volunteer: for each category the place of a value among the category's values, counted from 0.
+/// A volunteer: for each category the place of a value among the category's values, counted from 0, and at most one household.
 #[derive(Debug, Drop)]
 pub struct Volunteer {
     id: Name,
     values: Vec<usize>,
     standing: Standing,
+    household: Option<Name>,
 }
 
 impl Model for Volunteer {
@@ -205,18 +206,19 @@ impl Model for Volunteer {
 
     ghost Value = { Seen };
 
-    ghost view = { λ v. record { id = v.id; values = v.values.items; standing = v.standing } };
+    ghost view = { λ v. record { id = v.id; values = v.values.items; standing = v.standing; household = v.household } };
 }
 
 impl Volunteer {
-    // A volunteer who may be chosen.
+    // A volunteer who may be chosen, without a household.
     pub(crate) fn new(id: Name, values: Vec<usize>) -> Volunteer
-        ensures { result ≡ record { id = id; values = values.items; standing = Open } }
+        ensures { result ≡ record { id = id; values = values.items; standing = Open; household = None } }
     {
         Volunteer {
             id,
             values,
             standing: Standing::Open,
+            household: None,
         }
     }
 
@@ -247,6 +249,19 @@ impl Volunteer {
         self.standing = standing;
     }
 
+    /// The name of the volunteer's household, if one is known.
+    pub fn household(&self) -> Option<&Name>
+        ensures { option_map (λ name. name.now) result ≡ self.now.household }
+    {
+        self.household.as_ref()
+    }
+
+    pub(crate) fn set_household(&mut self, name: Name)
+        ensures { self.new ≡ record self.old { household = Some name } }
+    {
+        self.household = Some(name);
+    }
+
     /// An equal volunteer.
     pub fn copy(&self) -> Result<Volunteer, AllocError>
         ensures { IfOk result (λ copied. copied ≡ self.now) }
@@ -255,6 +270,16 @@ impl Volunteer {
             id: self.id.copy()?,
             values: self.values.clone()?,
             standing: self.standing,
+            household: copied_name(&self.household)?,
         })
+    }
+}
+
+fn copied_name(name: &Option<Name>) -> Result<Option<Name>, AllocError>
+    ensures { IfOk result (λ copied. copied ≡ name.now) }
+{
+    match name {
+        Some(name) => Ok(Some(name.copy()?)),
+        None => Ok(None),
     }
 }

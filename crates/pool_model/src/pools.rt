@@ -3,7 +3,7 @@
 ghost use Rattle.std.specs.Prelude.{◌≡◌, ◌≢◌, ◌<◌, ◌==◌, ◌||◌, nat_le, not, [], ◌∷◌, length, map, None, Err, OnOk, OnErr, IfOk, vec_len};
 ghost use Rattle.pool_definitions.specs.Lists.{includes_list};
 ghost use Rattle.pool_definitions.specs.Pool.{IsPool, keeps_name_limits as keeps_limits};
-ghost use Rattle.pool_definitions.specs.Building.{lowest_kind, ids, size_kind, category_kind, value_kind, volunteer_kind, empty_pool, category_added, value_added, volunteer_added, with_value, last_values as values_of_last, with_standing, standing_set};
+ghost use Rattle.pool_definitions.specs.Building.{lowest_kind, ids, size_kind, category_kind, value_kind, volunteer_kind, empty_pool, category_added, value_added, volunteer_added, with_value, last_values as values_of_last, with_standing, standing_set, with_household, household_set, household_kind};
 ghost use Rattle.pool_model.specs.Answers.{Answers};
 ghost use Rattle.pool_model.specs.declared.building.BuildStop.TheVariants.{OutOfMemory};
 
@@ -28,7 +28,8 @@ const MAX_VOLUNTEERS: usize = 400;
 
 /// A pool: the size of its panels, its categories and its volunteers, who are numbered from 0. It keeps the limits: a size from 1
 /// to 200; at most 20 categories, 50 values a category and 400 volunteers; bounds in order and at most 999; names and ids of 1 to
-/// 200 bytes of UTF-8, none below 32 and none 127; different names and ids; and one value per category for each volunteer.
+/// 200 bytes of UTF-8, none below 32 and none 127, also those of households; different names and ids, though volunteers may share
+/// a household; and one value per category for each volunteer.
 #[derive(Debug, Drop)]
 pub struct Pool {
     size: usize,
@@ -266,6 +267,22 @@ impl Pool {
     {
         set_standing_of(&mut self.volunteers, number, standing);
     }
+
+    /// Sets the name of the household of the volunteer of this number, in place of an earlier one, and changes nothing else. Stops
+    /// with kind 10 exactly where no such name may be; the pool is then as before.
+    pub fn set_household(&mut self, number: usize, name: &str) -> Result<(), BuildStop>
+        requires { number < length self.old.volunteers }
+        ensures kind { Answers (household_kind name.now) result }
+        ensures ok { OnOk result (self.new ≡ household_set self.old number name.now) }
+        ensures err { OnErr result (self.new ≡ self.old) }
+    {
+        if !keeps_name_limits(name.as_bytes()) {
+            return Err(BuildStop::Kind(10));
+        }
+        let household = Name::new(*self.volunteers.allocator(), name)?;
+        set_household_of(&mut self.volunteers, number, household);
+        Ok(())
+    }
 }
 
 /// The kind of fault of a size: 2 exactly where it is not from 1 to 200.
@@ -305,6 +322,14 @@ fn set_standing_of(volunteers: &mut Vec<Volunteer>, number: usize, standing: Sta
 {
     let volunteer = &mut volunteers[number];
     volunteer.set_standing(standing);
+}
+
+fn set_household_of(volunteers: &mut Vec<Volunteer>, number: usize, name: Name)
+    requires { number < vec_len volunteers.old }
+    ensures { volunteers.new.items ≡ with_household volunteers.old.items number name }
+{
+    let volunteer = &mut volunteers[number];
+    volunteer.set_household(name);
 }
 
 fn copied_categories(alloc: Global, categories: &[Category]) -> Result<Vec<Category>, AllocError>

@@ -1,11 +1,12 @@
-//! A small pool with its quota panels, standings and chances, copies, and a refusal of each call of the builder.
+//! A small pool with its quota panels, standings, households and chances, copies, a refusal of each call of the builder, and the limits
+//! of sizes and names.
 
 ghost use Rattle.std.specs.Prelude.{IfOk};
 ghost use Rattle.pool_definitions.specs.Lottery.{TotalAgrees};
 
 use crate::{
     Answer, BuildStop, Certificate, Lottery, LotteryRow, Name, Panel, Pool, Stage, Standing,
-    chances, fits,
+    chances, fits, has_households,
 };
 use std::alloc::Global;
 use std::process::Abort;
@@ -91,6 +92,56 @@ fn knows_quota_panels(rt: HostRuntime) -> Result<(), Fail> {
         let panel = Panel::new(members.to_vec(alloc)?);
         let answer = panel.map(|panel| fits(&copy, &panel));
         assert_eq!(rt; answer, want, "at {members:?}");
+    }
+    Ok(())
+}
+
+/// Sets a household, of a volunteer who is there.
+fn house(rt: &impl Abort, pool: &mut Pool, number: usize, name: &str) -> Option<u8> {
+    assert!(rt; number < pool.volunteers().len());
+    told(pool.set_household(number, name))
+}
+
+#[test]
+fn keeps_households(rt: HostRuntime) -> Result<(), Fail> {
+    let alloc = rt.alloc();
+    let mut pool = four(alloc)?;
+    assert!(rt; !has_households(&pool));
+    for (number, name) in [(2, "first"), (2, "second"), (3, "second")] {
+        assert_eq!(rt; house(&rt, &mut pool, number, name), None);
+    }
+    assert_eq!(rt; house(&rt, &mut pool, 3, ""), Some(10));
+    let copy = pool.copy()?;
+    assert!(rt; has_households(&copy));
+    let wants = [None, None, Some("second"), Some("second")];
+    for (volunteer, want) in copy.volunteers().iter().zip(wants) {
+        let household = volunteer.household().map(|name| name.as_str());
+        assert_eq!(rt; household, want);
+    }
+    Ok(())
+}
+
+#[test]
+fn keeps_limits(rt: HostRuntime) -> Result<(), Fail> {
+    let alloc = rt.alloc();
+    for (size, want) in [(0, Some(2)), (1, None), (200, None), (201, Some(2))] {
+        let answer = Pool::new(alloc, size).map(|_pool| ());
+        assert_eq!(rt; told(answer), want, "at {size}");
+    }
+    let long = String::from_utf8(vec![in alloc; b'n'; 201]?).map_err(|_error| "no text")?;
+    for (name, want) in [
+        ("", Some(10)),
+        ("n", None),
+        (&long[..200], None),
+        (&long, Some(10)),
+        ("a\u{1f}b", Some(10)),
+        ("\u{e9} ~", None),
+        ("a\u{7f}b", Some(10)),
+    ] {
+        let mut pool = four(alloc)?;
+        assert_eq!(rt; house(&rt, &mut pool, 0, name), want, "at {name:?}");
+        let mut pool = Pool::new(alloc, 1)?;
+        assert_eq!(rt; told(pool.add_category(name)), want, "at {name:?}");
     }
     Ok(())
 }

@@ -1,9 +1,9 @@
 //! Writing the text of a pool, line by line into one growing buffer.
 
-ghost use Rattle.std.specs.Prelude.{◌≡◌, ◌++◌, ◌∷◌, [], map, Ok, IfOk, OnOk, IsTrue, ◌<◌, length, slice_index_or};
+ghost use Rattle.std.specs.Prelude.{◌≡◌, false, ◌++◌, ◌∷◌, [], map, Ok, IfOk, OnOk, IsTrue, ◌<◌, length, slice_index_or};
 ghost use Rattle.pool_definitions.specs.Building.{value_names};
 ghost use Rattle.std.specs.List.{flat_map, list_all};
-ghost use Rattle.pool_definitions.specs.Pool.{has_values};
+ghost use Rattle.pool_definitions.specs.Pool.{has_values, has_households};
 ghost use Rattle.line_definitions.specs.Lines.{tabbed, text_of};
 ghost use Rattle.text_definitions.specs.PoolText.{size_line, category_lines, value_line, names_at, volunteer_line, standing_line, standing_lines, spelling};
 ghost use Rattle.text_definitions.specs.PoolReading.{read};
@@ -13,8 +13,9 @@ use pool_model::{BoundedValue, Category, Pool, Standing, Volunteer};
 use std::alloc::{AllocError, Global};
 use text_lines::{end_line, push_field, push_line};
 
-/// The text of the pool, which is read again as this pool.
+/// The text of the pool, which has no households and is read again as this pool.
 pub fn write_pool(alloc: Global, pool: &Pool) -> Result<Vec<u8>, AllocError>
+    requires { has_households pool.now ≡ false }
     ensures spelled { IfOk result (λ text. text.items ≡ spelling pool.now) }
     ensures read { IfOk result (λ text. read text.items ≡ Ok pool.now) }
 {
@@ -24,8 +25,9 @@ pub fn write_pool(alloc: Global, pool: &Pool) -> Result<Vec<u8>, AllocError>
     Ok(text)
 }
 
-/// Adds the text of the pool to another.
+/// Adds the text of the pool, which has no households, to another.
 pub fn push_pool(text: &mut Vec<u8>, pool: &Pool) -> Result<(), AllocError>
+    requires { has_households pool.now ≡ false }
     ensures { OnOk result (text.new.items ≡ text.old.items ++ spelling pool.now) }
 {
     pool.facts();

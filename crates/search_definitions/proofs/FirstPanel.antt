@@ -1,5 +1,5 @@
 -- The first members of a composition's classes are a quota panel of that composition.
-use Rattle.std.proofs.Common.{◌≡◌, ℕ, zero, suc, ◌+◌, ◌-◌, ◌≤◌, ◌<◌, min, Bool, true, false, cond, ◌&&◌, eqb, ltb, List, [], ◌∷◌, map, length, filter, count_by, get_or, slice_index, refl, sym, ap, ◌∙◌, ⊎_elim, arith, subst, le_of_eq}
+use Rattle.std.proofs.Common.{◌≡◌, ℕ, zero, suc, ◌+◌, ◌-◌, ◌≤◌, ◌<◌, min, Bool, true, false, cond, ◌&&◌, eqb, ltb, List, [], ◌∷◌, map, length, filter, count_by, get_or, slice_index, refl, sym, ap, ◌∙◌, ⊎_elim, arith, subst, le_of_eq, None}
 use Rattle.std.specs.List.{list_all, AllByRecursion, range_with_len, enumerate_from}
 use Rattle.std.proofs.lemmas.Bool.{and_parts, and_from, cases_Bool, cases_lt, cases_eq, eqb-true, eq-eqb, ne_eqb, ltb-true, lt-ltb, le-ltb, false≢true}
 use Rattle.basic_laws.proofs.Sums.{total, total_eq, total_ext, one_if, total-filter, length-filter-total, count_by-total}
@@ -304,7 +304,7 @@ module _ (pool : Pool) (alike : ℕ → ℕ → Bool) (makes : MakesClasses pool
     first_panel_fits =
         let A = eqb (length chosen) pool.size in let B = is_increasing chosen in let C = list_all (λ i. ltb i n) chosen in
         let D = keeps_standings pool.volunteers chosen in let E = meets_quotas pool.categories pool.volunteers chosen in
-        let keeps = each_place (λ i v. allows v.standing (includes chosen i)) (record { id = []; values = []; standing = Gone }) 0 pool.volunteers
+        let keeps = each_place (λ i v. allows v.standing (includes chosen i)) (record { id = []; values = []; standing = Gone; household = None }) 0 pool.volunteers
         (λ k l. let e : 0 + k ≡ k = omega arith in subst (λ z. allows (standing_of k) (includes chosen z) ≡ true) (sym e) (keeps_at k l)) in
         and_from (A && B && C && D) E (and_from (A && B && C) D (and_from (A && B) C (and_from A B (eq-eqb (length chosen) pool.size size_is) (filter_increases (in_panel alike makes.same n g) 0 n)) below) keeps) meets
 

@@ -1,5 +1,5 @@
 -- The classes of a pool keep limits like those of the pool.
-use Rattle.std.proofs.Common.{◌≡◌, ℕ, zero, suc, ◌≤◌, ◌<◌, Bool, true, ◌&&◌, leb, ltb, List, [], ◌∷◌, map, length, get_or, slice_index, sum_by, refl, arith, le_of_eq}
+use Rattle.std.proofs.Common.{◌≡◌, ℕ, zero, suc, ◌≤◌, ◌<◌, Bool, true, ◌&&◌, leb, ltb, List, [], ◌∷◌, map, length, get_or, slice_index, sum_by, refl, arith, le_of_eq, None}
 use Rattle.std.specs.Prelude.{not}
 use Rattle.std.specs.List.{All, AllByRecursion, list_all, list_any, range_with_len}
 use Rattle.std.proofs.lemmas.Bool.{and_parts, leb-true, ltb-true, false≢true}
@@ -103,7 +103,7 @@ module _ (pool : Pool) (alike : ℕ → ℕ → Bool) (is_pool : IsPool pool) (m
 
   values_at : (l : ℕ) → l < many → has_values pool.categories (volunteer pool.volunteers l).values ≡ true
   values_at l below = all_from_each (λ v. has_values pool.categories v.values ≡ true) pool.volunteers (each_from_list_all (λ v. has_values pool.categories v.values) pool.volunteers is_pool.values) l
-      (record { id = []; values = []; standing = Gone }) below
+      (record { id = []; values = []; standing = Gone; household = None }) below
 
   pub limits_kept : KeepsLimits (classes_by alike pool)
   limits_kept =

@@ -158,7 +158,7 @@ module _ (pool : Pool) (alike : ℕ → ℕ → Bool) (respects : MakesClasses p
 
   stands : (i : ℕ) → i < n → allows (standing_of i) (includes panel i) ≡ true
   stands i l =
-      let here = at_place (λ i v. allows v.standing (includes panel i)) 0 pool.volunteers keeps i (record { id = []; values = []; standing = Gone }) l in
+      let here = at_place (λ i v. allows v.standing (includes panel i)) 0 pool.volunteers keeps i (record { id = []; values = []; standing = Gone; household = None }) l in
       let e : 0 + i ≡ i = omega arith in subst (λ z. allows (standing_of i) (includes panel z) ≡ true) e here
 
   taken_here : (l : ℕ) → count_by (alike l) panel ≡ total (λ i. cond (includes panel i) (one_if (alike l i)) 0) (range_with_len 0 n)

@@ -14,7 +14,7 @@ use Rattle.text_definitions.specs.PoolText.{version_line, size_line, end_line, l
 use Rattle.text_definitions.specs.PoolReading.{Progress, Begun, Versioned, Inside, Ended, line_kind, line_kinds, after_line, at_last, fault_or, read_lines, read}
 use Rattle.text_definitions.specs.FirstFault.{IsPoolText, BeginsPoolText, lines_before, lines_up_to, IsLowest, after_lines, kinds_at}
 use Rattle.text_definitions.proofs.LowestKinds.{not_the_end, lowest_is, line_kinds_rise}
-use Rattle.text_definitions.proofs.ReadAgain.{spelled_is_read}
+use Rattle.text_definitions.proofs.ReadAgain.{said_pool, spelled_is_said}
 use Rattle.text_definitions.proofs.Spelled.{IsRight, lines_so_far, line_adds}
 
 -- each of the lines has no fault, after those before it
@@ -163,11 +163,11 @@ none_begins bytes fault h other text =
     let some = some_piece rest in
     let pieces : pieces_of (spelling pool) ≡ at.before ++ at.line ∷ some.0 ∷ some.1 =
     ap pieces_of same ∙ (pieces_of-text_of_then lines rest lack ∙ (ap (λ ps. lines ++ ps) some.2 ∙ append_assoc at.before (at.line ∷ []) (some.0 ∷ some.1))) in
-    let read_so = spelled_is_read pool text.2 in
+    let read_so = spelled_is_said pool text.2 in
     (elim at.stop as (λ _. ⊥) [
       | inl kind ↦
           let again = fault_again 1 Begun at.before at.line some.0 some.1 fault.kind at.passes kind in
-          not_both (read (spelling pool)) pool again.0 read_so (ap (read_lines 1 Begun) pieces ∙ again.1)
+          not_both (read (spelling pool)) (said_pool pool) again.0 read_so (ap (read_lines 1 Begun) pieces ∙ again.1)
       | inr last ↦ other last.0
     ])
 

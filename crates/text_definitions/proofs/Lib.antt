@@ -3,3 +3,4 @@ pub mod LowestKinds
 pub mod ReadAgain
 pub mod Spelled
 mod FirstFaults
+pub mod NoHouseholds

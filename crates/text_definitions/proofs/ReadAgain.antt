@@ -1,6 +1,6 @@
 -- The text of a pool is read again, and gives that pool.
-use Rattle.std.proofs.Common.{◌≡◌, ℕ, zero, suc, ◌+◌, ◌<◌, ◌≤◌, true, false, not, ◌&&◌, ◌||◌, cond, eqb, ltb, leb, List, [], ◌∷◌, ◌++◌, length, get_or, map, refl, sym, ◌∙◌, ap, subst, arith, add-one, append_assoc, Some, None, unwrap_or, option_map}
-use Rattle.std.specs.Prelude.{bytes_eq, codes, Ok}
+use Rattle.std.proofs.Common.{◌≡◌, ℕ, zero, suc, ◌+◌, ◌<◌, ◌≤◌, true, false, not, ◌&&◌, ◌||◌, cond, eqb, ltb, leb, List, [], ◌∷◌, ◌++◌, length, get_or, map, refl, sym, ◌∙◌, ap, subst, arith, add-one, append_assoc, Option, Some, None, unwrap_or, option_map}
+use Rattle.std.specs.Prelude.{bytes_eq, codes, Ok, is_some}
 use Rattle.std.specs.Fmt.{decimal}
 use Rattle.std.specs.List.{AllByRecursion, flat_map, list_all, list_any, position_or_len}
 use Rattle.std.specs.Str.{is_utf8}
@@ -14,7 +14,7 @@ use Rattle.std.proofs.lemmas.Str.{is_utf8-from_IsUtf8}
 use Rattle.pool_definitions.specs.declared.Standing.{Standing}
 use Rattle.pool_definitions.specs.declared.Standing.TheVariants.{Open, Seated, Gone}
 use Rattle.pool_definitions.specs.Lists.{includes_list, all_different}
-use Rattle.pool_definitions.specs.Pool.{BoundedValue, Category, Volunteer, Pool, is_name, is_value, is_category, are_bounds, has_values, keeps_name_limits, IsPool}
+use Rattle.pool_definitions.specs.Pool.{BoundedValue, Category, Volunteer, Pool, is_name, is_value, is_category, are_bounds, has_values, keeps_name_limits, IsPool, has_households}
 use Rattle.pool_definitions.specs.Building.{category_names, value_names, ids, last_values, with_value, place_of, places_of, are_known, empty_pool, size_kind, category_kind, value_kind, volunteer_kind, volunteer_added, with_standing}
 use Rattle.pool_definitions.proofs.BuildingLemmas.{same_bytes_comm}
 use Rattle.basic_laws.proofs.Each.{each_map}
@@ -229,7 +229,11 @@ volunteer_is_new pool id names known each new is room =
 
 -- a volunteer as the own line has it
 abbrev opened : Volunteer → Volunteer
-opened volunteer = record { id = volunteer.id; values = volunteer.values; standing = Open }
+opened volunteer = record { id = volunteer.id; values = volunteer.values; standing = Open; household = None }
+
+-- a volunteer as all lines have it, which don't say households
+abbrev pub said : Volunteer → Volunteer
+said volunteer = record volunteer { household = None }
 
 volunteers_run : (size : ℕ) (categories : List Category) (done todo : List Volunteer) → list_all is_category categories ≡ true → list_all (λ (v : Volunteer). is_name v.id) todo ≡ true →
     list_all (λ (v : Volunteer). has_values categories v.values) todo ≡ true →
@@ -252,7 +256,7 @@ volunteers_run size categories done (volunteer ∷ todo) are names have differen
     let rest = volunteers_run size categories (done ++ one ∷ []) todo are name.1 has.1 (ap all_different same_ids ∙ different) (omega (arith, sizes)) in
     let rest_to = subst (λ volunteers. Runs (Inside (made size categories (done ++ one ∷ [])) 0) (map (volunteer_line categories) todo) (Inside (made size categories volunteers) 0)) regrouped rest in
     let again : volunteer_added pool volunteer.id given ≡ made size categories (done ++ one ∷ []) =
-    ap (λ values. made size categories (done ++ record { id = volunteer.id; values = values; standing = Open } ∷ [])) at.again in
+    ap (λ values. made size categories (done ++ record { id = volunteer.id; values = values; standing = Open; household = None } ∷ [])) at.again in
     run_entry pool 0 (codes "volunteer") (volunteer.id ∷ given) (OfVolunteer volunteer.id given) (map (volunteer_line categories) todo) after
     (plain_field (codes "volunteer") refl, (name_field volunteer.id name.0, at.fields)) refl
     (volunteer_is_new pool volunteer.id given at.known at.each new name.0 (omega arith))
@@ -285,13 +289,13 @@ with_standing_behind (first ∷ done) volunteer todo standing = ap (λ rest. fir
 module _ (size : ℕ) (categories : List Category) where
   -- the lines of some volunteers lead from all of these open to their standings
   Leads : List Volunteer → List Volunteer → ℕ → Type 0
-  Leads done todo passed = (last : ℕ) × Runs (Inside (made size categories (done ++ map opened todo)) passed) (standing_lines todo) (Inside (made size categories (done ++ todo)) last)
+  Leads done todo passed = (last : ℕ) × Runs (Inside (made size categories (done ++ map opened todo)) passed) (standing_lines todo) (Inside (made size categories (done ++ map said todo)) last)
 
   -- one more in front, whose line is read
   one_leads : (done todo : List Volunteer) (volunteer : Volunteer) (passed : ℕ) (word : List ℕ) (standing : Standing) → passed ≤ length done → all_different (ids done ++ volunteer.id ∷ ids todo) ≡ true →
       IsField word → is_name volunteer.id ≡ true → entry_of (word ∷ volunteer.id ∷ []) ≡ OfStanding standing volunteer.id → standing ≡ volunteer.standing →
       standing_line volunteer.standing volunteer.id ≡ line_of (word ∷ volunteer.id ∷ []) ∷ [] →
-      Leads (done ++ volunteer ∷ []) todo (length done + 1) → Leads done (volunteer ∷ todo) passed
+      Leads (done ++ said volunteer ∷ []) todo (length done + 1) → Leads done (volunteer ∷ todo) passed
   unfolding Leads
   one_leads done todo volunteer passed word standing few different is name e same line rest =
       let all = done ++ opened volunteer ∷ map opened todo in
@@ -299,46 +303,46 @@ module _ (size : ℕ) (categories : List Category) where
       let found = found_behind done todo volunteer different in
       let kind : entry_kind pool passed (OfStanding standing volunteer.id) ≡ None =
       ap (λ o. cond (not (is_ahead passed o)) (Some 9) None) found ∙ ap (λ b. cond (not b) (Some 9) None) (le-leb passed (length done) few) in
-      let set : with_standing all (length done) standing ≡ (done ++ volunteer ∷ []) ++ map opened todo =
+      let set : with_standing all (length done) standing ≡ (done ++ said volunteer ∷ []) ++ map opened todo =
       with_standing_behind done (opened volunteer) (map opened todo) standing
-      ∙ (ap (λ s. done ++ record { id = volunteer.id; values = volunteer.values; standing = s } ∷ map opened todo) same
-      ∙ sym (append_assoc done (volunteer ∷ []) (map opened todo))) in
-      let goes : after_entry pool passed (OfStanding standing volunteer.id) ≡ Inside (made size categories ((done ++ volunteer ∷ []) ++ map opened todo)) (length done + 1) =
+      ∙ (ap (λ s. done ++ record { id = volunteer.id; values = volunteer.values; standing = s; household = None } ∷ map opened todo) same
+      ∙ sym (append_assoc done (said volunteer ∷ []) (map opened todo))) in
+      let goes : after_entry pool passed (OfStanding standing volunteer.id) ≡ Inside (made size categories ((done ++ said volunteer ∷ []) ++ map opened todo)) (length done + 1) =
       ap (λ o. after_standing pool (unwrap_or o 0) standing) found ∙ ap (λ volunteers. Inside (made size categories volunteers) (length done + 1)) set in
       let last = rest.0 in
-      let after = Inside (made size categories (done ++ volunteer ∷ todo)) last in
-      let rest_to : Runs (Inside (made size categories ((done ++ volunteer ∷ []) ++ map opened todo)) (length done + 1)) (standing_lines todo) after =
-      subst (λ volunteers. Runs (Inside (made size categories ((done ++ volunteer ∷ []) ++ map opened todo)) (length done + 1)) (standing_lines todo) (Inside (made size categories volunteers) last))
-      (append_assoc done (volunteer ∷ []) todo) rest.1 in
+      let after = Inside (made size categories (done ++ said volunteer ∷ map said todo)) last in
+      let rest_to : Runs (Inside (made size categories ((done ++ said volunteer ∷ []) ++ map opened todo)) (length done + 1)) (standing_lines todo) after =
+      subst (λ volunteers. Runs (Inside (made size categories ((done ++ said volunteer ∷ []) ++ map opened todo)) (length done + 1)) (standing_lines todo) (Inside (made size categories volunteers) last))
+      (append_assoc done (said volunteer ∷ []) (map said todo)) rest.1 in
       let runs = run_entry pool passed word (volunteer.id ∷ []) (OfStanding standing volunteer.id) (standing_lines todo) after (is, (name_field volunteer.id name, tt)) e kind
       (subst (λ progress. Runs progress (standing_lines todo) after) (sym goes) rest_to) in
       (last, subst (λ lines. Runs (Inside pool passed) (lines ++ standing_lines todo) after) (sym line) runs)
 
   -- one more in front, who is open
-  open_leads : (done todo : List Volunteer) (volunteer : Volunteer) (passed : ℕ) → Open ≡ volunteer.standing → Leads (done ++ volunteer ∷ []) todo passed → Leads done (volunteer ∷ todo) passed
+  open_leads : (done todo : List Volunteer) (volunteer : Volunteer) (passed : ℕ) → Open ≡ volunteer.standing → Leads (done ++ said volunteer ∷ []) todo passed → Leads done (volunteer ∷ todo) passed
   unfolding Leads
   open_leads done todo volunteer passed same rest =
       let last = rest.0 in
-      let self : volunteer ≡ opened volunteer = ap (λ s. record { id = volunteer.id; values = volunteer.values; standing = s }) (sym same) in
-      let from : (done ++ volunteer ∷ []) ++ map opened todo ≡ done ++ opened volunteer ∷ map opened todo =
-      append_assoc done (volunteer ∷ []) (map opened todo) ∙ ap (λ v. done ++ v ∷ map opened todo) self in
-      let begins = subst (λ volunteers. Runs (Inside (made size categories volunteers) passed) (standing_lines todo) (Inside (made size categories ((done ++ volunteer ∷ []) ++ todo)) last)) from rest.1 in
+      let self : said volunteer ≡ opened volunteer = ap (λ s. record { id = volunteer.id; values = volunteer.values; standing = s; household = None }) (sym same) in
+      let from : (done ++ said volunteer ∷ []) ++ map opened todo ≡ done ++ opened volunteer ∷ map opened todo =
+      append_assoc done (said volunteer ∷ []) (map opened todo) ∙ ap (λ v. done ++ v ∷ map opened todo) self in
+      let begins = subst (λ volunteers. Runs (Inside (made size categories volunteers) passed) (standing_lines todo) (Inside (made size categories ((done ++ said volunteer ∷ []) ++ map said todo)) last)) from rest.1 in
       let ends = subst (λ volunteers. Runs (Inside (made size categories (done ++ opened volunteer ∷ map opened todo)) passed) (standing_lines todo) (Inside (made size categories volunteers) last))
-      (append_assoc done (volunteer ∷ []) todo) begins in
-      (last, subst (λ s. Runs (Inside (made size categories (done ++ opened volunteer ∷ map opened todo)) passed) (standing_line s volunteer.id ++ standing_lines todo) (Inside (made size categories (done ++ volunteer ∷ todo)) last)) same ends)
+      (append_assoc done (said volunteer ∷ []) (map said todo)) begins in
+      (last, subst (λ s. Runs (Inside (made size categories (done ++ opened volunteer ∷ map opened todo)) passed) (standing_line s volunteer.id ++ standing_lines todo) (Inside (made size categories (done ++ said volunteer ∷ map said todo)) last)) same ends)
 
   pub standings_run : (done todo : List Volunteer) (passed : ℕ) → passed ≤ length done → all_different (ids done ++ ids todo) ≡ true → list_all (λ (v : Volunteer). is_name v.id) todo ≡ true →
-      (last : ℕ) × Runs (Inside (made size categories (done ++ map opened todo)) passed) (standing_lines todo) (Inside (made size categories (done ++ todo)) last)
+      (last : ℕ) × Runs (Inside (made size categories (done ++ map opened todo)) passed) (standing_lines todo) (Inside (made size categories (done ++ map said todo)) last)
   unfolding Leads
   standings_run done [] passed few different names = (passed, refl)
   standings_run done (volunteer ∷ todo) passed few different names =
       let name = and_parts (is_name volunteer.id) (list_all (λ (v : Volunteer). is_name v.id) todo) names in
-      let sizes : length (done ++ volunteer ∷ []) ≡ length done + 1 = length-append done (volunteer ∷ []) in
-      let same_ids : ids (done ++ volunteer ∷ []) ++ ids todo ≡ ids done ++ volunteer.id ∷ ids todo =
-      ap (λ names. names ++ ids todo) (map-append (λ v. v.id) done (volunteer ∷ [])) ∙ append_assoc (ids done) (volunteer.id ∷ []) (ids todo) in
+      let sizes : length (done ++ said volunteer ∷ []) ≡ length done + 1 = length-append done (said volunteer ∷ []) in
+      let same_ids : ids (done ++ said volunteer ∷ []) ++ ids todo ≡ ids done ++ volunteer.id ∷ ids todo =
+      ap (λ names. names ++ ids todo) (map-append (λ v. v.id) done (said volunteer ∷ [])) ∙ append_assoc (ids done) (volunteer.id ∷ []) (ids todo) in
       let apart = ap all_different same_ids ∙ different in
-      let behind = standings_run (done ++ volunteer ∷ []) todo (length done + 1) (omega (arith, sizes)) apart name.1 in
-      let still = standings_run (done ++ volunteer ∷ []) todo passed (omega (arith, sizes)) apart name.1 in
+      let behind = standings_run (done ++ said volunteer ∷ []) todo (length done + 1) (omega (arith, sizes)) apart name.1 in
+      let still = standings_run (done ++ said volunteer ∷ []) todo passed (omega (arith, sizes)) apart name.1 in
       (elim volunteer.standing as (λ s. s ≡ volunteer.standing → Leads done (volunteer ∷ todo) passed) [
         | Open ↦ λ same. open_leads done todo volunteer passed same still
         | Seated ↦ λ same. one_leads done todo volunteer passed (codes "seated") Seated few different (plain_field (codes "seated") refl) name.0 refl same
@@ -347,10 +351,15 @@ module _ (size : ℕ) (categories : List Category) where
             (ap (λ s. standing_line s volunteer.id) (sym same)) behind
       ]) refl
 
+-- the pool without its households
+abbrev pub said_pool : Pool → Pool
+said_pool pool = record pool { volunteers = map said pool.volunteers }
+
 -- the lines of a pool lead to its end
-pool_runs : (pool : Pool) → IsPool pool → Runs Begun (lines_before_end pool ++ end_line ∷ []) (Ended pool)
+pool_runs : (pool : Pool) → IsPool pool → Runs Begun (lines_before_end pool ++ end_line ∷ []) (Ended (said_pool pool))
 pool_runs pool right =
     let is = right in
+    let read = said_pool pool in
     let size = pool.size in
     let at_most = leb-true size 200 (and_parts (leb 1 size) (leb size 200) is.size).1 in
     let size_field = decimal_field size (omega arith) in
@@ -365,22 +374,38 @@ pool_runs pool right =
     let listed = flat_map category_lines pool.categories ++ map (volunteer_line pool.categories) pool.volunteers in
     let all_open : Progress = Inside (made size pool.categories (map opened pool.volunteers)) 0 in
     let two = Runs-append (Inside (empty_pool size) 0) (Inside (made size pool.categories []) 0) all_open (flat_map category_lines pool.categories) (map (volunteer_line pool.categories) pool.volunteers) categories volunteers in
-    let three = Runs-append (Inside (empty_pool size) 0) all_open (Inside pool standings.0) listed (standing_lines pool.volunteers) two standings.1 in
-    let last = run_entry pool standings.0 (codes "end") [] TheEnd [] (Ended pool) (plain_field (codes "end") refl, tt) refl refl refl in
-    let all = Runs-append (Inside (empty_pool size) 0) (Inside pool standings.0) (Ended pool) (listed ++ standing_lines pool.volunteers) (end_line ∷ []) three last in
+    let three = Runs-append (Inside (empty_pool size) 0) all_open (Inside read standings.0) listed (standing_lines pool.volunteers) two standings.1 in
+    let last = run_entry read standings.0 (codes "end") [] TheEnd [] (Ended read) (plain_field (codes "end") refl, tt) refl refl refl in
+    let all = Runs-append (Inside (empty_pool size) 0) (Inside read standings.0) (Ended read) (listed ++ standing_lines pool.volunteers) (end_line ∷ []) three last in
     let entries = (listed ++ standing_lines pool.volunteers) ++ end_line ∷ [] in (
       line_lacks_feed (codes "pool" ∷ codes "1" ∷ []) (plain_field (codes "pool") refl, (plain_field (codes "1") refl, tt)),
       refl,
       (
         line_lacks_feed (codes "size" ∷ decimal size ∷ []) size_fields,
         ap size_kind size_again ∙ ap (λ test. cond (not test) (Some 2) None) is.size,
-        subst (λ n. Runs (Inside (empty_pool n) 0) entries (Ended pool)) (sym size_again) all,
+        subst (λ n. Runs (Inside (empty_pool n) 0) entries (Ended read)) (sym size_again) all,
       ),
     )
 
--- what is spelled is read
-pub spelled_is_read : (pool : Pool) → IsPool pool → read (spelling pool) ≡ Ok pool
-spelled_is_read pool right =
+-- what is spelled is read, without households
+pub spelled_is_said : (pool : Pool) → IsPool pool → read (spelling pool) ≡ Ok (said_pool pool)
+spelled_is_said pool right =
     let lines = lines_before_end pool ++ end_line ∷ [] in
     let runs = pool_runs pool right in
-    ap (read_lines 1 Begun) (pieces_of-text_of lines (no_feeds Begun (Ended pool) lines runs)) ∙ read_to_end 1 Begun lines pool runs
+    ap (read_lines 1 Begun) (pieces_of-text_of lines (no_feeds Begun (Ended (said_pool pool)) lines runs)) ∙ read_to_end 1 Begun lines (said_pool pool) runs
+
+all_said : (volunteers : List Volunteer) → list_any (λ (v : Volunteer). is_some v.household) volunteers ≡ false → map said volunteers ≡ volunteers
+all_said [] h = refl
+all_said (volunteer ∷ volunteers) h =
+    let parts = or_parts (is_some volunteer.household) (list_any (λ (v : Volunteer). is_some v.household) volunteers) h in
+    let rest = all_said volunteers parts.1 in
+    ap (λ household. record volunteer { household = household } ∷ map said volunteers) (no_household volunteer.household parts.0) ∙ ap (λ vs. volunteer ∷ vs) rest
+  where
+    no_household : (household : Option (List ℕ)) → is_some household ≡ false → None ≡ household
+    no_household None k = refl
+    no_household (Some name) k = cc
+
+-- what is spelled is read
+pub spelled_is_read : (pool : Pool) → IsPool pool → has_households pool ≡ false → read (spelling pool) ≡ Ok pool
+spelled_is_read pool right none =
+    spelled_is_said pool right ∙ ap (λ volunteers. Ok (record pool { volunteers = volunteers })) (all_said pool.volunteers none)

@@ -222,7 +222,7 @@ standing_fits pool passed standing id h =
       | None ↦ λ e k. absurd (false≢true k)
       | Some number ↦ λ e k.
           let test : Volunteer → Bool = λ volunteer. bytes_eq id volunteer.id in
-          let nobody : Volunteer = record { id = []; values = []; standing = Open } in
+          let nobody : Volunteer = record { id = []; values = []; standing = Open; household = None } in
           record {
             number = number;
             found = e;
@@ -269,7 +269,7 @@ entry_adds pool passed (OfVolunteer id names) right h =
     let parts = volunteer_parts pool passed id names h in
     let fits = volunteer_fits pool id names parts.1 in
     let line = volunteer_line pool.categories in
-    let one : Volunteer = record { id = id; values = places_of pool.categories names; standing = Open } in
+    let one : Volunteer = record { id = id; values = places_of pool.categories names; standing = Open; household = None } in
     let before = flat_map category_lines pool.categories in
     let all_open : open_from 0 pool.volunteers ≡ true = subst (λ n. open_from n pool.volunteers ≡ true) parts.0 right.ahead in
     let none = no_lines pool.volunteers all_open in
@@ -286,7 +286,7 @@ entry_adds pool passed (OfStanding standing id) right h =
     let fits = standing_fits pool passed standing id h in
     let line = volunteer_line pool.categories in
     let before = flat_map category_lines pool.categories in
-    let nobody : Volunteer = record { id = []; values = []; standing = Open } in
+    let nobody : Volunteer = record { id = []; values = []; standing = Open; household = None } in
     let place : unwrap_or (number_of pool.volunteers id) 0 ≡ fits.number = ap (λ o. unwrap_or o 0) fits.found in
     let kept = lines_kept pool.categories pool.volunteers fits.number standing in
     let added = one_standing pool.volunteers passed fits.number standing nobody right.ahead fits.ahead fits.inside in
@@ -336,7 +336,7 @@ module _ (pool : Pool) (passed : ℕ) (right : IsRight (Inside pool passed)) whe
   keeps VolunteerWord [] utf8 h = cc
   keeps VolunteerWord (id ∷ names) utf8 h =
       let parts = volunteer_parts pool passed id names h in
-      let one : Volunteer = record { id = id; values = places_of pool.categories names; standing = Open } in
+      let one : Volunteer = record { id = id; values = places_of pool.categories names; standing = Open; household = None } in
       let all_open : open_from 0 pool.volunteers ≡ true = subst (λ n. open_from n pool.volunteers ≡ true) parts.0 right.ahead in
       record {
         is_pool = IsPool-volunteer_added pool id names right.is_pool parts.1 utf8.0;

@@ -1,10 +1,10 @@
--- The text of a pool: each pool has one spelling.
+-- The text of a pool: each pool has one spelling. It says no households.
 use Rattle.std.specs.Prelude.{ℕ, List, [], ◌∷◌, ◌++◌, map, codes, slice_index_or}
 use Rattle.std.specs.List.{flat_map}
 use Rattle.std.specs.Fmt.{decimal}
 use Rattle.pool_definitions.specs.declared.Standing.{Standing}
 use Rattle.pool_definitions.specs.declared.Standing.TheVariants.{Open, Seated, Gone}
-use Rattle.pool_definitions.specs.Pool.{BoundedValue, Category, Volunteer, Pool, IsPool}
+use Rattle.pool_definitions.specs.Pool.{BoundedValue, Category, Volunteer, Pool}
 use Rattle.pool_definitions.specs.Building.{value_names}
 use Rattle.line_definitions.specs.Lines.{line_of, text_of}
 
@@ -51,6 +51,6 @@ lines_before_end pool =
     version_line ∷ size_line pool.size
     ∷ (flat_map category_lines pool.categories ++ map (volunteer_line pool.categories) pool.volunteers ++ standing_lines pool.volunteers)
 
--- the text of a pool
+-- the text of a pool; of one with households it is the text of that pool without them
 abbrev pub spelling : Pool → List ℕ
 spelling pool = text_of (lines_before_end pool ++ end_line ∷ [])

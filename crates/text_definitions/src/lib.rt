@@ -4,8 +4,8 @@
 //! The functions here have no body: their contracts are laws over the definitions, and worked examples.
 #![tactic(auto)]
 
-ghost use Rattle.std.specs.Prelude.{◌≡◌, ◌≢◌, ◌<◌, ◌⊎◌, [], ◌∷◌, ◌++◌, codes, Bool, List, length, map, take, ℕ, IsTrue, Some, Ok, Err, MatchResult};
-ghost use Rattle.pool_definitions.specs.Pool.{Pool, IsPool};
+ghost use Rattle.std.specs.Prelude.{◌≡◌, ◌≢◌, ◌<◌, ◌⊎◌, [], ◌∷◌, ◌++◌, codes, Bool, false, List, length, map, take, ℕ, IsTrue, Some, Ok, Err, MatchResult};
+ghost use Rattle.pool_definitions.specs.Pool.{Pool, IsPool, has_households};
 ghost use Rattle.pool_definitions.specs.WorkedExamples.{four, after_dropout, nobody};
 ghost use Rattle.pool_definitions.specs.Lists.{is_increasing};
 ghost use Rattle.pool_definitions.specs.Building.{lowest_kind};
@@ -14,21 +14,21 @@ ghost use Rattle.text_definitions.specs.PoolText.{lines_before_end, end_line, sp
 ghost use Rattle.text_definitions.specs.PoolReading.{Progress, line_kinds, read};
 ghost use Rattle.text_definitions.specs.FirstFault.{IsPoolText, BeginsPoolText, lines_before, lines_up_to, IsLowest, kinds_at};
 
-/// A list of bytes is the text of a pool, which is then read, or has a first fault and is the text of none.
+/// A list of bytes is the text of a pool without households, which is then read, or has a first fault and is the text of none.
 pub fn pool_or_fault()
     ensures { (bytes : List ℕ) → MatchResult (read bytes)
-        (λ pool. IsPool pool × (bytes ≡ spelling pool))
+        (λ pool. IsPool pool × (has_households pool ≡ false) × (bytes ≡ spelling pool))
         (λ fault. (pool : Pool) → IsPool pool → bytes ≢ spelling pool) }
 {}
 
-/// The text of a pool is read again.
+/// The text of a pool without households is read again.
 pub fn text_is_read()
-    ensures { (pool : Pool) → IsPool pool → read (spelling pool) ≡ Ok pool }
+    ensures { (pool : Pool) → IsPool pool → has_households pool ≡ false → read (spelling pool) ≡ Ok pool }
 {}
 
-/// Pools of one text are one pool.
+/// Pools of one text, both without households, are one pool.
 pub fn one_pool_per_text()
-    ensures { (first second : Pool) → IsPool first → IsPool second → spelling first ≡ spelling second → first ≡ second }
+    ensures { (first second : Pool) → IsPool first → IsPool second → has_households first ≡ false → has_households second ≡ false → spelling first ≡ spelling second → first ≡ second }
 {}
 
 /// The first fault stands in the first line with which the lines are no longer the beginning of a pool's text, or, of kind 12,

@@ -10,7 +10,7 @@ use Rattle.run_laws.proofs.worked_certificate.Goals as goal
 
 four_is_pool : IsPool four
 unfolding is_utf8 chars encode
-four_is_pool = record { size = refl; few_categories = refl; categories = refl; different_categories = refl; few_volunteers = refl; ids = refl; different_ids = refl; values = refl }
+four_is_pool = record { size = refl; few_categories = refl; categories = refl; different_categories = refl; few_volunteers = refl; ids = refl; different_ids = refl; values = refl; households = refl }
 
 pub returns : goal.returns
 returns c = found_certified four (limits 127 4 100) c.worked_runs.ensures.four.0 pairs four_is_pool
