@@ -128,12 +128,14 @@ fn keeps_limits(rt: HostRuntime) -> Result<(), Fail> {
         let answer = Pool::new(alloc, size).map(|_pool| ());
         assert_eq!(rt; told(answer), want, "at {size}");
     }
-    let long = String::from_utf8(vec![in alloc; b'n'; 201]?).map_err(|_error| "no text")?;
+    let bytes = [b'n'; 201];
+    let too_long = std::str::from_utf8(&bytes).map_err(|_error| "no text")?;
+    let longest = std::str::from_utf8(&bytes[..200]).map_err(|_error| "no text")?;
     for (name, want) in [
         ("", Some(10)),
         ("n", None),
-        (&long[..200], None),
-        (&long, Some(10)),
+        (longest, None),
+        (too_long, Some(10)),
         ("a\u{1f}b", Some(10)),
         ("\u{e9} ~", None),
         ("a\u{7f}b", Some(10)),
