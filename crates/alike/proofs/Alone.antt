@@ -1,5 +1,5 @@
 -- Classes that are made of one volunteer each are those of the pool.
-use Rattle.std.proofs.Common.{◌≡◌, ℕ, ◌<◌, eqb, List, [], ◌∷◌, map, length, get_or, refl, sym, ap, ◌∙◌, subst}
+use Rattle.std.proofs.Common.{◌≡◌, ℕ, ◌<◌, eqb, List, [], ◌∷◌, map, length, get_or, refl, sym, ap, ◌∙◌, subst, None}
 use Rattle.std.specs.List.{range_with_len}
 use Rattle.std.proofs.lemmas.List.{get_or_read}
 use Rattle.pool_definitions.specs.declared.Standing.{Standing}
@@ -17,7 +17,7 @@ use Rattle.spread_definitions.proofs.Alone.{classes_alone, singles_alone}
 pub made_single : (volunteers : List Volunteer) (i : ℕ) (v : Volunteer) (values : List ℕ) (standing : Standing) → i < length volunteers → v ≡ get_or volunteers i v → values ≡ v.values → standing ≡ v.standing →
     (let c : Class = record { members = i ∷ []; values = values; least = least_taken standing 1; most = most_taken standing 1 } in c) ≡ single volunteers i
 made_single volunteers i v values standing below at e f =
-    let here : v ≡ volunteer volunteers i = get_or_read volunteers i v below at (record { id = []; values = []; standing = Gone }) in
+    let here : v ≡ volunteer volunteers i = get_or_read volunteers i v below at (record { id = []; values = []; standing = Gone; household = None }) in
     let vs : values ≡ (volunteer volunteers i).values = e ∙ ap (λ v. v.values) here in
     let s : standing ≡ (volunteer volunteers i).standing = f ∙ ap (λ v. v.standing) here in
     rw (vs, s) refl
