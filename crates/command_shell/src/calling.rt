@@ -4,7 +4,7 @@ ghost use Rattle.command_shell.specs.Told.{object, told};
 ghost use Rattle.command_shell.specs.Answers.{number_of};
 ghost use Rattle.command_shell.specs.Calls.{CallIsRight};
 
-use crate::command::Command;
+use crate::command::TextCommand;
 use crate::status::Status;
 use crate::telling::{read_fault, tell, too_long, want_memory};
 use outside::{ReadStop, Sink, Source, read_all};
@@ -15,7 +15,7 @@ const INPUT_LIMIT: usize = 16_777_216;
 
 /// One call of a command: the source is read to its end, or past the limit, before the command is asked about its bytes; and the answer
 /// is told once it is whole.
-pub fn call<C: Command, S: Source, O: Sink, E: Sink>(
+pub fn call<C: TextCommand, S: Source, O: Sink, E: Sink>(
     alloc: Global,
     command: &C,
     source: &mut S,

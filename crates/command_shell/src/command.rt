@@ -1,4 +1,4 @@
-//! What a command is.
+//! What a command about the text of the input is.
 
 ghost use Rattle.std.specs.Prelude.{List, ℕ, IfOk};
 ghost use Rattle.command_shell.specs.Answers.{AnswersOnce, Saying, saying};
@@ -6,8 +6,8 @@ ghost use Rattle.command_shell.specs.Answers.{AnswersOnce, Saying, saying};
 use crate::answer::Answer;
 use std::alloc::{AllocError, Global};
 
-/// A command with its arguments: a function from the bytes of the input to an answer.
-pub trait Command {
+/// A command about the text of the input, with its arguments: a function from its bytes to an answer.
+pub trait TextCommand {
     /// Which answers are right about some bytes.
     ghost means: { Self → List ℕ → Saying → Type 0 };
 

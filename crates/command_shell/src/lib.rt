@@ -14,7 +14,7 @@ mod tests;
 
 pub use answer::Answer;
 pub use calling::call;
-pub use command::Command;
+pub use command::TextCommand;
 pub use lines::{input_line, no_panel};
 pub use status::{Cause, Printed, Status};
 pub use telling::{refuse_words, want_memory};

@@ -1,6 +1,6 @@
 //! Calls of small commands over the forms in memory: what is told where the source, `out` or `errs` fails.
 
-use crate::{Answer, Cause, Command, Printed, call};
+use crate::{Answer, Cause, Printed, TextCommand, call};
 use outside::{MemSink, MemSource};
 use std::alloc::{AllocError, Global};
 use std::test::Fail;
@@ -9,7 +9,7 @@ use std::test::Fail;
 #[derive(Clone, Copy)]
 struct Echo(Printed);
 
-impl Command for Echo {
+impl TextCommand for Echo {
     ghost use Rattle.std.specs.Prelude.{◌≡◌};
     ghost use Rattle.std.proofs.Common.{◌∙◌, sym};
     ghost use Rattle.command_shell.specs.Answers.{Prints};
@@ -30,7 +30,7 @@ impl Command for Echo {
 #[derive(Clone, Copy)]
 struct Halt(Cause);
 
-impl Command for Halt {
+impl TextCommand for Halt {
     ghost use Rattle.std.specs.Prelude.{◌≡◌, [], ◌∷◌, codes};
     ghost use Rattle.std.proofs.Common.{◌∙◌, sym};
     ghost use Rattle.command_shell.specs.Answers.{Stops};
@@ -66,7 +66,11 @@ const SOUND: Outside<'static> = Outside {
 };
 
 /// The status, what `out` gained and what `errs` gained, parted by bars.
-fn told<C: Command>(alloc: Global, command: &C, with: Outside<'_>) -> Result<String, AllocError> {
+fn told<C: TextCommand>(
+    alloc: Global,
+    command: &C,
+    with: Outside<'_>,
+) -> Result<String, AllocError> {
     let mut source = MemSource::new(alloc, with.text, with.reads)?;
     let mut out = MemSink::new(alloc, with.room, with.puts)?;
     let mut errs = MemSink::new(alloc, 100, with.lines)?;

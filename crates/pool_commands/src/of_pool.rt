@@ -4,7 +4,7 @@ ghost use Rattle.std.specs.Prelude.{IfOk};
 ghost use Rattle.pool_definitions.specs.Pool.{Pool as PoolWords};
 ghost use Rattle.command_shell.specs.Answers.{AnswersOnce, Saying, saying};
 
-use command_shell::{Answer, Cause, Command, input_line};
+use command_shell::{Answer, Cause, TextCommand, input_line};
 use pool_model::Pool;
 use pool_text::{ReadPool, read_pool};
 use std::alloc::{AllocError, Global};
@@ -26,7 +26,7 @@ pub trait PoolCommand {
 #[derive(Clone, Copy, Debug)]
 pub struct OfPool<C>(pub C);
 
-impl<C: PoolCommand> Command for OfPool<C> {
+impl<C: PoolCommand> TextCommand for OfPool<C> {
     ghost use Rattle.pool_answers.specs.OfPool.{OfPool as about};
     ghost use Rattle.pool_answers.proofs.OfPoolLaws.{of_pool_once};
 

@@ -4,7 +4,7 @@ use Rattle.command_shell.specs.declared.status.Cause.TheVariants.{Input}
 use Rattle.command_shell.specs.Answers.{Stops}
 use Rattle.pool_text.specs.Answers.{fault_of}
 use Rattle.pool_answers.specs.OfPool.{AboutPool, AboutFault}
-use Rattle.pool_commands.proofs.of_pool.OfPoolCommand.answer.Goals as goal
+use Rattle.pool_commands.proofs.of_pool.OfPoolTextCommand.answer.Goals as goal
 
 pub returns-in-Ok : goal.returns-in-Ok
 returns-in-Ok g c =
