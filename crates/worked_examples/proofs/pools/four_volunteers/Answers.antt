@@ -6,4 +6,4 @@ use Rattle.worked_examples.proofs.pools.four_volunteers.Goals as goal
 
 pub returns-clause-pool : goal.returns-clause-pool
 unfolding is_utf8 chars encode
-returns-clause-pool c = record { size = refl; few_categories = refl; categories = refl; different_categories = refl; few_volunteers = refl; ids = refl; different_ids = refl; values = refl }
+returns-clause-pool c = record { size = refl; few_categories = refl; categories = refl; different_categories = refl; few_volunteers = refl; ids = refl; different_ids = refl; values = refl; households = refl }

@@ -6,8 +6,8 @@ use Rattle.worked_examples.proofs.pools.pools_without_panel.Goals as goal
 
 pub returns-clause-short : goal.returns-clause-short
 unfolding is_utf8 chars encode
-returns-clause-short c = record { size = refl; few_categories = refl; categories = refl; different_categories = refl; few_volunteers = refl; ids = refl; different_ids = refl; values = refl }
+returns-clause-short c = record { size = refl; few_categories = refl; categories = refl; different_categories = refl; few_volunteers = refl; ids = refl; different_ids = refl; values = refl; households = refl }
 
 pub returns-clause-crossed : goal.returns-clause-crossed
 unfolding is_utf8 chars encode
-returns-clause-crossed c = record { size = refl; few_categories = refl; categories = refl; different_categories = refl; few_volunteers = refl; ids = refl; different_ids = refl; values = refl }
+returns-clause-crossed c = record { size = refl; few_categories = refl; categories = refl; different_categories = refl; few_volunteers = refl; ids = refl; different_ids = refl; values = refl; households = refl }
