@@ -2,3 +2,4 @@ pub mod OfPoolLaws
 pub mod PanelLaws
 pub mod LotteryLaws
 pub mod LotteryByStatus
+pub mod PanelByStatus

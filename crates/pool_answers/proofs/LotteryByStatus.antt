@@ -1,29 +1,23 @@
 -- What the status of a call of `lottery` says.
-use Rattle.std.proofs.Common.{◌≡◌, ◌∙◌, ◌<◌, ◌≤◌, ℕ, Bool, true, false, List, [], length, refl, ap, sym, subst, Option, Some, None, Result, Ok, Err, ⊎_elim, inl, inr, arith, nat_lt, if◌then◌else◌}
-use Rattle.std.specs.Prelude.{◌≢◌, ◌⊎◌, IfSome, ⊤}
-use Rattle.std.proofs.lemmas.Bool.{ltb-true, ltb-false}
+use Rattle.std.proofs.Common.{◌≡◌, ◌∙◌, ℕ, List, ap, sym, subst, ⊎_elim, inl, inr}
+use Rattle.std.specs.Prelude.{◌≢◌, ⊤}
 use Rattle.pool_definitions.specs.Certificate.{Answer}
-use Rattle.pool_definitions.specs.Pool.{Pool, panels}
-use Rattle.line_definitions.specs.Lines.{Fault}
-use Rattle.text_definitions.specs.PoolText.{spelling}
+use Rattle.pool_definitions.specs.Pool.{Pool}
 use Rattle.text_definitions.specs.PoolReading.{read}
 use Rattle.bundle_definitions.specs.BundleText.{bundle_text}
-use Rattle.search_definitions.specs.Classes.{classes_of}
-use Rattle.search_definitions.specs.Visits.{first_search}
-use Rattle.run_definitions.specs.Run.{Ending, Limits, RunEnds}
+use Rattle.run_definitions.specs.Run.{Ending, Limits}
 use Rattle.run_laws.proofs.NoPanels.{no_panel_where_none}
-use Rattle.command_shell.specs.declared.status.Printed.{Printed}
 use Rattle.command_shell.specs.declared.status.Printed.TheVariants as printed
 use Rattle.command_shell.specs.declared.status.Cause.{Cause}
 use Rattle.command_shell.specs.declared.status.Cause.TheVariants as cause
 use Rattle.command_shell.specs.Answers.{Saying, Prints, Stops, bytes_of, cause_number, status_of}
-use Rattle.command_shell.specs.Calls.{CallIsRight, IsAnswer, IsDue, TellsStop, TellsText, TellsTooLong, TellsWriteFault}
-use Rattle.command_shell.specs.Lines.{input_limit, input_line, no_panel_line}
-use Rattle.command_shell.specs.Told.{Bytes, Told, Gains, GainsLine, GainsPart, HasNoFault, HeldAll}
-use Rattle.pool_answers.specs.OfPool.{AboutFault, AboutPool, HoldsPool, IsTextOf, OfPool, TellsFault, pool_in}
+use Rattle.command_shell.specs.Calls.{CallIsRight, TellsStop, TellsText, TellsWriteFault}
+use Rattle.command_shell.specs.Lines.{no_panel_line}
+use Rattle.command_shell.specs.Told.{Told, Gains, GainsLine, GainsPart}
+use Rattle.pool_answers.specs.OfPool.{AboutFault, AboutPool, OfPool}
 use Rattle.pool_answers.specs.Lottery.{FindsGreatest, FindsNone, LotteryIsRight, LotteryMeans, RunIsDue, SaysOf, TellsBundle, TellsNone, TellsPart, TellsRefusal, TellsRun, answer_of}
 use Rattle.pool_answers.proofs.LotteryLaws.{one_ending}
-use Rattle.pool_answers.proofs.OfPoolLaws.{about_pool}
+use Rattle.pool_answers.proofs.OfPoolLaws.{about_pool, due_of_input, fault_is_told}
 
 -- the answers that a run's end may ask for
 abbrev IsOfRun : Saying → Type 0
@@ -112,25 +106,6 @@ module _ (limits : Limits) (told : Told) where
         errs = t.errs;
       }
 
-  -- a text that goes wrong
-  fault_in : (bytes : List ℕ) (line : List ℕ) → Means bytes (Stops cause.Input line) → (fault : Fault) × (read bytes ≡ Err fault) × (line ≡ input_line fault)
-  fault_in bytes line (AboutPool pool t means) = absurd (of_run limits pool (Stops cause.Input line) means)
-  fault_in bytes line (AboutFault fault f e) = (fault, f, ap bytes_of e)
-
-  fault_is_told : TellsStop Means cause.Input told → TellsFault told
-  fault_is_told t =
-      let at = fault_in t.answer.bytes t.line t.answer.means in
-      record {
-        bytes = t.answer.bytes;
-        fault = at.0;
-        fails = at.1;
-        held = t.answer.held;
-        within = t.answer.within;
-        no_fault = t.answer.no_fault;
-        out = t.out;
-        errs = subst (λ line. GainsLine told.errs line) at.2 t.errs;
-      }
-
   never_rule : TellsStop Means cause.Rule told → ⊥
   never_rule t =
       let of = about_pool (LotteryMeans limits) told.source (Stops cause.Rule t.line) (λ line e. absurd (cc)) t.answer in
@@ -154,30 +129,16 @@ module _ (limits : Limits) (told : Told) where
         none = λ empty within. is_due ∙ ap (λ ending. status_of (answer_of limits pool ending)) (one_ending pool limits means.ending Ending.NoPanel means.ends (no_panel_where_none pool limits empty within));
       } in subst (λ input. RunIsDue limits input status) (sym t.read) run
 
-  test_is_due : (bytes : List ℕ) (status : ℕ) → IsDue Means bytes status → (test : Bool) → nat_lt input_limit (length bytes) ≡ test →
-      RunIsDue limits (if test then Err (record { line = 0; kind = 10 }) else read bytes) status
-  test_is_due bytes status due true long = due.too_long (ltb-true input_limit (length bytes) long)
-  test_is_due bytes status due false short =
-      let one = due.within (ltb-false input_limit (length bytes) short) in
-      run_of_text bytes one.answer status one.due one.means
-
-  run_is_due : (bytes : List ℕ) (status : ℕ) → IsDue Means bytes status → RunIsDue limits (pool_in bytes) status
-  run_is_due bytes status due = test_is_due bytes status due (nat_lt input_limit (length bytes)) refl
-
-  told_run : (before : Option (List ℕ)) → IfSome before (λ bytes. IsDue Means bytes told.status) → IfSome before (λ bytes. RunIsDue limits (pool_in bytes) told.status)
-  told_run None due = tt
-  told_run (Some bytes) due = run_is_due bytes told.status due
-
   pub by_status : CallIsRight Means told → LotteryIsRight limits told
   by_status right = record {
     done = λ s. bundle_is_told (right.done s);
     no_panel = λ s. none_is_told (right.no_panel s);
-    text = λ s. ⊎_elim (λ t. inl (fault_is_told t)) (λ t. inr t) (right.input s);
+    text = λ s. ⊎_elim (λ t. inl (fault_is_told (LotteryMeans limits) (λ pool line means. of_run limits pool (Stops cause.Input line) means) told t)) (λ t. inr t) (right.input s);
     wide = λ s. refusal_is_told cause.Wide (λ line other e. absurd (cc)) s (right.wide s);
     spent = λ s. refusal_is_told cause.Spent (λ line other e. absurd (cc)) s (right.spent s);
     read_fault = right.read_fault;
     write_fault = λ s. part_is_told (right.write_fault s);
     want_of_memory = right.want_of_memory;
     no_other = λ n0 n1 n3 n4 n5 n7 n8. right.no_other n0 n1 n3 n4 n5 (λ s. never_rule (right.rule s)) n7 n8 (λ s. never_refused (right.refused s));
-    complete = λ clear n8 n12. told_run told.source.before (right.complete clear n8 n12);
+    complete = λ clear n8 n12. due_of_input (LotteryMeans limits) (RunIsDue limits) told.status (λ s. s) (λ bytes answer. run_of_text bytes answer told.status) told.source.before (right.complete clear n8 n12);
   }

@@ -10,7 +10,7 @@ use Rattle.command_shell.specs.Answers.{AnswersOnce, Prints}
 use Rattle.pool_answers.specs.Lines.{panel_line}
 use Rattle.pool_answers.specs.Panel.{IsFirstPanel, PanelMeans, Done, NoPanel, Spent}
 
-none_has_no_first : (pool : Pool) (panel : List ℕ) → IsFirstPanel pool panel → panels pool ≡ [] → ⊥
+pub none_has_no_first : (pool : Pool) (panel : List ℕ) → IsFirstPanel pool panel → panels pool ≡ [] → ⊥
 none_has_no_first pool panel is none = each_panel (λ _. ⊥) pool (subst (AllByRecursion (λ _. ⊥)) (sym none) tt) panel is.fits
 
 abbrev counts_in : Option (List ℕ) → List ℕ

@@ -1,5 +1,5 @@
 -- What the command `lottery` answers: the bundle of a pool, by the run under these limits.
-use Rattle.std.specs.Prelude.{◌≡◌, ◌≢◌, ◌⊎◌, ◌≤◌, ℕ, List, [], Some, Result, Ok, Err, IfSome, ⊤}
+use Rattle.std.specs.Prelude.{◌≡◌, ◌≢◌, ◌⊎◌, ◌≤◌, ℕ, [], Some, Result, Ok, Err, IfSome, ⊤}
 use Rattle.pool_definitions.specs.Certificate.{Answer, Certifies}
 use Rattle.pool_definitions.specs.Lottery.{LeximinGreatest}
 use Rattle.pool_definitions.specs.Pool.{Pool, panels}

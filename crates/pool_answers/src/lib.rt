@@ -7,13 +7,18 @@ ghost use Rattle.command_shell.specs.Calls.{CallIsRight};
 ghost use Rattle.command_shell.specs.Told.{Told};
 ghost use Rattle.run_definitions.specs.Run.{Limits};
 ghost use Rattle.pool_answers.specs.OfPool.{OfPool};
-ghost use Rattle.pool_answers.specs.Panel.{PanelMeans};
+ghost use Rattle.pool_answers.specs.Panel.{PanelIsRight, PanelMeans};
 ghost use Rattle.pool_answers.specs.Lottery.{LotteryIsRight, LotteryMeans};
 ghost use Rattle.std.specs.Prelude.{ℕ};
 
 /// `panel` has one answer about a text.
 pub fn panel_answers_once()
     ensures { (nodes : ℕ) → AnswersOnce (OfPool (PanelMeans nodes)) }
+{}
+
+/// A call of `panel` that is right by what its answers mean, read status by status.
+pub fn panel_by_status()
+    ensures { (nodes : ℕ) (told : Told) → CallIsRight (OfPool (PanelMeans nodes)) told → PanelIsRight nodes told }
 {}
 
 /// `lottery` has one answer about a text.

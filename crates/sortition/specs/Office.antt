@@ -1,14 +1,12 @@
 -- What a call of the program may tell, for its words.
 use Rattle.std.specs.Prelude.{◌≡◌, ◌≢◌, ℕ, List, [], ◌∷◌, codes, Option, Some, None}
-use Rattle.command_shell.specs.Calls.{CallIsRight}
 use Rattle.command_shell.specs.Lines.{line, want_of_memory_line}
 use Rattle.command_shell.specs.Told.{Told, GainsLine, IsUntouched}
 use Rattle.command_words.specs.Words.{asked}
 use Rattle.command_words.specs.declared.asked.Asked.{Asked}
 use Rattle.command_words.specs.declared.asked.Asked.TheVariants.{Lottery, Panel}
-use Rattle.pool_answers.specs.OfPool.{OfPool}
 use Rattle.pool_answers.specs.Lottery.{LotteryIsRight}
-use Rattle.pool_answers.specs.Panel.{PanelMeans}
+use Rattle.pool_answers.specs.Panel.{PanelIsRight}
 
 -- words that are not of the forms, or ask for help
 pub record UsageIsRight (told : Told) : Type 0 where
@@ -25,7 +23,7 @@ pub record UsageIsRight (told : Told) : Type 0 where
 -- a call that asks for this command, or for nothing, is right
 abbrev pub AnswersRightly : Option Asked → Told → Type 0
 AnswersRightly None told = UsageIsRight told
-AnswersRightly (Some (Panel nodes)) told = CallIsRight (OfPool (PanelMeans nodes)) told
+AnswersRightly (Some (Panel nodes)) told = PanelIsRight nodes told
 AnswersRightly (Some (Lottery limits)) told = LotteryIsRight limits told
 
 -- a call is right

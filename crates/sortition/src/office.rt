@@ -8,7 +8,7 @@ ghost use Rattle.sortition.specs.Office.{AnswersRightly, OfficeIsRight};
 use command_shell::{Status, call, refuse_words, want_memory};
 use command_words::{Asked, WordsStop, read_words};
 use outside::{Sink, Source};
-use pool_answers::lottery_by_status;
+use pool_answers::{lottery_by_status, panel_by_status};
 use pool_commands::{FirstPanel, OfPool, PoolLottery};
 use std::alloc::Global;
 
@@ -47,6 +47,7 @@ fn run<S: Source, O: Sink, E: Sink>(
         (object (O.written out.old) (O.written out.new) (O.faults out.old) (O.faults out.new))
         (object (E.written errs.old) (E.written errs.new) (E.faults errs.old) (E.faults errs.new))) }
 {
+    panel_by_status();
     lottery_by_status();
     match asked {
         Asked::Panel { nodes } => call(alloc, &OfPool(FirstPanel { nodes }), source, out, errs),
