@@ -95,23 +95,33 @@ fn given(alloc: Global, words: &[&str]) -> Result<Vec<String>, AllocError> {
     Ok(given)
 }
 
+/// What the words ask for, as it prints for debugging.
+fn said(alloc: Global, words: &[&str]) -> Result<String, AllocError> {
+    let given = given(alloc, words)?;
+    match read_words(alloc, &given) {
+        Ok(asked) => format!(in alloc; "{asked:?}"),
+        Err(WordsStop::Usage(_)) => String::from_str(alloc, USAGE),
+        Err(WordsStop::OutOfMemory) => Ok(String::new(alloc)),
+    }
+}
+
+/// The text of `clap` about the words, where it has one.
+fn text_of(alloc: Global, words: &[&str]) -> Result<String, AllocError> {
+    let given = given(alloc, words)?;
+    match read_words(alloc, &given) {
+        Err(WordsStop::Usage(text)) => Ok(text),
+        _ => Ok(String::new(alloc)),
+    }
+}
+
 #[test]
 fn words_ask_for_commands(rt: HostRuntime) -> Result<(), Fail> {
     let alloc = rt.alloc();
     for (words, wanted) in WORDS {
-        let said = match read_words(alloc, &given(alloc, words)?) {
-            Ok(asked) => format!(in alloc; "{asked:?}")?,
-            Err(WordsStop::Usage(_)) => String::from_str(alloc, USAGE)?,
-            Err(WordsStop::OutOfMemory) => String::new(alloc),
-        };
-        assert_eq!(rt; said.as_str(), *wanted, "{words:?}");
+        assert_eq!(rt; said(alloc, words)?.as_str(), *wanted, "{words:?}");
     }
     for (words, wanted) in TEXTS {
-        let text = match read_words(alloc, &given(alloc, words)?) {
-            Err(WordsStop::Usage(text)) => text,
-            _ => String::new(alloc),
-        };
-        assert_eq!(rt; text.as_str(), *wanted, "{words:?}");
+        assert_eq!(rt; text_of(alloc, words)?.as_str(), *wanted, "{words:?}");
     }
     Ok(())
 }
