@@ -1,3 +1,3 @@
 pub mod Spreading
-pub mod Singles
 pub mod WorkedSpreads
+pub mod Given
