@@ -10,8 +10,8 @@ use Rattle.search_definitions.proofs.Limits.{limits_kept}
 use Rattle.search_definitions.proofs.Parting.{classes_part}
 use Rattle.search_definitions.proofs.PoolClasses.{alone_makes_classes}
 use Rattle.search_definitions.specs.Classes.{Class, Classes, KeepsLimits, PartVolunteers, bounds_of, classes_of, least_taken, most_taken}
-use Rattle.spread_definitions.specs.Singles.{AreAlone, single}
-use Rattle.spread_definitions.proofs.Alone.{classes_alone, singles_alone}
+use Rattle.alike.specs.Singles.{single}
+use Rattle.alike.proofs.ClassesAlone.{classes_alone}
 
 -- a class of one volunteer, made from what the volunteer holds
 pub made_single : (volunteers : List Volunteer) (i : ℕ) (v : Volunteer) (values : List ℕ) (standing : Standing) → i < length volunteers → v ≡ get_or volunteers i v → values ≡ v.values → standing ≡ v.standing →
@@ -40,6 +40,3 @@ pub made_parts : (pool : Pool) (size : ℕ) (bounds : List (List Bounds)) (class
     classes ≡ map (single pool.volunteers) (range_with_len 0 (length pool.volunteers)) → PartVolunteers (record { size = size; bounds = bounds; classes = classes })
 made_parts pool size bounds classes e f g =
     subst PartVolunteers (sym (made_classes pool size bounds classes e f g)) (classes_part pool eqb (alone_makes_classes pool))
-
-pub made_alone : (pool : Pool) (classes : List Class) → classes ≡ map (single pool.volunteers) (range_with_len 0 (length pool.volunteers)) → AreAlone 0 classes
-made_alone pool classes e = subst (AreAlone 0) (sym e) (singles_alone pool.volunteers 0 (length pool.volunteers))

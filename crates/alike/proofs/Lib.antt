@@ -1,4 +1,12 @@
 pub mod Taken
+pub mod ClassesAlone
 pub mod Alone
-pub mod TotalsAlone
 pub mod SpreadStops
+pub mod Parts
+pub mod Lengths
+pub mod Marked
+pub mod Rising
+pub mod Starts
+pub mod ArcRows
+pub mod Words128
+pub mod Totals

@@ -1,1 +1,3 @@
 pub mod Spreads
+pub mod Singles
+pub mod Steps

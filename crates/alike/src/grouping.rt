@@ -2,7 +2,7 @@
 
 ghost use Rattle.std.specs.Prelude.{◌≡◌, IfOk, map, length};
 ghost use Rattle.std.specs.List.{range_with_len};
-ghost use Rattle.spread_definitions.specs.Singles.{single};
+ghost use Rattle.alike.specs.Singles.{single};
 ghost use Rattle.search_definitions.specs.Classes.{bounds_of, classes_of};
 
 use crate::groups::{Class, Classes, ValueBounds};
@@ -50,7 +50,7 @@ fn single_volunteers(alloc: Global, volunteers: &[Volunteer]) -> Result<Vec<Clas
     let mut found = Vec::new(alloc);
     for (i, volunteer) in volunteers.iter().enumerate() {
         let values = Vec::from_slice(alloc, volunteer.values())?;
-        found.push(Class::new(i, values, volunteer.standing()))?;
+        found.push(Class::new(vec![in alloc; i]?, values, volunteer.standing()))?;
     }
     Ok(found)
 }

@@ -3,7 +3,9 @@
 //! `search_definitions` and `spread_definitions`. `pool_model` and `frac128` stand below.
 #![tactic(auto)]
 
+mod arcs;
 mod composing;
+mod dials;
 mod grouping;
 mod groups;
 mod spreading;

@@ -2,8 +2,8 @@ use Rattle.std.proofs.Common.{List, map, length, ◌∙◌, ap}
 use Rattle.std.specs.List.{range_with_len}
 use Rattle.pool_definitions.specs.Pool.{Volunteer}
 use Rattle.search_definitions.specs.Classes.{bounds_of}
-use Rattle.spread_definitions.specs.Singles.{single}
-use Rattle.alike.proofs.Alone.{made_classes, keeps_limits, made_alone, made_parts}
+use Rattle.alike.specs.Singles.{single}
+use Rattle.alike.proofs.Alone.{made_classes, keeps_limits, made_parts}
 use Rattle.alike.proofs.grouping.classes.Goals as goal
 
 pub new-requires : goal.new-requires
@@ -12,7 +12,6 @@ new-requires c =
     record {
       limits = keeps_limits c.args.pool.now _ _ _ c.facts.ensures c.size.ensures (c.in_ok-bounds.ensures ∙ ap bounds_of c.categories.ensures) singles;
       parts = made_parts c.args.pool.now _ _ _ c.size.ensures (c.in_ok-bounds.ensures ∙ ap bounds_of c.categories.ensures) singles;
-      alone = made_alone c.args.pool.now _ singles;
     }
 
 pub returns : goal.returns

@@ -1,8 +1,8 @@
-use Rattle.std.proofs.Common.{◌∙◌, ap, arith, [], ◌∷◌, ◌++◌, map}
+use Rattle.std.proofs.Common.{◌≡◌, ◌∙◌, ℕ, ap, arith, List, [], ◌∷◌, ◌++◌, map, length}
 use Rattle.std.specs.List.{range_with_len}
 use Rattle.std.proofs.lemmas.List.FromFn.{map-range_with_len_more}
-use Rattle.search_definitions.specs.Classes.{Class}
-use Rattle.spread_definitions.specs.Singles.{single}
+use Rattle.search_definitions.specs.Classes.{Class, least_taken, most_taken}
+use Rattle.alike.specs.Singles.{single}
 use Rattle.alike.proofs.Alone.{made_single}
 use Rattle.alike.proofs.grouping.single_volunteers.Goals as goal
 
@@ -12,4 +12,11 @@ loop-i-preserved c =
     let i = c.loop-i.i in
     let more = map-range_with_len_more (single volunteers) 0 i i (omega arith) in
     let made = made_single volunteers i c.index-volunteers-i.result c.in_ok-values.values.items c.standing.result (omega arith) c.index-volunteers-i.is (c.in_ok-values.ensures.items ∙ c.values.ensures) c.standing.ensures in
-    rw (c.in_ok-push.ensures.items, c.loop-i.invariant, more) (ap (λ (class : Class). map (single volunteers) (range_with_len 0 i) ++ class ∷ []) (c.new.ensures ∙ made))
+    let one : c.in_ok-vec.field-0.items ≡ i ∷ [] = c.in_ok-vec.ensures.items in
+    let class = c.new.ensures ∙ ap (λ (members : List ℕ). let made : Class = record {
+      members = members;
+      values = c.in_ok-values.values.items;
+      least = least_taken c.standing.result (length members);
+      most = most_taken c.standing.result (length members);
+    } in made) one in
+    rw (c.in_ok-push.ensures.items, c.loop-i.invariant, more) (ap (λ (class : Class). map (single volunteers) (range_with_len 0 i) ++ class ∷ []) (class ∙ made))

@@ -1,6 +1,6 @@
 use Rattle.std.proofs.Common.{◌≡◌, map}
 use Rattle.std.specs.List.{range_with_len}
-use Rattle.spread_definitions.specs.Singles.{single}
+use Rattle.alike.specs.Singles.{single}
 use Rattle.alike.proofs.grouping.single_volunteers.Given as goal
 
 abbrev pub invariant-loop-i : goal.invariant-loop-i
