@@ -3,8 +3,9 @@
 ghost use Rattle.std.specs.Prelude.{◌≡◌, IsTrue, nat_lt, count_by, length};
 ghost use Rattle.std.specs.List.{list_all, enumerate_from};
 ghost use Rattle.pool_definitions.specs.Lists.{includes};
-ghost use Rattle.pool_definitions.specs.Pool.{members_with, allows, is_within, meets_quotas, keeps_standings, keeps_households, share_household, is_same_household as is_same, is_quota_panel};
+ghost use Rattle.pool_definitions.specs.Pool.{members_with, allows, is_within, meets_quotas, keeps_standings, keeps_households, share_household as share, is_quota_panel};
 
+use crate::households::share_household;
 use crate::panels::Panel;
 use crate::parts::{BoundedValue, Category, Volunteer};
 use crate::pools::Pool;
@@ -101,25 +102,7 @@ fn keep_households(volunteers: &[Volunteer], members: &[usize]) -> bool
 
 // How many members are of a volunteer's household?
 fn number_of_household(volunteers: &[Volunteer], members: &[usize], i: usize) -> usize
-    ensures { result ≡ count_by (share_household volunteers.now i) members.now }
+    ensures { result ≡ count_by (share volunteers.now i) members.now }
 {
-    members.iter().filter(|j| are_of_one_household(volunteers, i, **j)).count()
-}
-
-fn are_of_one_household(volunteers: &[Volunteer], i: usize, j: usize) -> bool
-    ensures { result ≡ share_household volunteers.now i j }
-{
-    match (volunteers.get(i), volunteers.get(j)) {
-        (Some(one), Some(other)) => is_same_household(one, other),
-        _ => false,
-    }
-}
-
-fn is_same_household(one: &Volunteer, other: &Volunteer) -> bool
-    ensures { result ≡ is_same one.now.household other.now.household }
-{
-    match (one.household(), other.household()) {
-        (Some(name), Some(other)) => name.as_bytes() == other.as_bytes(),
-        _ => false,
-    }
+    members.iter().filter(|j| share_household(volunteers, i, **j)).count()
 }

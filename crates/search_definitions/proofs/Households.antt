@@ -1,16 +1,16 @@
 -- The household rule on panels and on compositions: who shares a household is of one number.
 use Rattle.std.proofs.Common.{◌≡◌, ℕ, ◌+◌, ◌≤◌, ◌<◌, Bool, true, false, cond, ◌&&◌, eqb, leb, ltb, List, [], ◌∷◌, length, filter, count_by, Option, Some, None, refl, sym, ap, ◌∙◌, ◌⊎◌, inl, inr, ⊎_elim, arith, subst, le_of_eq}
-use Rattle.std.specs.Prelude.{slice_get, is_some, IsTrue, bytes_eq}
-use Rattle.std.specs.List.{list_all, AllByRecursion, range_with_len}
+use Rattle.std.specs.Prelude.{is_some, bytes_eq}
+use Rattle.std.specs.List.{find, list_all, AllByRecursion, range_with_len}
 use Rattle.std.proofs.lemmas.Bool.{cases_Bool, cases_lt, eqb-true, eq-eqb, leb-true, le-leb, false≢true}
-use Rattle.std.proofs.lemmas.List.Elements.{filter_agree}
 use Rattle.std.proofs.lemmas.Slice.Eq.{bytes_eq-Decides}
-use Rattle.basic_laws.proofs.Each.{each_everywhere, each_filter, each_filter_passes, each_from_list_all, each_map, each_range, list_all_from_each}
-use Rattle.basic_laws.proofs.Sums.{total, total_le, one_if, length-filter-total, count_by-total}
+use Rattle.basic_laws.proofs.Each.{each_everywhere, each_from_list_all, each_map, each_range, list_all_from_each}
+use Rattle.basic_laws.proofs.Found.{find-each, find-none, find-passes}
+use Rattle.basic_laws.proofs.Sums.{total, total_eq, total_ext, total_le, total-zero, one_if, count_by-total}
 use Rattle.pool_definitions.specs.Lists.{includes, is_increasing}
 use Rattle.pool_definitions.specs.Pool.{Pool, Volunteer, volunteer, is_same_household, share_household, keeps_households}
 use Rattle.pool_definitions.proofs.Weights.{total_panel}
-use Rattle.search_definitions.specs.Classes.{MakesClasses, household_members, shared_household}
+use Rattle.search_definitions.specs.Classes.{MakesClasses, shared_household}
 use Rattle.search_definitions.specs.Compositions.{is_of_household}
 
 -- ---- who shares a household
@@ -25,9 +25,16 @@ named : (a b : Option (List ℕ)) → is_same_household a b ≡ true → is_same
 named None b h = h
 named (Some name) b h = (bytes_eq-Decides name name).1 refl
 
+find_agrees : (p q : ℕ → Bool) → ((k : ℕ) → p k ≡ q k) → (xs : List ℕ) → find p xs ≡ find q xs
+find_agrees p q e [] = refl
+find_agrees p q e (x ∷ xs) = let here = e x in let rest = find_agrees p q e xs in rw (here, rest) refl
+
 module _ (volunteers : List Volunteer) where
   abbrev share : ℕ → ℕ → Bool
   share = share_household volunteers
+
+  abbrev everybody : List ℕ
+  everybody = range_with_len 0 (length volunteers)
 
   abbrev household : ℕ → Option (List ℕ)
   household i = (volunteer volunteers i).household
@@ -46,21 +53,16 @@ module _ (volunteers : List Volunteer) where
   -- and so the same number
   pub share_number : (i j : ℕ) → share i j ≡ true → shared_household volunteers i ≡ shared_household volunteers j
   share_number i j h =
-      let same : household_members volunteers i ≡ household_members volunteers j = filter_agree (share i) (share j) (λ k. share_along i j k h) (range_with_len 0 (length volunteers)) in
-      ap (λ members. cond (leb 2 (length members)) (slice_get members 0) None) same
-
-  first_of : (P : ℕ → Type 0) (xs : List ℕ) (h : ℕ) → AllByRecursion P xs → slice_get xs 0 ≡ Some h → P h
-  first_of P [] h each e = absurd (none e)
-    where
-      none : None ≡ Some h → ⊥
-      none e = cc
-  first_of P (x ∷ xs) h each e = let same : x ≡ h = cc in subst P same each.0
+      let count = total_ext (λ k. one_if (share i k)) (λ k. one_if (share j k)) (λ k. ap one_if (share_along i j k h)) everybody in
+      let many : count_by (share i) everybody ≡ count_by (share j) everybody = count_by-total (share i) everybody ∙ count ∙ sym (count_by-total (share j) everybody) in
+      let found = find_agrees (share i) (share j) (λ k. share_along i j k h) everybody in
+      rw (many, found) refl
 
   -- what holds of each member of a household holds of the volunteer of its number
-  number_is : (P : ℕ → Type 0) (i h : ℕ) → AllByRecursion P (household_members volunteers i) → shared_household volunteers i ≡ Some h → P h
-  number_is P i h each e =
-      (elim (leb 2 (length (household_members volunteers i))) as (λ b. cond b (slice_get (household_members volunteers i) 0) None ≡ Some h → P h) [
-        | true ↦ λ e. first_of P (household_members volunteers i) h each e
+  number_is : (i h : ℕ) → shared_household volunteers i ≡ Some h → find (share i) everybody ≡ Some h
+  number_is i h e =
+      (elim (leb 2 (count_by (share i) everybody)) as (λ b. cond b (find (share i) everybody) None ≡ Some h → find (share i) everybody ≡ Some h) [
+        | true ↦ λ e. e
         | false ↦ λ e. absurd (none e)
       ]) e
     where
@@ -69,26 +71,21 @@ module _ (volunteers : List Volunteer) where
 
   -- who has a number shares a household with the volunteer of the number
   pub number_shares : (i h : ℕ) → shared_household volunteers i ≡ Some h → share i h ≡ true
-  number_shares i h e = number_is (λ k. share i k ≡ true) i h (each_filter_passes (λ k. share i k ≡ true) (share i) (λ k t. t) (range_with_len 0 (length volunteers))) e
+  number_shares i h e = find-passes (share i) everybody h (number_is i h e)
 
   -- which is one
   pub number_below : (i h : ℕ) → shared_household volunteers i ≡ Some h → h < length volunteers
-  number_below i h e =
-      number_is (λ k. k < length volunteers) i h
-      (each_filter (λ k. k < length volunteers) (share i) (range_with_len 0 (length volunteers))
-      (each_range (λ k. share i k ≡ true → k < length volunteers) 0 (length volunteers) (λ k low high t. omega arith))) e
+  number_below i h e = find-each (share i) (λ k. k < length volunteers) everybody h (each_range (λ k. k < length volunteers) 0 (length volunteers) (λ k low high. omega arith)) (number_is i h e)
 
   -- who has none has a household alone, or none
-  pub alone_members : (i : ℕ) → shared_household volunteers i ≡ None → length (household_members volunteers i) ≤ 1
-  alone_members i e = ⊎_elim (λ (few : length (household_members volunteers i) < 2). omega arith)
-      (λ (many : 2 ≤ length (household_members volunteers i)).
-      let yes = le-leb 2 (length (household_members volunteers i)) many in
-      let some : slice_get (household_members volunteers i) 0 ≡ None = rw yes at e in
-      absurd (nobody (household_members volunteers i) some many)) (cases_lt (length (household_members volunteers i)) 2)
-    where
-      nobody : (xs : List ℕ) → slice_get xs 0 ≡ None → 2 ≤ length xs → ⊥
-      nobody [] e l = omega arith
-      nobody (x ∷ xs) e l = cc
+  pub alone_members : (i : ℕ) → shared_household volunteers i ≡ None → total (λ k. one_if (share i k)) everybody ≤ 1
+  alone_members i e = ⊎_elim (λ (few : count_by (share i) everybody < 2). omega (arith, count_by-total (share i) everybody))
+      (λ (many : 2 ≤ count_by (share i) everybody).
+      let yes = le-leb 2 (count_by (share i) everybody) many in
+      let nobody = find-none (share i) everybody (rw yes at e) in
+      let none = total_eq (λ k. one_if (share i k)) (λ k. 0) everybody (each_map (λ k. share i k ≡ false) (λ k. one_if (share i k) ≡ 0) (λ k f. ap one_if f) everybody nobody) in
+      absurd (omega (arith, none, total-zero (λ k. 0) (λ (k : ℕ). refl) everybody, count_by-total (share i) everybody)))
+      (cases_lt (count_by (share i) everybody) 2)
 
   of_number : (h : ℕ) (found : Option ℕ) → is_of_household h found ≡ true → found ≡ Some h
   of_number h None e = absurd (false≢true e)
@@ -140,11 +137,10 @@ module _ (volunteers : List Volunteer) where
       few : (i : ℕ) → ((h : ℕ) → shared_household volunteers i ≡ Some h → count_by (λ j. is_of_household h (shared_household volunteers j)) panel ≤ 1) →
           (number : Option ℕ) → shared_household volunteers i ≡ number → count_by (share i) panel ≤ 1
       few i at None e =
-          let whole = range_with_len 0 (length volunteers) in
           let panel_is = total_panel (λ j. one_if (share i j)) (length volunteers) panel up below in
-          let le = total_le (λ j. cond (includes panel j) (one_if (share i j)) 0) (λ j. one_if (share i j)) whole
-          (each_everywhere (λ j. cond (includes panel j) (one_if (share i j)) 0 ≤ one_if (share i j)) (λ j. at_most (includes panel j) (one_if (share i j))) whole) in
-          omega (arith, alone_members i e, count_by-total (share i) panel, panel_is, le, length-filter-total (share i) whole)
+          let le = total_le (λ j. cond (includes panel j) (one_if (share i j)) 0) (λ j. one_if (share i j)) everybody
+          (each_everywhere (λ j. cond (includes panel j) (one_if (share i j)) 0 ≤ one_if (share i j)) (λ j. at_most (includes panel j) (one_if (share i j))) everybody) in
+          omega (arith, alone_members i e, count_by-total (share i) panel, panel_is, le)
         where
           at_most : (b : Bool) (v : ℕ) → cond b v 0 ≤ v
           at_most true v = le_of_eq refl

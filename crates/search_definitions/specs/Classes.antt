@@ -1,6 +1,6 @@
 -- Classes of volunteers.
-use Rattle.std.specs.Prelude.{◌≡◌, ℕ, ◌==◌, ◌≤◌, ◌<◌, nat_le, if◌then◌else◌, Bool, not, IsTrue, List, [], map, length, filter, slice_get, slice_index, slice_index_or, sum_by, count_by, Option, Some, None, is_some}
-use Rattle.std.specs.List.{list_any, range_with_len, All, AllByRecursion}
+use Rattle.std.specs.Prelude.{◌≡◌, ℕ, ◌==◌, ◌≤◌, ◌<◌, nat_le, if◌then◌else◌, Bool, not, IsTrue, List, [], map, length, filter, slice_index, slice_index_or, sum_by, count_by, Option, Some, None, is_some}
+use Rattle.std.specs.List.{find, list_any, range_with_len, All, AllByRecursion}
 use Rattle.pool_definitions.specs.declared.Standing.{Standing}
 use Rattle.pool_definitions.specs.declared.Standing.TheVariants.{Open, Seated, Gone}
 use Rattle.pool_definitions.specs.Lists.{includes, is_increasing}
@@ -79,14 +79,11 @@ most_taken Open size = size
 most_taken Seated size = size
 most_taken Gone size = 0
 
--- the members of a volunteer's household, in number order; none where no household is known
-abbrev pub household_members : List Volunteer → ℕ → List ℕ
-household_members volunteers i = filter (share_household volunteers i) (range_with_len 0 (length volunteers))
-
 -- the number of a shared household is that of its first member; a household of one volunteer alone has none
 abbrev pub shared_household : List Volunteer → ℕ → Option ℕ
 shared_household volunteers i =
-    if nat_le 2 (length (household_members volunteers i)) then slice_get (household_members volunteers i) 0 else None
+    let everybody = range_with_len 0 (length volunteers) in
+    if nat_le 2 (count_by (share_household volunteers i) everybody) then find (share_household volunteers i) everybody else None
 
 -- the first member of each class: nobody before is alike
 abbrev pub leaders : (ℕ → ℕ → Bool) → ℕ → List ℕ
