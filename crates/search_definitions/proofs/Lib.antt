@@ -6,6 +6,7 @@ pub mod FirstSearch
 pub mod LeaderForm
 pub mod ByClass
 pub mod Households
+pub mod AlikeClasses
 pub mod PanelCompositions
 pub mod LeaderPanels
 pub mod FirstPanel

@@ -76,16 +76,16 @@ module _ (alike : ℕ → ℕ → Bool) (same : IsEquivalenceTest alike) (count 
       taken_of passes (leaders alike count) (composition_of alike (leaders alike count) panel) ≡ count_by passes panel
   passing passes respects panel below =
       taken_of-is alike passes panel (leaders alike count)
-      ∙ sym (by_class alike same count (λ i. one_if (passes i)) (λ i j e. ap one_if (respects i j e)) panel below)
+      ∙ sym (by_class alike same count (λ i. one_if (passes i)) (λ i j a b e. ap one_if (respects i j e)) panel below)
       ∙ sym (count_by-total passes panel)
 
   -- a panel's weight, by composition
-  pub weighing : (stage : Stage) → ((i j : ℕ) → alike i j ≡ true → weight_of stage i ≡ weight_of stage j) → (panel : List ℕ) → AllByRecursion (λ i. i < count) panel →
+  pub weighing : (stage : Stage) → ((i j : ℕ) → i < count → j < count → alike i j ≡ true → weight_of stage i ≡ weight_of stage j) → (panel : List ℕ) → AllByRecursion (λ i. i < count) panel →
       composition_weight (weight_of stage) (leaders alike count) (composition_of alike (leaders alike count) panel) ≡ panel_weight stage panel
   weighing stage respects panel below =
       let c = composition_weight (weight_of stage) (leaders alike count) (composition_of alike (leaders alike count) panel) in
-      let a = by_class alike same count (λ i. up (weight_of stage i)) (λ i j e. ap up (respects i j e)) panel below in
-      let b = by_class alike same count (λ i. down (weight_of stage i)) (λ i j e. ap down (respects i j e)) panel below in
+      let a = by_class alike same count (λ i. up (weight_of stage i)) (λ i j a b e. ap up (respects i j a b e)) panel below in
+      let b = by_class alike same count (λ i. down (weight_of stage i)) (λ i j a b e. ap down (respects i j a b e)) panel below in
       same_in c (panel_weight stage panel) (omega (arith, a, b, weight_is alike (weight_of stage) panel (leaders alike count), weight_parts stage panel))
 
 -- ---- a quota panel's composition
@@ -203,7 +203,7 @@ module _ (pool : Pool) (alike : ℕ → ℕ → Bool) (respects : MakesClasses p
       (each_everywhere (λ l. (low l ≤ count_by (alike l) panel) × (count_by (alike l) panel ≤ high l)) (λ l. bounds l (standing_of l) refl) (leaders alike n))
       (each_from_filter P (is_composition pool (leaders alike n)) (all_counts low high (leaders alike n)) each) is_one
 
-attains_same : (pool : Pool) (alike : ℕ → ℕ → Bool) (respects : MakesClasses pool alike) (panel : List ℕ) → is_quota_panel pool panel ≡ true → (stages : List Stage) → WeighAlike alike stages →
+attains_same : (pool : Pool) (alike : ℕ → ℕ → Bool) (respects : MakesClasses pool alike) (panel : List ℕ) → is_quota_panel pool panel ≡ true → (stages : List Stage) → WeighAlike alike (length pool.volunteers) stages →
     composition_attains stages (leaders alike (length pool.volunteers)) (composition_of alike (leaders alike (length pool.volunteers)) panel) ≡ attains stages panel
 attains_same pool alike respects panel quota [] weigh = refl
 attains_same pool alike respects panel quota (stage ∷ stages) weigh =
@@ -211,7 +211,7 @@ attains_same pool alike respects panel quota (stage ∷ stages) weigh =
     let rest = attains_same pool alike respects panel quota stages weigh.1 in rw (here, rest) refl
 
 -- where no composition that attains the earlier caps weighs more than the cap, no quota panel does
-pub capped_from_compositions : (pool : Pool) (alike : ℕ → ℕ → Bool) → MakesClasses pool alike → (earlier : List Stage) (stage : Stage) → WeighAlike alike (stage ∷ earlier) →
+pub capped_from_compositions : (pool : Pool) (alike : ℕ → ℕ → Bool) → MakesClasses pool alike → (earlier : List Stage) (stage : Stage) → WeighAlike alike (length pool.volunteers) (stage ∷ earlier) →
     list_all (λ counts. not (composition_attains earlier (leaders alike (length pool.volunteers)) counts) || int_le (composition_weight (weight_of stage) (leaders alike (length pool.volunteers)) counts) stage.cap) (compositions pool alike) ≡ true →
     list_all (λ panel. not (attains earlier panel) || int_le (panel_weight stage panel) stage.cap) (panels pool) ≡ true
 capped_from_compositions pool alike respects earlier stage weigh capped =
@@ -238,7 +238,7 @@ none_above_floor weight floor (counts ∷ rest) e =
     ]) refl e
 
 -- a price of none: no quota panel that attains the earlier caps weighs more than the cap
-pub is_capped-from_price : (pool : Pool) (alike : ℕ → ℕ → Bool) → MakesClasses pool alike → (earlier : List Stage) (stage : Stage) → WeighAlike alike (stage ∷ earlier) →
+pub is_capped-from_price : (pool : Pool) (alike : ℕ → ℕ → Bool) → MakesClasses pool alike → (earlier : List Stage) (stage : Stage) → WeighAlike alike (length pool.volunteers) (stage ∷ earlier) →
     first_greatest (composition_weight (weight_of stage) (leaders alike (length pool.volunteers))) stage.cap (filter (composition_attains earlier (leaders alike (length pool.volunteers))) (compositions pool alike)) ≡ None → is_capped pool earlier stage ≡ true
 is_capped-from_price pool alike makes earlier stage weigh none =
     let firsts = leaders alike (length pool.volunteers) in

@@ -10,7 +10,7 @@ use Rattle.basic_laws.proofs.Sums.{total, total_eq, total_ext, sum_by-is-total, 
 use Rattle.pool_definitions.specs.Lists.{includes, is_increasing}
 use Rattle.pool_definitions.specs.Pool.{Pool, volunteer, is_within, is_quota_panel, panels}
 use Rattle.pool_definitions.proofs.AllPanels.{each_panel}
-use Rattle.search_definitions.specs.Classes.{Class, Classes, IsSearchable, MakesClasses, leaders, class_of, class_by, classes_by, are_alike, shared_household}
+use Rattle.search_definitions.specs.Classes.{Class, Classes, IsSearchable, MakesClasses, leaders, class_of, class_by, classes_by, shared_household}
 use Rattle.search_definitions.specs.Compositions.{counts_of, has_value, is_of_household, lies_within, takes_one_of, takes_one_a_household, is_taken, composition_of, first_panel, compositions, all_counts, taken_of, is_composition}
 use Rattle.search_definitions.specs.Visits.{first_search}
 use Rattle.search_definitions.proofs.FirstSearch.{search_finds_first}
@@ -21,18 +21,6 @@ use Rattle.search_definitions.proofs.FirstPanel.{FitsAndComposes, filter_increas
 use Rattle.search_definitions.proofs.LeaderPanels.{least_to_most}
 
 -- ---- classes
-
-pub alone_makes_classes : (pool : Pool) → MakesClasses pool (are_alike pool)
-alone_makes_classes pool = record {
-  same = record {
-    itself = λ i. eq-eqb i i refl;
-    back = λ i j h. eq-eqb j i (sym (eqb-true i j h));
-    along = λ i j k h g. eq-eqb i k (eqb-true i j h ∙ eqb-true j k g);
-  };
-  values = λ i j h. ap (λ k. (volunteer pool.volunteers k).values) (eqb-true i j h);
-  standing = λ i j h. ap (λ k. (volunteer pool.volunteers k).standing) (eqb-true i j h);
-  alone = λ i j h shares. eqb-true i j h;
-}
 
 pub classes_in_order : (pool : Pool) (alike : ℕ → ℕ → Bool) → IsSearchable (classes_by alike pool)
 classes_in_order pool alike = record {
@@ -235,7 +223,7 @@ module _ (pool : Pool) (alike : ℕ → ℕ → Bool) (makes : MakesClasses pool
   members_in_all =
       sum_by-is-total (λ class. length class.members) (map class_at (leaders alike many))
       ∙ each_size (leaders alike many)
-      ∙ sym (by_class alike makes.same many (λ i. 1) (λ i j e. refl) (range_with_len 0 many) (each_range (λ i. i < many) 0 many (λ k l m. omega arith)))
+      ∙ sym (by_class alike makes.same many (λ i. 1) (λ i j a b e. refl) (range_with_len 0 many) (each_range (λ i. i < many) 0 many (λ k l m. omega arith)))
       ∙ ones 0 many
     where
       each_size : (xs : List ℕ) → total (λ class. length class.members) (map class_at xs) ≡ total (λ l. taken alike l (range_with_len 0 many) * 1) xs

@@ -1,6 +1,6 @@
 -- Classes of volunteers.
-use Rattle.std.specs.Prelude.{◌≡◌, ℕ, ◌==◌, ◌≤◌, ◌<◌, nat_le, if◌then◌else◌, Bool, not, IsTrue, List, [], map, length, filter, slice_index, slice_index_or, sum_by, count_by, Option, Some, None, is_some}
-use Rattle.std.specs.List.{find, list_any, range_with_len, All, AllByRecursion}
+use Rattle.std.specs.Prelude.{◌≡◌, ℕ, ◌==◌, ◌≤◌, ◌<◌, nat_le, if◌then◌else◌, Bool, true, false, not, ◌&&◌, ◌||◌, IsTrue, List, [], map, length, filter, slice_index, slice_index_or, sum_by, count_by, bytes_eq, Option, Some, None, is_some}
+use Rattle.std.specs.List.{find, list_any, position_or_len, range_with_len, All, AllByRecursion}
 use Rattle.pool_definitions.specs.declared.Standing.{Standing}
 use Rattle.pool_definitions.specs.declared.Standing.TheVariants.{Open, Seated, Gone}
 use Rattle.pool_definitions.specs.Lists.{includes, is_increasing}
@@ -33,6 +33,10 @@ pub record HasPlaces (bounds : List (List Bounds)) (class : Class) : Type 0 wher
 -- each class can give at least as many as a panel must have of it
 pub record IsSearchable (all : Classes) : Type 0 where
   pub in_order : AllByRecursion (λ class. class.least ≤ class.most) all.classes
+
+-- the number of the class that has a volunteer, the number of all classes where none has
+abbrev pub class_number : List Class → ℕ → ℕ
+class_number classes i = position_or_len (λ class. includes class.members i) classes
 
 -- how many volunteers the classes hold in all
 abbrev pub volunteer_count : Classes → ℕ
@@ -117,9 +121,29 @@ classes_by alike pool = record {
   classes = map (class_by alike pool) (leaders alike (length pool.volunteers));
 }
 
--- each volunteer is a class alone
+abbrev pub is_same_standing : Standing → Standing → Bool
+is_same_standing Open Open = true
+is_same_standing Open Seated = false
+is_same_standing Open Gone = false
+is_same_standing Seated Open = false
+is_same_standing Seated Seated = true
+is_same_standing Seated Gone = false
+is_same_standing Gone Open = false
+is_same_standing Gone Seated = false
+is_same_standing Gone Gone = true
+
+-- the same values and the same standing
+abbrev pub are_equal : Volunteer → Volunteer → Bool
+are_equal one other = bytes_eq one.values other.values && is_same_standing one.standing other.standing
+
+-- a volunteer shares a household with another one
+abbrev pub shares_household : Pool → ℕ → Bool
+shares_household pool i = is_some (shared_household pool.volunteers i)
+
+-- volunteers of equal values and equal standing are alike, but who shares a household is alike nobody else
 abbrev pub are_alike : Pool → ℕ → ℕ → Bool
-are_alike pool i j = i == j
+are_alike pool i j =
+    i == j || (are_equal (volunteer pool.volunteers i) (volunteer pool.volunteers j) && not (shares_household pool i) && not (shares_household pool j))
 
 -- the classes of a pool
 abbrev pub classes_of : Pool → Classes

@@ -18,7 +18,7 @@ ghost use Rattle.search_definitions.specs.Compositions.{composition_of, composit
 ghost use Rattle.search_definitions.specs.Fronts.{HaveEntries};
 ghost use Rattle.search_definitions.specs.Stages.{WeighAlike, row_of};
 ghost use Rattle.search_definitions.specs.Visits.{first_search, best_search};
-ghost use Rattle.search_definitions.specs.WorkedSearches.{either, apart, row};
+ghost use Rattle.search_definitions.specs.WorkedSearches.{either, apart, couple, family, row};
 
 /// How many members of a panel may have a value: from `lower` to `upper`, both included.
 #[derive(Clone, Copy, Debug, PartialEq, Eq)]
@@ -29,7 +29,7 @@ pub struct Bounds {
     pub upper: usize,
 }
 
-/// Volunteers make classes, each alone.
+/// Volunteers of equal values and equal standing make classes, where who shares a household is alone.
 pub fn alike_make_classes()
     ensures { (pool : Pool) → MakesClasses pool (are_alike pool) }
 {}
@@ -109,15 +109,17 @@ pub fn best_search_is_price()
 /// Where pricing finds nothing over the classes of a pool, with stages that weigh alike volunteers alike, no quota panel that attains
 /// the earlier caps weighs more than the cap.
 pub fn nothing_to_price()
-    ensures { (pool : Pool) (alike : ℕ → ℕ → Bool) (earlier : List Stage) (stage : Stage) → MakesClasses pool alike → WeighAlike alike (stage ∷ earlier) →
+    ensures { (pool : Pool) (alike : ℕ → ℕ → Bool) (earlier : List Stage) (stage : Stage) → MakesClasses pool alike → WeighAlike alike (length pool.volunteers) (stage ∷ earlier) →
         price (classes_by alike pool) (map (row_of alike pool) earlier) (row_of alike pool stage) ≡ None → IsTrue (is_capped pool earlier stage) }
 {}
 
 /// The first compositions of small pools, with the visits that find them.
 pub fn worked_first_searches()
-    ensures four { first_search (classes_of four) ≡ record { visits = 5; found = Some (1 ∷ 0 ∷ 1 ∷ 0 ∷ []) } }
-    ensures four_panel { first_panel (classes_of four) (1 ∷ 0 ∷ 1 ∷ 0 ∷ []) ≡ 0 ∷ 2 ∷ [] }
+    ensures four { first_search (classes_of four) ≡ record { visits = 3; found = Some (1 ∷ 1 ∷ []) } }
+    ensures four_panel { first_panel (classes_of four) (1 ∷ 1 ∷ []) ≡ 0 ∷ 2 ∷ [] }
     ensures either { first_search (classes_of either) ≡ record { visits = 3; found = Some (1 ∷ 0 ∷ []) } }
+    ensures family { first_composition (classes_of family) ≡ Some (1 ∷ 0 ∷ 0 ∷ 1 ∷ []) }
+    ensures couple { first_composition (classes_of couple) ≡ None }
     ensures crossed { first_search (classes_of crossed) ≡ record { visits = 2; found = None } }
     ensures nobody { first_search (classes_of nobody) ≡ record { visits = 1; found = None } }
 {}
