@@ -10,6 +10,7 @@ pub mod AlikeClasses
 pub mod PanelCompositions
 pub mod LeaderPanels
 pub mod FirstPanel
+pub mod ClassNumbers
 pub mod PoolClasses
 pub mod ComposedPanels
 pub mod Limits
