@@ -1,7 +1,10 @@
 pub mod CommonTotals
 pub mod Parts
 pub mod Shares
-pub mod Alone
-pub mod SpreadAlone
-pub mod EvenAlone
-pub mod LotteryAlone
+pub mod Windows
+pub mod Cuts
+pub mod Dials
+pub mod Arcs
+pub mod Panels
+pub mod Lotteries
+pub mod FewPanels

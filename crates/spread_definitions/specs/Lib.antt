@@ -1,3 +1,2 @@
 pub mod Spreading
-pub mod Singles
 pub mod WorkedSpreads

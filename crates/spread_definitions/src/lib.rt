@@ -5,13 +5,13 @@
 //! The functions here have no body: their contracts are laws over the definitions, and a worked example.
 #![tactic(auto)]
 
-ghost use Rattle.std.specs.Prelude.{◌≡◌, ◌≤◌, ℕ, List, [], ◌∷◌, map, Ok};
+ghost use Rattle.std.specs.Prelude.{◌≡◌, ◌≤◌, ◌<◌, ℕ, Bool, List, [], ◌∷◌, length, map, Ok};
 ghost use Rattle.frac128.specs.Fractions.{Fraction};
 ghost use Rattle.pool_definitions.specs.Lottery.{Lottery, IsLottery};
-ghost use Rattle.pool_definitions.specs.Pool.{Pool, IsPool};
-ghost use Rattle.search_definitions.specs.Classes.{Classes, classes_of};
+ghost use Rattle.pool_definitions.specs.Pool.{Pool};
+ghost use Rattle.search_definitions.specs.Classes.{Classes, KeepsLimits, MakesClasses, PartVolunteers, classes_by, classes_of};
 ghost use Rattle.search_definitions.specs.Compositions.{compositions};
-ghost use Rattle.spread_definitions.specs.Spreading.{AreParts, AreShares, HasEvenChances, IsCommonTotal, greatest_total, with_fraction, arcs, spread, total_from};
+ghost use Rattle.spread_definitions.specs.Spreading.{AreParts, AreShares, HasEvenChances, IsCommonTotal, greatest_total, with_fraction, arcs, rows_of, spread, total_from};
 ghost use Rattle.spread_definitions.specs.WorkedSpreads.{one_of_three, three_and_two, over};
 
 /// Shares of a whole, as fractions in lowest terms, are positive fractions that sum to one.
@@ -25,19 +25,27 @@ pub fn total_is_common()
         IsCommonTotal all parts total }
 {}
 
-/// What is spread over the classes of a pool, each volunteer a class alone, is a lottery over the pool's quota panels, of a total of at
-/// most 10^38.
-pub fn alone_spread_is_lottery()
-    ensures lottery { (pool : Pool) (parts : List (List ℕ × Fraction)) (lottery : Lottery) → AreParts (classes_of pool) parts →
-        spread (classes_of pool) parts ≡ Ok lottery → IsLottery pool lottery }
-    ensures within { (pool : Pool) (parts : List (List ℕ × Fraction)) (lottery : Lottery) → AreParts (classes_of pool) parts →
-        spread (classes_of pool) parts ≡ Ok lottery → lottery.total ≤ greatest_total }
+/// What is spread over the classes of a pool is a lottery over the pool's quota panels, of a total of at most 10^38.
+pub fn spread_is_lottery()
+    ensures lottery { (pool : Pool) (alike : ℕ → ℕ → Bool) (parts : List (List ℕ × Fraction)) (lottery : Lottery) → MakesClasses pool alike →
+        AreParts (classes_by alike pool) parts → spread (classes_by alike pool) parts ≡ Ok lottery → IsLottery pool lottery }
+    ensures within { (all : Classes) (parts : List (List ℕ × Fraction)) (lottery : Lottery) → AreParts all parts → spread all parts ≡ Ok lottery →
+        lottery.total ≤ greatest_total }
 {}
 
-/// And each volunteer's count is the number expected of the volunteer's class, times the total.
-pub fn alone_spread_has_even_chances()
-    ensures { (pool : Pool) (parts : List (List ℕ × Fraction)) (lottery : Lottery) → IsPool pool → AreParts (classes_of pool) parts →
-        spread (classes_of pool) parts ≡ Ok lottery → HasEvenChances (classes_of pool) parts lottery }
+/// And the members of a class have even chances: each one's count times the class's size is the number expected of the class, times
+/// the total. So it is over any classes that part the volunteers, and over the classes of a pool.
+pub fn spread_has_even_chances()
+    ensures classes { (all : Classes) (parts : List (List ℕ × Fraction)) (lottery : Lottery) → KeepsLimits all → PartVolunteers all →
+        AreParts all parts → spread all parts ≡ Ok lottery → HasEvenChances all parts lottery }
+    ensures pool { (pool : Pool) (alike : ℕ → ℕ → Bool) (parts : List (List ℕ × Fraction)) (lottery : Lottery) → MakesClasses pool alike →
+        AreParts (classes_by alike pool) parts → spread (classes_by alike pool) parts ≡ Ok lottery → HasEvenChances (classes_by alike pool) parts lottery }
+{}
+
+/// Each composition has a panel, and at most as many as there are volunteers.
+pub fn few_panels()
+    ensures { (pool : Pool) (alike : ℕ → ℕ → Bool) (total : ℕ) (part : List ℕ × Fraction) → MakesClasses pool alike → 0 < length pool.volunteers →
+        (0 < length (rows_of (classes_by alike pool) total part)) × (length (rows_of (classes_by alike pool) total part) ≤ length pool.volunteers) }
 {}
 
 /// One of three and one of two: the dial has six places, cut at 0, 2, 3 and 4.
@@ -51,7 +59,7 @@ pub fn worked_spread()
     }) }
 {}
 
-/// One seat for three volunteers: each alone is a composition.
+/// One seat for three volunteers of different values: each alone is a composition.
 pub fn worked_compositions()
     ensures { compositions (classes_of one_of_three) ≡ (1 ∷ 0 ∷ 0 ∷ []) ∷ (0 ∷ 1 ∷ 0 ∷ []) ∷ (0 ∷ 0 ∷ 1 ∷ []) ∷ [] }
 {}
