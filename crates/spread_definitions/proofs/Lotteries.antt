@@ -141,7 +141,7 @@ module _ (all : Classes) (sum : ℕ) where
       ∙ sym (map-map (panel_at all part.0) (λ a. a.0) (arcs all part.0))
       ∙ ap (map (panel_at all part.0)) (arcs_begin (dial all part.0) (cuts all part.0))
 
-  all_panels_are : (parts : List (List ℕ × Fraction)) → map (λ row. row.panel) (flat_map (rows_of all sum) parts) ≡ panels_of parts
+  pub all_panels_are : (parts : List (List ℕ × Fraction)) → map (λ row. row.panel) (flat_map (rows_of all sum) parts) ≡ panels_of parts
   all_panels_are [] = refl
   all_panels_are (part ∷ parts) =
       ap (map (λ (row : LotteryRow). row.panel)) (flat_map-cons (rows_of all sum) part parts)
@@ -270,7 +270,7 @@ is_spread all parts lottery are e = by (total_from all 0 1 parts) refl e
         subst (IsSpread all parts) same (record { common = common_total all parts sum are f; is = refl })
     by (Err pass) f g = absurd cc
 
-parts_within : (all : Classes) (parts : List (List ℕ × Fraction)) → CanGive all.classes → AreParts all parts → AllByRecursion (λ part. Within all.classes part.0) parts
+pub parts_within : (all : Classes) (parts : List (List ℕ × Fraction)) → CanGive all.classes → AreParts all parts → AllByRecursion (λ part. Within all.classes part.0) parts
 parts_within all parts can are = each_composition (Within all.classes) all parts are (compositions_within all can)
 
 -- the members of a class have even chances
@@ -301,7 +301,7 @@ module _ (pool : Pool) (alike : ℕ → ℕ → Bool) (makes : MakesClasses pool
   abbrev of_pool : Classes
   of_pool = classes_by alike pool
 
-  panel_below : (counts : List ℕ) (at : ℕ) → list_all (λ i. ltb i (length pool.volunteers)) (panel_at of_pool counts at) ≡ true
+  pub panel_below : (counts : List ℕ) (at : ℕ) → list_all (λ i. ltb i (length pool.volunteers)) (panel_at of_pool counts at) ≡ true
   panel_below counts at =
       let many = all_counted pool alike makes in
       list_all_from_each (λ i. ltb i (length pool.volunteers)) (panel_at of_pool counts at)
