@@ -2,13 +2,14 @@
 use Rattle.std.proofs.Common.{◌≡◌, ℕ, zero, suc, ◌+◌, ◌≤◌, ◌<◌, Bool, true, false, cond, eqb, List, [], ◌∷◌, map, length, get_or, refl, sym, ap, ◌∙◌, arith, subst}
 use Rattle.std.specs.List.{AllByRecursion, position_or_len, range_with_len}
 use Rattle.std.proofs.lemmas.Bool.{false≢true}
-use Rattle.std.proofs.lemmas.List.{length-map}
+use Rattle.std.proofs.lemmas.List.{get_or-map, length-map}
+use Rattle.std.proofs.lemmas.List.Elements.{All-from_recursion}
 use Rattle.std.proofs.lemmas.List.Recursion.{is_position_or_len}
 use Rattle.basic_laws.proofs.Sums.{total, one_if}
 use Rattle.pool_definitions.specs.Lists.{includes}
 use Rattle.pool_definitions.specs.Pool.{Pool}
 use Rattle.search_definitions.specs.Classes.{Class, Classes, MakesClasses, class_by, class_number, class_of, classes_by, leaders}
-use Rattle.search_definitions.proofs.ByClass.{one_leader}
+use Rattle.search_definitions.proofs.ByClass.{leaders_below, one_leader}
 use Rattle.search_definitions.proofs.FirstPanel.{holds_filter}
 
 -- ---- the first place that passes
@@ -96,3 +97,24 @@ module _ (pool : Pool) (alike : ℕ → ℕ → Bool) (makes : MakesClasses pool
   number_same i j a b t =
       let leader = get_or firsts (number j) 0 in
       number_of (number j) i 0 (omega (arith, number_below j b, class_count)) a (makes.same.along leader j i (leader_alike j 0 b) (makes.same.back i j t))
+
+  -- ---- the leader of a class
+
+  abbrev pub leader_at : ℕ → ℕ
+  leader_at t = get_or firsts t 0
+
+  pub leader_below : (t : ℕ) → t < length firsts → leader_at t < n
+  leader_below t inside = All-from_recursion (λ l. l < n) firsts (leaders_below alike makes.same n) t 0 inside
+
+  pub leader_number : (t : ℕ) → t < length firsts → number (leader_at t) ≡ t
+  leader_number t inside = number_of t (leader_at t) 0 inside (leader_below t inside) (makes.same.itself (leader_at t))
+
+  pub class_is : (t : ℕ) (d : Class) → t < length firsts → get_or (classes_by alike pool).classes t d ≡ class_by alike pool (leader_at t)
+  class_is t d inside = get_or-map (class_by alike pool) firsts t 0 d inside
+
+  -- a volunteer's class has the volunteer
+  pub number_has : (i : ℕ) (d : Class) → i < n → includes (get_or (classes_by alike pool).classes (number i) d).members i ≡ true
+  number_has i d below =
+      let inside : number i < length firsts = omega (arith, number_below i below, class_count) in
+      ap (λ (class : Class). includes class.members i) (class_is (number i) d inside)
+      ∙ holds_filter (alike (leader_at (number i))) i 0 n (omega arith) (omega arith) ∙ leader_alike i 0 below
