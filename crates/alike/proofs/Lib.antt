@@ -1,4 +1,6 @@
 pub mod Taken
-pub mod Alone
 pub mod TotalsAlone
 pub mod SpreadStops
+pub mod Filters
+pub mod Places
+pub mod MadeClasses

@@ -1,17 +1,17 @@
 //! Classes of volunteers, with the size of a panel and the bounds of the values: what a search for panels goes through.
 
-ghost use Rattle.std.specs.Prelude.{◌≡◌, [], ◌∷◌, length, take};
-ghost use Rattle.spread_definitions.specs.Singles.{AreAlone};
+ghost use Rattle.std.specs.Prelude.{◌≡◌, length, take};
 ghost use Rattle.search_definitions.specs.Classes.{KeepsLimits, PartVolunteers, least_taken, most_taken, volunteer_count};
 
 use pool_definitions::Standing;
 use search_definitions::Bounds;
 use std::marker::Model;
 
-/// Volunteers with the same values and standing, of whom a panel takes a number. Each volunteer is a class alone.
+/// Volunteers with the same values and standing, of whom a panel takes a number. Who shares a household with another volunteer is a class
+/// alone.
 #[derive(Debug, Drop)]
 pub struct Class {
-    members: [usize; 1],
+    members: Vec<usize>,
     values: Vec<usize>,
     standing: Standing,
     household: Option<usize>,
@@ -24,34 +24,32 @@ impl Model for Class {
     ghost Value = { Seen };
 
     ghost view = { λ c. record {
-      members = c.members;
+      members = c.members.items;
       values = c.values.items;
-      least = least_taken c.standing (length c.members);
-      most = most_taken c.standing (length c.members);
+      least = least_taken c.standing (length c.members.items);
+      most = most_taken c.standing (length c.members.items);
       household = c.household;
     } };
-
-    ghost invariant = { λ c. length c.members ≡ 1 };
 }
 
 impl Class {
-    // The class of one volunteer.
+    // The class of these members.
     pub(crate) fn new(
-        member: usize,
+        members: Vec<usize>,
         values: Vec<usize>,
         standing: Standing,
         household: Option<usize>,
     ) -> Class
         ensures { result ≡ record {
-          members = member ∷ [];
+          members = members.items;
           values = values.items;
-          least = least_taken standing 1;
-          most = most_taken standing 1;
+          least = least_taken standing (length members.items);
+          most = most_taken standing (length members.items);
           household = household;
         } }
     {
         Class {
-            members: [member],
+            members,
             values,
             standing,
             household,
@@ -149,7 +147,7 @@ impl ValueBounds {
 /// The classes of a pool, in the order of their first members, with the size of a panel and the bounds of each category's values.
 /// They keep the limits of a pool: a size from 1 to 200; at most 20 categories of at most 50 values, with bounds in order and at
 /// most 999; at most 400 classes with at most 400 members in all, each class with a member and with a value of each category.
-/// They part the volunteers: each is in exactly one class. Each class is one volunteer alone, in the order of their numbers.
+/// They part the volunteers: each is in exactly one class.
 #[derive(Debug, Drop)]
 pub struct Classes {
     size: usize,
@@ -158,7 +156,6 @@ pub struct Classes {
 }
 
 impl Model for Classes {
-    ghost use Rattle.spread_definitions.specs.Singles.{AreAlone};
     ghost use Rattle.search_definitions.specs.Classes.{Classes as Seen, KeepsLimits, PartVolunteers};
 
     ghost Value = { Seen };
@@ -166,14 +163,13 @@ impl Model for Classes {
     ghost view = { λ c. record { size = c.size; bounds = c.bounds.items; classes = c.classes.items } };
 
     ghost invariant = { λ c. KeepsLimits (record { size = c.size; bounds = c.bounds.items; classes = c.classes.items })
-        × PartVolunteers (record { size = c.size; bounds = c.bounds.items; classes = c.classes.items }) × AreAlone 0 c.classes.items };
+        × PartVolunteers (record { size = c.size; bounds = c.bounds.items; classes = c.classes.items }) };
 }
 
 impl Classes {
     pub(crate) fn new(size: usize, bounds: Vec<ValueBounds>, classes: Vec<Class>) -> Classes
         requires limits { KeepsLimits (record { size = size; bounds = bounds.items; classes = classes.items }) }
         requires parts { PartVolunteers (record { size = size; bounds = bounds.items; classes = classes.items }) }
-        requires alone { AreAlone 0 classes.items }
         ensures { result ≡ record { size = size; bounds = bounds.items; classes = classes.items } }
     {
         Classes {
@@ -215,13 +211,6 @@ impl Classes {
     /// Does nothing; its contract tells what each `Classes` keeps.
     pub fn facts(&self)
         ensures { KeepsLimits self.now }
-    {
-        let _ = &self.size;
-    }
-
-    // Does nothing; its contract tells that each class is one volunteer alone.
-    pub(crate) fn alone(&self)
-        ensures { AreAlone 0 self.now.classes }
     {
         let _ = &self.size;
     }
