@@ -1,12 +1,13 @@
 //! The classes of a pool.
 
-ghost use Rattle.std.specs.Prelude.{◌≡◌, IfOk, map, length};
-ghost use Rattle.std.specs.List.{range_with_len};
+ghost use Rattle.std.specs.Prelude.{◌≡◌, IfOk, map, count_by, length};
+ghost use Rattle.std.specs.List.{find, range_with_len};
 ghost use Rattle.spread_definitions.specs.Singles.{single};
-ghost use Rattle.search_definitions.specs.Classes.{bounds_of, classes_of};
+ghost use Rattle.pool_definitions.specs.Pool.{share_household as share};
+ghost use Rattle.search_definitions.specs.Classes.{bounds_of, classes_of, shared_household as shared};
 
 use crate::groups::{Class, Classes, ValueBounds};
-use pool_model::{BoundedValue, Category, Pool, Volunteer};
+use pool_model::{BoundedValue, Category, Pool, Volunteer, share_household};
 use search_definitions::Bounds;
 use std::alloc::{AllocError, Global};
 
@@ -50,7 +51,31 @@ fn single_volunteers(alloc: Global, volunteers: &[Volunteer]) -> Result<Vec<Clas
     let mut found = Vec::new(alloc);
     for (i, volunteer) in volunteers.iter().enumerate() {
         let values = Vec::from_slice(alloc, volunteer.values())?;
-        found.push(Class::new(i, values, volunteer.standing()))?;
+        let household = shared_household(volunteers, i);
+        found.push(Class::new(i, values, volunteer.standing(), household))?;
     }
     Ok(found)
+}
+
+/// The number of the household that a volunteer shares with another one: that of its first member.
+fn shared_household(volunteers: &[Volunteer], i: usize) -> Option<usize>
+    ensures { result ≡ shared volunteers.now i }
+{
+    let members = household_size(volunteers, i);
+    let first = household_number(volunteers, i);
+    if 2 <= members { first } else { None }
+}
+
+/// How many volunteers are of a volunteer's household.
+fn household_size(volunteers: &[Volunteer], i: usize) -> usize
+    ensures { result ≡ count_by (share volunteers.now i) (range_with_len 0 (length volunteers.now)) }
+{
+    (0..volunteers.len()).filter(|j| share_household(volunteers, i, *j)).count()
+}
+
+/// The first of them.
+fn household_number(volunteers: &[Volunteer], i: usize) -> Option<usize>
+    ensures { result ≡ find (share volunteers.now i) (range_with_len 0 (length volunteers.now)) }
+{
+    (0..volunteers.len()).find(|j| share_household(volunteers, i, *j))
 }

@@ -14,6 +14,7 @@ pub struct Class {
     members: [usize; 1],
     values: Vec<usize>,
     standing: Standing,
+    household: Option<usize>,
 }
 
 impl Model for Class {
@@ -27,6 +28,7 @@ impl Model for Class {
       values = c.values.items;
       least = least_taken c.standing (length c.members);
       most = most_taken c.standing (length c.members);
+      household = c.household;
     } };
 
     ghost invariant = { λ c. length c.members ≡ 1 };
@@ -34,13 +36,25 @@ impl Model for Class {
 
 impl Class {
     // The class of one volunteer.
-    pub(crate) fn new(member: usize, values: Vec<usize>, standing: Standing) -> Class
-        ensures { result ≡ record { members = member ∷ []; values = values.items; least = least_taken standing 1; most = most_taken standing 1 } }
+    pub(crate) fn new(
+        member: usize,
+        values: Vec<usize>,
+        standing: Standing,
+        household: Option<usize>,
+    ) -> Class
+        ensures { result ≡ record {
+          members = member ∷ [];
+          values = values.items;
+          least = least_taken standing 1;
+          most = most_taken standing 1;
+          household = household;
+        } }
     {
         Class {
             members: [member],
             values,
             standing,
+            household,
         }
     }
 
@@ -71,6 +85,14 @@ impl Class {
         ensures { result.now ≡ self.now.values }
     {
         &self.values
+    }
+
+    /// The number of the household that the one member shares with a volunteer of another class, if there is one: that of its first
+    /// member.
+    pub fn household(&self) -> Option<usize>
+        ensures { result ≡ self.now.household }
+    {
+        self.household
     }
 
     /// The least number of members that a panel may have: all of a seated class, else none.

@@ -9,7 +9,7 @@ use Rattle.std.proofs.Math.Seq.{drop-append_seam}
 use Rattle.basic_laws.proofs.Each.{each_map, each_mapped, each_everywhere, none_pass, list_all_implies}
 use Rattle.basic_laws.proofs.Sums.{sum_by-is-total, total}
 use Rattle.search_definitions.specs.Classes.{Class, Classes, IsSearchable}
-use Rattle.search_definitions.specs.Compositions.{counts_of, all_counts, taken_of, has_value, lies_within, meets_bounds, is_composition, compositions, first_composition}
+use Rattle.search_definitions.specs.Compositions.{counts_of, all_counts, taken_of, has_value, is_of_household, lies_within, meets_bounds, takes_one_of, takes_one_a_household, is_composition, compositions, first_composition}
 use Rattle.search_definitions.specs.Fronts.{later_than, most_given, taken_by, size_reachable, value_reachable, values_reachable, is_reachable}
 use Rattle.search_definitions.specs.Visits.{Search, one_by_one, enter_first, first_search}
 use Rattle.search_definitions.proofs.Listed.{each_count}
@@ -85,11 +85,22 @@ within_reach lower upper taken more most l e =
     let a = leb-true lower (taken + more) parts.0 in let b = leb-true (taken + more) upper parts.1 in
     and_from (leb taken upper) (leb lower (taken + most)) (le-leb taken upper (omega arith)) (le-leb lower (taken + most) (omega arith))
 
+-- a front takes no more of a household than what it goes on to
+one_of_front : (all : Classes) (pre later : List Class) (front counts : List ℕ) → Split all pre later front → (household : Option ℕ) →
+    takes_one_of all.classes (front ++ counts) household ≡ true → takes_one_of all.classes front household ≡ true
+one_of_front all pre later front counts split None one = refl
+one_of_front all pre later front counts split (Some h) one =
+    let of : Class → Bool = λ class. is_of_household h class.household in
+    let whole = leb-true (taken_of of all.classes (front ++ counts)) 1 one in
+    let parts = taken_split all pre later front counts split of in
+    le-leb (taken_of of all.classes front) 1 (omega arith)
+
 -- a front that goes on to a composition is live
 pub live_from_composition : (all : Classes) (pre later : List Class) (front counts : List ℕ) → Split all pre later front → Gives later counts →
     is_composition all (front ++ counts) ≡ true → is_reachable all front ≡ true
 live_from_composition all pre later front counts split gives composes =
-    let parts = and_parts (eqb (taken_of (λ class. true) all.classes (front ++ counts)) all.size) (meets_bounds all.bounds all.classes (front ++ counts)) composes in
+    let both = and_parts (eqb (taken_of (λ class. true) all.classes (front ++ counts)) all.size && meets_bounds all.bounds all.classes (front ++ counts)) (takes_one_a_household all.classes (front ++ counts)) composes in
+    let parts = and_parts (eqb (taken_of (λ class. true) all.classes (front ++ counts)) all.size) (meets_bounds all.bounds all.classes (front ++ counts)) both.0 in
     let after = later_is all pre later front split in
     let taken = taken_split all pre later front counts split in
     let size : size_reachable all front ≡ true = rw after (reached all.size (taken_by all front) (taken_of (λ class. true) later counts) (most_given (λ class. true) later) (taken_within_most (λ class. true) later counts gives) (rw (taken (λ class. true)) at parts.0)) in
@@ -101,12 +112,16 @@ live_from_composition all pre later front counts split gives composes =
     (taken_within_most (has_value c v) later counts gives) (rw (taken (has_value c v)) at within)))
     (enumerate_from 0 values))
     (enumerate_from 0 all.bounds) parts.1 in
-    and_from (size_reachable all front) (values_reachable all front) size values
+    let households = list_all_implies (λ class. takes_one_of all.classes (front ++ counts) class.household) (λ class. takes_one_of all.classes front class.household)
+    (λ class one. one_of_front all pre later front counts split class.household one) all.classes both.1 in
+    and_from (size_reachable all front && values_reachable all front) (takes_one_a_household all.classes front)
+    (and_from (size_reachable all front) (values_reachable all front) size values) households
 
 -- a live front of all classes is a composition
 pub composition_from_live : (all : Classes) (pre : List Class) (front : List ℕ) → Split all pre [] front → is_reachable all front ≡ true → is_composition all front ≡ true
 composition_from_live all pre front split live =
-    let parts = and_parts (size_reachable all front) (values_reachable all front) live in
+    let both = and_parts (size_reachable all front && values_reachable all front) (takes_one_a_household all.classes front) live in
+    let parts = and_parts (size_reachable all front) (values_reachable all front) both.0 in
     let after = later_is all pre [] front split in
     let sizes = and_parts (leb (taken_by all front) all.size) (leb all.size (taken_by all front + most_given (λ class. true) (later_than front all.classes))) parts.0 in
     let low = leb-true (taken_by all front) all.size sizes.0 in
@@ -118,7 +133,8 @@ composition_from_live all pre front split live =
     (λ (v, bound) reach. whole bound.lower bound.upper (taken_of (has_value c v) all.classes front) (rw after at reach))
     (enumerate_from 0 values))
     (enumerate_from 0 all.bounds) parts.1 in
-    and_from (eqb (taken_by all front) all.size) (meets_bounds all.bounds all.classes front) (eq-eqb (taken_by all front) all.size (omega arith)) bounds
+    and_from (eqb (taken_by all front) all.size && meets_bounds all.bounds all.classes front) (takes_one_a_household all.classes front)
+    (and_from (eqb (taken_by all front) all.size) (meets_bounds all.bounds all.classes front) (eq-eqb (taken_by all front) all.size (omega arith)) bounds) both.1
   where
     whole : (lower upper count : ℕ) → (leb count upper && leb lower (count + 0)) ≡ true → (leb lower count && leb count upper) ≡ true
     whole lower upper count h =

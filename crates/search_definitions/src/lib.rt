@@ -5,8 +5,8 @@
 //! The functions here have no body: their contracts are laws over the definitions, and worked examples.
 #![tactic(auto)]
 
-ghost use Rattle.std.specs.Prelude.{◌≡◌, ◌↔◌, ℕ, Bool, List, [], ◌∷◌, map, length, MatchOption, None, Some, IsTrue, pos};
-ghost use Rattle.std.specs.List.{AllByRecursion};
+ghost use Rattle.std.specs.Prelude.{◌≡◌, ◌↔◌, ℕ, Bool, List, [], ◌∷◌, map, length, nat_lt, Contains, MatchOption, None, Some, IsTrue, pos};
+ghost use Rattle.std.specs.List.{AllByRecursion, list_all};
 ghost use Rattle.pool_definitions.specs.Certificate.{Stage, is_capped};
 ghost use Rattle.pool_definitions.specs.Lists.{is_increasing};
 ghost use Rattle.pool_definitions.specs.Pool.{Pool, IsPool, panels, is_quota_panel};
@@ -65,6 +65,13 @@ pub fn first_members_fit()
 pub fn first_members_compose()
     ensures { (pool : Pool) (alike : ℕ → ℕ → Bool) → MakesClasses pool alike →
         AllByRecursion (λ counts. composition_of (classes_by alike pool) (first_panel (classes_by alike pool) counts) ≡ counts) (compositions (classes_by alike pool)) }
+{}
+
+/// An increasing list of volunteers with a composition is a quota panel.
+pub fn composed_panels_fit()
+    ensures { (pool : Pool) (alike : ℕ → ℕ → Bool) (counts panel : List ℕ) → MakesClasses pool alike → Contains (compositions (classes_by alike pool)) counts →
+        IsTrue (is_increasing panel) → IsTrue (list_all (λ i. nat_lt i (length pool.volunteers)) panel) →
+        composition_of (classes_by alike pool) panel ≡ counts → IsTrue (is_quota_panel pool panel) }
 {}
 
 /// The first members of any counts rise.

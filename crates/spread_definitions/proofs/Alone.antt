@@ -4,7 +4,7 @@ use Rattle.std.specs.Prelude.{not}
 use Rattle.std.specs.List.{list_any, range_with_len}
 use Rattle.std.proofs.lemmas.Bool.{cases_eq, eq-eqb, ne_eqb}
 use Rattle.pool_definitions.specs.Pool.{Pool, Volunteer, volunteer}
-use Rattle.search_definitions.specs.Classes.{Class, leaders, class_of, class_by, classes_of, least_taken, most_taken}
+use Rattle.search_definitions.specs.Classes.{Class, leaders, class_of, class_by, classes_of, least_taken, most_taken, shared_household}
 use Rattle.search_definitions.proofs.ByClass.{any_false}
 use Rattle.spread_definitions.specs.Singles.{AreAlone, single}
 
@@ -46,6 +46,7 @@ classes_alone pool =
       values = (volunteer pool.volunteers l).values;
       least = least_taken (volunteer pool.volunteers l).standing (length members);
       most = most_taken (volunteer pool.volunteers l).standing (length members);
+      household = shared_household pool.volunteers l;
     } in c) one
 
 pub singles_alone : (volunteers : List Volunteer) (first count : ℕ) → AreAlone first (map (single volunteers) (range_with_len first count))

@@ -3,7 +3,7 @@ use Rattle.std.specs.Prelude.{◌≡◌, ◌+◌, ◌*◌, ◌/◌, ℕ, List, [
 use Rattle.frac128.specs.Fractions.{Fraction}
 use Rattle.pool_definitions.specs.Lottery.{LotteryRow}
 use Rattle.pool_definitions.specs.Pool.{Volunteer, volunteer}
-use Rattle.search_definitions.specs.Classes.{Class, Classes, least_taken, most_taken}
+use Rattle.search_definitions.specs.Classes.{Class, Classes, least_taken, most_taken, shared_household}
 use Rattle.search_definitions.specs.Compositions.{first_panel}
 
 -- a volunteer as a class alone
@@ -13,6 +13,7 @@ single volunteers i = record {
   values = (volunteer volunteers i).values;
   least = least_taken (volunteer volunteers i).standing 1;
   most = most_taken (volunteer volunteers i).standing 1;
+  household = shared_household volunteers i;
 }
 
 -- each class is one volunteer alone, in order from a number on

@@ -1,5 +1,5 @@
 -- Small classes on which spreading computes.
-use Rattle.std.specs.Prelude.{ℕ, List, [], ◌∷◌, codes, length}
+use Rattle.std.specs.Prelude.{ℕ, List, [], ◌∷◌, codes, length, None}
 use Rattle.frac128.specs.Fractions.{Fraction}
 use Rattle.pool_definitions.specs.Pool.{Pool}
 use Rattle.pool_definitions.specs.WorkedExamples.{person}
@@ -7,7 +7,7 @@ use Rattle.search_definitions.specs.Classes.{Class, Classes}
 
 -- a class of these members, each of whom may be taken
 abbrev pub class : List ℕ → Class
-class members = record { members = members; values = []; least = 0; most = length members }
+class members = record { members = members; values = []; least = 0; most = length members; household = None }
 
 -- two seats, for one of three and one of two
 abbrev pub three_and_two : Classes

@@ -11,5 +11,5 @@ loop-i-preserved c =
     let volunteers = c.args.volunteers.now in
     let i = c.loop-i.i in
     let more = map-range_with_len_more (single volunteers) 0 i i (omega arith) in
-    let made = made_single volunteers i c.index-volunteers-i.result c.in_ok-values.values.items c.standing.result (omega arith) c.index-volunteers-i.is (c.in_ok-values.ensures.items ∙ c.values.ensures) c.standing.ensures in
+    let made = made_single volunteers i c.index-volunteers-i.result c.in_ok-values.values.items c.standing.result c.shared_household-household.result (omega arith) c.index-volunteers-i.is (c.in_ok-values.ensures.items ∙ c.values.ensures) c.standing.ensures c.shared_household-household.ensures in
     rw (c.in_ok-push.ensures.items, c.loop-i.invariant, more) (ap (λ (class : Class). map (single volunteers) (range_with_len 0 i) ++ class ∷ []) (c.new.ensures ∙ made))
