@@ -121,13 +121,7 @@ impl Run {
         ensures limits { self.new.limits ≡ self.old.limits }
     {
         let row = self.table.row(self.table.open_row());
-        let (found, _) = best(
-            alloc,
-            &self.classes,
-            &self.closed,
-            row,
-            self.limits.nodes(),
-        )?;
+        let (found, _) = best(alloc, &self.classes, &self.closed, row, self.limits.nodes())?;
         match found {
             Some(column) => Ok(self.table.add_column(column)?),
             None => Ok(self.close()?),
