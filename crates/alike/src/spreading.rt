@@ -8,10 +8,11 @@ ghost use Rattle.pool_definitions.specs.Pool.{Pool};
 ghost use Rattle.search_definitions.specs.Classes.{Classes as ClassesOf, classes_of};
 ghost use Rattle.spread_definitions.specs.Spreading.{AreParts, HasEvenChances, spread, total_from, greatest_total};
 
-use crate::composing::{Composition, first_panel};
+use crate::composing::first_panel;
 use crate::groups::Classes;
 use frac128::{Frac, lcm};
 use pool_model::{Lottery, LotteryRow};
+use row_model::Composition;
 use std::alloc::{AllocError, Global};
 use thiserror::Error;
 
