@@ -6,6 +6,7 @@
 mod composing;
 mod grouping;
 mod groups;
+mod numbers;
 mod spreading;
 #[cfg(test)]
 mod spreading_tests;
@@ -15,6 +16,7 @@ mod tests;
 pub use composing::first_panel;
 pub use grouping::classes;
 pub use groups::{Class, Classes, ValueBounds};
+pub use numbers::class_numbers;
 pub use row_model::Composition;
 pub use search_definitions::Bounds;
 pub use spreading::{SpreadStop, spread};
