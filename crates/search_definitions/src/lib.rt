@@ -10,7 +10,7 @@ ghost use Rattle.std.specs.List.{AllByRecursion, list_all};
 ghost use Rattle.pool_definitions.specs.Certificate.{Stage, is_capped};
 ghost use Rattle.pool_definitions.specs.Lists.{is_increasing};
 ghost use Rattle.pool_definitions.specs.Pool.{Pool, IsPool, panels, is_quota_panel};
-ghost use Rattle.pool_definitions.specs.WorkedExamples.{four, crossed, nobody};
+ghost use Rattle.pool_definitions.specs.WorkedExamples.{couple, four, family, crossed, nobody};
 ghost use Rattle.row_definitions.specs.Row.{Row};
 ghost use Rattle.search_definitions.specs.Best.{IsBest, Qualifies};
 ghost use Rattle.search_definitions.specs.Classes.{Classes, IsSearchable, KeepsLimits, MakesClasses, PartVolunteers, are_alike, classes_by, classes_of, volunteer_count};
@@ -18,7 +18,7 @@ ghost use Rattle.search_definitions.specs.Compositions.{composition_of, composit
 ghost use Rattle.search_definitions.specs.Fronts.{HaveEntries};
 ghost use Rattle.search_definitions.specs.Stages.{WeighAlike, row_of};
 ghost use Rattle.search_definitions.specs.Visits.{first_search, best_search};
-ghost use Rattle.search_definitions.specs.WorkedSearches.{either, apart, couple, family, row};
+ghost use Rattle.search_definitions.specs.WorkedSearches.{either, apart, row};
 
 /// How many members of a panel may have a value: from `lower` to `upper`, both included.
 #[derive(Clone, Copy, Debug, PartialEq, Eq)]
