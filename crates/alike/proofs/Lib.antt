@@ -1,6 +1,4 @@
 pub mod Taken
-pub mod ClassesAlone
-pub mod Alone
 pub mod SpreadStops
 pub mod Parts
 pub mod Lengths
@@ -10,3 +8,6 @@ pub mod Starts
 pub mod ArcRows
 pub mod Words128
 pub mod Totals
+pub mod Filters
+pub mod Places
+pub mod MadeClasses

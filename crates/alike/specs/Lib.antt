@@ -1,3 +1,2 @@
 pub mod Spreads
-pub mod Singles
 pub mod Steps

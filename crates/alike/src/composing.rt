@@ -1,4 +1,4 @@
-//! Compositions, and the first panel of one.
+//! The first panel of a composition.
 
 ghost use Rattle.std.specs.Prelude.{◌≡◌, IfOk, filter};
 ghost use Rattle.std.specs.List.{range_with_len};
@@ -6,38 +6,8 @@ ghost use Rattle.search_definitions.specs.Compositions.{first_panel, is_taken as
 
 use crate::groups::{Class, Classes};
 use pool_model::Panel;
+use row_model::Composition;
 use std::alloc::{AllocError, Global};
-use std::marker::Model;
-
-/// How many of each class are taken: a count for each class, in their order.
-#[derive(Debug, Drop)]
-pub struct Composition {
-    counts: Vec<usize>,
-}
-
-impl Model for Composition {
-    ghost use Rattle.std.specs.Prelude.{List, ℕ};
-
-    ghost Value = { List ℕ };
-
-    ghost view = { λ c. c.counts.items };
-}
-
-impl Composition {
-    /// The composition of these counts.
-    pub fn new(counts: Vec<usize>) -> Composition
-        ensures { result ≡ counts.items }
-    {
-        Composition { counts }
-    }
-
-    /// The count of each class.
-    pub fn counts(&self) -> &[usize]
-        ensures { result.now ≡ self.now }
-    {
-        &self.counts
-    }
-}
 
 /// The first members of each class, as many as the composition takes of it. Where the composition is one of these classes, that
 /// is a quota panel.

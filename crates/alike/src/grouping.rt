@@ -1,21 +1,24 @@
 //! The classes of a pool.
 
-ghost use Rattle.std.specs.Prelude.{◌≡◌, IfOk, map, length};
-ghost use Rattle.std.specs.List.{range_with_len};
-ghost use Rattle.alike.specs.Singles.{single};
-ghost use Rattle.search_definitions.specs.Classes.{bounds_of, classes_of};
+ghost use Rattle.std.specs.Prelude.{◌≡◌, ◌<◌, IfOk, map, filter, not, count_by, length};
+ghost use Rattle.std.specs.List.{find, list_any, range_with_len};
+ghost use Rattle.pool_definitions.specs.Pool.{share_household as share};
+ghost use Rattle.search_definitions.specs.Classes.{are_alike as alike, are_equal as equal, bounds_of, class_by, class_of, classes_of, is_same_standing, leaders, shared_household as shared, shares_household};
 
 use crate::groups::{Class, Classes, ValueBounds};
-use pool_model::{BoundedValue, Category, Pool, Volunteer};
+use pool_definitions::Standing;
+use pool_model::{BoundedValue, Category, Pool, Volunteer, share_household};
 use search_definitions::Bounds;
 use std::alloc::{AllocError, Global};
 
-/// The classes of a pool, in the order of their first members.
+/// The classes of a pool, in the order of their first members: volunteers of equal values and equal standing are of one class, but
+/// who shares a household with another volunteer is a class alone.
 pub fn classes(alloc: Global, pool: &Pool) -> Result<Classes, AllocError>
     ensures { IfOk result (λ found. found ≡ classes_of pool.now) }
 {
     let bounds = all_bounds(alloc, pool.categories())?;
-    let groups = single_volunteers(alloc, pool.volunteers())?;
+    let households = shared_households(alloc, pool.volunteers())?;
+    let groups = groups(alloc, pool, &households)?;
     pool.facts();
     Ok(Classes::new(pool.size(), bounds, groups))
 }
@@ -43,14 +46,163 @@ fn value_bounds(alloc: Global, values: &[BoundedValue]) -> Result<Vec<Bounds>, A
         .collect(alloc)
 }
 
-/// Each volunteer as a class alone.
-fn single_volunteers(alloc: Global, volunteers: &[Volunteer]) -> Result<Vec<Class>, AllocError>
-    ensures { IfOk result (λ found. found.items ≡ map (single volunteers.now) (range_with_len 0 (length volunteers.now))) }
+/// The class of each leader.
+fn groups(
+    alloc: Global,
+    pool: &Pool,
+    households: &[Option<usize>],
+) -> Result<Vec<Class>, AllocError>
+    requires households { households.now ≡ map (shared pool.now.volunteers) (range_with_len 0 (length pool.now.volunteers)) }
+    ensures { IfOk result (λ found. found.items ≡ map (class_by (alike pool.now) pool.now) (leaders (alike pool.now) (length pool.now.volunteers))) }
 {
     let mut found = Vec::new(alloc);
-    for (i, volunteer) in volunteers.iter().enumerate() {
-        let values = Vec::from_slice(alloc, volunteer.values())?;
-        found.push(Class::new(vec![in alloc; i]?, values, volunteer.standing()))?;
+    for i in 0..pool.volunteers().len() {
+        if leads(pool, households, i) {
+            found.push(group(alloc, pool, households, i)?)?;
+        }
     }
     Ok(found)
+}
+
+/// The class of a leader.
+fn group(
+    alloc: Global,
+    pool: &Pool,
+    households: &[Option<usize>],
+    leader: usize,
+) -> Result<Class, AllocError>
+    requires households { households.now ≡ map (shared pool.now.volunteers) (range_with_len 0 (length pool.now.volunteers)) }
+    requires below { leader < length pool.now.volunteers }
+    ensures { IfOk result (λ class. class ≡ class_by (alike pool.now) pool.now leader) }
+{
+    let members = members(alloc, pool, households, leader)?;
+    let volunteer = &pool.volunteers()[leader];
+    let values = Vec::from_slice(alloc, volunteer.values())?;
+    Ok(Class::new(
+        members,
+        values,
+        volunteer.standing(),
+        household_of(pool, households, leader),
+    ))
+}
+
+/// Who is alike a volunteer, in number order.
+fn members(
+    alloc: Global,
+    pool: &Pool,
+    households: &[Option<usize>],
+    leader: usize,
+) -> Result<Vec<usize>, AllocError>
+    requires households { households.now ≡ map (shared pool.now.volunteers) (range_with_len 0 (length pool.now.volunteers)) }
+    requires below { leader < length pool.now.volunteers }
+    ensures { IfOk result (λ found. found.items ≡ class_of (alike pool.now) (length pool.now.volunteers) leader) }
+{
+    let mut found = Vec::new(alloc);
+    for i in 0..pool.volunteers().len() {
+        if are_alike(pool, households, leader, i) {
+            found.push(i)?;
+        }
+    }
+    Ok(found)
+}
+
+/// Is nobody before alike?
+fn leads(pool: &Pool, households: &[Option<usize>], i: usize) -> bool
+    requires households { households.now ≡ map (shared pool.now.volunteers) (range_with_len 0 (length pool.now.volunteers)) }
+    requires below { i < length pool.now.volunteers }
+    ensures { result ≡ not (list_any (λ j. alike pool.now j i) (range_with_len 0 i)) }
+{
+    for j in 0..i {
+        if are_alike(pool, households, j, i) {
+            return false;
+        }
+    }
+    true
+}
+
+/// Are two volunteers of one class?
+fn are_alike(pool: &Pool, households: &[Option<usize>], i: usize, j: usize) -> bool
+    requires households { households.now ≡ map (shared pool.now.volunteers) (range_with_len 0 (length pool.now.volunteers)) }
+    requires one { i < length pool.now.volunteers }
+    requires other { j < length pool.now.volunteers }
+    ensures { result ≡ alike pool.now i j }
+{
+    let volunteers = pool.volunteers();
+    let equal = are_equal(&volunteers[i], &volunteers[j]);
+    let one = shares(pool, households, i);
+    let other = shares(pool, households, j);
+    i == j || (equal && !one && !other)
+}
+
+/// Does a volunteer share a household with another one?
+fn shares(pool: &Pool, households: &[Option<usize>], i: usize) -> bool
+    requires households { households.now ≡ map (shared pool.now.volunteers) (range_with_len 0 (length pool.now.volunteers)) }
+    requires below { i < length pool.now.volunteers }
+    ensures { result ≡ shares_household pool.now i }
+{
+    household_of(pool, households, i).is_some()
+}
+
+/// The number of the household that a volunteer shares with another one.
+fn household_of(pool: &Pool, households: &[Option<usize>], i: usize) -> Option<usize>
+    requires households { households.now ≡ map (shared pool.now.volunteers) (range_with_len 0 (length pool.now.volunteers)) }
+    requires below { i < length pool.now.volunteers }
+    ensures { result ≡ shared pool.now.volunteers i }
+{
+    let _ = pool;
+    match households.get(i) {
+        Some(household) => *household,
+        None => None,
+    }
+}
+
+/// Do two volunteers have the same values and the same standing?
+fn are_equal(one: &Volunteer, other: &Volunteer) -> bool
+    ensures { result ≡ equal one.now other.now }
+{
+    one.values() == other.values() && is_same_standing(one.standing(), other.standing())
+}
+
+fn is_same_standing(one: Standing, other: Standing) -> bool
+    ensures { result ≡ is_same_standing one other }
+{
+    match (one, other) {
+        (Standing::Open, Standing::Open)
+        | (Standing::Seated, Standing::Seated)
+        | (Standing::Gone, Standing::Gone) => true,
+        _ => false,
+    }
+}
+
+/// The number of the household that each volunteer shares with another one.
+fn shared_households(
+    alloc: Global,
+    volunteers: &[Volunteer],
+) -> Result<Vec<Option<usize>>, AllocError>
+    ensures { IfOk result (λ found. found.items ≡ map (shared volunteers.now) (range_with_len 0 (length volunteers.now))) }
+{
+    (0..volunteers.len()).map(|i| shared_household(volunteers, i)).collect(alloc)
+}
+
+/// The number of the household that a volunteer shares with another one: that of its first member.
+fn shared_household(volunteers: &[Volunteer], i: usize) -> Option<usize>
+    ensures { result ≡ shared volunteers.now i }
+{
+    let members = household_size(volunteers, i);
+    let first = household_number(volunteers, i);
+    if 2 <= members { first } else { None }
+}
+
+/// How many volunteers are of a volunteer's household.
+fn household_size(volunteers: &[Volunteer], i: usize) -> usize
+    ensures { result ≡ count_by (share volunteers.now i) (range_with_len 0 (length volunteers.now)) }
+{
+    (0..volunteers.len()).filter(|j| share_household(volunteers, i, *j)).count()
+}
+
+/// The first of them.
+fn household_number(volunteers: &[Volunteer], i: usize) -> Option<usize>
+    ensures { result ≡ find (share volunteers.now i) (range_with_len 0 (length volunteers.now)) }
+{
+    (0..volunteers.len()).find(|j| share_household(volunteers, i, *j))
 }

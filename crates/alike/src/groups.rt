@@ -7,12 +7,14 @@ use pool_definitions::Standing;
 use search_definitions::Bounds;
 use std::marker::Model;
 
-/// Volunteers with the same values and standing, of whom a panel takes a number.
+/// Volunteers with the same values and standing, of whom a panel takes a number. Who shares a household with another volunteer is a class
+/// alone.
 #[derive(Debug, Drop)]
 pub struct Class {
     members: Vec<usize>,
     values: Vec<usize>,
     standing: Standing,
+    household: Option<usize>,
 }
 
 impl Model for Class {
@@ -26,23 +28,31 @@ impl Model for Class {
       values = c.values.items;
       least = least_taken c.standing (length c.members.items);
       most = most_taken c.standing (length c.members.items);
+      household = c.household;
     } };
 }
 
 impl Class {
     // The class of these members.
-    pub(crate) fn new(members: Vec<usize>, values: Vec<usize>, standing: Standing) -> Class
+    pub(crate) fn new(
+        members: Vec<usize>,
+        values: Vec<usize>,
+        standing: Standing,
+        household: Option<usize>,
+    ) -> Class
         ensures { result ≡ record {
           members = members.items;
           values = values.items;
           least = least_taken standing (length members.items);
           most = most_taken standing (length members.items);
+          household = household;
         } }
     {
         Class {
             members,
             values,
             standing,
+            household,
         }
     }
 
@@ -73,6 +83,14 @@ impl Class {
         ensures { result.now ≡ self.now.values }
     {
         &self.values
+    }
+
+    /// The number of the household that the one member shares with a volunteer of another class, if there is one: that of its first
+    /// member.
+    pub fn household(&self) -> Option<usize>
+        ensures { result ≡ self.now.household }
+    {
+        self.household
     }
 
     /// The least number of members that a panel may have: all of a seated class, else none.

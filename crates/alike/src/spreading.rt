@@ -9,15 +9,14 @@ ghost use Rattle.frac128.specs.Divisors.{lcm_of};
 ghost use Rattle.pool_definitions.specs.Lottery.{IsLottery};
 ghost use Rattle.pool_definitions.specs.Pool.{Pool};
 ghost use Rattle.search_definitions.specs.Classes.{MakesClasses, classes_by};
-ghost use Rattle.spread_definitions.specs.Given.{ComposedPanelsFit};
 ghost use Rattle.spread_definitions.specs.Spreading.{AreParts, HasEvenChances, arcs, cuts as cuts_of, dial, greatest_total, rows_of, spread, total_from};
 
 use crate::arcs::panel_at;
-use crate::composing::Composition;
 use crate::dials::{GREATEST_TOTAL, common_multiple, cuts, partly_taken, places};
 use crate::groups::Classes;
 use frac128::Frac;
 use pool_model::{Lottery, LotteryRow};
+use row_model::Composition;
 use std::alloc::{AllocError, Global};
 use thiserror::Error;
 
@@ -61,8 +60,7 @@ pub fn spread(
 ) -> Result<Lottery, SpreadStop>
     requires { AreParts classes.now parts.now }
     ensures spread { IsSpread result (spread classes.now parts.now) }
-    ensures lottery { (pool : Pool) (alike : ℕ → ℕ → Bool) → MakesClasses pool alike → ComposedPanelsFit pool alike →
-        classes.now ≡ classes_by alike pool → IfOk result (λ lottery. IsLottery pool lottery) }
+    ensures lottery { (pool : Pool) (alike : ℕ → ℕ → Bool) → MakesClasses pool alike → classes.now ≡ classes_by alike pool → IfOk result (λ lottery. IsLottery pool lottery) }
     ensures even { IfOk result (λ lottery. HasEvenChances classes.now parts.now lottery) }
 {
     classes.facts();

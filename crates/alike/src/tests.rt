@@ -1,6 +1,7 @@
 //! The classes of small pools, and first panels of them.
 
-use crate::{Bounds, Classes, Composition, classes, first_panel};
+use crate::{Bounds, Classes, Composition, class_numbers, classes, first_panel};
+use pool_definitions::Standing;
 use pool_model::{BuildStop, Name, Pool};
 use std::alloc::Global;
 use std::process::Abort;
@@ -24,18 +25,17 @@ fn four(alloc: Global) -> Result<Pool, BuildStop> {
     Ok(pool)
 }
 
-/// Each class is one open volunteer, in order, with these values.
-fn check_classes(rt: &impl Abort, found: &Classes, values: &[&[usize]]) {
-    assert_eq!(rt; found.classes().len(), values.len());
-    assert_eq!(rt; found.volunteers(), values.len());
-    for (i, (class, values)) in found.classes().iter().zip(values).enumerate() {
-        assert_eq!(rt; class.members(), [i].as_slice());
-        assert_eq!(rt;
-            (class.size(), class.least(), class.most()),
-            (1, 0, 1),
-            "at {i}"
-        );
-        assert_eq!(rt; class.values(), *values, "at {i}");
+/// Each class has these members and this household, and a panel may have from so many to so many of them.
+fn check_classes(
+    rt: &impl Abort,
+    found: &Classes,
+    classes: &[(&[usize], (usize, usize), Option<usize>)],
+) {
+    assert_eq!(rt; found.classes().len(), classes.len());
+    for (i, (class, want)) in found.classes().iter().zip(classes).enumerate() {
+        assert_eq!(rt; class.members(), want.0, "at {i}");
+        assert_eq!(rt; (class.least(), class.most()), want.1, "at {i}");
+        assert_eq!(rt; class.household(), want.2, "at {i}");
     }
 }
 
@@ -55,20 +55,72 @@ fn check_panel(
 }
 
 #[test]
-fn each_volunteer_is_a_class(rt: HostRuntime) -> Result<(), Fail> {
+fn alike_volunteers_are_a_class(rt: HostRuntime) -> Result<(), Fail> {
     let alloc = rt.alloc();
     let found = classes(alloc, &four(alloc)?)?;
-    assert_eq!(rt; found.size(), 2);
-    check_classes(&rt, &found, &[&[0], &[0], &[1], &[1]]);
+    assert_eq!(rt; (found.size(), found.volunteers()), (2, 4));
+    check_classes(&rt, &found, &[(&[0, 1], (0, 2), None), (&[2, 3], (0, 2), None)]);
     let one = Bounds { lower: 1, upper: 1 };
     assert_eq!(rt; found.bounds().len(), 1);
     let gender = found.bounds().first().ok_or("no category")?;
     assert_eq!(rt; gender.as_slice(), [one, one].as_slice());
-    check_panel(&rt, alloc, &found, &[1, 0, 1, 0], &[0, 2])?;
-    check_panel(&rt, alloc, &found, &[2, 0, 0, 7], &[0, 3])?;
-    check_panel(&rt, alloc, &found, &[0, 1], &[1])?;
+    let numbers = class_numbers(alloc, &found)?;
+    assert_eq!(rt; numbers.as_slice(), [0, 0, 1, 1].as_slice());
+    check_panel(&rt, alloc, &found, &[1, 1], &[0, 2])?;
+    check_panel(&rt, alloc, &found, &[2, 7], &[0, 1, 2, 3])?;
+    check_panel(&rt, alloc, &found, &[0], &[])?;
     let nobody = classes(alloc, &Pool::new(alloc, 1)?)?;
     check_classes(&rt, &nobody, &[]);
     assert_eq!(rt; nobody.bounds().len(), 0);
     check_panel(&rt, alloc, &nobody, &[], &[])
+}
+
+/// Sets a standing, of a volunteer who is there.
+fn set(rt: &impl Abort, pool: &mut Pool, number: usize, standing: Standing) {
+    assert!(rt; number < pool.volunteers().len());
+    pool.set_standing(number, standing);
+}
+
+/// Sets a household, of a volunteer who is there.
+fn house(rt: &impl Abort, pool: &mut Pool, number: usize, name: &str) -> Result<(), BuildStop> {
+    assert!(rt; number < pool.volunteers().len());
+    pool.set_household(number, name)
+}
+
+#[test]
+fn standings_and_households_part_classes(rt: HostRuntime) -> Result<(), Fail> {
+    let alloc = rt.alloc();
+    let mut pool = four(alloc)?;
+    set(&rt, &mut pool, 0, Standing::Seated);
+    set(&rt, &mut pool, 2, Standing::Gone);
+    let found = classes(alloc, &pool)?;
+    check_classes(
+        &rt,
+        &found,
+        &[
+            (&[0], (1, 1), None),
+            (&[1], (0, 1), None),
+            (&[2], (0, 0), None),
+            (&[3], (0, 1), None),
+        ],
+    );
+    // who shares a household is alone, who has one alone is not
+    let mut pool = four(alloc)?;
+    let value = Name::new(alloc, "male")?;
+    pool.add_volunteer("e", &[value])?;
+    for (number, name) in [(1, "h"), (2, "i"), (3, "h")] {
+        house(&rt, &mut pool, number, name)?;
+    }
+    let found = classes(alloc, &pool)?;
+    check_classes(
+        &rt,
+        &found,
+        &[
+            (&[0], (0, 1), None),
+            (&[1], (0, 1), Some(1)),
+            (&[2, 4], (0, 2), None),
+            (&[3], (0, 1), Some(1)),
+        ],
+    );
+    check_panel(&rt, alloc, &found, &[0, 0, 2, 0], &[2, 4])
 }

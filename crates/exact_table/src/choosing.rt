@@ -10,9 +10,9 @@ ghost use Rattle.row_definitions.specs.InOrder.{IsKnown, IsInOrder};
 ghost use Rattle.exact_table.specs.Parts.{with_rows, AreRows, AreDifferent};
 
 use crate::frame::Frame;
-use crate::line::Line;
 use frac128::compare;
 use row_definitions::Var;
+use row_model::Row;
 use std::cmp::Ordering;
 
 fn is_same(first: Var, second: Var) -> bool
@@ -50,7 +50,7 @@ pub(crate) fn basic_row(basic: &[Var], variable: Var) -> Option<usize>
 }
 
 // A variable's coefficient in a row.
-pub(crate) fn coefficient_in(frame: &Frame, rows: &[Line], row: usize, variable: Var) -> i128
+pub(crate) fn coefficient_in(frame: &Frame, rows: &[Row], row: usize, variable: Var) -> i128
     requires known { IsKnown frame.now variable }
     requires rows { AreRows (with_rows frame.now rows.now []) }
     requires row { row < length rows.now }
@@ -61,7 +61,7 @@ pub(crate) fn coefficient_in(frame: &Frame, rows: &[Line], row: usize, variable:
 }
 
 // A variable's coefficient is 0 in each closed row.
-fn is_eligible(frame: &Frame, rows: &[Line], variable: Var) -> bool
+fn is_eligible(frame: &Frame, rows: &[Row], variable: Var) -> bool
     requires known { IsKnown frame.now variable }
     requires rows { AreRows (with_rows frame.now rows.now []) }
     requires closed { All (λ i. i < length rows.now) frame.now.closed }
@@ -77,7 +77,7 @@ fn is_eligible(frame: &Frame, rows: &[Line], variable: Var) -> bool
 }
 
 // A variable is eligible, and its coefficient in the open row is below 0.
-fn may_enter(frame: &Frame, rows: &[Line], at: usize, variable: Var) -> bool
+fn may_enter(frame: &Frame, rows: &[Row], at: usize, variable: Var) -> bool
     requires known { IsKnown frame.now variable }
     requires rows { AreRows (with_rows frame.now rows.now []) }
     requires closed { All (λ i. i < length rows.now) frame.now.closed }
@@ -92,7 +92,7 @@ fn may_enter(frame: &Frame, rows: &[Line], at: usize, variable: Var) -> bool
 }
 
 // The first slack that may enter.
-fn first_slack(frame: &Frame, rows: &[Line], at: usize) -> Option<Var>
+fn first_slack(frame: &Frame, rows: &[Row], at: usize) -> Option<Var>
     requires rows { AreRows (with_rows frame.now rows.now []) }
     requires closed { All (λ i. i < length rows.now) frame.now.closed }
     requires place { at < length rows.now }
@@ -108,7 +108,7 @@ fn first_slack(frame: &Frame, rows: &[Line], at: usize) -> Option<Var>
 }
 
 // The first stage variable that may enter.
-fn first_stage(frame: &Frame, rows: &[Line], at: usize) -> Option<Var>
+fn first_stage(frame: &Frame, rows: &[Row], at: usize) -> Option<Var>
     requires rows { AreRows (with_rows frame.now rows.now []) }
     requires closed { All (λ i. i < length rows.now) frame.now.closed }
     requires place { at < length rows.now }
@@ -124,7 +124,7 @@ fn first_stage(frame: &Frame, rows: &[Line], at: usize) -> Option<Var>
 }
 
 // The first column that may enter.
-fn first_column(frame: &Frame, rows: &[Line], at: usize) -> Option<Var>
+fn first_column(frame: &Frame, rows: &[Row], at: usize) -> Option<Var>
     requires rows { AreRows (with_rows frame.now rows.now []) }
     requires closed { All (λ i. i < length rows.now) frame.now.closed }
     requires place { at < length rows.now }
@@ -140,7 +140,7 @@ fn first_column(frame: &Frame, rows: &[Line], at: usize) -> Option<Var>
 }
 
 // The variable of least number that may enter.
-fn first_to_enter(frame: &Frame, rows: &[Line], at: usize) -> Option<Var>
+fn first_to_enter(frame: &Frame, rows: &[Row], at: usize) -> Option<Var>
     requires rows { AreRows (with_rows frame.now rows.now []) }
     requires closed { All (λ i. i < length rows.now) frame.now.closed }
     requires place { at < length rows.now }
@@ -183,7 +183,7 @@ fn goes_before(one: Leaver, other: Leaver) -> bool
 // A row, where it has a positive coefficient on a variable.
 fn leaver_at(
     frame: &Frame,
-    rows: &[Line],
+    rows: &[Row],
     basic: &[Var],
     variable: Var,
     row: usize,
@@ -213,7 +213,7 @@ fn leaver_at(
 // The best row once one more was looked at.
 fn next_best(
     frame: &Frame,
-    rows: &[Line],
+    rows: &[Row],
     basic: &[Var],
     variable: Var,
     row: usize,
@@ -244,7 +244,7 @@ fn next_best(
 }
 
 // The row that is left where a variable enters.
-fn row_to_leave(frame: &Frame, rows: &[Line], basic: &[Var], variable: Var) -> Option<usize>
+fn row_to_leave(frame: &Frame, rows: &[Row], basic: &[Var], variable: Var) -> Option<usize>
     requires known { IsKnown frame.now variable }
     requires rows { AreRows (with_rows frame.now rows.now []) }
     requires basic { length basic.now ≡ length rows.now }
@@ -262,7 +262,7 @@ fn row_to_leave(frame: &Frame, rows: &[Line], basic: &[Var], variable: Var) -> O
 }
 
 // The variable that enters.
-fn entering(frame: &Frame, rows: &[Line], basic: &[Var]) -> Option<Var>
+fn entering(frame: &Frame, rows: &[Row], basic: &[Var]) -> Option<Var>
     requires rows { AreRows (with_rows frame.now rows.now []) }
     requires closed { All (λ i. i < length rows.now) frame.now.closed }
     requires basic { length basic.now ≡ length rows.now }
@@ -277,7 +277,7 @@ fn entering(frame: &Frame, rows: &[Line], basic: &[Var]) -> Option<Var>
 }
 
 // The row that is left and the variable that enters.
-pub(crate) fn choose(frame: &Frame, rows: &[Line], basic: &[Var]) -> Option<(usize, Var)>
+pub(crate) fn choose(frame: &Frame, rows: &[Row], basic: &[Var]) -> Option<(usize, Var)>
     requires rows { AreRows (with_rows frame.now rows.now []) }
     requires closed { All (λ i. i < length rows.now) frame.now.closed }
     requires basic { length basic.now ≡ length rows.now }

@@ -1,22 +1,22 @@
 //! The exact simplex table of the leximin program, in whole numbers under a width: rows `(b; a_1 .. a_m)` whose greatest
 //! common divisor is 1, Bland's rule, and a pivot that is made whole or passes the width at its first operation.
-//! It stands on `frac128` and on the definitions of `row_definitions`.
+//! It stands on `frac128`, on the values of `row_model` and on the definitions of `row_definitions`.
 #![tactic(auto)]
 
 mod bounds;
 mod choosing;
 mod frame;
-mod line;
 mod marks;
 mod pivoting;
+mod rows;
 mod starting;
 mod table;
 #[cfg(test)]
 mod tests;
 mod width;
 
-pub use frame::Counts;
 pub use row_definitions::{Op, Pass, Var};
+pub use row_model::{Composition, Row};
 pub use table::Table;
 use thiserror::Error;
 

@@ -7,25 +7,26 @@ ghost use Rattle.row_definitions.specs.Width.{all_in_turn, reach_operations};
 ghost use Rattle.row_definitions.specs.Pivot.{first_rows};
 ghost use Rattle.exact_table.specs.Starting.{PassesWith};
 
-use crate::line::Line;
+use crate::rows;
 use row_definitions::{Pass, Var};
+use row_model::Row;
 use std::alloc::{AllocError, Global};
 
 // The rows of the first table, of the counts of the first column.
-pub(crate) fn first_rows(alloc: Global, first: &[usize]) -> Result<Vec<Line>, AllocError>
+pub(crate) fn first_rows(alloc: Global, first: &[usize]) -> Result<Vec<Row>, AllocError>
     ensures { IfOk result (λ rows. rows.items ≡ first_rows first.now) }
 {
     let classes = first.len();
     let mut rows = Vec::new(alloc);
-    rows.push(Line::total(alloc, classes)?)?;
+    rows.push(rows::of_total(alloc, classes)?)?;
     for class in 0..classes {
-        rows.push(Line::of_class(alloc, classes, class, first[class])?)?;
+        rows.push(rows::of_class(alloc, classes, class, first[class])?)?;
     }
     Ok(rows)
 }
 
 // The operations of the reach of each row.
-pub(crate) fn check_reaches(most: i128, sizes: &[usize], rows: &[Line]) -> Result<(), Pass>
+pub(crate) fn check_reaches(most: i128, sizes: &[usize], rows: &[Row]) -> Result<(), Pass>
     requires most { pos 0 ≤ℤ most }
     requires entries { All (λ row. length row.a ≡ length sizes.now) rows.now }
     requires sides { All (λ row. unsigned_abs row.b < 2 ^ 127) rows.now }
@@ -34,7 +35,7 @@ pub(crate) fn check_reaches(most: i128, sizes: &[usize], rows: &[Line]) -> Resul
 {
     for place in 0..rows.len() {
         let row = &rows[place];
-        match row.reach_operations(most, place, sizes) {
+        match rows::reach_operations(most, place, row, sizes) {
             Ok(_) => {}
             Err(pass) => return Err(pass),
         }

@@ -2,7 +2,8 @@
 use Rattle.std.specs.Prelude.{Result, Ok, Err}
 use Rattle.pool_definitions.specs.Pool.{IsPool, Pool}
 use Rattle.pool_definitions.proofs.Greatest.{greatest_from_Certifies}
-use Rattle.search_definitions.specs.Classes.{classes_of}
+use Rattle.search_definitions.specs.Classes.{are_alike, classes_of}
+use Rattle.search_definitions.proofs.AlikeClasses.{alike_makes}
 use Rattle.run_definitions.specs.Keeps.{AreLimits}
 use Rattle.run_definitions.specs.Run.{Limits, run_limits}
 use Rattle.run_laws.proofs.Certified.{found_certified}
@@ -15,11 +16,11 @@ use Rattle.leximin_run.specs.Answers.{IsCertified, KeepsRanges, TellsEnding}
 
 pub certified : (pool : Pool) (limits : Limits) → IsPool pool → AreLimits limits → (answer : Result Solved Stop) → TellsEnding (classes_of pool) (run_limits limits) answer → IsCertified pool answer
 certified pool limits is_pool ranges (Ok (Found answer)) told =
-    let certifies = found_certified pool limits told.0 answer is_pool ranges told.1 in (certifies, greatest_from_Certifies pool answer.lottery answer.stages certifies)
-certified pool limits is_pool ranges (Ok NoPanel) told = none_where_no_panel pool limits told
+    let certifies = found_certified pool (are_alike pool) (alike_makes pool) (run_limits limits) told.0 answer is_pool ranges told.1 in (certifies, greatest_from_Certifies pool answer.lottery answer.stages certifies)
+certified pool limits is_pool ranges (Ok NoPanel) told = none_where_no_panel pool (are_alike pool) (alike_makes pool) (run_limits limits) told
 certified pool limits is_pool ranges (Err stop) told = tt
 
 pub keeps_ranges : (pool : Pool) (limits : Limits) → IsPool pool → AreLimits limits → (answer : Result Solved Stop) → TellsEnding (classes_of pool) (run_limits limits) answer → KeepsRanges pool answer
-keeps_ranges pool limits is_pool ranges (Ok (Found answer)) told = found_in_ranges pool limits told.0 answer is_pool ranges told.1
+keeps_ranges pool limits is_pool ranges (Ok (Found answer)) told = found_in_ranges pool (are_alike pool) (alike_makes pool) (run_limits limits) told.0 answer is_pool ranges told.1
 keeps_ranges pool limits is_pool ranges (Ok NoPanel) told = tt
 keeps_ranges pool limits is_pool ranges (Err stop) told = tt

@@ -1,5 +1,5 @@
 -- What a step of the run needs, and what it makes.
-use Rattle.std.proofs.Common.{◌≡◌, ◌≢◌, ℕ, ◌+◌, ◌-◌, ◌*◌, ◌^◌, ◌<◌, ◌≤◌, Bool, true, false, cond, leb, ltb, List, [], ◌∷◌, ◌++◌, length, Option, Some, None, Result, Err, pos, refl, sym, ap, ap₂, ◌∙◌, subst, arith}
+use Rattle.std.proofs.Common.{◌≡◌, ℕ, ◌^◌, ◌<◌, ◌≤◌, Bool, true, false, cond, leb, ltb, List, [], ◌∷◌, ◌++◌, length, Option, Some, None, Err, pos, refl, sym, ap, ap₂, ◌∙◌, subst, arith}
 use Rattle.std.specs.List.{AllByRecursion}
 use Rattle.std.proofs.Math.Nat.{pow-le-pow_right}
 use Rattle.std.proofs.lemmas.Bool.{le-ltb, lt-ltb}
@@ -14,7 +14,7 @@ use Rattle.row_definitions.specs.Pivot.{pivot}
 use Rattle.row_definitions.specs.Row.{Row, reach}
 use Rattle.row_definitions.specs.Steps.{add_column, close_stage, closed_by, enter_stage, open_row}
 use Rattle.row_definitions.specs.Table.{Table, row_at}
-use Rattle.search_definitions.specs.Classes.{Classes, KeepsLimits}
+use Rattle.search_definitions.specs.Classes.{Classes}
 use Rattle.search_definitions.specs.Compositions.{price}
 use Rattle.search_definitions.specs.Fronts.{HaveEntries, HaveReach, sizes_of}
 use Rattle.search_definitions.specs.Visits.{best_search}

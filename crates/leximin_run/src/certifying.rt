@@ -1,10 +1,12 @@
 //! The closed rows as the stages of a certificate.
 
 ghost use Rattle.std.specs.Prelude.{◌≡◌, map, IfOk};
-ghost use Rattle.run_definitions.specs.Run.{class_number, stage_of};
+ghost use Rattle.std.specs.List.{range_with_len};
 ghost use Rattle.row_definitions.specs.Row.{entry};
+ghost use Rattle.run_definitions.specs.Run.{stage_of};
+ghost use Rattle.search_definitions.specs.Classes.{Classes as ClassesOf, class_number, volunteer_count};
 
-use alike::{Class, Classes};
+use alike::{Classes, class_numbers};
 use panel_search::Row;
 use pool_model::{Certificate, Stage};
 use std::alloc::{AllocError, Global};
@@ -17,43 +19,36 @@ pub(crate) fn certificate(
 ) -> Result<Certificate, AllocError>
     ensures { IfOk result (λ certificate. certificate ≡ map (stage_of classes.now) closed.now) }
 {
+    let numbers = class_numbers(alloc, classes)?;
     let mut stages = Vec::new(alloc);
     for row in closed {
-        stages.push(stage(alloc, classes, row)?)?;
+        stages.push(stage(alloc, &numbers, row)?)?;
     }
     Ok(Certificate::new(stages))
 }
 
 // A row's stage: its right side is the cap, and each volunteer weighs the entry of the volunteer's class.
-fn stage(alloc: Global, classes: &Classes, row: &Row) -> Result<Stage, AllocError>
-    ensures { IfOk result (λ stage. stage ≡ stage_of classes.now row.now) }
+fn stage(alloc: Global, numbers: &[usize], row: &Row) -> Result<Stage, AllocError>
+    ensures { IfOk result (λ stage. (all : ClassesOf) → numbers.now ≡ map (class_number all.classes) (range_with_len 0 (volunteer_count all)) → stage ≡ stage_of all row.now) }
 {
-    let mut weights = Vec::new(alloc);
-    for volunteer in 0..classes.volunteers() {
-        weights.push(weight(classes.classes(), row, volunteer))?;
-    }
+    let weights = weights(alloc, numbers, row)?;
     Ok(Stage::new(weights, row.side()))
 }
 
-// The entry of a volunteer's class.
-fn weight(classes: &[Class], row: &Row, volunteer: usize) -> i128
-    ensures { result ≡ entry row.now (class_number classes.now volunteer) }
+fn weights(alloc: Global, numbers: &[usize], row: &Row) -> Result<Vec<i128>, AllocError>
+    ensures { IfOk result (λ weights. weights.items ≡ map (entry row.now) numbers.now) }
 {
-    let class = number_of(classes, volunteer);
+    numbers.iter().map(|class| entry_of(row, *class)).collect(alloc)
+}
+
+// The entry of a class, or 0 where there is no such class.
+fn entry_of(row: &Row, class: usize) -> i128
+    ensures { result ≡ entry row.now class }
+{
     let entries = row.entries();
     if class < entries.len() {
         entries[class]
     } else {
         0
     }
-}
-
-// The number of a volunteer's class, or of all classes where the volunteer is in none.
-fn number_of(classes: &[Class], volunteer: usize) -> usize
-    ensures { result ≡ class_number classes.now volunteer }
-{
-    let number = classes
-        .iter()
-        .position(|class| class.members().contains(&volunteer));
-    number.unwrap_or(classes.len())
 }

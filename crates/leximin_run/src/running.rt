@@ -1,9 +1,9 @@
 //! The run's steps.
 
-ghost use Rattle.std.specs.Prelude.{◌≡◌, ◌<◌, ◌++◌, [], ◌∷◌, true, OnOk, IfOk, Some, None, length};
+ghost use Rattle.std.specs.Prelude.{◌≡◌, ◌++◌, [], ◌∷◌, true, OnOk, Some, None};
 ghost use Rattle.leximin_run.specs.Advancing.{Advances, Makes, Stands};
 ghost use Rattle.row_definitions.specs.Choice.{choice};
-ghost use Rattle.row_definitions.specs.Steps.{close_stage};
+ghost use Rattle.row_definitions.specs.Steps.{close_stage, open_row};
 ghost use Rattle.row_definitions.specs.Table.{row_at};
 ghost use Rattle.run_definitions.specs.Run.{run_limits};
 
@@ -120,40 +120,26 @@ impl Run {
         ensures classes { self.new.classes ≡ self.old.classes }
         ensures limits { self.new.limits ≡ self.old.limits }
     {
-        let row = copied_row(alloc, &self.table, self.table.open_row())?;
-        let (found, _) = best(
-            alloc,
-            &self.classes,
-            &self.closed,
-            &row,
-            self.limits.nodes(),
-        )?;
+        let row = self.table.row(self.table.open_row());
+        let (found, _) = best(alloc, &self.classes, &self.closed, row, self.limits.nodes())?;
         match found {
-            Some(composition) => Ok(self.table.add_column(composition.counts())?),
-            None => Ok(self.close(row)?),
+            Some(column) => Ok(self.table.add_column(column)?),
+            None => Ok(self.close()?),
         }
     }
 
     // No composition was found: the stage closes, and its row, which was priced, is kept.
-    fn close(&mut self, row: Row) -> Result<(), AllocError>
+    fn close(&mut self) -> Result<(), AllocError>
         requires open { self.old.table.in_stage ≡ true }
         requires done { choice self.old.table ≡ None }
         ensures table { OnOk result (self.new.table ≡ close_stage self.old.table) }
-        ensures closed { OnOk result (self.new.closed.items ≡ self.old.closed.items ++ row ∷ []) }
+        ensures closed { OnOk result (self.new.closed.items ≡ self.old.closed.items ++ row_at self.old.table (open_row self.old.table) ∷ []) }
         ensures classes { self.new.classes ≡ self.old.classes }
         ensures limits { self.new.limits ≡ self.old.limits }
     {
-        self.closed.push(row)?;
+        let row = self.table.row(self.table.open_row());
+        self.closed.push(row.copy()?)?;
         self.table.close_stage();
         Ok(())
     }
-}
-
-// A row of the table.
-fn copied_row(alloc: Global, table: &Table, row: usize) -> Result<Row, AllocError>
-    requires { row < length table.now.rows }
-    ensures { IfOk result (λ copied. copied ≡ row_at table.now row) }
-{
-    let (side, entries) = table.row(row);
-    Ok(Row::new(side, Vec::from_slice(alloc, entries)?))
 }

@@ -40,7 +40,7 @@ fn run(alloc: Global, pool: &Pool, limits: Limits) -> Result<Solved, Stop>
 {
     let classes = classes(alloc, pool)?;
     match first(alloc, &classes, limits.nodes()) {
-        Ok(Some(composition)) => begin(alloc, classes, limits, &composition),
+        Ok(Some(composition)) => begin(alloc, classes, limits, composition),
         Ok(None) => Ok(Solved::NoPanel),
         Err(SearchStop::Spent) => Err(Stop::NodesSpent(At::Opening)),
         Err(SearchStop::OutOfMemory) => Err(Stop::OutOfMemory),
@@ -52,15 +52,15 @@ fn begin(
     alloc: Global,
     classes: Classes,
     limits: Limits,
-    composition: &Composition,
+    composition: Composition,
 ) -> Result<Solved, Stop>
     requires within { (first_search classes).visits ≤ limits.nodes }
-    requires first { first_composition classes ≡ Some composition.now }
+    requires first { first_composition classes ≡ Some composition }
     ensures { TellsEnding classes (run_limits limits) result }
 {
     classes.facts();
     let sizes = sizes(alloc, &classes)?;
-    match Table::start(alloc, &sizes, composition.counts(), limits.bits()) {
+    match Table::start(alloc, &sizes, composition, limits.bits()) {
         Ok(table) => finish(
             alloc,
             Run {
@@ -139,16 +139,15 @@ fn parts(alloc: Global, table: &Table) -> Result<Vec<(Composition, Frac)>, Alloc
     let solution = table.solution()?;
     let mut parts = Vec::new(alloc);
     for (column, value) in &solution {
-        parts.push((composition(alloc, table, *column)?, *value))?;
+        parts.push((copied_column(table, *column)?, *value))?;
     }
     Ok(parts)
 }
 
-// A column as a composition.
-fn composition(alloc: Global, table: &Table, column: usize) -> Result<Composition, AllocError>
+// A copy of a column, by its number.
+fn copied_column(table: &Table, column: usize) -> Result<Composition, AllocError>
     requires { column < length table.now.columns }
-    ensures { IfOk result (λ found. found ≡ slice_index_or table.now.columns column []) }
+    ensures { IfOk result (λ copied. copied ≡ slice_index_or table.now.columns column []) }
 {
-    let counts = table.columns()[column].as_slice();
-    Ok(Composition::new(Vec::from_slice(alloc, counts)?))
+    table.columns()[column].copy()
 }

@@ -6,23 +6,48 @@ use pool_model::{Answer, BuildStop, Name, Pool, Standing};
 use std::alloc::{AllocError, Global};
 use std::test::Fail;
 
-/// A pool with one category, by the bounds of its values, and each volunteer's value and standing.
+/// A pool with one category, by the bounds of its values, and each volunteer's value and standing; the volunteers of the numbers in
+/// `family` are of one household.
 #[derive(Clone, Copy, Debug)]
 struct Given<'a> {
     size: usize,
     bounds: &'a [(usize, usize)],
     volunteers: &'a [(usize, Standing)],
+    family: &'a [usize],
 }
 
 const OPEN_0: (usize, Standing) = (0, Standing::Open);
 
 const OPEN_1: (usize, Standing) = (1, Standing::Open);
 
+const OPEN_2: (usize, Standing) = (2, Standing::Open);
+
 /// Two women and two men, one of each to be chosen.
 const FOUR: Given<'static> = Given {
     size: 2,
     bounds: &[(1, 1), (1, 1)],
     volunteers: &[OPEN_0, OPEN_0, OPEN_1, OPEN_1],
+    family: &[],
+};
+
+/// The four, of whom the first and the third are of one household.
+const FAMILY: Given<'static> = Given {
+    family: &[0, 2],
+    ..FOUR
+};
+
+/// Two seats for a couple.
+const COUPLE: Given<'static> = Given {
+    family: &[0, 1],
+    ..PAIR
+};
+
+/// Two seats, for at most two of the first value and at most one of each other one, of two volunteers each.
+const SIX: Given<'static> = Given {
+    size: 2,
+    bounds: &[(0, 2), (0, 1), (0, 1)],
+    volunteers: &[OPEN_0, OPEN_0, OPEN_1, OPEN_1, OPEN_2, OPEN_2],
+    family: &[],
 };
 
 /// One of three and one of two.
@@ -30,6 +55,7 @@ const FIVE: Given<'static> = Given {
     size: 2,
     bounds: &[(1, 1), (1, 1)],
     volunteers: &[OPEN_0, OPEN_0, OPEN_0, OPEN_1, OPEN_1],
+    family: &[],
 };
 
 /// Two seats for two volunteers.
@@ -37,6 +63,7 @@ const PAIR: Given<'static> = Given {
     size: 2,
     bounds: &[(0, 2), (0, 2)],
     volunteers: &[OPEN_0, OPEN_1],
+    family: &[],
 };
 
 /// One seat for one of two.
@@ -44,6 +71,7 @@ const EITHER: Given<'static> = Given {
     size: 1,
     bounds: &[(0, 1), (0, 1)],
     volunteers: &[OPEN_0, OPEN_1],
+    family: &[],
 };
 
 /// The first of the four is gone, and the third is seated.
@@ -51,6 +79,7 @@ const REPLACED: Given<'static> = Given {
     size: 2,
     bounds: &[(1, 1), (1, 1)],
     volunteers: &[(0, Standing::Gone), OPEN_0, (1, Standing::Seated), OPEN_1],
+    family: &[],
 };
 
 /// Nobody is left who could have the first value.
@@ -58,6 +87,7 @@ const SHORT: Given<'static> = Given {
     size: 2,
     bounds: &[(1, 1), (1, 1)],
     volunteers: &[(0, Standing::Gone), (0, Standing::Gone), OPEN_1, OPEN_1],
+    family: &[],
 };
 
 fn built(alloc: Global, given: Given<'_>) -> Result<Pool, BuildStop> {
@@ -73,6 +103,11 @@ fn built(alloc: Global, given: Given<'_>) -> Result<Pool, BuildStop> {
     for (i, (_, standing)) in given.volunteers.iter().enumerate() {
         if i < pool.volunteers().len() {
             pool.set_standing(i, *standing);
+        }
+    }
+    for i in given.family {
+        if *i < pool.volunteers().len() {
+            pool.set_household(*i, "h")?;
         }
     }
     Ok(pool)
@@ -160,13 +195,24 @@ fn small_pools(rt: HostRuntime) -> Result<(), Fail> {
         (
             FOUR,
             AMPLE,
-            "total 2; 1 [1, 2]; 1 [0, 3]; cap 1 [1, 1, 0, 0]; cap 0 [-1, -1, 1, 1]",
+            "total 2; 1 [0, 2]; 1 [1, 3]; cap 1 [1, 1, 0, 0]; cap 0 [-1, -1, 1, 1]",
+        ),
+        (
+            FIVE,
+            AMPLE,
+            "total 6; 2 [0, 3]; 1 [1, 3]; 1 [1, 4]; 2 [2, 4]; cap 1 [1, 1, 1, 0, 0]; cap 1 [-2, -2, -2, 3, 3]",
+        ),
+        (
+            FAMILY,
+            AMPLE,
+            "total 2; 1 [0, 3]; 1 [1, 2]; cap 1 [1, 1, 0, 0]; cap 0 [0, -1, 1, 0]; cap 0 [-1, 1, -1, 1]",
         ),
         (
             PAIR,
             AMPLE,
             "total 1; 1 [0, 1]; cap 1 [1, 0]; cap 0 [-1, 1]",
         ),
+        (COUPLE, AMPLE, "no panel"),
         (EITHER, (2, 2, 3), "total 2; 1 [0]; 1 [1]; cap 1 [1, 1]"),
         (
             REPLACED,
@@ -178,10 +224,10 @@ fn small_pools(rt: HostRuntime) -> Result<(), Fail> {
         (EITHER, (2, 0, 3), "spent pivots 1 1 0"),
         (EITHER, (2, 1, 3), "spent pivots 1 2 1"),
         (EITHER, (2, 2, 2), "spent nodes 0 0 0"),
-        (FOUR, (127, 3, 50), "spent pivots 2 3 3"),
-        (FIVE, (127, 50, 6), "spent nodes 1 1 1"),
-        (FIVE, (127, 50, 8), "spent nodes 1 2 2"),
-        (FIVE, (3, 50, 50), "wide 1 4 3 4 Add 7 3"),
+        (FOUR, (127, 1, 50), "spent pivots 2 1 1"),
+        (FAMILY, (127, 50, 5), "spent nodes 1 1 1"),
+        (SIX, (127, 50, 5), "spent nodes 1 2 2"),
+        (FIVE, (3, 50, 50), "wide 1 1 0 2 Add 7 6"),
     ];
     for (given, limits, wanted) in cases {
         let answer = run(alloc, given, limits)?;

@@ -10,7 +10,7 @@ use Rattle.search_definitions.specs.Fronts.{is_reachable}
 use Rattle.search_definitions.specs.Visits.{Search as Due, one_by_one, enter_first}
 use Rattle.panel_search.specs.Front.{Tracks}
 use Rattle.panel_search.specs.declared.tally.Tally.{Tally}
-use Rattle.panel_search.specs.Steps.{StandsAt, Steps, StepsFrom, Finds, child_first, children_first, counts_among, counts_at}
+use Rattle.panel_search.specs.Steps.{StandsAt, Steps, StepsFrom, child_first, children_first, counts_among, counts_at}
 use Rattle.panel_search.specs.declared.searching.BudgetSpent.{BudgetSpent}
 use Rattle.panel_search.specs.declared.searching.Search.{Search}
 use Rattle.panel_search.proofs.Tracking.{Stands, comes_next}

@@ -6,7 +6,6 @@
 mod best_tests;
 mod greatest;
 mod pricing;
-mod rows;
 mod searching;
 mod tallies;
 mod tally;
@@ -15,5 +14,5 @@ mod tests;
 mod weighing;
 
 pub use pricing::best;
-pub use rows::Row;
+pub use row_model::Row;
 pub use searching::{SearchStop, first};

@@ -11,11 +11,11 @@ ghost use Rattle.search_definitions.specs.Compositions.{price, weight_in};
 ghost use Rattle.search_definitions.specs.Fronts.{HaveEntries, HaveReach, is_reachable, optimistic};
 ghost use Rattle.search_definitions.specs.Visits.{best_search, enter_best};
 
-use crate::rows::Row;
 use crate::searching::{BudgetSpent, SearchStop};
 use crate::tally::Tally;
 use crate::weighing::{Weighing, all_weighings, child_attains, empty_attains};
 use alike::{Classes, Composition};
+use row_model::Row;
 use std::alloc::{AllocError, Global};
 
 /// Of the compositions whose weight in each closed row is at least its right side, and whose weight in the row is above its right

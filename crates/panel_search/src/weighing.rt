@@ -7,8 +7,8 @@ ghost use Rattle.search_definitions.specs.Fronts.{greatest_sum, optimistic, take
 ghost use Rattle.search_definitions.specs.Compositions.{weight_in};
 
 use crate::greatest::greatest_sums;
-use crate::rows::Row;
 use alike::Classes;
+use row_model::Row;
 use std::alloc::{AllocError, Global};
 
 /// The weights of a front and of the fronts that it goes on from, by their lengths, and the greatest sums of units that later

@@ -5,7 +5,9 @@ use Rattle.pool_definitions.specs.Certificate.{Answer}
 use Rattle.pool_definitions.specs.Pool.{Pool}
 use Rattle.text_definitions.specs.PoolReading.{read}
 use Rattle.bundle_definitions.specs.BundleText.{bundle_text}
-use Rattle.run_definitions.specs.Run.{Ending, Limits}
+use Rattle.run_definitions.specs.Run.{Ending, Limits, run_limits}
+use Rattle.search_definitions.specs.Classes.{are_alike}
+use Rattle.search_definitions.proofs.AlikeClasses.{alike_makes}
 use Rattle.run_laws.proofs.NoPanels.{no_panel_where_none}
 use Rattle.command_shell.specs.declared.status.Printed.TheVariants as printed
 use Rattle.command_shell.specs.declared.status.Cause.{Cause}
@@ -126,7 +128,7 @@ module _ (limits : Limits) (told : Told) where
         ends = means.ends;
         only = λ other ends. one_ending pool limits other means.ending ends means.ends;
         due = is_due;
-        none = λ empty within. is_due ∙ ap (λ ending. status_of (answer_of limits pool ending)) (one_ending pool limits means.ending Ending.NoPanel means.ends (no_panel_where_none pool limits empty within));
+        none = λ empty within. is_due ∙ ap (λ ending. status_of (answer_of limits pool ending)) (one_ending pool limits means.ending Ending.NoPanel means.ends (no_panel_where_none pool (are_alike pool) (alike_makes pool) (run_limits limits) empty within));
       } in subst (λ input. RunIsDue limits input status) (sym t.read) run
 
   pub by_status : CallIsRight Means told → LotteryIsRight limits told

@@ -1,10 +1,10 @@
 -- What holds of all quota panels of a pool holds of each.
 use Rattle.std.proofs.Common.{◌≡◌, ℕ, zero, suc, ◌+◌, ◌≤◌, ◌<◌, true, ◌&&◌, eqb, ltb, List, [], ◌∷◌, map, length, sym, ⊎_elim, arith, subst}
 use Rattle.std.specs.List.{list_all, AllByRecursion, range_with_len}
-use Rattle.std.proofs.lemmas.Bool.{and_parts, cases_eq, eqb-true, ltb-true}
+use Rattle.std.proofs.lemmas.Bool.{and_from, and_parts, cases_eq, eq-eqb, eqb-true, ltb-true}
 use Rattle.basic_laws.proofs.Each.{each_from_list_all, each_from_filter, each_map, each_left, each_of_map, each_right}
 use Rattle.pool_definitions.specs.Lists.{choices, is_increasing}
-use Rattle.pool_definitions.specs.Pool.{Pool, everybody, is_quota_panel, panels, keeps_standings, meets_quotas}
+use Rattle.pool_definitions.specs.Pool.{Pool, everybody, is_quota_panel, panels, keeps_standings, keeps_households, meets_quotas}
 
 -- an increasing list with numbers from `first` on, so many at most, is among the choices
 pub chosen : (P : List ℕ → Type 0) (first count : ℕ) (xs : List ℕ) → is_increasing xs ≡ true → AllByRecursion (λ x. first ≤ x) xs → AllByRecursion (λ x. x < first + count) xs →
@@ -31,13 +31,28 @@ pub record Quota (pool : Pool) (panel : List ℕ) : Type 0 where
   pub size : length panel ≡ pool.size
   pub up : is_increasing panel ≡ true
   pub below : list_all (λ i. ltb i (length pool.volunteers)) panel ≡ true
+  pub standings : keeps_standings pool.volunteers panel ≡ true
+  pub quotas : meets_quotas pool.categories pool.volunteers panel ≡ true
+  pub households : keeps_households pool.volunteers panel ≡ true
 
 pub quota_parts : (pool : Pool) (panel : List ℕ) → is_quota_panel pool panel ≡ true → Quota pool panel
 quota_parts pool panel h =
     let A = eqb (length panel) pool.size in let B = is_increasing panel in let C = list_all (λ i. ltb i (length pool.volunteers)) panel in
     let D = keeps_standings pool.volunteers panel in let E = meets_quotas pool.categories pool.volunteers panel in
-    let e = and_parts (A && B && C && D) E h in let d = and_parts (A && B && C) D e.0 in let c = and_parts (A && B) C d.0 in let b = and_parts A B c.0 in
-    record { size = eqb-true (length panel) pool.size b.0; up = b.1; below = c.1 }
+    let F = keeps_households pool.volunteers panel in
+    let f = and_parts (A && B && C && D && E) F h in let e = and_parts (A && B && C && D) E f.0 in let d = and_parts (A && B && C) D e.0 in
+    let c = and_parts (A && B) C d.0 in let b = and_parts A B c.0 in
+    record { size = eqb-true (length panel) pool.size b.0; up = b.1; below = c.1; standings = d.1; quotas = e.1; households = f.1 }
+
+-- and what makes one
+pub quota_from : (pool : Pool) (panel : List ℕ) → Quota pool panel → is_quota_panel pool panel ≡ true
+quota_from pool panel q =
+    let A = eqb (length panel) pool.size in let B = is_increasing panel in let C = list_all (λ i. ltb i (length pool.volunteers)) panel in
+    let D = keeps_standings pool.volunteers panel in let E = meets_quotas pool.categories pool.volunteers panel in
+    let F = keeps_households pool.volunteers panel in
+    let size : A ≡ true = eq-eqb (length panel) pool.size q.size in
+    and_from (A && B && C && D && E) F
+    (and_from (A && B && C && D) E (and_from (A && B && C) D (and_from (A && B) C (and_from A B size q.up) q.below) q.standings) q.quotas) q.households
 
 pub each_panel : (P : List ℕ → Type 0) (pool : Pool) → AllByRecursion P (panels pool) → (panel : List ℕ) → is_quota_panel pool panel ≡ true → P panel
 each_panel P pool each panel h =

@@ -1,5 +1,5 @@
 -- Pools, quota panels, and the quota panels of a pool.
-use Rattle.std.specs.Prelude.{ℕ, ◌==◌, nat_lt, nat_le, Bool, true, false, not, ◌&&◌, IsTrue, List, [], ◌∷◌, map, length, count_by, filter, slice_index, slice_index_or, Option, Some, None, is_some}
+use Rattle.std.specs.Prelude.{ℕ, ◌==◌, nat_lt, nat_le, Bool, true, false, not, ◌&&◌, IsTrue, List, [], ◌∷◌, map, length, count_by, filter, slice_index, slice_index_or, Option, Some, None, is_some, bytes_eq}
 use Rattle.std.specs.List.{list_all, list_any, enumerate_from, range_with_len}
 use Rattle.std.specs.Str.{is_utf8}
 use Rattle.pool_definitions.specs.declared.Standing.{Standing}
@@ -120,15 +120,31 @@ abbrev pub keeps_standings : List Volunteer → List ℕ → Bool
 keeps_standings volunteers panel =
     list_all (λ (i, volunteer). allows volunteer.standing (includes panel i)) (enumerate_from 0 volunteers)
 
+-- two names are of one household, where both are there
+abbrev pub is_same_household : Option (List ℕ) → Option (List ℕ) → Bool
+is_same_household None other = false
+is_same_household (Some name) None = false
+is_same_household (Some name) (Some other) = bytes_eq name other
+
+-- two volunteers are of one household
+abbrev pub share_household : List Volunteer → ℕ → ℕ → Bool
+share_household volunteers i j = is_same_household (volunteer volunteers i).household (volunteer volunteers j).household
+
+-- no two members are of one household: each member's household has one member at most in the panel
+abbrev pub keeps_households : List Volunteer → List ℕ → Bool
+keeps_households volunteers panel = list_all (λ i. nat_le (count_by (share_household volunteers i) panel) 1) panel
+
 -- an increasing list of numbers of volunteers, of the pool's size
 abbrev pub is_of_size : Pool → List ℕ → Bool
 is_of_size pool panel =
     length panel == pool.size && is_increasing panel && list_all (λ i. nat_lt i (length pool.volunteers)) panel
 
--- an increasing list of numbers of volunteers, of the pool's size, that keeps the standings and meets every quota
+-- an increasing list of numbers of volunteers, of the pool's size, that keeps the standings, meets every quota, and has no two
+-- members of one household
 abbrev pub is_quota_panel : Pool → List ℕ → Bool
 is_quota_panel pool panel =
     is_of_size pool panel && keeps_standings pool.volunteers panel && meets_quotas pool.categories pool.volunteers panel
+    && keeps_households pool.volunteers panel
 
 -- the quota panels of a pool: all increasing lists of its size over the volunteers, in lexicographic order, that are one
 abbrev pub panels : Pool → List (List ℕ)

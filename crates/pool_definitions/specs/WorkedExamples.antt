@@ -1,5 +1,5 @@
 -- Small pools with their lotteries and certificates, on which the definitions compute.
-use Rattle.std.specs.Prelude.{ℕ, List, [], ◌∷◌, ℤ, pos, negsuc, codes, None}
+use Rattle.std.specs.Prelude.{ℕ, List, [], ◌∷◌, ℤ, pos, negsuc, codes, None, Some}
 use Rattle.pool_definitions.specs.declared.Standing.TheVariants.{Open, Seated, Gone}
 use Rattle.pool_definitions.specs.Pool.{BoundedValue, Category, Volunteer, Pool}
 use Rattle.pool_definitions.specs.Lottery.{LotteryRow, Lottery}
@@ -53,6 +53,34 @@ dropout_stages =
     stage (pos 0) (negsuc 0 ∷ pos 0 ∷ pos 0 ∷ pos 1 ∷ []) ∷
     stage (pos 1) (pos 0 ∷ pos 1 ∷ pos 0 ∷ negsuc 0 ∷ []) ∷
     stage (pos 0) (pos 0 ∷ negsuc 0 ∷ pos 1 ∷ pos 0 ∷ []) ∷ []
+
+-- a volunteer of a household
+abbrev pub of_household : List ℕ → Volunteer → Volunteer
+of_household name volunteer = record volunteer { household = Some name }
+
+-- two women and two men, of whom one woman and one man are of one household
+abbrev pub family : Pool
+family = record four {
+  volunteers = of_household (codes "h") (person (codes "a") (0 ∷ [])) ∷ person (codes "b") (0 ∷ [])
+      ∷ of_household (codes "h") (person (codes "c") (1 ∷ [])) ∷ person (codes "d") (1 ∷ []) ∷ [];
+}
+
+-- two seats for one woman and one man, who are of one household
+abbrev pub couple : Pool
+couple = record {
+  size = 2;
+  categories = category (codes "gender") (bounded (codes "female") 0 2 ∷ bounded (codes "male") 0 2 ∷ []) ∷ [];
+  volunteers = of_household (codes "h") (person (codes "a") (0 ∷ [])) ∷ of_household (codes "h") (person (codes "b") (1 ∷ [])) ∷ [];
+}
+
+abbrev pub family_lottery : Lottery
+family_lottery = record { total = 2; rows = row (0 ∷ 3 ∷ []) 1 ∷ row (1 ∷ 2 ∷ []) 1 ∷ [] }
+
+abbrev pub family_stages : List Stage
+family_stages =
+    stage (pos 1) (pos 1 ∷ pos 1 ∷ pos 0 ∷ pos 0 ∷ []) ∷
+    stage (pos 0) (pos 0 ∷ negsuc 0 ∷ pos 1 ∷ pos 0 ∷ []) ∷
+    stage (pos 0) (negsuc 0 ∷ pos 1 ∷ negsuc 0 ∷ pos 1 ∷ []) ∷ []
 
 -- one seat, for which one category asks for a and the other for b
 abbrev pub crossed : Pool

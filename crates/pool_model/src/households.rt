@@ -1,8 +1,8 @@
-//! Whether volunteers have households.
+//! Whether volunteers have households, and which of them are of one.
 
 ghost use Rattle.std.specs.Prelude.{◌≡◌, is_some};
 ghost use Rattle.std.specs.List.{list_any};
-ghost use Rattle.pool_definitions.specs.Pool.{has_households as some_has};
+ghost use Rattle.pool_definitions.specs.Pool.{has_households as some_has, is_same_household as is_same, share_household as share};
 
 use crate::parts::Volunteer;
 use crate::pools::Pool;
@@ -20,4 +20,24 @@ fn are_housed(volunteers: &[Volunteer]) -> bool
     volunteers
         .iter()
         .any(|volunteer| volunteer.household().is_some())
+}
+
+/// Are the volunteers of two numbers of one household? A volunteer who has one is of one household with themself; who has none, or isn't
+/// there, is of one with nobody.
+pub fn share_household(volunteers: &[Volunteer], i: usize, j: usize) -> bool
+    ensures { result ≡ share volunteers.now i j }
+{
+    match (volunteers.get(i), volunteers.get(j)) {
+        (Some(one), Some(other)) => is_same_household(one, other),
+        _ => false,
+    }
+}
+
+fn is_same_household(one: &Volunteer, other: &Volunteer) -> bool
+    ensures { result ≡ is_same one.now.household other.now.household }
+{
+    match (one.household(), other.household()) {
+        (Some(name), Some(other)) => name.as_bytes() == other.as_bytes(),
+        _ => false,
+    }
 }

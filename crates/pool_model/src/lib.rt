@@ -19,7 +19,7 @@ mod tests;
 pub use building::BuildStop;
 pub use certificates::{Answer, Certificate, Stage};
 pub use counting::chances;
-pub use households::has_households;
+pub use households::{has_households, share_household};
 pub use lotteries::{Lottery, LotteryRow};
 pub use panels::Panel;
 pub use parts::{Bound, BoundedValue, Category, Name, Volunteer};

@@ -1,17 +1,18 @@
 //! Whether a panel is a quota panel of a pool.
 
-ghost use Rattle.std.specs.Prelude.{◌≡◌, IsTrue, nat_lt, length};
+ghost use Rattle.std.specs.Prelude.{◌≡◌, IsTrue, nat_lt, count_by, length};
 ghost use Rattle.std.specs.List.{list_all, enumerate_from};
 ghost use Rattle.pool_definitions.specs.Lists.{includes};
-ghost use Rattle.pool_definitions.specs.Pool.{members_with, allows, is_within, meets_quotas, keeps_standings, is_quota_panel};
+ghost use Rattle.pool_definitions.specs.Pool.{members_with, allows, is_within, meets_quotas, keeps_standings, keeps_households, share_household as share, is_quota_panel};
 
+use crate::households::share_household;
 use crate::panels::Panel;
 use crate::parts::{BoundedValue, Category, Volunteer};
 use crate::pools::Pool;
 use pool_definitions::Standing;
 
 /// Is the panel a quota panel of the pool: of the pool's size, with numbers of its volunteers, with every seated and no gone
-/// volunteer, and with every bound met?
+/// volunteer, with every bound met, and with no two members of one household?
 pub fn fits(pool: &Pool, panel: &Panel) -> bool
     ensures { result ≡ is_quota_panel pool.now panel.now }
 {
@@ -20,6 +21,7 @@ pub fn fits(pool: &Pool, panel: &Panel) -> bool
         && are_below(members, pool.volunteers().len())
         && keep_standings(pool.volunteers(), members)
         && meet_quotas(pool.categories(), pool.volunteers(), members)
+        && keep_households(pool.volunteers(), members)
 }
 
 fn are_below(members: &[usize], count: usize) -> bool
@@ -90,4 +92,17 @@ fn lies_within(value: &BoundedValue, count: usize) -> bool
     ensures { result ≡ is_within value.now count }
 {
     value.lower() <= count && count <= value.upper()
+}
+
+fn keep_households(volunteers: &[Volunteer], members: &[usize]) -> bool
+    ensures { result ≡ keeps_households volunteers.now members.now }
+{
+    members.iter().all(|i| number_of_household(volunteers, members, *i) <= 1)
+}
+
+// How many members are of a volunteer's household?
+fn number_of_household(volunteers: &[Volunteer], members: &[usize], i: usize) -> usize
+    ensures { result ≡ count_by (share volunteers.now i) members.now }
+{
+    members.iter().filter(|j| share_household(volunteers, i, **j)).count()
 }

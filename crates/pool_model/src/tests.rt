@@ -93,6 +93,17 @@ fn knows_quota_panels(rt: HostRuntime) -> Result<(), Fail> {
         let answer = panel.map(|panel| fits(&copy, &panel));
         assert_eq!(rt; answer, want, "at {members:?}");
     }
+    set(&rt, &mut pool, 0, Standing::Open);
+    set(&rt, &mut pool, 2, Standing::Open);
+    for number in [0, 2] {
+        assert_eq!(rt; house(&rt, &mut pool, number, "h"), None);
+    }
+    assert_eq!(rt; house(&rt, &mut pool, 1, "i"), None);
+    for (members, want) in [([0, 2], false), ([0, 3], true), ([1, 2], true)] {
+        let panel = Panel::new(members.to_vec(alloc)?);
+        let answer = panel.map(|panel| fits(&pool, &panel));
+        assert_eq!(rt; answer, Some(want), "at {members:?}");
+    }
     Ok(())
 }
 

@@ -25,6 +25,7 @@ use Rattle.row_definitions.proofs.StepsKeep.{add-keeps, close-keeps, enter-keeps
 use Rattle.search_definitions.specs.Classes.{Class, Classes, KeepsLimits}
 use Rattle.search_definitions.specs.Compositions.{all_counts, compositions, is_composition, meets_bounds, price, taken_of}
 use Rattle.search_definitions.specs.Fronts.{sizes_of}
+use Rattle.search_definitions.proofs.FirstSearch.{composition_parts}
 use Rattle.search_definitions.proofs.Contained.{each_contains, each_itself, filtered, first_there}
 use Rattle.run_definitions.specs.Run.{RunLimits, Next, GoOn, Ended, closed_rows, follow, opening, priced, step}
 use Rattle.run_definitions.specs.Keeps.{AreRunLimits, IsPriced, IsReached, KeepsRun}
@@ -162,7 +163,7 @@ pub record MayBegin (all : Classes) (first : List ℕ) : Type 0 where
 pub may_begin : (all : Classes) → KeepsLimits all → (first : List ℕ) → Contains (compositions all) first → MayBegin all first
 may_begin all limited first there = record {
   some =
-      let takes = eqb-true (taken_of (λ class. true) all.classes first) all.size (and_parts (taken_of (λ class. true) all.classes first == all.size) (meets_bounds all.bounds all.classes first) composes).0 in
+      let takes = (composition_parts all first composes).size in
       some_taken (λ class. true) all.classes first (omega (arith, takes, limited.size.0));
   each = All-from_recursion (λ size. 1 ≤ size) (sizes_of all) (each_mapped (λ size. 1 ≤ size) (λ class. length class.members) all.classes
       (recursion_from_All (λ class. 1 ≤ length class.members) all.classes limited.members));

@@ -13,7 +13,7 @@ use Rattle.row_definitions.proofs.PivotLaws.{after-Ok_parts}
 use Rattle.row_definitions.proofs.StepsKeep.{some_settle}
 use Rattle.search_definitions.specs.Classes.{Classes, KeepsLimits, are_alike, classes_of}
 use Rattle.search_definitions.proofs.Limits.{limits_kept}
-use Rattle.search_definitions.proofs.PoolClasses.{alone_makes_classes}
+use Rattle.search_definitions.proofs.AlikeClasses.{alike_makes}
 use Rattle.run_definitions.specs.Keeps.{AreLimits, AreRunLimits, KeepsRun}
 use Rattle.run_definitions.specs.Run.{Ending, Ended, Ends, GoOn, Limits, Next, RunEnds, RunLimits, follow, opening, run_limits, step}
 use Rattle.run_definitions.specs.Work.{turns_by, turns_left, work_left}
@@ -125,4 +125,4 @@ module _ (all : Classes) (limits : RunLimits) (limited : KeepsLimits all) (range
 
 pub every_run_end : (pool : Pool) (limits : Limits) → IsPool pool → AreLimits limits → (ending : Ending) × RunEnds pool limits ending
 every_run_end pool limits is_pool ranges =
-    every_end (classes_of pool) (run_limits limits) (limits_kept pool (are_alike pool) is_pool (alone_makes_classes pool)) ranges
+    every_end (classes_of pool) (run_limits limits) (limits_kept pool (are_alike pool) is_pool (alike_makes pool)) ranges

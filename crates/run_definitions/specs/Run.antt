@@ -1,9 +1,8 @@
 -- The run: from a pool and limits to a lottery with its stages, or to the first refusal.
 use Rattle.std.specs.Prelude.{◌≡◌, ℕ, zero, suc, nat_lt, nat_le, if◌then◌else◌, List, [], map, length, slice_index_or, Option, Some, None, Result, Ok, Err}
-use Rattle.std.specs.List.{position_or_len, range_with_len}
+use Rattle.std.specs.List.{range_with_len}
 use Rattle.frac128.specs.Fractions.{Fraction}
 use Rattle.pool_definitions.specs.Certificate.{Answer, Stage}
-use Rattle.pool_definitions.specs.Lists.{includes}
 use Rattle.pool_definitions.specs.Lottery.{Lottery}
 use Rattle.pool_definitions.specs.Pool.{Pool}
 use Rattle.row_definitions.specs.declared.Pass.{Pass}
@@ -14,7 +13,7 @@ use Rattle.row_definitions.specs.InOrder.{settled_count}
 use Rattle.row_definitions.specs.Pivot.{start, pivot}
 use Rattle.row_definitions.specs.Choice.{choice}
 use Rattle.row_definitions.specs.Steps.{enter_stage, close_stage, add_column, open_row, fraction_of, solution}
-use Rattle.search_definitions.specs.Classes.{Class, Classes, classes_of, volunteer_count}
+use Rattle.search_definitions.specs.Classes.{Classes, class_number, classes_of, volunteer_count}
 use Rattle.search_definitions.specs.Compositions.{first_composition, price}
 use Rattle.search_definitions.specs.Fronts.{sizes_of}
 use Rattle.search_definitions.specs.Visits.{first_search, best_search}
@@ -62,10 +61,6 @@ pub data Next : Type 0 where
 -- the rows of the closed stages, in order
 abbrev pub closed_rows : Table → List Row
 closed_rows table = map (row_at table) table.closed
-
--- the number of the class that has a volunteer, the number of all classes where none has
-abbrev pub class_number : List Class → ℕ → ℕ
-class_number classes i = position_or_len (λ class. includes class.members i) classes
 
 -- the stage of a closed row: its right side is the cap, and each volunteer weighs the entry of the volunteer's class
 abbrev pub stage_of : Classes → Row → Stage

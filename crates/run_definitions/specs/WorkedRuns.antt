@@ -16,7 +16,7 @@ halves = record {
 -- one woman and one man of two each: everybody with half a chance
 abbrev pub pairs : Answer
 pairs = record {
-  lottery = record { total = 2; rows = record { panel = 1 ∷ 2 ∷ []; weight = 1 } ∷ record { panel = 0 ∷ 3 ∷ []; weight = 1 } ∷ [] };
+  lottery = record { total = 2; rows = record { panel = 0 ∷ 2 ∷ []; weight = 1 } ∷ record { panel = 1 ∷ 3 ∷ []; weight = 1 } ∷ [] };
   stages = record { weights = pos 1 ∷ pos 1 ∷ pos 0 ∷ pos 0 ∷ []; cap = pos 1 }
       ∷ record { weights = negsuc 0 ∷ negsuc 0 ∷ pos 1 ∷ pos 1 ∷ []; cap = pos 0 } ∷ [];
 }

@@ -10,14 +10,13 @@ use Rattle.pool_definitions.specs.Certificate.{Stage, is_capped}
 use Rattle.pool_definitions.specs.Pool.{Pool}
 use Rattle.row_definitions.specs.Row.{Row}
 use Rattle.row_definitions.specs.Table.{Table, row_at}
-use Rattle.search_definitions.specs.Classes.{Classes, are_alike, classes_of}
+use Rattle.search_definitions.specs.Classes.{Classes, MakesClasses, classes_by}
 use Rattle.search_definitions.specs.Compositions.{attains, compositions, first_greatest, price, weight_in}
-use Rattle.search_definitions.specs.Stages.{row_of}
+use Rattle.search_definitions.specs.Stages.{WeighAlike, row_of}
 use Rattle.search_definitions.proofs.NothingToPrice.{capped_where_nothing_priced}
-use Rattle.search_definitions.proofs.PoolClasses.{alone_makes_classes}
 use Rattle.run_definitions.specs.Keeps.{KeepsRun}
 use Rattle.run_definitions.specs.Run.{RunLimits, closed_rows, stage_of}
-use Rattle.run_laws.proofs.StageRows.{class_count, from_places, row_back, weigh_alike}
+use Rattle.run_laws.proofs.StageRows.{from_places, row_back, weighs_alike}
 
 -- the row of a closed stage, and the stage
 abbrev pub closed_row : Table → ℕ → Row
@@ -73,22 +72,29 @@ price_same all table k row =
 
 -- ---- the caps
 
-module _ (pool : Pool) (limits : RunLimits) (table : Table) (keeps : KeepsRun (classes_of pool) limits table) where
-  pub size_count : length table.sizes ≡ length pool.volunteers
-  size_count = ap length keeps.sizes ∙ length-map (classes_of pool).classes (λ class. length class.members) ∙ class_count pool
+module _ (pool : Pool) (alike : ℕ → ℕ → Bool) (makes : MakesClasses pool alike) (limits : RunLimits) (table : Table) (keeps : KeepsRun (classes_by alike pool) limits table) where
+  abbrev all : Classes
+  all = classes_by alike pool
 
-  pub entry_each : (k : ℕ) → k < length table.closed → length (closed_row table k).a ≡ length pool.volunteers
+  pub size_count : length table.sizes ≡ length all.classes
+  size_count = ap length keeps.sizes ∙ length-map all.classes (λ class. length class.members)
+
+  pub entry_each : (k : ℕ) → k < length table.closed → length (closed_row table k).a ≡ length all.classes
   entry_each k l = keeps.in_order.entry_count (slice_index table.closed k) _ (keeps.in_order.closed_known k 0 l) ∙ size_count
 
-  rows_back : (k : ℕ) → k ≤ length table.closed → map (row_of (are_alike pool) pool) (earlier (classes_of pool) table k) ≡ rows_before table k
+  rows_back : (k : ℕ) → k ≤ length table.closed → map (row_of alike pool) (earlier all table k) ≡ rows_before table k
   rows_back zero l = refl
-  rows_back (suc k) l = ap₂ (λ row rows. row ∷ rows) (row_back pool (closed_row table k) (entry_each k (omega arith))) (rows_back k (omega arith))
+  rows_back (suc k) l = ap₂ (λ row rows. row ∷ rows) (row_back pool alike makes (closed_row table k) (entry_each k (omega arith))) (rows_back k (omega arith))
 
-  pub capped : (k : ℕ) → k < length table.closed → is_capped pool (earlier (classes_of pool) table k) (stage_at (classes_of pool) table k) ≡ true
+  weigh_alike : (k : ℕ) → WeighAlike alike (length pool.volunteers) (earlier all table k)
+  weigh_alike zero = tt
+  weigh_alike (suc k) = (weighs_alike pool alike makes (closed_row table k), weigh_alike k)
+
+  pub capped : (k : ℕ) → k < length table.closed → is_capped pool (earlier all table k) (stage_at all table k) ≡ true
   capped k l =
-      capped_where_nothing_priced pool (are_alike pool) (earlier (classes_of pool) table k) (stage_at (classes_of pool) table k) (alone_makes_classes pool)
-      (weigh_alike pool (stage_at (classes_of pool) table k ∷ earlier (classes_of pool) table k))
-      (ap₂ (price (classes_of pool)) (rows_back k (omega arith)) (row_back pool (closed_row table k) (entry_each k l))
-      ∙ price_same (classes_of pool) table k (closed_row table k)
-      ∙ ap (λ rows. price (classes_of pool) rows (closed_row table k)) (sym (first_rows_are table k (omega arith)))
+      capped_where_nothing_priced pool alike (earlier all table k) (stage_at all table k) makes
+      (weighs_alike pool alike makes (closed_row table k), weigh_alike k)
+      (ap₂ (price all) (rows_back k (omega arith)) (row_back pool alike makes (closed_row table k) (entry_each k l))
+      ∙ price_same all table k (closed_row table k)
+      ∙ ap (λ rows. price all rows (closed_row table k)) (sym (first_rows_are table k (omega arith)))
       ∙ keeps.priced_out k l)

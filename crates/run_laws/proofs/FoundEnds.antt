@@ -1,19 +1,17 @@
 -- A run that finds an answer comes to a table with no stage open and everybody settled, whose columns it spreads.
-use Rattle.std.proofs.Common.{◌≡◌, ◌≤◌, true, false, length, map, Result, Ok, Err, refl, sym, ap, ◌∙◌, subst, inl, inr, ◌⊎◌}
+use Rattle.std.proofs.Common.{◌≡◌, ℕ, ◌≤◌, Bool, true, false, length, map, Result, Ok, Err, refl, sym, ap, ◌∙◌, subst, inl, inr, ◌⊎◌}
 use Rattle.std.proofs.lemmas.Bool.{false≢true}
 use Rattle.pool_definitions.specs.Certificate.{Answer}
 use Rattle.pool_definitions.specs.Lottery.{Lottery, IsLottery}
 use Rattle.pool_definitions.specs.Pool.{Pool, IsPool}
 use Rattle.row_definitions.specs.InOrder.{settled_count}
 use Rattle.row_definitions.specs.Table.{Table}
-use Rattle.search_definitions.specs.Classes.{Classes, KeepsLimits, are_alike, classes_of}
+use Rattle.search_definitions.specs.Classes.{Classes, MakesClasses, classes_by}
 use Rattle.search_definitions.proofs.Limits.{limits_kept}
-use Rattle.search_definitions.proofs.PoolClasses.{alone_makes_classes}
 use Rattle.spread_definitions.specs.Spreading.{AreParts, TotalPass, greatest_total, spread}
-use Rattle.spread_definitions.proofs.Alone.{pool_alone}
-use Rattle.spread_definitions.proofs.LotteryAlone.{is_spread_alone, pool_lottery}
-use Rattle.run_definitions.specs.Keeps.{AreLimits, IsReached, KeepsRun}
-use Rattle.run_definitions.specs.Run.{Ends, Limits, RunLimits, Ended, Found, NoPanel, RunEnds, answered, closed_rows, opening, parts_of, run_limits, stage_of}
+use Rattle.spread_definitions.proofs.Lotteries.{is_spread, pool_lottery}
+use Rattle.run_definitions.specs.Keeps.{AreRunLimits, IsReached, KeepsRun}
+use Rattle.run_definitions.specs.Run.{Ends, RunLimits, Ended, Found, NoPanel, answered, closed_rows, opening, parts_of, stage_of}
 use Rattle.run_definitions.proofs.Kept.{reached_kept}
 use Rattle.run_definitions.proofs.Parts.{parts_are}
 use Rattle.run_laws.proofs.Endings.{EndsAt, FindsNone, IsAnswered, ends_at, is_refused, opening_tells, step_tells}
@@ -61,23 +59,24 @@ module _ (all : Classes) (limits : RunLimits) (last : Table) (answer : Answer) w
       by (inl now) = absurd (of_opening (opening_tells all limits (Found last answer) now))
       by (inr at) = of_step at.last at.reached (step_tells all limits at.last (Found last answer) at.step_is)
 
--- ---- over a pool
+-- ---- over the classes of a pool
 
-pub pool_limits : (pool : Pool) → IsPool pool → KeepsLimits (classes_of pool)
-pool_limits pool is_pool = limits_kept pool (are_alike pool) is_pool (alone_makes_classes pool)
+module _ (pool : Pool) (alike : ℕ → ℕ → Bool) (makes : MakesClasses pool alike) (limits : RunLimits) (last : Table) (answer : Answer) (is_pool : IsPool pool) (ranges : AreRunLimits limits)
+    (ends : Ends (classes_by alike pool) limits (Found last answer)) where
+  abbrev all : Classes
+  all = classes_by alike pool
 
-module _ (pool : Pool) (limits : Limits) (last : Table) (answer : Answer) (is_pool : IsPool pool) (ranges : AreLimits limits) (ends : RunEnds pool limits (Found last answer)) where
-  pub found : EndsFound (classes_of pool) (run_limits limits) last answer
-  found = ends_found (classes_of pool) (run_limits limits) last answer ends
+  pub found : EndsFound all limits last answer
+  found = ends_found all limits last answer ends
 
-  pub keeps : KeepsRun (classes_of pool) (run_limits limits) last
-  keeps = reached_kept (classes_of pool) (run_limits limits) (pool_limits pool is_pool) ranges last found.reached
+  pub keeps : KeepsRun all limits last
+  keeps = reached_kept all limits (limits_kept pool alike is_pool makes) ranges last found.reached
 
-  pub parts : AreParts (classes_of pool) (parts_of last)
-  parts = parts_are (classes_of pool) (run_limits limits) last keeps
+  pub parts : AreParts all (parts_of last)
+  parts = parts_are all limits last keeps
 
   pub lottery : IsLottery pool answer.lottery
-  lottery = pool_lottery pool (parts_of last) answer.lottery parts found.lottery_is
+  lottery = pool_lottery pool alike makes (parts_of last) answer.lottery parts found.lottery_is
 
   pub within : answer.lottery.total ≤ greatest_total
-  within = (is_spread_alone (classes_of pool) (parts_of last) answer.lottery (pool_alone pool) parts found.lottery_is).common.within
+  within = (is_spread all (parts_of last) answer.lottery parts found.lottery_is).common.within

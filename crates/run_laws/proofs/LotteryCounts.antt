@@ -6,6 +6,7 @@ use Rattle.std.proofs.lemmas.Bool.{eq-eqb}
 use Rattle.std.proofs.lemmas.List.{get_or-map}
 use Rattle.std.proofs.lemmas.List.Elements.{All-from_recursion, recursion_from_All}
 use Rattle.std.proofs.lemmas.Option.{slice_get-get_or}
+use Rattle.std.proofs.Math.Nat.{mul-div_cancel_left}
 use Rattle.basic_laws.proofs.Sums.{total, sum_by-is-total}
 use Rattle.basic_laws.proofs.Each.{each_both, each_map, each_mapped}
 use Rattle.frac128.specs.Fractions.{Fraction, lowest_of}
@@ -20,13 +21,13 @@ use Rattle.row_definitions.specs.Solutions.{IsTight, SolutionStands, numerator_o
 use Rattle.row_definitions.specs.Steps.{ColumnValue, fraction_of, solution}
 use Rattle.row_definitions.specs.Table.{Table}
 use Rattle.row_definitions.proofs.Satisfied.{solution-stands, solution-tight}
-use Rattle.search_definitions.specs.Classes.{Classes, classes_of}
-use Rattle.search_definitions.specs.Compositions.{first_panel}
-use Rattle.spread_definitions.specs.Singles.{row_alone, single}
+use Rattle.search_definitions.specs.Classes.{Classes, MakesClasses, class_by, class_number, classes_by}
+use Rattle.search_definitions.proofs.ClassNumbers.{number_below, number_has}
+use Rattle.search_definitions.proofs.Parting.{classes_part}
 use Rattle.spread_definitions.specs.Spreading.{AreParts, expected, spread}
-use Rattle.spread_definitions.proofs.Alone.{pool_alone}
 use Rattle.spread_definitions.proofs.CommonTotals.{each_den}
-use Rattle.spread_definitions.proofs.LotteryAlone.{IsSpreadAlone, is_spread_alone, pool_even}
+use Rattle.spread_definitions.proofs.Lotteries.{IsSpread, even_chances, is_spread, pool_can_give}
+use Rattle.spread_definitions.proofs.SpreadPanels.{OfComposition, each_spread_panel}
 use Rattle.run_definitions.specs.Keeps.{KeepsRun}
 use Rattle.run_definitions.specs.Run.{RunLimits, parts_of}
 use Rattle.run_definitions.proofs.Parts.{parts_are}
@@ -34,7 +35,6 @@ use Rattle.run_laws.specs.Levels.{Closed, levels_to_come}
 use Rattle.run_laws.proofs.ClosedStages.{closed_row, earlier, entry_each, size_count, stage_at}
 use Rattle.run_laws.proofs.Marks.{marked}
 use Rattle.run_laws.proofs.PanelWeights.{panel_weighs}
-use Rattle.run_laws.proofs.StageRows.{class_count, members_alone}
 
 -- what holds of each part, from each column of the solution
 each_part : (table : Table) (P : List ℕ × Fraction → Type 0) (theres : List ColumnValue) →
@@ -60,15 +60,19 @@ expected_is table common t (there ∷ theres) =
     turned : (a b : ℕ) → a * b ≡ b * a
     turned a b = omega arith
 
-module _ (pool : Pool) (limits : RunLimits) (table : Table) (keeps : KeepsRun (classes_of pool) limits table) (lottery : Lottery) (lottery_is : spread (classes_of pool) (parts_of table) ≡ Ok lottery) where
+module _ (pool : Pool) (alike : ℕ → ℕ → Bool) (makes : MakesClasses pool alike) (limits : RunLimits) (table : Table) (keeps : KeepsRun (classes_by alike pool) limits table) (lottery : Lottery)
+    (lottery_is : spread (classes_by alike pool) (parts_of table) ≡ Ok lottery) where
   abbrev all : Classes
-  all = classes_of pool
+  all = classes_by alike pool
+
+  abbrev class_at : ℕ → ℕ
+  class_at i = class_number all.classes i
 
   parts : AreParts all (parts_of table)
   parts = parts_are all limits table keeps
 
-  made : IsSpreadAlone all (parts_of table) lottery
-  made = is_spread_alone all (parts_of table) lottery (pool_alone pool) parts lottery_is
+  made : IsSpread all (parts_of table) lottery
+  made = is_spread all (parts_of table) lottery parts lottery_is
 
   -- ---- each panel of the lottery weighs the cap
 
@@ -77,16 +81,13 @@ module _ (pool : Pool) (limits : RunLimits) (table : Table) (keeps : KeepsRun (c
 
   pub caps_reached : (k : ℕ) → k < length table.closed → AllByRecursion (λ row. panel_weight (stage_at all table k) row.panel ≡ (closed_row table k).b) lottery.rows
   caps_reached k l =
-      subst (AllByRecursion (λ row. panel_weight (stage_at all table k) row.panel ≡ (closed_row table k).b)) (sym (ap (λ (lottery : Lottery). lottery.rows) made.is))
-      (each_mapped (λ row. panel_weight (stage_at all table k) row.panel ≡ (closed_row table k).b) (row_alone all lottery.total) (parts_of table)
-      (each_part table (λ part. panel_weight (stage_at all table k) (first_panel all part.0) ≡ (closed_row table k).b) (solution table)
-      (each_map (λ there. (there.column < length table.columns) × All (IsTight table there.column) table.closed)
-      (λ there. panel_weight (stage_at all table k) (first_panel all (get_or table.columns there.column [])) ≡ (closed_row table k).b)
-      (λ there h. panel_weighs pool (closed_row table k) (entry_each pool limits table keeps k l) (get_or table.columns there.column []) (keeps.columns there.column [] h.0)
-      ∙ h.1 k 0 l) (solution table)
-      (each_both (λ there. there.column < length table.columns) (λ there. All (IsTight table there.column) table.closed) (solution table)
-      (recursion_from_All (λ there. there.column < length table.columns) (solution table) solved.known)
-      (recursion_from_All (λ there. All (IsTight table there.column) table.closed) (solution table) (solution-tight table keeps.in_order))))))
+      each_spread_panel pool alike makes (λ panel. panel_weight (stage_at all table k) panel ≡ (closed_row table k).b) (parts_of table) lottery parts lottery_is
+      (each_part table (λ part. OfComposition pool alike makes (λ panel. panel_weight (stage_at all table k) panel ≡ (closed_row table k).b) part.0) (solution table)
+      (each_map (λ there. All (IsTight table there.column) table.closed)
+      (λ there. OfComposition pool alike makes (λ panel. panel_weight (stage_at all table k) panel ≡ (closed_row table k).b) (get_or table.columns there.column []))
+      (λ there tight panel inside composed.
+      panel_weighs pool alike makes (closed_row table k) (entry_each pool alike makes limits table keeps k l) (get_or table.columns there.column []) panel inside composed ∙ tight k 0 l) (solution table)
+      (recursion_from_All (λ there. All (IsTight table there.column) table.closed) (solution table) (solution-tight table keeps.in_order))))
 
   -- ---- each volunteer's count
 
@@ -100,68 +101,59 @@ module _ (pool : Pool) (limits : RunLimits) (table : Table) (keeps : KeepsRun (c
       ∙ expected_is table lottery.total t (solution table)
       ∙ sym (sum_by-is-total (λ there. numerator_over lottery.total there * count_in table.columns there.column t) (solution table))
 
-  module _ (is_pool : IsPool pool) where
-    counted : (i : ℕ) → i < length pool.volunteers → count lottery i ≡ count_over table lottery.total i
-    counted i l =
-        let inside : i < length all.classes = omega (arith, class_count pool) in
-        let mine = members_alone 0 i all.classes (single pool.volunteers 0) (pool_alone pool) inside in
-        let me : includes ((0 + i) ∷ []) i ≡ true = ap (λ b. b || false) (eq-eqb (0 + i) i (omega arith)) in
-        let even = pool_even pool (parts_of table) lottery is_pool parts lottery_is i i (get_or all.classes i (single pool.volunteers 0)) (slice_get-get_or all.classes i (single pool.volunteers 0) inside)
-        (ap (λ members. includes members i) mine ∙ me) in
-        times_one (count lottery i) (length (get_or all.classes i (single pool.volunteers 0)).members) (ap length mine) ∙ even ∙ expected_count i
-      where
-        times_one : (n size : ℕ) → size ≡ 1 → n ≡ n * size
-        times_one n size e = sym (ap (λ m. n * m) e ∙ one n)
-          where
-            one : (n : ℕ) → n * 1 ≡ n
-            one n = omega arith
+  -- a volunteer's count times the size of the volunteer's class is the class's count
+  counted : (i : ℕ) → i < length pool.volunteers → count lottery i * get_or table.sizes (class_at i) 0 ≡ count_over table lottery.total (class_at i)
+  counted i l =
+      let class = get_or all.classes (class_at i) (class_by alike pool 0) in
+      let inside = number_below pool alike makes i l in
+      let size : get_or table.sizes (class_at i) 0 ≡ length class.members =
+      ap (λ sizes. get_or sizes (class_at i) 0) keeps.sizes ∙ get_or-map (λ class. length class.members) all.classes (class_at i) (class_by alike pool 0) 0 inside in
+      ap (λ size. count lottery i * size) size
+      ∙ even_chances all (parts_of table) lottery (classes_part pool alike makes) (pool_can_give pool alike) parts lottery_is (class_at i) i class
+      (slice_get-get_or all.classes (class_at i) (class_by alike pool 0) inside) (number_has pool alike makes i (class_by alike pool 0) l)
+      ∙ expected_count (class_at i)
 
-    one_size : (i : ℕ) → i < length pool.volunteers → get_or table.sizes i 0 ≡ 1
-    one_size i l =
-        let inside : i < length all.classes = omega (arith, class_count pool) in
-        ap (λ sizes. get_or sizes i 0) keeps.sizes
-        ∙ get_or-map (λ class. length class.members) all.classes i (single pool.volunteers 0) 0 inside
-        ∙ ap length (members_alone 0 i all.classes (single pool.volunteers 0) (pool_alone pool) inside)
+  some_size : (i : ℕ) → i < length pool.volunteers → 0 < get_or table.sizes (class_at i) 0
+  some_size i l = keeps.in_order.sizes (class_at i) 0 (omega (arith, size_count pool alike makes limits table keeps, number_below pool alike makes i l))
 
-    -- over the scale of the levels
-    pub counts_are : (levels : HasLevels table) (i : ℕ) → i < length pool.volunteers → count lottery i * levels.scale ≡ lottery.total * class_levels table levels.level i
-    counts_are levels i l =
-        let told = levels.counts_over lottery.total i divides (omega (arith, size_count pool limits table keeps)) in
-        scaled (count lottery i) (count_over table lottery.total i) levels.scale lottery.total (get_or table.sizes i 0) (class_levels table levels.level i) (counted i l) told (one_size i l)
-      where
-        scaled : (n m scale sum size level : ℕ) → n ≡ m → scale * m ≡ sum * (size * level) → size ≡ 1 → n * scale ≡ sum * level
-        scaled n m scale sum size level e f g =
-            let a : n * scale ≡ scale * m = ap (λ n. n * scale) e ∙ turned m scale in
-            let b : sum * (size * level) ≡ sum * level = ap (λ size. sum * (size * level)) g ∙ ap (λ n. sum * n) (one level) in
-            a ∙ f ∙ b
-          where
-            turned : (a b : ℕ) → a * b ≡ b * a
-            turned a b = omega arith
+  -- over the scale of the levels
+  pub counts_are : (levels : HasLevels table) (i : ℕ) → i < length pool.volunteers → count lottery i * levels.scale ≡ lottery.total * class_levels table levels.level (class_at i)
+  counts_are levels i l =
+      let told = levels.counts_over lottery.total (class_at i) divides (omega (arith, size_count pool alike makes limits table keeps, number_below pool alike makes i l)) in
+      scaled (count lottery i) (count_over table lottery.total (class_at i)) levels.scale lottery.total (get_or table.sizes (class_at i) 0) (class_levels table levels.level (class_at i)) (counted i l) told (some_size i l)
+    where
+      scaled : (n m scale sum size level : ℕ) → n * size ≡ m → scale * m ≡ sum * (size * level) → 0 < size → n * scale ≡ sum * level
+      scaled n m scale sum size level e f some =
+          let a : size * (n * scale) ≡ size * (sum * level) = turned n scale size ∙ ap (λ m. scale * m) e ∙ f ∙ turned_too sum size level in
+          sym (mul-div_cancel_left (n * scale) some) ∙ ap (λ m. m / size) a ∙ mul-div_cancel_left (sum * level) some
+        where
+          turned : (n scale size : ℕ) → size * (n * scale) ≡ scale * (n * size)
+          turned n scale size = omega arith
 
-            one : (n : ℕ) → 1 * n ≡ n
-            one n = omega arith
+          turned_too : (sum size level : ℕ) → sum * (size * level) ≡ size * (sum * level)
+          turned_too sum size level = omega arith
 
 -- ---- the levels of the stages that come
 
 abbrev pub closed_at : Classes → Table → (ℕ → ℕ) → ℕ → Closed
 closed_at all table level k = record { stage = stage_at all table k; level = level k }
 
-module _ (pool : Pool) (limits : RunLimits) (table : Table) (keeps : KeepsRun (classes_of pool) limits table) (stages : KeepsStages table) (shut : table.in_stage ≡ false) (level : ℕ → ℕ) where
+module _ (pool : Pool) (alike : ℕ → ℕ → Bool) (makes : MakesClasses pool alike) (limits : RunLimits) (table : Table) (keeps : KeepsRun (classes_by alike pool) limits table) (stages : KeepsStages table) (shut : table.in_stage ≡ false) (level : ℕ → ℕ) where
   levels_from : (more k i : ℕ) → k + more ≡ length table.closed → i < length pool.volunteers →
-      levels_to_come (earlier (classes_of pool) table k) (map (closed_at (classes_of pool) table level) (range_with_len k more)) i ≡ total (λ k. cond (was_unsettled table k i) (level k) 0) (range_with_len k more)
+      levels_to_come (earlier (classes_by alike pool) table k) (map (closed_at (classes_by alike pool) table level) (range_with_len k more)) i ≡ total (λ k. cond (was_unsettled table k (class_number (classes_by alike pool).classes i)) (level k) 0) (range_with_len k more)
   levels_from zero k i e l = refl
   levels_from (suc more) k i e l =
       let next : k + 1 ≡ suc k = omega arith in
-      let rest : levels_to_come (earlier (classes_of pool) table (suc k)) (map (closed_at (classes_of pool) table level) (range_with_len (k + 1) more)) i ≡ total (λ k. cond (was_unsettled table k i) (level k) 0) (range_with_len (k + 1) more) =
-      ap (λ n. levels_to_come (earlier (classes_of pool) table n) (map (closed_at (classes_of pool) table level) (range_with_len (k + 1) more)) i) (sym next) ∙ levels_from more (k + 1) i (omega arith) l in
-      ap₂ (λ a b. a + b) (ap (λ b. cond b 0 (level k)) (marked pool limits table keeps stages shut k i (omega arith) l) ∙ either (was_unsettled table k i)) rest
+      let rest : levels_to_come (earlier (classes_by alike pool) table (suc k)) (map (closed_at (classes_by alike pool) table level) (range_with_len (k + 1) more)) i ≡ total (λ k. cond (was_unsettled table k (class_number (classes_by alike pool).classes i)) (level k) 0) (range_with_len (k + 1) more) =
+      ap (λ n. levels_to_come (earlier (classes_by alike pool) table n) (map (closed_at (classes_by alike pool) table level) (range_with_len (k + 1) more)) i) (sym next) ∙ levels_from more (k + 1) i (omega arith) l in
+      ap₂ (λ a b. a + b) (ap (λ b. cond b 0 (level k)) (marked pool alike makes limits table keeps stages shut k i (omega arith) l) ∙ either (was_unsettled table k (class_number (classes_by alike pool).classes i))) rest
     where
       either : (b : Bool) → cond (not b) 0 (level k) ≡ cond b (level k) 0
       either true = refl
       either false = refl
 
   pub levels_are : (i : ℕ) → i < length pool.volunteers →
-      levels_to_come [] (map (closed_at (classes_of pool) table level) (range_with_len 0 (length table.closed))) i ≡ class_levels table level i
+      levels_to_come [] (map (closed_at (classes_by alike pool) table level) (range_with_len 0 (length table.closed))) i ≡ class_levels table level (class_number (classes_by alike pool).classes i)
   levels_are i l =
       levels_from (length table.closed) 0 i (omega arith) l
-      ∙ sym (sum_by-is-total (λ k. cond (was_unsettled table k i) (level k) 0) (range_with_len 0 (length table.closed)))
+      ∙ sym (sum_by-is-total (λ k. cond (was_unsettled table k (class_number (classes_by alike pool).classes i)) (level k) 0) (range_with_len 0 (length table.closed)))

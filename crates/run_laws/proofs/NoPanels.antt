@@ -1,16 +1,16 @@
 -- A run ends with no panel where the pool has no quota panel.
-use Rattle.std.proofs.Common.{◌≡◌, ℕ, ◌≤◌, true, cond, List, [], ◌∷◌, None, Result, Ok, Err, refl, sym, ap, ◌∙◌, inl, inr, ◌⊎◌}
+use Rattle.std.proofs.Common.{◌≡◌, ℕ, ◌≤◌, Bool, true, cond, List, [], ◌∷◌, None, Result, Ok, Err, refl, sym, ap, ◌∙◌, inl, inr, ◌⊎◌}
 use Rattle.std.proofs.lemmas.Bool.{false≢true, le-ltb}
 use Rattle.std.specs.Prelude.{slice_get}
 use Rattle.pool_definitions.specs.Pool.{Pool, panels}
 use Rattle.pool_definitions.specs.Lottery.{Lottery}
 use Rattle.row_definitions.specs.Table.{Table}
-use Rattle.run_definitions.specs.Run.{Limits, RunLimits, Ended, NoPanel, NodesSpent, Ends, RunEnds, answered, opened, opening, parts_of, run_limits}
-use Rattle.search_definitions.specs.Classes.{Classes, are_alike, classes_of}
+use Rattle.run_definitions.specs.Run.{RunLimits, Ended, NoPanel, NodesSpent, Ends, answered, opened, opening, parts_of}
+use Rattle.search_definitions.specs.Classes.{Classes, MakesClasses, classes_by}
 use Rattle.search_definitions.specs.Compositions.{compositions, first_composition}
 use Rattle.search_definitions.specs.Visits.{first_search}
 use Rattle.search_definitions.proofs.FirstSearch.{search_finds_first}
-use Rattle.search_definitions.proofs.PoolClasses.{alone_makes_classes, classes_in_order, no_panel_of_classes, search_finds_none}
+use Rattle.search_definitions.proofs.PoolClasses.{classes_in_order, no_panel_of_classes, search_finds_none}
 use Rattle.spread_definitions.specs.Spreading.{TotalPass, spread}
 use Rattle.run_definitions.proofs.Following.{ends_at_once}
 use Rattle.run_laws.proofs.Endings.{EndsAt, FindsNone, IsAnswered, ends_at, is_refused, opening_tells, step_tells}
@@ -43,17 +43,19 @@ at_opening all limits ends = by (ends_at all limits ends.steps NoPanel ends.ther
     by (inl now) = opens (opening_tells all limits NoPanel now)
     by (inr last) = absurd (steps last.last (step_tells all limits last.last NoPanel last.step_is))
 
-pub no_panel_is_within : (pool : Pool) (limits : Limits) → RunEnds pool limits NoPanel → (first_search (classes_of pool)).visits ≤ limits.nodes
-no_panel_is_within pool limits ends = (at_opening (classes_of pool) (run_limits limits) ends).within
+module _ (pool : Pool) (alike : ℕ → ℕ → Bool) (makes : MakesClasses pool alike) (limits : RunLimits) where
+  abbrev all : Classes
+  all = classes_by alike pool
 
-pub none_where_no_panel : (pool : Pool) (limits : Limits) → RunEnds pool limits NoPanel → panels pool ≡ []
-none_where_no_panel pool limits ends =
-    no_panel_of_classes pool (are_alike pool) (alone_makes_classes pool) (nothing_first (compositions (classes_of pool)) (at_opening (classes_of pool) (run_limits limits) ends).none)
+  pub no_panel_is_within : Ends all limits NoPanel → (first_search all).visits ≤ limits.opening
+  no_panel_is_within ends = (at_opening all limits ends).within
 
-pub no_panel_where_none : (pool : Pool) (limits : Limits) → panels pool ≡ [] → (first_search (classes_of pool)).visits ≤ limits.nodes → RunEnds pool limits NoPanel
-unfolding opening
-no_panel_where_none pool limits none few =
-    let all = classes_of pool in
-    let finds : first_composition all ≡ None = sym (search_finds_first all (classes_in_order pool (are_alike pool))) ∙ (search_finds_none pool (are_alike pool) (alone_makes_classes pool)).1 none in
-    ends_at_once all (run_limits limits) NoPanel
-    (ap (λ b. cond b (Ended (NodesSpent None)) (opened all (run_limits limits) (first_composition all))) (le-ltb limits.nodes (first_search all).visits few) ∙ ap (opened all (run_limits limits)) finds)
+  pub none_where_no_panel : Ends all limits NoPanel → panels pool ≡ []
+  none_where_no_panel ends = no_panel_of_classes pool alike makes (nothing_first (compositions all) (at_opening all limits ends).none)
+
+  pub no_panel_where_none : panels pool ≡ [] → (first_search all).visits ≤ limits.opening → Ends all limits NoPanel
+  unfolding opening
+  no_panel_where_none none few =
+      let finds : first_composition all ≡ None = sym (search_finds_first all (classes_in_order pool alike)) ∙ (search_finds_none pool alike makes).1 none in
+      ends_at_once all limits NoPanel
+      (ap (λ b. cond b (Ended (NodesSpent None)) (opened all limits (first_composition all))) (le-ltb limits.opening (first_search all).visits few) ∙ ap (opened all limits) finds)

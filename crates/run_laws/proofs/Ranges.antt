@@ -1,10 +1,11 @@
 -- The numbers of what a run finds keep the ranges that they have in the text of a bundle.
-use Rattle.std.proofs.Common.{◌≡◌, ℕ, zero, suc, ◌+◌, ◌*◌, ◌-◌, ◌^◌, ◌<◌, ◌≤◌, true, ◌&&◌, eqb, leb, ltb, List, [], ◌∷◌, map, length, sum_by, ℤ, pos, refl, sym, ap, ap₂, ◌∙◌, subst, arith}
+use Rattle.std.proofs.Common.{◌≡◌, ℕ, zero, suc, ◌+◌, ◌*◌, ◌-◌, ◌^◌, ◌<◌, ◌≤◌, Bool, true, ◌&&◌, eqb, leb, ltb, List, [], ◌∷◌, map, length, sum_by, ℤ, pos, refl, sym, ap, ap₂, ◌∙◌, subst, arith}
 use Rattle.std.specs.Prelude.{unsigned_abs}
 use Rattle.std.specs.List.{AllByRecursion, list_all, range_with_len}
 use Rattle.std.proofs.lemmas.Bool.{and_from, eq-eqb, false≢true, le-leb, leb-true, lt-ltb, and_parts}
 use Rattle.std.proofs.Math.Pow.{pow_mono}
-use Rattle.basic_laws.proofs.Sums.{sum_by-is-total, total}
+use Rattle.basic_laws.proofs.Sums.{length-filter-total, sum_by-is-total, total, total_ext}
+use Rattle.basic_laws.proofs.Lists.{map-map}
 use Rattle.basic_laws.proofs.Each.{each_both, each_from_list_all, each_map, each_mapped, each_range, list_all_from_each}
 use Rattle.bundle_definitions.specs.Ranges.{IsInRanges, is_group, is_row, is_stage, is_weight, reach}
 use Rattle.pool_definitions.specs.Certificate.{Answer, Stage, StagesHold, is_settled, weight_of}
@@ -16,17 +17,17 @@ use Rattle.row_definitions.specs.Row as rows
 use Rattle.row_definitions.specs.Row.{entry, sum_of_sizes}
 use Rattle.row_definitions.specs.Table.{Table}
 use Rattle.row_definitions.specs.Width.{width_limit}
-use Rattle.search_definitions.specs.Classes.{Class, classes_of}
+use Rattle.search_definitions.specs.Classes.{Class, Classes, MakesClasses, class_by, class_of, classes_by, leaders}
+use Rattle.search_definitions.proofs.ByClass.{by_class, taken}
+use Rattle.search_definitions.proofs.ClassNumbers.{class_count, leader_below}
 use Rattle.search_definitions.specs.Fronts.{sizes_of}
-use Rattle.spread_definitions.specs.Singles.{AreAlone}
 use Rattle.spread_definitions.specs.Spreading.{greatest_total}
-use Rattle.spread_definitions.proofs.Alone.{each_leads, pool_alone}
-use Rattle.run_definitions.specs.Keeps.{AreLimits, KeepsRun}
-use Rattle.run_definitions.specs.Run.{Found, Limits, RunLimits, RunEnds, closed_rows, run_limits, stage_of}
+use Rattle.run_definitions.specs.Keeps.{AreRunLimits, KeepsRun}
+use Rattle.run_definitions.specs.Run.{Ends, Found, RunLimits, closed_rows, stage_of}
 use Rattle.run_laws.proofs.Certified.{found_certified}
 use Rattle.run_laws.proofs.ClosedStages.{closed_row, closed_rows_are, entry_each, size_count}
 use Rattle.run_laws.proofs.FoundEnds.{found, keeps, lottery, within}
-use Rattle.run_laws.proofs.StageRows.{entries_back, from_places, one_weight_each}
+use Rattle.run_laws.proofs.StageRows.{entries_back, from_places, one_weight_each, weighs_alike}
 
 -- ---- rows
 
@@ -77,72 +78,94 @@ some_stage_holds pool lottery [] some hold = absurd (by (length pool.volunteers)
     by zero l h = omega arith
     by (suc n) l h = false≢true h
 
-ones_alone : (first : ℕ) (classes : List Class) → AreAlone first classes → AllByRecursion (λ size. size ≡ 1) (map (λ class. length class.members) classes)
-ones_alone first [] alone = tt
-ones_alone first (class ∷ classes) alone = (ap length alone.0, ones_alone (first + 1) classes alone.1)
+-- the sizes of the classes times their leaders' weights without their signs
+sum_by_leaders : (f : ℕ → ℤ) (size : ℕ → ℕ) (xs : List ℕ) → sum_of_sizes (map size xs) (map f xs) ≡ total (λ l. size l * unsigned_abs (f l)) xs
+sum_by_leaders f size [] = refl
+sum_by_leaders f size (l ∷ xs) = ap (λ n. size l * unsigned_abs (f l) + n) (sum_by_leaders f size xs)
 
--- over classes of one member the sum of sizes is that of the entries without their signs
-sum_of_ones : (sizes : List ℕ) (xs : List ℤ) → AllByRecursion (λ size. size ≡ 1) sizes → length xs ≡ length sizes → sum_of_sizes sizes xs ≡ total unsigned_abs xs
-sum_of_ones [] [] ones e = refl
-sum_of_ones [] (x ∷ xs) ones e = absurd (omega arith)
-sum_of_ones (size ∷ sizes) [] ones e = absurd (omega arith)
-sum_of_ones (size ∷ sizes) (x ∷ xs) ones e =
-    let rest = sum_of_ones sizes xs ones.1 (omega arith) in
-    ap₂ (λ a b. a + b) (ap (λ size. size * unsigned_abs x) ones.0 ∙ one (unsigned_abs x)) rest
-  where
-    one : (n : ℕ) → 1 * n ≡ n
-    one n = omega arith
+module _ (pool : Pool) (alike : ℕ → ℕ → Bool) (makes : MakesClasses pool alike) where
+  abbrev all : Classes
+  all = classes_by alike pool
 
-module _ (pool : Pool) where
-  -- the weights of a row's stage are the row's entries
-  weights_back : (row : rows.Row) → length row.a ≡ length pool.volunteers → (stage_of (classes_of pool) row).weights ≡ row.a
-  weights_back row e =
-      let stage = stage_of (classes_of pool) row in
+  abbrev count : ℕ
+  count = length pool.volunteers
+
+  abbrev firsts : List ℕ
+  firsts = leaders alike count
+
+  abbrev size_of : ℕ → ℕ
+  size_of l = length (class_of alike count l)
+
+  -- the weights of a row's stage are those of the volunteers
+  weights_by_place : (row : rows.Row) → (stage_of all row).weights ≡ map (weight_of (stage_of all row)) (range_with_len 0 count)
+  weights_by_place row =
+      let stage = stage_of all row in
       sym (from_places (weight_of stage) 0 stage.weights (pos 0) (λ i l. let here : 0 + i ≡ i = omega arith in ap (weight_of stage) here))
-      ∙ ap (λ n. map (weight_of stage) (range_with_len 0 n)) (one_weight_each pool row)
-      ∙ ap (map (weight_of stage)) (sym (each_leads (length pool.volunteers)))
-      ∙ entries_back pool row e
+      ∙ ap (λ n. map (weight_of stage) (range_with_len 0 n)) (one_weight_each pool alike makes row)
 
-  reach_is : (row : rows.Row) → length row.a ≡ length pool.volunteers → length row.a ≡ length (sizes_of (classes_of pool)) → reach (stage_of (classes_of pool) row) ≡ rows.reach (sizes_of (classes_of pool)) row
-  reach_is row e f =
+  total-map : (f : ℕ → ℤ) (xs : List ℕ) → total unsigned_abs (map f xs) ≡ total (λ i. unsigned_abs (f i)) xs
+  total-map f [] = refl
+  total-map f (x ∷ xs) = ap (λ n. unsigned_abs (f x) + n) (total-map f xs)
+
+  sizes_are : sizes_of all ≡ map size_of firsts
+  sizes_are = map-map (λ (class : Class). length class.members) (class_by alike pool) firsts
+
+  reach_is : (row : rows.Row) → length row.a ≡ length all.classes → reach (stage_of all row) ≡ rows.reach (sizes_of all) row
+  reach_is row e =
+      let weigh : ℕ → ℤ = weight_of (stage_of all row) in
       ap (λ n. unsigned_abs row.b + n)
-      (ap (sum_by unsigned_abs) (weights_back row e) ∙ sum_by-is-total unsigned_abs row.a ∙ sym (sum_of_ones (sizes_of (classes_of pool)) row.a (ones_alone 0 (classes_of pool).classes (pool_alone pool)) f))
+      (sum_by-is-total unsigned_abs (stage_of all row).weights
+      ∙ ap (total unsigned_abs) (weights_by_place row)
+      ∙ total-map weigh (range_with_len 0 count)
+      ∙ by_class alike makes.same count (λ i. unsigned_abs (weigh i)) (λ i j a b t. ap unsigned_abs (weighs_alike pool alike makes row i j a b t)) (range_with_len 0 count)
+      (each_range (λ i. i < count) 0 count (λ i low below. omega arith))
+      ∙ total_ext (λ l. taken alike l (range_with_len 0 count) * unsigned_abs (weigh l)) (λ l. size_of l * unsigned_abs (weigh l))
+      (λ l. ap (λ n. n * unsigned_abs (weigh l)) (sym (length-filter-total (alike l) (range_with_len 0 count)))) firsts
+      ∙ sym (sum_by_leaders weigh size_of firsts)
+      ∙ ap₂ sum_of_sizes (sym sizes_are) (entries_back pool alike makes row e))
 
-  module _ (limits : RunLimits) (table : Table) (kept : KeepsRun (classes_of pool) limits table) where
-    stage_in_ranges : (k : ℕ) → k < length table.closed → is_stage (length pool.volunteers) (stage_of (classes_of pool) (closed_row table k)) ≡ true
+  module _ (limits : RunLimits) (table : Table) (kept : KeepsRun all limits table) where
+    stage_in_ranges : (k : ℕ) → k < length table.closed → is_stage count (stage_of all (closed_row table k)) ≡ true
     stage_in_ranges k l =
         let row = closed_row table k in
-        let entries = entry_each pool limits table kept k l in
-        let sizes = size_count pool limits table kept in
+        let entries = entry_each pool alike makes limits table kept k l in
         let narrow : rows.reach table.sizes row ≤ width_limit table.bits = kept.in_order.within_width _ _ (kept.in_order.closed_known k 0 l) in
-        let here = reach_is row entries (entries ∙ sym sizes ∙ ap length kept.sizes) ∙ ap (λ sizes. rows.reach sizes row) (sym kept.sizes) in
+        let here = reach_is row entries ∙ ap (λ sizes. rows.reach sizes row) (sym kept.sizes) in
         let wide = pow_mono kept.in_order.few_bits in
-        and_from (eqb (length (stage_of (classes_of pool) row).weights) (length pool.volunteers)) (leb (reach (stage_of (classes_of pool) row)) (2 ^ 127 - 1))
-        (eq-eqb (length (stage_of (classes_of pool) row).weights) (length pool.volunteers) (one_weight_each pool row))
-        (le-leb (reach (stage_of (classes_of pool) row)) (2 ^ 127 - 1) (omega (arith, narrow, here, wide)))
+        and_from (eqb (length (stage_of all row).weights) count) (leb (reach (stage_of all row)) (2 ^ 127 - 1))
+        (eq-eqb (length (stage_of all row).weights) count (one_weight_each pool alike makes row))
+        (le-leb (reach (stage_of all row)) (2 ^ 127 - 1) (omega (arith, narrow, here, wide)))
 
-    stages_in_ranges : list_all (is_stage (length pool.volunteers)) (map (stage_of (classes_of pool)) (closed_rows table)) ≡ true
+    stages_in_ranges : list_all (is_stage count) (map (stage_of all) (closed_rows table)) ≡ true
     stages_in_ranges =
-        list_all_from_each (is_stage (length pool.volunteers)) (map (stage_of (classes_of pool)) (closed_rows table))
-        (each_mapped (λ stage. is_stage (length pool.volunteers) stage ≡ true) (stage_of (classes_of pool)) (closed_rows table)
-        (subst (AllByRecursion (λ row. is_stage (length pool.volunteers) (stage_of (classes_of pool) row) ≡ true)) (closed_rows_are table)
-        (each_mapped (λ row. is_stage (length pool.volunteers) (stage_of (classes_of pool) row) ≡ true) (closed_row table) (range_with_len 0 (length table.closed))
-        (each_range (λ k. is_stage (length pool.volunteers) (stage_of (classes_of pool) (closed_row table k)) ≡ true) 0 (length table.closed) (λ k low l. stage_in_ranges k (omega arith))))))
+        list_all_from_each (is_stage count) (map (stage_of all) (closed_rows table))
+        (each_mapped (λ stage. is_stage count stage ≡ true) (stage_of all) (closed_rows table)
+        (subst (AllByRecursion (λ row. is_stage count (stage_of all row) ≡ true)) (closed_rows_are table)
+        (each_mapped (λ row. is_stage count (stage_of all row) ≡ true) (closed_row table) (range_with_len 0 (length table.closed))
+        (each_range (λ k. is_stage count (stage_of all (closed_row table k)) ≡ true) 0 (length table.closed) (λ k low l. stage_in_ranges k (omega arith))))))
 
 -- ---- what a run finds
 
-module _ (pool : Pool) (limits : Limits) (last : Table) (answer : Answer) (is_pool : IsPool pool) (ranges : AreLimits limits) (ends : RunEnds pool limits (Found last answer)) where
+module _ (pool : Pool) (alike : ℕ → ℕ → Bool) (makes : MakesClasses pool alike) (limits : RunLimits) (last : Table) (answer : Answer) (is_pool : IsPool pool) (ranges : AreRunLimits limits)
+    (ends : Ends (classes_by alike pool) limits (Found last answer)) where
+  kept : KeepsRun (classes_by alike pool) limits last
+  kept = keeps pool alike makes limits last answer is_pool ranges ends
+
+  is : IsLottery pool answer.lottery
+  is = lottery pool alike makes limits last answer is_pool ranges ends
+
+  -- a class has a leader
   some_volunteer : 0 < length pool.volunteers
   some_volunteer =
-      let kept = keeps pool limits last answer is_pool ranges ends in
-      omega (arith, kept.in_order.some_class, size_count pool (run_limits limits) last kept)
+      let some : 0 < length (leaders alike (length pool.volunteers)) = omega (arith, kept.in_order.some_class, size_count pool alike makes limits last kept, class_count pool alike makes) in
+      omega (arith, leader_below pool alike makes 0 some)
 
   pub found_in_ranges : IsInRanges pool answer
   found_in_ranges = record {
-    total = weight_ranges answer.lottery.total (some_total pool answer.lottery (lottery pool limits last answer is_pool ranges ends)) (within pool limits last answer is_pool ranges ends);
-    some_row = (lottery pool limits last answer is_pool ranges ends).some;
-    rows = rows_in_ranges pool answer.lottery is_pool (lottery pool limits last answer is_pool ranges ends) (within pool limits last answer is_pool ranges ends);
-    some_stage = some_stage_holds pool answer.lottery answer.stages some_volunteer (found_certified pool limits last answer is_pool ranges ends).stages_hold;
-    stages = subst (λ stages. list_all (is_stage (length pool.volunteers)) stages ≡ true) (found pool limits last answer is_pool ranges ends).stages_are
-        (stages_in_ranges pool (run_limits limits) last (keeps pool limits last answer is_pool ranges ends));
+    total = weight_ranges answer.lottery.total (some_total pool answer.lottery is) (within pool alike makes limits last answer is_pool ranges ends);
+    some_row = is.some;
+    rows = rows_in_ranges pool answer.lottery is_pool is (within pool alike makes limits last answer is_pool ranges ends);
+    some_stage = some_stage_holds pool answer.lottery answer.stages some_volunteer (found_certified pool alike makes limits last answer is_pool ranges ends).stages_hold;
+    stages = subst (λ stages. list_all (is_stage (length pool.volunteers)) stages ≡ true) (found pool alike makes limits last answer is_pool ranges ends).stages_are
+        (stages_in_ranges pool alike makes limits last kept);
   }

@@ -1,20 +1,17 @@
--- Where each volunteer is a class alone, a stage's weights are its row's entries, and its row is that row again.
-use Rattle.std.proofs.Common.{◌≡◌, ℕ, zero, suc, ◌+◌, ◌<◌, Bool, true, false, ◌||◌, eqb, List, [], ◌∷◌, map, length, get_or, pos, refl, sym, ap, ap₂, ◌∙◌, arith}
-use Rattle.std.specs.List.{position_or_len, range_with_len}
-use Rattle.std.proofs.lemmas.Bool.{eqb-true, eq-eqb, ne_eqb}
+-- A stage weighs each volunteer as its row's entry of the volunteer's class, and its row over the classes is that row again.
+use Rattle.std.proofs.Common.{◌≡◌, ℕ, zero, suc, ◌+◌, ◌<◌, Bool, true, List, [], ◌∷◌, map, length, get_or, pos, refl, sym, ap, ap₂, ◌∙◌, arith}
+use Rattle.std.specs.List.{AllByRecursion, range_with_len}
+use Rattle.std.proofs.lemmas.List.{get_or-map, length-map}
 use Rattle.std.proofs.lemmas.List.FromFn.{get_or-map-range_with_len, length-map-range_with_len}
-use Rattle.std.proofs.lemmas.List.Sums.{position_or_len_is}
-use Rattle.basic_laws.proofs.Each.{each_everywhere}
+use Rattle.basic_laws.proofs.Each.{each_everywhere, each_mapped}
 use Rattle.pool_definitions.specs.Certificate.{Stage, weight_of}
-use Rattle.pool_definitions.specs.Lists.{includes}
 use Rattle.pool_definitions.specs.Pool.{Pool}
 use Rattle.row_definitions.specs.Row.{Row, entry}
-use Rattle.search_definitions.specs.Classes.{Class, Classes, are_alike, classes_of, leaders, volunteer_count}
+use Rattle.search_definitions.specs.Classes.{Classes, MakesClasses, class_number, classes_by, leaders, volunteer_count}
 use Rattle.search_definitions.specs.Stages.{WeighAlike, row_of}
-use Rattle.spread_definitions.specs.Singles.{AreAlone, single}
-use Rattle.spread_definitions.proofs.Alone.{classes_alone, each_leads, pool_alone}
-use Rattle.spread_definitions.proofs.EvenAlone.{as_many}
-use Rattle.run_definitions.specs.Run.{class_number, stage_of}
+use Rattle.search_definitions.proofs.ClassNumbers.{class_count, leader_below, leader_number, number_same}
+use Rattle.search_definitions.proofs.Parting.{all_counted}
+use Rattle.run_definitions.specs.Run.{stage_of}
 
 -- a list is what stands at its places
 pub from_places : {X : Type 0} (f : ℕ → X) (a : ℕ) (xs : List X) (d : X) → ((i : ℕ) → i < length xs → f (a + i) ≡ get_or xs i d) → map f (range_with_len a (length xs)) ≡ xs
@@ -24,67 +21,50 @@ from_places f a (x ∷ xs) d h =
     ap₂ (λ y ys. y ∷ ys) (ap f (sym here) ∙ h 0 (omega arith))
     (from_places f (a + 1) xs d (λ i l. let next : a + 1 + i ≡ a + suc i = omega arith in ap f next ∙ h (suc i) (omega arith)))
 
--- ---- the number of a volunteer's class
-
-pub members_alone : (first k : ℕ) (classes : List Class) (d : Class) → AreAlone first classes → k < length classes → (get_or classes k d).members ≡ (first + k) ∷ []
-members_alone first k [] d alone l = absurd (omega arith)
-members_alone first zero (class ∷ classes) d alone l = let here : first ≡ first + 0 = omega arith in alone.0 ∙ ap (λ n. n ∷ []) here
-members_alone first (suc k) (class ∷ classes) d alone l =
-    let here : first + 1 + k ≡ first + suc k = omega arith in members_alone (first + 1) k classes d alone.1 (omega arith) ∙ ap (λ n. n ∷ []) here
-
-pub number_alone : (classes : List Class) (d : Class) (i : ℕ) → AreAlone 0 classes → i < length classes → class_number classes i ≡ i
-number_alone classes d i alone l = place
-  where
-    or_false : (b : Bool) → (b || false) ≡ b
-    or_false true = refl
-    or_false false = refl
-
-    holds_at : (k : ℕ) → k < length classes → includes (get_or classes k d).members i ≡ eqb (0 + k) i
-    holds_at k m = ap (λ members. includes members i) (members_alone 0 k classes d alone m) ∙ or_false (eqb (0 + k) i)
-
-    place : position_or_len (λ class. includes class.members i) classes ≡ i
-    place = position_or_len_is (λ class. includes class.members i) classes i d (omega arith)
-        (λ k m. holds_at k (omega arith) ∙ ne_eqb (0 + k) i (λ e. omega arith)) (λ m. holds_at i m ∙ eq-eqb (0 + i) i (omega arith))
-
--- ---- the stage of a row
-
-module _ (pool : Pool) where
+module _ (pool : Pool) (alike : ℕ → ℕ → Bool) (makes : MakesClasses pool alike) where
   abbrev count : ℕ
   count = length pool.volunteers
 
   abbrev all : Classes
-  all = classes_of pool
+  all = classes_by alike pool
 
-  abbrev nobody : Class
-  nobody = single pool.volunteers 0
+  abbrev firsts : List ℕ
+  firsts = leaders alike count
 
-  pub class_count : length all.classes ≡ count
-  class_count = ap length (classes_alone pool) ∙ length-map-range_with_len (single pool.volunteers) 0 count
+  -- the class of a volunteer
+  abbrev pub class_of_volunteer : ℕ → ℕ
+  class_of_volunteer i = class_number all.classes i
 
-  pub member_count : volunteer_count all ≡ count
-  member_count = as_many 0 all.classes (pool_alone pool) ∙ class_count
-
-  weights_are : (row : Row) → (stage_of all row).weights ≡ map (λ i. entry row (class_number all.classes i)) (range_with_len 0 count)
-  weights_are row = ap (λ n. map (λ i. entry row (class_number all.classes i)) (range_with_len 0 n)) member_count
+  weights_are : (row : Row) → (stage_of all row).weights ≡ map (λ i. entry row (class_of_volunteer i)) (range_with_len 0 count)
+  weights_are row = ap (λ n. map (λ i. entry row (class_of_volunteer i)) (range_with_len 0 n)) (all_counted pool alike makes)
 
   pub one_weight_each : (row : Row) → length (stage_of all row).weights ≡ count
-  one_weight_each row = ap length (weights_are row) ∙ length-map-range_with_len (λ i. entry row (class_number all.classes i)) 0 count
+  one_weight_each row = ap length (weights_are row) ∙ length-map-range_with_len (λ i. entry row (class_of_volunteer i)) 0 count
 
-  pub weight_is_entry : (row : Row) (i : ℕ) → i < count → weight_of (stage_of all row) i ≡ entry row i
+  pub weight_is_entry : (row : Row) (i : ℕ) → i < count → weight_of (stage_of all row) i ≡ entry row (class_of_volunteer i)
   weight_is_entry row i l =
       ap (λ ws. get_or ws i (pos 0)) (weights_are row)
-      ∙ get_or-map-range_with_len (λ i. entry row (class_number all.classes i)) 0 count i i (pos 0) l (omega arith)
-      ∙ ap (entry row) (number_alone all.classes nobody i (pool_alone pool) (omega (arith, class_count)))
+      ∙ get_or-map-range_with_len (λ i. entry row (class_of_volunteer i)) 0 count i i (pos 0) l (omega arith)
 
-  pub entries_back : (row : Row) → length row.a ≡ count → map (weight_of (stage_of all row)) (leaders (are_alike pool) count) ≡ row.a
+  -- the leaders weigh the entries
+  pub entries_back : (row : Row) → length row.a ≡ length all.classes → map (weight_of (stage_of all row)) firsts ≡ row.a
   entries_back row e =
-      ap (map (weight_of (stage_of all row))) (each_leads count)
-      ∙ ap (λ n. map (weight_of (stage_of all row)) (range_with_len 0 n)) (sym e)
-      ∙ from_places (weight_of (stage_of all row)) 0 row.a (pos 0) (λ i l. let here : 0 + i ≡ i = omega arith in ap (weight_of (stage_of all row)) here ∙ weight_is_entry row i (omega (arith, e)))
+      let weigh : ℕ → ℕ = λ t. get_or firsts t 0 in
+      let many : length (map (weight_of (stage_of all row)) firsts) ≡ length row.a = length-map firsts (weight_of (stage_of all row)) ∙ sym (class_count pool alike makes) ∙ sym e in
+      sym (from_places (λ t. weight_of (stage_of all row) (weigh t)) 0 (map (weight_of (stage_of all row)) firsts) (pos 0)
+      (λ t l. let here : 0 + t ≡ t = omega arith in
+      ap (λ t. weight_of (stage_of all row) (weigh t)) here ∙ sym (get_or-map (weight_of (stage_of all row)) firsts t 0 (pos 0) (omega (arith, length-map firsts (weight_of (stage_of all row)))))))
+      ∙ ap (λ n. map (λ t. weight_of (stage_of all row) (weigh t)) (range_with_len 0 n)) many
+      ∙ from_places (λ t. weight_of (stage_of all row) (weigh t)) 0 row.a (pos 0)
+      (λ t l.
+      let here : 0 + t ≡ t = omega arith in
+      let inside : t < length firsts = omega (arith, e, class_count pool alike makes) in
+      ap (λ t. weight_of (stage_of all row) (weigh t)) here ∙ weight_is_entry row (weigh t) (leader_below pool alike makes t inside)
+      ∙ ap (entry row) (leader_number pool alike makes t inside))
 
-  pub row_back : (row : Row) → length row.a ≡ count → row_of (are_alike pool) pool (stage_of all row) ≡ row
+  pub row_back : (row : Row) → length row.a ≡ length all.classes → row_of alike pool (stage_of all row) ≡ row
   row_back row e = ap (λ a. let made : Row = record { b = row.b; a = a } in made) (entries_back row e)
 
-  -- nobody else is alike
-  pub weigh_alike : (stages : List Stage) → WeighAlike (are_alike pool) stages
-  weigh_alike stages = each_everywhere (λ stage. (i j : ℕ) → eqb i j ≡ true → weight_of stage i ≡ weight_of stage j) (λ stage i j e. ap (weight_of stage) (eqb-true i j e)) stages
+  -- who is alike weighs the same
+  pub weighs_alike : (row : Row) (i j : ℕ) → i < count → j < count → alike i j ≡ true → weight_of (stage_of all row) i ≡ weight_of (stage_of all row) j
+  weighs_alike row i j a b t = weight_is_entry row i a ∙ ap (entry row) (number_same pool alike makes i j a b t) ∙ sym (weight_is_entry row j b)

@@ -10,10 +10,10 @@ use borrow.Author.Differences.{sum_is_lem, same_in, le-true, lt-true, true_is_le
 use Rattle.basic_laws.proofs.Each.{each_map, each_mapped, each_filter}
 use Rattle.row_definitions.specs.Row.{Row}
 use Rattle.search_definitions.specs.Classes.{Class, Classes, IsSearchable}
-use Rattle.search_definitions.specs.Compositions.{counts_of, all_counts, taken_of, meets_bounds, is_composition, compositions, weight_in, attains, first_greatest, price}
+use Rattle.search_definitions.specs.Compositions.{counts_of, all_counts, taken_of, is_composition, compositions, weight_in, attains, first_greatest, price}
 use Rattle.search_definitions.specs.Fronts.{HaveEntries, later_than, taken_by, is_reachable, sum_of, greatest_sum, optimistic, is_live_above}
 use Rattle.search_definitions.specs.Visits.{Pricing, enter_best, best_search}
-use Rattle.search_definitions.proofs.FirstSearch.{Gives, InOrder, all_counts_give, Split, later_is, taken_split, live_from_composition, composition_from_live, completions, of_children, child_splits, completions_of_none, empty_splits}
+use Rattle.search_definitions.proofs.FirstSearch.{composition_parts, Gives, InOrder, all_counts_give, Split, later_is, taken_split, live_from_composition, composition_from_live, completions, of_children, child_splits, completions_of_none, empty_splits}
 use Rattle.search_definitions.proofs.GreatestSum.{AtMost, weight_within_greatest, weight-append}
 
 -- ---- optimistic weights
@@ -23,8 +23,7 @@ weight_within_optimistic : (all : Classes) (pre later : List Class) (front count
     is_composition all (front ++ counts) ≡ true → AtMost (weight_in row.a (front ++ counts)) (optimistic all row front)
 weight_within_optimistic all pre later front counts row split gives entries composes =
     let after = later_is all pre later front split in
-    let parts = and_parts (eqb (taken_of (λ class. true) all.classes (front ++ counts)) all.size) (meets_bounds all.bounds all.classes (front ++ counts)) composes in
-    let size = eqb-true (taken_of (λ class. true) all.classes (front ++ counts)) all.size parts.0 in
+    let size = (composition_parts all (front ++ counts) composes).size in
     let taken = taken_split all pre later front counts split (λ class. true) in
     let lack : taken_of (λ class. true) later counts ≡ all.size - taken_by all front = omega arith in
     let whole = ap length split.whole in

@@ -2,7 +2,8 @@
 use Rattle.std.proofs.Common.{◌≡◌, ℕ, zero, suc, ◌+◌, ◌*◌, ◌≤◌, ◌<◌, Bool, true, false, cond, not, ◌||◌, eqb, List, [], ◌∷◌, refl, sym, ap, ◌∙◌, ⊎_elim, arith, subst, le_of_eq}
 use Rattle.std.specs.List.{list_any, AllByRecursion, range_with_len}
 use Rattle.std.proofs.lemmas.Bool.{cases_Bool, cases_lt, eqb-true, eq-eqb, false≢true}
-use Rattle.basic_laws.proofs.Sums.{total, total_ext, total-add, total-scaled, total-zero, one_if, total-filter}
+use Rattle.basic_laws.proofs.Each.{each_filter, each_map, each_range}
+use Rattle.basic_laws.proofs.Sums.{total, total_eq, total_ext, total-add, total-scaled, total-zero, one_if, total-filter}
 use Rattle.search_definitions.specs.Classes.{leaders, IsEquivalenceTest}
 use Rattle.pool_definitions.proofs.Weights.{one_member}
 
@@ -91,22 +92,29 @@ module _ (alike : ℕ → ℕ → Bool) (same : IsEquivalenceTest alike) (count 
       ∙ total_ext (λ j. cond (leads j) (one_if (alike j i)) 0) (λ j. cond (eqb first.at j) 1 0) (is_first i first) (range_with_len 0 count)
       ∙ one_member (λ _. 1) first.at 0 count (omega arith) inside
 
+  -- leaders are volunteers
+  pub leaders_below : AllByRecursion (λ leader. leader < count) (leaders alike count)
+  unfolding leads
+  leaders_below =
+      each_filter (λ leader. leader < count) leads (range_with_len 0 count) (each_range (λ leader. leads leader ≡ true → leader < count) 0 count (λ k low high t. omega arith))
+
   -- a function that is the same on a class, summed over a panel
-  pub by_class : (f : ℕ → ℕ) → ((i j : ℕ) → alike i j ≡ true → f i ≡ f j) → (panel : List ℕ) → AllByRecursion (λ i. i < count) panel →
+  pub by_class : (f : ℕ → ℕ) → ((i j : ℕ) → i < count → j < count → alike i j ≡ true → f i ≡ f j) → (panel : List ℕ) → AllByRecursion (λ i. i < count) panel →
       total f panel ≡ total (λ leader. taken alike leader panel * f leader) (leaders alike count)
   by_class f respects [] below = sym (total-zero (λ leader. 0 * f leader) (λ leader. omega arith) (leaders alike count))
   by_class f respects (i ∷ panel) below =
       let rest = by_class f respects panel below.1 in
       let one = one_leader i below.0 in
-      let split = total_ext (λ leader. (one_if (alike leader i) + taken alike leader panel) * f leader) (λ leader. one_if (alike leader i) * f i + taken alike leader panel * f leader) step (leaders alike count) in
+      let split = total_eq (λ leader. (one_if (alike leader i) + taken alike leader panel) * f leader) (λ leader. one_if (alike leader i) * f i + taken alike leader panel * f leader) (leaders alike count)
+      (each_map (λ leader. leader < count) (λ leader. (one_if (alike leader i) + taken alike leader panel) * f leader ≡ one_if (alike leader i) * f i + taken alike leader panel * f leader) step (leaders alike count) leaders_below) in
       let added = total-add (λ leader. one_if (alike leader i) * f i) (λ leader. taken alike leader panel * f leader) (leaders alike count) in
       let scaled = total-scaled (λ leader. one_if (alike leader i)) (f i) (leaders alike count) in
       let once : total (λ leader. one_if (alike leader i)) (leaders alike count) * f i ≡ 1 * f i = ap (λ z. z * f i) one in
       omega (arith, split, added, scaled, once, rest)
     where
-      step : (leader : ℕ) → (one_if (alike leader i) + taken alike leader panel) * f leader ≡ one_if (alike leader i) * f i + taken alike leader panel * f leader
-      step leader =
+      step : (leader : ℕ) → leader < count → (one_if (alike leader i) + taken alike leader panel) * f leader ≡ one_if (alike leader i) * f i + taken alike leader panel * f leader
+      step leader low =
           (elim (alike leader i) as (λ b. alike leader i ≡ b → (one_if b + taken alike leader panel) * f leader ≡ one_if b * f i + taken alike leader panel * f leader) [
-            | true ↦ λ e. omega (arith, respects leader i e)
+            | true ↦ λ e. omega (arith, respects leader i low below.0 e)
             | false ↦ λ e. omega arith
           ]) refl

@@ -3,7 +3,7 @@ use Rattle.std.proofs.Common.{◌≡◌, ℕ, zero, suc, ◌+◌, ◌-◌, ◌�
 use Rattle.std.specs.List.{list_all, AllByRecursion, range_with_len, enumerate_from}
 use Rattle.std.proofs.lemmas.Bool.{and_parts, and_from, cases_Bool, cases_lt, cases_eq, eqb-true, eq-eqb, ne_eqb, ltb-true, lt-ltb, le-ltb, false≢true}
 use Rattle.basic_laws.proofs.Sums.{total, total_eq, total_ext, one_if, total-filter, length-filter-total, count_by-total}
-use Rattle.basic_laws.proofs.Each.{each_both, each_from_filter, each_from_list_all, each_map, each_mapped, each_filter, each_range, list_all_equal}
+use Rattle.basic_laws.proofs.Each.{each_both, each_from_filter, each_from_list_all, each_map, each_mapped, each_filter, each_range, list_all_equal, range_each}
 use Rattle.pool_definitions.specs.declared.Standing.{Standing}
 use Rattle.pool_definitions.specs.declared.Standing.TheVariants.{Open, Seated, Gone}
 use Rattle.pool_definitions.specs.Lists.{includes, is_increasing}
@@ -12,7 +12,7 @@ use Rattle.search_definitions.specs.Classes.{leaders, class_of, least_taken, mos
 use Rattle.search_definitions.proofs.LeaderForm.{all_counts, compositions, composition_of, taken_of, is_composition, first_panel}
 use Rattle.pool_definitions.proofs.Weights.{one_member}
 use Rattle.search_definitions.proofs.ByClass.{Least, least_passing, is_first, leads}
-use Rattle.search_definitions.proofs.Listed.{each_count}
+use Rattle.search_definitions.proofs.LeaderPanels.{ByLeader, each_by_leader, panel_fits}
 use Rattle.search_definitions.proofs.PanelCompositions.{passing}
 
 -- ---- filters of a range
@@ -207,157 +207,17 @@ module _ (alike : ℕ → ℕ → Bool) (same : IsEquivalenceTest alike) (count 
             | false ↦ λ e. rest
           ]) refl
 
-each_place : (q : ℕ → Volunteer → Bool) (d : Volunteer) (first : ℕ) (vs : List Volunteer) → ((k : ℕ) → k < length vs → q (first + k) (get_or vs k d) ≡ true) → list_all (λ (i, v). q i v) (enumerate_from first vs) ≡ true
-each_place q d first [] f = refl
-each_place q d first (v ∷ vs) f =
-    let e : first + 0 ≡ first = omega arith in
-    let here : q first v ≡ true = subst (λ z. q z v ≡ true) e (f 0 (omega arith)) in
-    let rest = each_place q d (first + 1) vs (λ k l. let s : first + suc k ≡ first + 1 + k = omega arith in subst (λ z. q z (get_or vs k d) ≡ true) s (f (suc k) (omega arith))) in
-    and_from (q first v) (list_all (λ (i, v). q i v) (enumerate_from (first + 1) vs)) here rest
-
--- one volunteer: s is the standing, taken what the class gives of its size
-keeps_one : (s : Standing) (before size given : ℕ) → before < size → least_taken s size ≤ given → given ≤ most_taken s size → allows s (ltb before given) ≡ true
-keeps_one Open before size given l m n = refl
-keeps_one Seated before size given l m n = lt-ltb before given (omega arith)
-keeps_one Gone before size given l m n = let e = le-ltb before given (omega arith) in rw e refl
-
-module _ (pool : Pool) (alike : ℕ → ℕ → Bool) (makes : MakesClasses pool alike) (g : ℕ → ℕ) where
-  abbrev n : ℕ
-  n = length pool.volunteers
-
-  abbrev standing_of : ℕ → Standing
-  standing_of i = (volunteer pool.volunteers i).standing
-
-  abbrev chosen : List ℕ
-  chosen = first_panel alike n (map g (leaders alike n))
-
-  module _ (within : (l : ℕ) → l < n → leads alike makes.same n l ≡ true → (least_taken (standing_of l) (rank (alike l) n) ≤ g l) × (g l ≤ most_taken (standing_of l) (rank (alike l) n)))
-      (composes : is_composition pool (leaders alike n) (map g (leaders alike n)) ≡ true) where
-    at_most_size : (s : Standing) (size given : ℕ) → given ≤ most_taken s size → given ≤ size
-    at_most_size Open size given l = l
-    at_most_size Seated size given l = l
-    at_most_size Gone size given l = omega arith
-
-    same_composition : composition_of alike (leaders alike n) chosen ≡ map g (leaders alike n)
-    same_composition = composition_is alike makes.same n g (λ l below lead. at_most_size (standing_of l) (rank (alike l) n) (g l) (within l below lead).1)
-
-    below : list_all (λ i. ltb i n) chosen ≡ true
-    below = filter_below (in_panel alike makes.same n g) n 0 n (omega arith)
-
-    each_below : AllByRecursion (λ i. i < n) chosen
-    each_below = each_map (λ i. ltb i n ≡ true) (λ i. i < n) (λ i e. ltb-true i n e) chosen (each_from_list_all (λ i. ltb i n) chosen below)
-
-    size_is : length chosen ≡ pool.size
-    size_is =
-        let parts = and_parts (eqb (taken_of (λ leader. true) (leaders alike n) (map g (leaders alike n))) pool.size) _ composes in
-        sym (ones chosen) ∙ sym (count_by-total (λ leader. true) chosen) ∙ sym (passing alike makes.same n (λ leader. true) (λ i j e. refl) chosen each_below)
-        ∙ ap (taken_of (λ leader. true) (leaders alike n)) same_composition ∙ eqb-true (taken_of (λ leader. true) (leaders alike n) (map g (leaders alike n))) pool.size parts.0
-      where
-        ones : (xs : List ℕ) → total (λ i. 1) xs ≡ length xs
-        ones [] = refl
-        ones (x ∷ xs) = omega (arith, ones xs)
-
-    value_is : (c v : ℕ) → members_with pool.volunteers chosen c v ≡ taken_of (λ leader. eqb (slice_index (volunteer pool.volunteers leader).values c) v) (leaders alike n) (map g (leaders alike n))
-    value_is c v =
-        sym (passing alike makes.same n (λ i. eqb (slice_index (volunteer pool.volunteers i).values c) v)
-        (λ i j e. ap (λ values. eqb (slice_index values c) v) (makes.values i j e)) chosen each_below)
-        ∙ ap (taken_of (λ leader. eqb (slice_index (volunteer pool.volunteers leader).values c) v) (leaders alike n)) same_composition
-
-    meets : meets_quotas pool.categories pool.volunteers chosen ≡ true
-    meets =
-        list_all_equal
-        (λ (c, category). list_all (λ (v, value). is_within value (members_with pool.volunteers chosen c v)) (enumerate_from 0 category.values))
-        (λ (c, category). list_all (λ (v, value). is_within value (taken_of (λ leader. eqb (slice_index (volunteer pool.volunteers leader).values c) v) (leaders alike n) (map g (leaders alike n)))) (enumerate_from 0 category.values))
-        (λ (c, category). list_all_equal (λ (v, value). is_within value (members_with pool.volunteers chosen c v))
-        (λ (v, value). is_within value (taken_of (λ leader. eqb (slice_index (volunteer pool.volunteers leader).values c) v) (leaders alike n) (map g (leaders alike n))))
-        (λ (v, value). ap (is_within value) (value_is c v)) (enumerate_from 0 category.values))
-        (enumerate_from 0 pool.categories)
-        ∙ (and_parts (eqb (taken_of (λ leader. true) (leaders alike n) (map g (leaders alike n))) pool.size) _ composes).1
-
-    keeps_at : (i : ℕ) → i < n → allows (standing_of i) (includes chosen i) ≡ true
-    keeps_at i l =
-        let first = leader_of alike makes.same n g i in
-        let lead = lead_of i in
-        let inside : first.at < n = omega (arith, first.within) in
-        let bounds = within first.at inside lead in
-        let s = makes.standing first.at i first.passes in
-        let before : rank (alike first.at) i + one_if (alike first.at i) ≤ rank (alike first.at) n = rank_below (alike first.at) i n l in
-        let less : rank (alike first.at) i + 1 ≤ rank (alike first.at) n = rw first.passes at before in
-        let kept = keeps_one (standing_of first.at) (rank (alike first.at) i) (rank (alike first.at) n) (g first.at) (omega arith) bounds.0 bounds.1 in
-        let test = in_class alike makes.same n g first.at i lead l first.passes in
-        let here : includes chosen i ≡ in_panel alike makes.same n g i = holds_filter (in_panel alike makes.same n g) i 0 n (omega arith) (omega arith) in
-        rw (here, test, ← s) kept
-      where
-        lead_of : (i : ℕ) → leads alike makes.same n (leader_of alike makes.same n g i).at ≡ true
-        lead_of i =
-            let first = leader_of alike makes.same n g i in
-            let e = is_first alike makes.same n i first first.at in
-            let itself : eqb first.at first.at ≡ true = eq-eqb first.at first.at refl in
-            leads_from (leads alike makes.same n first.at) (one_if (alike first.at i)) (rw itself at e)
-          where
-            leads_from : (b : Bool) (v : ℕ) → cond b v 0 ≡ 1 → b ≡ true
-            leads_from true v h = refl
-            leads_from false v h = absurd (omega arith)
-
-    -- the first members are a quota panel
-    pub first_panel_fits : is_quota_panel pool chosen ≡ true
-    first_panel_fits =
-        let A = eqb (length chosen) pool.size in let B = is_increasing chosen in let C = list_all (λ i. ltb i n) chosen in
-        let D = keeps_standings pool.volunteers chosen in let E = meets_quotas pool.categories pool.volunteers chosen in
-        let keeps = each_place (λ i v. allows v.standing (includes chosen i)) (record { id = []; values = []; standing = Gone; household = None }) 0 pool.volunteers
-        (λ k l. let e : 0 + k ≡ k = omega arith in subst (λ z. allows (standing_of k) (includes chosen z) ≡ true) (sym e) (keeps_at k l)) in
-        and_from (A && B && C && D) E (and_from (A && B && C) D (and_from (A && B) C (and_from A B (eq-eqb (length chosen) pool.size size_is) (filter_increases (in_panel alike makes.same n g) 0 n)) below) keeps) meets
-
 -- ---- each composition in the list
-
--- counts within their bounds, given by leaders
-record ByLeader (low high : ℕ → ℕ) (firsts counts : List ℕ) : Type 0 where
-  of : ℕ → ℕ
-  is : counts ≡ map of firsts
-  within : AllByRecursion (λ l. (low l ≤ of l) × (of l ≤ high l)) firsts
-
-by_leader : (low high : ℕ → ℕ) → ((l : ℕ) → low l ≤ high l) → (firsts : List ℕ) → is_increasing firsts ≡ true → AllByRecursion (ByLeader low high firsts) (all_counts low high firsts)
-by_leader low high order [] up = (record { of = λ l. 0; is = refl; within = tt }, tt)
-by_leader low high order (l ∷ firsts) up =
-    let ups = and_parts (list_all (λ y. ltb l y) firsts) (is_increasing firsts) up in
-    let rest = by_leader low high order firsts ups.1 in
-    let later = each_map (λ y. ltb l y ≡ true) (λ y. l < y) (λ y e. ltb-true l y e) firsts (each_from_list_all (λ y. ltb l y) firsts ups.0) in
-    each_count (ByLeader low high (l ∷ firsts)) (λ c. map (λ counts. c ∷ counts) (all_counts low high firsts)) (low l) (high l - low l)
-    (λ c lo hi. let o = order l in each_mapped (ByLeader low high (l ∷ firsts)) (λ counts. c ∷ counts) (all_counts low high firsts)
-    (each_map (ByLeader low high firsts) (λ counts. ByLeader low high (l ∷ firsts) (c ∷ counts)) (λ counts given. extended low high l firsts c counts later lo (omega arith) given) (all_counts low high firsts) rest))
-  where
-    extended : (low high : ℕ → ℕ) (l : ℕ) (firsts : List ℕ) (c : ℕ) (counts : List ℕ) → AllByRecursion (λ y. l < y) firsts → low l ≤ c → c ≤ high l → ByLeader low high firsts counts → ByLeader low high (l ∷ firsts) (c ∷ counts)
-    extended low high l firsts c counts later lo hi given =
-        let of : ℕ → ℕ = λ y. cond (eqb y l) c (given.of y) in
-        let here : of l ≡ c = let e : eqb l l ≡ true = eq-eqb l l refl in rw e refl in
-        let others = each_map (λ y. l < y) (λ y. of y ≡ given.of y) (λ y m. let e : eqb y l ≡ false = ne_eqb y l (λ e. omega arith) in rw e refl) firsts later in
-        let maps = map_same of given.of firsts others in
-        let equal : map of firsts ≡ counts = maps ∙ sym given.is in
-        record {
-          of = of;
-          is = cc;
-          within = (
-            (omega arith, omega arith),
-            each_map (λ y. (of y ≡ given.of y) × ((low y ≤ given.of y) × (given.of y ≤ high y))) (λ y. (low y ≤ of y) × (of y ≤ high y))
-                (λ y p. let e = p.0 in let a = p.1.0 in let b = p.1.1 in (omega arith, omega arith)) firsts (each_both (λ y. of y ≡ given.of y) (λ y. (low y ≤ given.of y) × (given.of y ≤ high y)) firsts others given.within),
-          );
-        }
-
-at_range : (P : ℕ → Type 0) (l first count : ℕ) → first ≤ l → l < first + count → AllByRecursion P (range_with_len first count) → P l
-at_range P l first zero a b h = absurd (omega arith)
-at_range P l first (suc count) a b h =
-    ⊎_elim (λ (e : first ≡ l). subst P e h.0) (λ (ne : first ≡ l → ⊥). at_range P l (first + 1) count (omega arith) (omega arith) h.1) (cases_eq first l)
-
-pub least_to_most : (s : Standing) (size : ℕ) → least_taken s size ≤ most_taken s size
-least_to_most Open size = omega arith
-least_to_most Seated size = le_of_eq refl
-least_to_most Gone size = le_of_eq refl
 
 -- the first members of counts are a quota panel, with these counts for its composition
 abbrev pub FitsAndComposes : Pool → (ℕ → ℕ → Bool) → List ℕ → Type 0
 FitsAndComposes pool alike counts =
     (is_quota_panel pool (first_panel alike (length pool.volunteers) counts) ≡ true)
     × (composition_of alike (leaders alike (length pool.volunteers)) (first_panel alike (length pool.volunteers) counts) ≡ counts)
+
+pub leaders_rise : (pool : Pool) (alike : ℕ → ℕ → Bool) → MakesClasses pool alike → is_increasing (leaders alike (length pool.volunteers)) ≡ true
+unfolding leads
+leaders_rise pool alike makes = filter_increases (leads alike makes.same (length pool.volunteers)) 0 (length pool.volunteers)
 
 -- the first members of each composition's classes
 pub each_first_panel : (pool : Pool) (alike : ℕ → ℕ → Bool) → MakesClasses pool alike → AllByRecursion (FitsAndComposes pool alike) (compositions pool alike)
@@ -366,15 +226,22 @@ each_first_panel pool alike makes =
     let n = length pool.volunteers in
     let low : ℕ → ℕ = λ l. least_taken (volunteer pool.volunteers l).standing (length (class_of alike n l)) in
     let high : ℕ → ℕ = λ l. most_taken (volunteer pool.volunteers l).standing (length (class_of alike n l)) in
-    let given = by_leader low high (λ l. least_to_most (volunteer pool.volunteers l).standing (length (class_of alike n l))) (leaders alike n) (filter_increases (leads alike makes.same n) 0 n) in
-    each_filter (FitsAndComposes pool alike) (is_composition pool (leaders alike n)) (all_counts low high (leaders alike n))
-    (each_map (ByLeader low high (leaders alike n)) (λ counts. is_composition pool (leaders alike n) counts ≡ true → FitsAndComposes pool alike counts)
-    (λ counts given composes.
+    each_map (λ counts. ByLeader low high (leaders alike n) counts × (is_composition pool (leaders alike n) counts ≡ true)) (FitsAndComposes pool alike)
+    (λ counts (given, composes).
     let at_leader = each_from_filter (λ l. (low l ≤ given.of l) × (given.of l ≤ high l)) (leads alike makes.same n) (range_with_len 0 n) given.within in
-    let within : (l : ℕ) → l < n → leads alike makes.same n l ≡ true → (least_taken (volunteer pool.volunteers l).standing (rank (alike l) n) ≤ given.of l) × (given.of l ≤ most_taken (volunteer pool.volunteers l).standing (rank (alike l) n)) =
+    let most : (l : ℕ) → l < n → leads alike makes.same n l ≡ true → given.of l ≤ rank (alike l) n =
     λ l below lead.
-    let bounds = at_range (λ l. leads alike makes.same n l ≡ true → (low l ≤ given.of l) × (given.of l ≤ high l)) l 0 n (omega arith) (omega arith) at_leader lead in
-    subst (λ size. (least_taken (volunteer pool.volunteers l).standing size ≤ given.of l) × (given.of l ≤ most_taken (volunteer pool.volunteers l).standing size)) (length-filter-total (alike l) (range_with_len 0 n)) bounds in
-    let composed = subst (λ z. is_composition pool (leaders alike n) z ≡ true) given.is composes in
-    subst (FitsAndComposes pool alike) (sym given.is) (first_panel_fits pool alike makes given.of within composed, same_composition pool alike makes given.of within composed))
-    (all_counts low high (leaders alike n)) given)
+    let bounds = range_each (λ l. leads alike makes.same n l ≡ true → (low l ≤ given.of l) × (given.of l ≤ high l)) 0 n l at_leader (omega arith) (omega arith) lead in
+    at_most_size (volunteer pool.volunteers l).standing (rank (alike l) n) (given.of l)
+    (subst (λ size. given.of l ≤ most_taken (volunteer pool.volunteers l).standing size) (length-filter-total (alike l) (range_with_len 0 n)) bounds.1) in
+    let composed = composition_is alike makes.same n given.of most in
+    let rises = filter_increases (in_panel alike makes.same n given.of) 0 n in
+    let below = filter_below (in_panel alike makes.same n given.of) n 0 n (omega arith) in
+    let fits = panel_fits pool alike makes given.of (first_panel alike n (map given.of (leaders alike n))) rises below composed given.within (subst (λ z. is_composition pool (leaders alike n) z ≡ true) given.is composes) in
+    subst (FitsAndComposes pool alike) (sym given.is) (fits, composed))
+    (compositions pool alike) (each_by_leader pool alike (leaders_rise pool alike makes))
+  where
+    at_most_size : (s : Standing) (size given : ℕ) → given ≤ most_taken s size → given ≤ size
+    at_most_size Open size given l = l
+    at_most_size Seated size given l = l
+    at_most_size Gone size given l = omega arith

@@ -9,7 +9,7 @@ use Rattle.std.proofs.Math.Seq.{drop-append_seam}
 use Rattle.basic_laws.proofs.Each.{each_map, each_mapped, each_everywhere, none_pass, list_all_implies}
 use Rattle.basic_laws.proofs.Sums.{sum_by-is-total, total}
 use Rattle.search_definitions.specs.Classes.{Class, Classes, IsSearchable}
-use Rattle.search_definitions.specs.Compositions.{counts_of, all_counts, taken_of, has_value, lies_within, meets_bounds, is_composition, compositions, first_composition}
+use Rattle.search_definitions.specs.Compositions.{counts_of, all_counts, taken_of, has_value, is_of_household, lies_within, meets_bounds, takes_one_of, takes_one_a_household, is_composition, compositions, first_composition}
 use Rattle.search_definitions.specs.Fronts.{later_than, most_given, taken_by, size_reachable, value_reachable, values_reachable, is_reachable}
 use Rattle.search_definitions.specs.Visits.{Search, one_by_one, enter_first, first_search}
 use Rattle.search_definitions.proofs.Listed.{each_count}
@@ -75,9 +75,9 @@ pub taken_split : (all : Classes) (pre later : List Class) (front counts : List 
     taken_of p all.classes (front ++ counts) ≡ taken_of p all.classes front + taken_of p later counts
 taken_split all pre later front counts split p = let whole = split.whole in rw whole (taken-append p pre later front counts split.fits)
 
-reached : (size taken more most : ℕ) → more ≤ most → eqb (taken + more) size ≡ true → (leb taken size && leb size (taken + most)) ≡ true
-reached size taken more most l e =
-    let s = eqb-true (taken + more) size e in and_from (leb taken size) (leb size (taken + most)) (le-leb taken size (omega arith)) (le-leb size (taken + most) (omega arith))
+reached : (size taken more most : ℕ) → more ≤ most → taken + more ≡ size → (leb taken size && leb size (taken + most)) ≡ true
+reached size taken more most l s =
+    and_from (leb taken size) (leb size (taken + most)) (le-leb taken size (omega arith)) (le-leb size (taken + most) (omega arith))
 
 within_reach : (lower upper taken more most : ℕ) → more ≤ most → (leb lower (taken + more) && leb (taken + more) upper) ≡ true → (leb taken upper && leb lower (taken + most)) ≡ true
 within_reach lower upper taken more most l e =
@@ -85,14 +85,37 @@ within_reach lower upper taken more most l e =
     let a = leb-true lower (taken + more) parts.0 in let b = leb-true (taken + more) upper parts.1 in
     and_from (leb taken upper) (leb lower (taken + most)) (le-leb taken upper (omega arith)) (le-leb lower (taken + most) (omega arith))
 
+-- what is known of a composition
+pub record Composes (all : Classes) (counts : List ℕ) : Type 0 where
+  pub size : taken_of (λ class. true) all.classes counts ≡ all.size
+  pub bounds : meets_bounds all.bounds all.classes counts ≡ true
+  pub households : takes_one_a_household all.classes counts ≡ true
+
+pub composition_parts : (all : Classes) (counts : List ℕ) → is_composition all counts ≡ true → Composes all counts
+composition_parts all counts composes =
+    let size = eqb (taken_of (λ class. true) all.classes counts) all.size in let bounds = meets_bounds all.bounds all.classes counts in
+    let both = and_parts (size && bounds) (takes_one_a_household all.classes counts) composes in
+    let parts = and_parts size bounds both.0 in
+    record { size = eqb-true (taken_of (λ class. true) all.classes counts) all.size parts.0; bounds = parts.1; households = both.1 }
+
+-- a front takes no more of a household than what it goes on to
+one_of_front : (all : Classes) (pre later : List Class) (front counts : List ℕ) → Split all pre later front → (household : Option ℕ) →
+    takes_one_of all.classes (front ++ counts) household ≡ true → takes_one_of all.classes front household ≡ true
+one_of_front all pre later front counts split None one = refl
+one_of_front all pre later front counts split (Some h) one =
+    let of : Class → Bool = λ class. is_of_household h class.household in
+    let whole = leb-true (taken_of of all.classes (front ++ counts)) 1 one in
+    let parts = taken_split all pre later front counts split of in
+    le-leb (taken_of of all.classes front) 1 (omega arith)
+
 -- a front that goes on to a composition is live
 pub live_from_composition : (all : Classes) (pre later : List Class) (front counts : List ℕ) → Split all pre later front → Gives later counts →
     is_composition all (front ++ counts) ≡ true → is_reachable all front ≡ true
 live_from_composition all pre later front counts split gives composes =
-    let parts = and_parts (eqb (taken_of (λ class. true) all.classes (front ++ counts)) all.size) (meets_bounds all.bounds all.classes (front ++ counts)) composes in
+    let parts = composition_parts all (front ++ counts) composes in
     let after = later_is all pre later front split in
     let taken = taken_split all pre later front counts split in
-    let size : size_reachable all front ≡ true = rw after (reached all.size (taken_by all front) (taken_of (λ class. true) later counts) (most_given (λ class. true) later) (taken_within_most (λ class. true) later counts gives) (rw (taken (λ class. true)) at parts.0)) in
+    let size : size_reachable all front ≡ true = rw after (reached all.size (taken_by all front) (taken_of (λ class. true) later counts) (most_given (λ class. true) later) (taken_within_most (λ class. true) later counts gives) (rw (taken (λ class. true)) at parts.size)) in
     let values : values_reachable all front ≡ true = list_all_implies
     (λ (c, values). list_all (λ (v, bound). lies_within bound (taken_of (has_value c v) all.classes (front ++ counts))) (enumerate_from 0 values))
     (λ (c, values). list_all (value_reachable all front c) (enumerate_from 0 values))
@@ -100,13 +123,17 @@ live_from_composition all pre later front counts split gives composes =
     (λ (v, bound) within. rw after (within_reach bound.lower bound.upper (taken_of (has_value c v) all.classes front) (taken_of (has_value c v) later counts) (most_given (has_value c v) later)
     (taken_within_most (has_value c v) later counts gives) (rw (taken (has_value c v)) at within)))
     (enumerate_from 0 values))
-    (enumerate_from 0 all.bounds) parts.1 in
-    and_from (size_reachable all front) (values_reachable all front) size values
+    (enumerate_from 0 all.bounds) parts.bounds in
+    let households = list_all_implies (λ class. takes_one_of all.classes (front ++ counts) class.household) (λ class. takes_one_of all.classes front class.household)
+    (λ class one. one_of_front all pre later front counts split class.household one) all.classes parts.households in
+    and_from (size_reachable all front && values_reachable all front) (takes_one_a_household all.classes front)
+    (and_from (size_reachable all front) (values_reachable all front) size values) households
 
 -- a live front of all classes is a composition
 pub composition_from_live : (all : Classes) (pre : List Class) (front : List ℕ) → Split all pre [] front → is_reachable all front ≡ true → is_composition all front ≡ true
 composition_from_live all pre front split live =
-    let parts = and_parts (size_reachable all front) (values_reachable all front) live in
+    let both = and_parts (size_reachable all front && values_reachable all front) (takes_one_a_household all.classes front) live in
+    let parts = and_parts (size_reachable all front) (values_reachable all front) both.0 in
     let after = later_is all pre [] front split in
     let sizes = and_parts (leb (taken_by all front) all.size) (leb all.size (taken_by all front + most_given (λ class. true) (later_than front all.classes))) parts.0 in
     let low = leb-true (taken_by all front) all.size sizes.0 in
@@ -118,7 +145,8 @@ composition_from_live all pre front split live =
     (λ (v, bound) reach. whole bound.lower bound.upper (taken_of (has_value c v) all.classes front) (rw after at reach))
     (enumerate_from 0 values))
     (enumerate_from 0 all.bounds) parts.1 in
-    and_from (eqb (taken_by all front) all.size) (meets_bounds all.bounds all.classes front) (eq-eqb (taken_by all front) all.size (omega arith)) bounds
+    and_from (eqb (taken_by all front) all.size && meets_bounds all.bounds all.classes front) (takes_one_a_household all.classes front)
+    (and_from (eqb (taken_by all front) all.size) (meets_bounds all.bounds all.classes front) (eq-eqb (taken_by all front) all.size (omega arith)) bounds) both.1
   where
     whole : (lower upper count : ℕ) → (leb count upper && leb lower (count + 0)) ≡ true → (leb lower count && leb count upper) ≡ true
     whole lower upper count h =

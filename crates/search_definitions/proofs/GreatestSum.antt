@@ -4,6 +4,7 @@ use Rattle.std.specs.Prelude.{int_le, replicate}
 use Rattle.std.specs.List.{AllByRecursion}
 use borrow.Author.Differences.{up, down, sum_is_lem, le-true, le-false}
 use Rattle.basic_laws.proofs.Each.{each_map}
+use Rattle.basic_laws.proofs.Integers.{product-parts}
 use Rattle.basic_laws.proofs.Sums.{total}
 use Rattle.search_definitions.specs.Classes.{Class}
 use Rattle.search_definitions.specs.Compositions.{taken_of, weight_in}
@@ -23,14 +24,6 @@ fold_parts s (x ∷ xs) = omega (arith, sum_is_lem s x, fold_parts (s +ℤ x) xs
 
 pub sum_parts : (xs : List ℤ) → up (sum_of xs) + total down xs ≡ total up xs + down (sum_of xs)
 sum_parts xs = omega (arith, fold_parts (pos 0) xs)
-
-pub product_parts : (c : ℕ) (z : ℤ) → up (pos c *ℤ z) + c * down z ≡ c * up z + down (pos c *ℤ z)
-product_parts c (pos n) = omega arith
-product_parts c (negsuc n) = neg_parts (c * suc n)
-  where
-    neg_parts : (m : ℕ) → up (neg_ℤ (pos m)) + m ≡ c * 0 + down (neg_ℤ (pos m))
-    neg_parts zero = omega arith
-    neg_parts (suc m) = omega arith
 
 -- ---- a falling list
 
@@ -155,7 +148,7 @@ weight_bound (class ∷ later) (x ∷ entries) (c ∷ counts) e g =
     let rest = weight_bound later entries counts (omega arith) g.1 in
     let here = g.0 in
     let some = some_of class.most x (units later entries) c (taken_of (λ class. true) later counts) (c + taken_of (λ class. true) later counts) here (few_units later entries counts (omega arith) g.1) refl in
-    omega (arith, rest, some, product_parts c x, sum_is_lem (pos c *ℤ x) (weight_in entries counts))
+    omega (arith, rest, some, product-parts c x, sum_is_lem (pos c *ℤ x) (weight_in entries counts))
 
 -- counts that the later classes can give weigh at most the greatest sum of as many units
 pub weight_within_greatest : (later : List Class) (entries : List ℤ) (counts : List ℕ) → length entries ≡ length later → Gives later counts →

@@ -1,10 +1,10 @@
 -- Compositions by the leaders of classes, over the pool itself: a form in which sums over a panel are taken class by class.
-use Rattle.std.specs.Prelude.{nat_lt, ℕ, ◌+◌, ◌-◌, ◌==◌, if◌then◌else◌, Bool, true, ◌&&◌, List, [], ◌∷◌, map, length, count_by, filter, slice_index, ℤ, pos, ◌+ℤ◌, ◌*ℤ◌, int_le}
+use Rattle.std.specs.Prelude.{nat_lt, nat_le, ℕ, ◌+◌, ◌-◌, ◌==◌, if◌then◌else◌, Bool, true, ◌&&◌, List, [], ◌∷◌, map, length, count_by, filter, slice_index, ℤ, pos, ◌+ℤ◌, ◌*ℤ◌, int_le, Option, Some, None}
 use Rattle.std.specs.List.{list_all, flat_map, enumerate_from, range_with_len}
 use Rattle.pool_definitions.specs.Certificate.{Stage, weight_of}
 use Rattle.pool_definitions.specs.Pool.{Pool, volunteer, is_within}
-use Rattle.search_definitions.specs.Classes.{leaders, class_of, least_taken, most_taken}
-use Rattle.search_definitions.specs.Compositions.{counts_down}
+use Rattle.search_definitions.specs.Classes.{leaders, class_of, least_taken, most_taken, shared_household}
+use Rattle.search_definitions.specs.Compositions.{counts_down, is_of_household}
 
 -- how many members of a panel are of each class
 abbrev pub composition_of : (ℕ → ℕ → Bool) → List ℕ → List ℕ → List ℕ
@@ -28,13 +28,23 @@ composition_weight weight (leader ∷ firsts) (c ∷ counts) = pos c *ℤ weight
 abbrev pub composition_attains : List Stage → List ℕ → List ℕ → Bool
 composition_attains stages firsts counts = list_all (λ stage. int_le stage.cap (composition_weight (weight_of stage) firsts counts)) stages
 
-abbrev pub is_composition : Pool → List ℕ → List ℕ → Bool
-is_composition pool firsts counts =
-    taken_of (λ leader. true) firsts counts == pool.size
-    && list_all (λ (c, category).
+abbrev pub meets_bounds : Pool → List ℕ → List ℕ → Bool
+meets_bounds pool firsts counts =
+    list_all (λ (c, category).
     list_all (λ (v, value). is_within value (taken_of (λ leader. slice_index (volunteer pool.volunteers leader).values c == v) firsts counts))
     (enumerate_from 0 category.values))
     (enumerate_from 0 pool.categories)
+
+abbrev pub takes_one_of : Pool → List ℕ → List ℕ → Option ℕ → Bool
+takes_one_of pool firsts counts None = true
+takes_one_of pool firsts counts (Some h) = nat_le (taken_of (λ leader. is_of_household h (shared_household pool.volunteers leader)) firsts counts) 1
+
+abbrev pub takes_one_a_household : Pool → List ℕ → List ℕ → Bool
+takes_one_a_household pool firsts counts = list_all (λ leader. takes_one_of pool firsts counts (shared_household pool.volunteers leader)) firsts
+
+abbrev pub is_composition : Pool → List ℕ → List ℕ → Bool
+is_composition pool firsts counts =
+    taken_of (λ leader. true) firsts counts == pool.size && meets_bounds pool firsts counts && takes_one_a_household pool firsts counts
 
 abbrev pub compositions : Pool → (ℕ → ℕ → Bool) → List (List ℕ)
 compositions pool alike =

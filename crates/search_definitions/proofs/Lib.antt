@@ -5,9 +5,14 @@ pub mod Best
 pub mod FirstSearch
 pub mod LeaderForm
 pub mod ByClass
+pub mod Households
+pub mod AlikeClasses
 pub mod PanelCompositions
+pub mod LeaderPanels
 pub mod FirstPanel
+pub mod ClassNumbers
 pub mod PoolClasses
+pub mod ComposedPanels
 pub mod Limits
 pub mod Parting
 pub mod GreatestSum

@@ -1,5 +1,5 @@
 -- The classes of a pool keep limits like those of the pool.
-use Rattle.std.proofs.Common.{◌≡◌, ℕ, zero, suc, ◌≤◌, ◌<◌, Bool, true, ◌&&◌, leb, ltb, List, [], ◌∷◌, map, length, get_or, slice_index, sum_by, refl, arith, le_of_eq, None}
+use Rattle.std.proofs.Common.{◌≡◌, ℕ, zero, suc, ◌≤◌, ◌<◌, Bool, true, ◌&&◌, leb, ltb, List, [], ◌∷◌, map, length, get_or, slice_index, sum_by, refl, arith, le_of_eq, Option, Some, None}
 use Rattle.std.specs.Prelude.{not}
 use Rattle.std.specs.List.{All, AllByRecursion, list_all, list_any, range_with_len}
 use Rattle.std.proofs.lemmas.Bool.{and_parts, leb-true, ltb-true, false≢true}
@@ -10,8 +10,9 @@ use Rattle.pool_definitions.specs.declared.Standing.TheVariants.{Open, Seated, G
 use Rattle.pool_definitions.specs.Lists.{all_different}
 use Rattle.pool_definitions.specs.Pool.{Pool, IsPool, Category, BoundedValue, volunteer, is_name, are_bounds, is_value, is_category, has_values}
 use Rattle.search_definitions.specs.declared.Bounds.{Bounds}
-use Rattle.search_definitions.specs.Classes.{Class, HasPlaces, KeepsLimits, MakesClasses, leaders, class_of, class_by, classes_by, bounds_of, most_taken}
+use Rattle.search_definitions.specs.Classes.{Class, HasPlaces, IsKnownHousehold, KeepsLimits, MakesClasses, leaders, class_of, class_by, classes_by, bounds_of, most_taken, shared_household, volunteer_count}
 use Rattle.search_definitions.proofs.FirstPanel.{rank_below}
+use Rattle.search_definitions.proofs.Households.{number_below}
 use Rattle.search_definitions.proofs.PoolClasses.{members_in_all, classes_in_order}
 
 pub all_from_each : {X : Type 0} (P : X → Type 0) (xs : List X) → AllByRecursion P xs → All P xs
@@ -131,4 +132,10 @@ module _ (pool : Pool) (alike : ℕ → ℕ → Bool) (is_pool : IsPool pool) (m
         searchable = classes_in_order pool alike;
         values = all_from_each (HasPlaces (bounds_of pool.categories)) (classes_by alike pool).classes
             (of_leaders (HasPlaces (bounds_of pool.categories)) (λ l below. let places = place_at pool.categories (volunteer pool.volunteers l).values (values_at l below) in record { one_each = places.0; within = places.1 }));
+        households = all_from_each (λ class. IsKnownHousehold (volunteer_count (classes_by alike pool)) class.household) (classes_by alike pool).classes
+            (of_leaders (λ class. IsKnownHousehold (volunteer_count (classes_by alike pool)) class.household) (λ l below. known l (shared_household pool.volunteers l) refl));
       }
+    where
+      known : (l : ℕ) (number : Option ℕ) → shared_household pool.volunteers l ≡ number → IsKnownHousehold (volunteer_count (classes_by alike pool)) number
+      known l None e = tt
+      known l (Some h) e = let all = members_in_all pool alike makes in let below = number_below pool.volunteers l h e in omega arith

@@ -32,7 +32,7 @@ module _ (pool : Pool) (alike : ℕ → ℕ → Bool) where
   attains_same (stage ∷ stages) counts =
       let here = weight_same (weight_of stage) firsts counts in let rest = attains_same stages counts in rw (here, rest) refl
 
-  pub capped_where_nothing_priced : (earlier : List Stage) (stage : Stage) → MakesClasses pool alike → WeighAlike alike (stage ∷ earlier) →
+  pub capped_where_nothing_priced : (earlier : List Stage) (stage : Stage) → MakesClasses pool alike → WeighAlike alike (length pool.volunteers) (stage ∷ earlier) →
       price (classes_by alike pool) (map (row_of alike pool) earlier) (row_of alike pool stage) ≡ None → is_capped pool earlier stage ≡ true
   capped_where_nothing_priced earlier stage makes weigh none =
       is_capped-from_price pool alike makes earlier stage weigh

@@ -1,24 +1,26 @@
 -- A quota panel's composition is among the compositions, and weighs what the panel weighs.
 use Rattle.std.proofs.Common.{◌≡◌, ℕ, zero, suc, ◌+◌, ◌-◌, ◌*◌, ◌≤◌, ◌<◌, Bool, true, false, cond, not, ◌&&◌, ◌||◌, eqb, ltb, List, [], ◌∷◌, map, length, filter, count_by, get_or, slice_index, ℤ, pos, negsuc, ◌*ℤ◌, neg_ℤ, refl, sym, ap, ◌∙◌, ⊎_elim, arith, subst, le_of_eq}
-use Rattle.std.specs.Prelude.{int_le, int_lt, unwrap_or, Some, None}
+use Rattle.std.specs.Prelude.{int_le, int_lt, unwrap_or, Option, Some, None}
 use Rattle.std.specs.List.{list_all, AllByRecursion, range_with_len, flat_map, enumerate_from}
-use Rattle.std.proofs.lemmas.Bool.{and_parts, and_from, cases_lt, eq-eqb, ltb-true, false≢true}
+use Rattle.std.proofs.lemmas.Bool.{and_parts, and_from, cases_lt, eq-eqb, ltb-true, le-leb, false≢true}
 use borrow.Author.Differences.{up, down, sum_is_lem, same_in, true_is_le, lt-false}
 use Rattle.basic_laws.proofs.Sums.{total, total_le, total-zero, one_if, length-filter-total, count_by-total}
-use Rattle.basic_laws.proofs.Each.{each_left, each_right, each_of_map, each_range, each_everywhere, list_all_from_each, list_all_equal, each_map, each_from_list_all, each_from_filter}
+use Rattle.basic_laws.proofs.Integers.{product-parts}
+use Rattle.basic_laws.proofs.Each.{each_left, each_right, each_of_map, each_range, each_everywhere, list_all_from_each, list_all_equal, each_map, each_from_list_all, each_from_filter, each_filter_passes, enumerated-each}
 use Rattle.pool_definitions.specs.declared.Standing.{Standing}
 use Rattle.pool_definitions.specs.declared.Standing.TheVariants.{Open, Seated, Gone}
 use Rattle.pool_definitions.specs.Lists.{includes, is_increasing, choices}
-use Rattle.pool_definitions.specs.Pool.{Pool, Volunteer, volunteer, everybody, panels, is_quota_panel, allows, keeps_standings, meets_quotas, members_with, is_within}
+use Rattle.pool_definitions.specs.Pool.{Pool, Volunteer, volunteer, everybody, panels, is_quota_panel, allows, members_with, is_within}
 use Rattle.pool_definitions.specs.Certificate.{Stage, weight_of, panel_weight, attains, is_capped}
-use Rattle.search_definitions.specs.Classes.{leaders, class_of, least_taken, most_taken, IsEquivalenceTest, MakesClasses}
-use Rattle.search_definitions.specs.Compositions.{counts_down, first_greatest}
+use Rattle.search_definitions.specs.Classes.{leaders, class_of, least_taken, most_taken, shared_household, IsEquivalenceTest, MakesClasses}
+use Rattle.search_definitions.specs.Compositions.{counts_down, first_greatest, is_of_household}
 use Rattle.search_definitions.specs.Stages.{WeighAlike}
-use Rattle.search_definitions.proofs.LeaderForm.{composition_of, all_counts, taken_of, composition_weight, is_composition, compositions, composition_attains}
+use Rattle.search_definitions.proofs.LeaderForm.{composition_of, all_counts, taken_of, composition_weight, meets_bounds, takes_one_of, takes_one_a_household, is_composition, compositions, composition_attains}
 use Rattle.pool_definitions.proofs.Weights.{total_panel}
 use Rattle.pool_definitions.proofs.AllPanels.{Quota, quota_parts}
 use Rattle.pool_definitions.proofs.Greatest.{weight_parts}
 use Rattle.search_definitions.proofs.ByClass.{taken, by_class}
+use Rattle.search_definitions.proofs.Households.{alike_number, one_of_number}
 
 -- ---- lists with a count for each leader
 
@@ -55,14 +57,6 @@ taken_of-is alike passes panel (l ∷ firsts) =
       | false ↦ omega (arith, rest)
     ]
 
-product_parts : (c : ℕ) (z : ℤ) → up (pos c *ℤ z) + c * down z ≡ c * up z + down (pos c *ℤ z)
-product_parts c (pos n) = omega arith
-product_parts c (negsuc n) = neg_parts (c * suc n)
-  where
-    neg_parts : (m : ℕ) → up (neg_ℤ (pos m)) + m ≡ c * 0 + down (neg_ℤ (pos m))
-    neg_parts zero = omega arith
-    neg_parts (suc m) = omega arith
-
 weight_is : (alike : ℕ → ℕ → Bool) (w : ℕ → ℤ) (panel firsts : List ℕ) →
     up (composition_weight w firsts (composition_of alike firsts panel)) + total (λ l. taken alike l panel * down (w l)) firsts
     ≡ total (λ l. taken alike l panel * up (w l)) firsts + down (composition_weight w firsts (composition_of alike firsts panel))
@@ -71,7 +65,7 @@ weight_is alike w panel (l ∷ firsts) =
     let rest = weight_is alike w panel firsts in
     let here = count_by-total (alike l) panel in
     let c = count_by (alike l) panel in
-    let parts = product_parts c (w l) in
+    let parts = product-parts c (w l) in
     let upper : c * up (w l) ≡ taken alike l panel * up (w l) = ap (λ z. z * up (w l)) here in
     let lower : c * down (w l) ≡ taken alike l panel * down (w l) = ap (λ z. z * down (w l)) here in
     omega (arith, rest, parts, upper, lower, sum_is_lem (pos c *ℤ w l) (composition_weight w firsts (composition_of alike firsts panel)))
@@ -82,38 +76,19 @@ module _ (alike : ℕ → ℕ → Bool) (same : IsEquivalenceTest alike) (count 
       taken_of passes (leaders alike count) (composition_of alike (leaders alike count) panel) ≡ count_by passes panel
   passing passes respects panel below =
       taken_of-is alike passes panel (leaders alike count)
-      ∙ sym (by_class alike same count (λ i. one_if (passes i)) (λ i j e. ap one_if (respects i j e)) panel below)
+      ∙ sym (by_class alike same count (λ i. one_if (passes i)) (λ i j a b e. ap one_if (respects i j e)) panel below)
       ∙ sym (count_by-total passes panel)
 
   -- a panel's weight, by composition
-  pub weighing : (stage : Stage) → ((i j : ℕ) → alike i j ≡ true → weight_of stage i ≡ weight_of stage j) → (panel : List ℕ) → AllByRecursion (λ i. i < count) panel →
+  pub weighing : (stage : Stage) → ((i j : ℕ) → i < count → j < count → alike i j ≡ true → weight_of stage i ≡ weight_of stage j) → (panel : List ℕ) → AllByRecursion (λ i. i < count) panel →
       composition_weight (weight_of stage) (leaders alike count) (composition_of alike (leaders alike count) panel) ≡ panel_weight stage panel
   weighing stage respects panel below =
       let c = composition_weight (weight_of stage) (leaders alike count) (composition_of alike (leaders alike count) panel) in
-      let a = by_class alike same count (λ i. up (weight_of stage i)) (λ i j e. ap up (respects i j e)) panel below in
-      let b = by_class alike same count (λ i. down (weight_of stage i)) (λ i j e. ap down (respects i j e)) panel below in
+      let a = by_class alike same count (λ i. up (weight_of stage i)) (λ i j a b e. ap up (respects i j a b e)) panel below in
+      let b = by_class alike same count (λ i. down (weight_of stage i)) (λ i j a b e. ap down (respects i j a b e)) panel below in
       same_in c (panel_weight stage panel) (omega (arith, a, b, weight_is alike (weight_of stage) panel (leaders alike count), weight_parts stage panel))
 
 -- ---- a quota panel's composition
-
-at_place : (q : ℕ → Volunteer → Bool) (first : ℕ) (vs : List Volunteer) → list_all (λ (i, v). q i v) (enumerate_from first vs) ≡ true →
-    (k : ℕ) (d : Volunteer) → k < length vs → q (first + k) (get_or vs k d) ≡ true
-at_place q first [] h k d l = absurd (omega arith)
-at_place q first (v ∷ vs) h zero d l =
-    let s : first + zero ≡ first = omega arith in
-    rw s ((and_parts (q first v) (list_all (λ (i, v). q i v) (enumerate_from (first + 1) vs)) h).0)
-at_place q first (v ∷ vs) h (suc k) d l =
-    let s : first + suc k ≡ first + 1 + k = omega arith in
-    rw s (at_place q (first + 1) vs ((and_parts (q first v) (list_all (λ (i, v). q i v) (enumerate_from (first + 1) vs)) h).1) k d (omega arith))
-
-pub each_filter_passes : {X : Type 0} (P : X → Type 0) (p : X → Bool) → ((x : X) → p x ≡ true → P x) → (xs : List X) → AllByRecursion P (filter p xs)
-each_filter_passes P p f [] = tt
-each_filter_passes P p f (x ∷ xs) =
-    let rest = each_filter_passes P p f xs in
-    (elim (p x) as (λ b. p x ≡ b → AllByRecursion P (cond b (x ∷ filter p xs) (filter p xs))) [
-      | true ↦ λ e. (f x e, rest)
-      | false ↦ λ e. rest
-    ]) refl
 
 -- one volunteer: s is the standing, h says whether the panel holds the volunteer, a whether the volunteer is in the class
 term_seated : (s : Standing) (h a : Bool) → allows s h ≡ true → (a ≡ true → s ≡ Seated) → one_if a ≤ cond h (one_if a) 0
@@ -141,24 +116,12 @@ module _ (pool : Pool) (alike : ℕ → ℕ → Bool) (respects : MakesClasses p
   parts : Quota pool panel
   parts = quota_parts pool panel quota
 
-  keeps : keeps_standings pool.volunteers panel ≡ true
-  keeps =
-      let A = eqb (length panel) pool.size in let B = is_increasing panel in let C = list_all (λ i. ltb i n) panel in
-      let D = keeps_standings pool.volunteers panel in let E = meets_quotas pool.categories pool.volunteers panel in
-      (and_parts (A && B && C) D (and_parts (A && B && C && D) E quota).0).1
-
-  meets : meets_quotas pool.categories pool.volunteers panel ≡ true
-  meets =
-      let A = eqb (length panel) pool.size in let B = is_increasing panel in let C = list_all (λ i. ltb i n) panel in
-      let D = keeps_standings pool.volunteers panel in let E = meets_quotas pool.categories pool.volunteers panel in
-      (and_parts (A && B && C && D) E quota).1
-
   below : AllByRecursion (λ i. i < n) panel
   below = each_map (λ i. ltb i n ≡ true) (λ i. i < n) (λ i e. ltb-true i n e) panel (each_from_list_all (λ i. ltb i n) panel parts.below)
 
   stands : (i : ℕ) → i < n → allows (standing_of i) (includes panel i) ≡ true
   stands i l =
-      let here = at_place (λ i v. allows v.standing (includes panel i)) 0 pool.volunteers keeps i (record { id = []; values = []; standing = Gone; household = None }) l in
+      let here = enumerated-each (λ (i, v). allows v.standing (includes panel i)) 0 pool.volunteers parts.standings i (record { id = []; values = []; standing = Gone; household = None }) l in
       let e : 0 + i ≡ i = omega arith in subst (λ z. allows (standing_of i) (includes panel z) ≡ true) e here
 
   taken_here : (l : ℕ) → count_by (alike l) panel ≡ total (λ i. cond (includes panel i) (one_if (alike l i)) 0) (range_with_len 0 n)
@@ -208,6 +171,14 @@ module _ (pool : Pool) (alike : ℕ → ℕ → Bool) (respects : MakesClasses p
       passing alike respects.same n (λ i. eqb (slice_index (volunteer pool.volunteers i).values c) v)
       (λ i j e. ap (λ values. eqb (slice_index values c) v) (respects.values i j e)) panel below
 
+  -- of a household it takes as many as the panel has
+  household_is : (number : Option ℕ) → takes_one_of pool (leaders alike n) mine number ≡ true
+  household_is None = refl
+  household_is (Some h) =
+      let of : ℕ → Bool = λ i. is_of_household h (shared_household pool.volunteers i) in
+      let taken = passing alike respects.same n of (λ i j e. ap (is_of_household h) (alike_number pool alike respects i j e)) panel below in
+      le-leb (taken_of of (leaders alike n) mine) 1 (omega (arith, taken, one_of_number pool.volunteers panel h parts.households))
+
   is_one : is_composition pool (leaders alike n) mine ≡ true
   is_one =
       let same = list_all_equal
@@ -217,7 +188,11 @@ module _ (pool : Pool) (alike : ℕ → ℕ → Bool) (respects : MakesClasses p
       (λ (v, value). is_within value (members_with pool.volunteers panel c v))
       (λ (v, value). ap (is_within value) (value_is c v)) (enumerate_from 0 category.values))
       (enumerate_from 0 pool.categories) in
-      and_from (eqb (taken_of (λ leader. true) (leaders alike n) mine) pool.size) _ (eq-eqb (taken_of (λ leader. true) (leaders alike n) mine) pool.size size_is) (same ∙ meets)
+      and_from (eqb (taken_of (λ leader. true) (leaders alike n) mine) pool.size && meets_bounds pool (leaders alike n) mine) (takes_one_a_household pool (leaders alike n) mine)
+      (and_from (eqb (taken_of (λ leader. true) (leaders alike n) mine) pool.size) (meets_bounds pool (leaders alike n) mine)
+      (eq-eqb (taken_of (λ leader. true) (leaders alike n) mine) pool.size size_is) (same ∙ parts.quotas))
+      (list_all_from_each (λ leader. takes_one_of pool (leaders alike n) mine (shared_household pool.volunteers leader)) (leaders alike n)
+      (each_everywhere (λ leader. takes_one_of pool (leaders alike n) mine (shared_household pool.volunteers leader) ≡ true) (λ leader. household_is (shared_household pool.volunteers leader)) (leaders alike n)))
 
   -- what holds of all compositions holds of the panel's
   pub of_compositions : (P : List ℕ → Type 0) → AllByRecursion P (compositions pool alike) → P mine
@@ -228,7 +203,7 @@ module _ (pool : Pool) (alike : ℕ → ℕ → Bool) (respects : MakesClasses p
       (each_everywhere (λ l. (low l ≤ count_by (alike l) panel) × (count_by (alike l) panel ≤ high l)) (λ l. bounds l (standing_of l) refl) (leaders alike n))
       (each_from_filter P (is_composition pool (leaders alike n)) (all_counts low high (leaders alike n)) each) is_one
 
-attains_same : (pool : Pool) (alike : ℕ → ℕ → Bool) (respects : MakesClasses pool alike) (panel : List ℕ) → is_quota_panel pool panel ≡ true → (stages : List Stage) → WeighAlike alike stages →
+attains_same : (pool : Pool) (alike : ℕ → ℕ → Bool) (respects : MakesClasses pool alike) (panel : List ℕ) → is_quota_panel pool panel ≡ true → (stages : List Stage) → WeighAlike alike (length pool.volunteers) stages →
     composition_attains stages (leaders alike (length pool.volunteers)) (composition_of alike (leaders alike (length pool.volunteers)) panel) ≡ attains stages panel
 attains_same pool alike respects panel quota [] weigh = refl
 attains_same pool alike respects panel quota (stage ∷ stages) weigh =
@@ -236,7 +211,7 @@ attains_same pool alike respects panel quota (stage ∷ stages) weigh =
     let rest = attains_same pool alike respects panel quota stages weigh.1 in rw (here, rest) refl
 
 -- where no composition that attains the earlier caps weighs more than the cap, no quota panel does
-pub capped_from_compositions : (pool : Pool) (alike : ℕ → ℕ → Bool) → MakesClasses pool alike → (earlier : List Stage) (stage : Stage) → WeighAlike alike (stage ∷ earlier) →
+pub capped_from_compositions : (pool : Pool) (alike : ℕ → ℕ → Bool) → MakesClasses pool alike → (earlier : List Stage) (stage : Stage) → WeighAlike alike (length pool.volunteers) (stage ∷ earlier) →
     list_all (λ counts. not (composition_attains earlier (leaders alike (length pool.volunteers)) counts) || int_le (composition_weight (weight_of stage) (leaders alike (length pool.volunteers)) counts) stage.cap) (compositions pool alike) ≡ true →
     list_all (λ panel. not (attains earlier panel) || int_le (panel_weight stage panel) stage.cap) (panels pool) ≡ true
 capped_from_compositions pool alike respects earlier stage weigh capped =
@@ -263,7 +238,7 @@ none_above_floor weight floor (counts ∷ rest) e =
     ]) refl e
 
 -- a price of none: no quota panel that attains the earlier caps weighs more than the cap
-pub is_capped-from_price : (pool : Pool) (alike : ℕ → ℕ → Bool) → MakesClasses pool alike → (earlier : List Stage) (stage : Stage) → WeighAlike alike (stage ∷ earlier) →
+pub is_capped-from_price : (pool : Pool) (alike : ℕ → ℕ → Bool) → MakesClasses pool alike → (earlier : List Stage) (stage : Stage) → WeighAlike alike (length pool.volunteers) (stage ∷ earlier) →
     first_greatest (composition_weight (weight_of stage) (leaders alike (length pool.volunteers))) stage.cap (filter (composition_attains earlier (leaders alike (length pool.volunteers))) (compositions pool alike)) ≡ None → is_capped pool earlier stage ≡ true
 is_capped-from_price pool alike makes earlier stage weigh none =
     let firsts = leaders alike (length pool.volunteers) in

@@ -1,5 +1,5 @@
 -- The classes of a pool: compositions over them are those by leaders, and so are their first members.
-use Rattle.std.proofs.Common.{◌≡◌, ℕ, zero, suc, ◌+◌, ◌*◌, ◌≤◌, ◌<◌, Bool, true, false, cond, ◌&&◌, ◌||◌, eqb, ltb, List, [], ◌∷◌, map, length, filter, take, count_by, sum_by, slice_index, Option, None, Some, refl, sym, ap, ◌∙◌, ⊎_elim, arith, subst}
+use Rattle.std.proofs.Common.{◌≡◌, ℕ, zero, suc, ◌+◌, ◌*◌, ◌≤◌, ◌<◌, Bool, true, false, cond, ◌&&◌, ◌||◌, eqb, leb, ltb, List, [], ◌∷◌, map, length, filter, take, count_by, sum_by, slice_index, Option, None, Some, refl, sym, ap, ◌∙◌, ⊎_elim, arith, subst}
 use Rattle.std.specs.Prelude.{MatchOption, ◌↔◌, slice_get}
 use Rattle.std.specs.List.{flat_map, list_all, AllByRecursion, range_with_len, enumerate_from}
 use Rattle.std.proofs.lemmas.Bool.{cases_Bool, eqb-true, eq-eqb, ne_eqb, false≢true, le-ltb, lt-ltb}
@@ -10,27 +10,17 @@ use Rattle.basic_laws.proofs.Sums.{total, total_eq, total_ext, sum_by-is-total, 
 use Rattle.pool_definitions.specs.Lists.{includes, is_increasing}
 use Rattle.pool_definitions.specs.Pool.{Pool, volunteer, is_within, is_quota_panel, panels}
 use Rattle.pool_definitions.proofs.AllPanels.{each_panel}
-use Rattle.search_definitions.specs.Classes.{Class, Classes, IsSearchable, MakesClasses, leaders, class_of, class_by, classes_by, are_alike}
-use Rattle.search_definitions.specs.Compositions.{counts_of, has_value, lies_within, is_taken, composition_of, first_panel, compositions, all_counts, taken_of, is_composition}
+use Rattle.search_definitions.specs.Classes.{Class, Classes, IsSearchable, MakesClasses, leaders, class_of, class_by, classes_by, shared_household}
+use Rattle.search_definitions.specs.Compositions.{counts_of, has_value, is_of_household, lies_within, takes_one_of, takes_one_a_household, is_taken, composition_of, first_panel, compositions, all_counts, taken_of, is_composition}
 use Rattle.search_definitions.specs.Visits.{first_search}
 use Rattle.search_definitions.proofs.FirstSearch.{search_finds_first}
 use Rattle.search_definitions.proofs.LeaderForm as by_leader
 use Rattle.search_definitions.proofs.ByClass.{taken, by_class, one_leader}
 use Rattle.search_definitions.proofs.PanelCompositions.{no_panel}
-use Rattle.search_definitions.proofs.FirstPanel.{FitsAndComposes, filter_increases, holds_filter, each_first_panel, least_to_most}
+use Rattle.search_definitions.proofs.FirstPanel.{FitsAndComposes, filter_increases, holds_filter, each_first_panel}
+use Rattle.search_definitions.proofs.LeaderPanels.{least_to_most}
 
 -- ---- classes
-
-pub alone_makes_classes : (pool : Pool) → MakesClasses pool (are_alike pool)
-alone_makes_classes pool = record {
-  same = record {
-    itself = λ i. eq-eqb i i refl;
-    back = λ i j h. eq-eqb j i (sym (eqb-true i j h));
-    along = λ i j k h g. eq-eqb i k (eqb-true i j h ∙ eqb-true j k g);
-  };
-  values = λ i j h. ap (λ k. (volunteer pool.volunteers k).values) (eqb-true i j h);
-  standing = λ i j h. ap (λ k. (volunteer pool.volunteers k).standing) (eqb-true i j h);
-}
 
 pub classes_in_order : (pool : Pool) (alike : ℕ → ℕ → Bool) → IsSearchable (classes_by alike pool)
 classes_in_order pool alike = record {
@@ -68,6 +58,20 @@ module _ (pool : Pool) (alike : ℕ → ℕ → Bool) where
   taken_same passes (l ∷ xs) [] = refl
   taken_same passes (l ∷ xs) (c ∷ counts) = ap (λ rest. cond (passes (of_leader l)) c 0 + rest) (taken_same passes xs counts)
 
+  one_of_same : (counts : List ℕ) (number : Option ℕ) → takes_one_of (map of_leader firsts) counts number ≡ by_leader.takes_one_of pool firsts counts number
+  one_of_same counts None = refl
+  one_of_same counts (Some h) = ap (λ taken. leb taken 1) (taken_same (λ class. is_of_household h class.household) firsts counts)
+
+  households_same : (counts : List ℕ) → takes_one_a_household (map of_leader firsts) counts ≡ by_leader.takes_one_a_household pool firsts counts
+  households_same counts =
+      list_all-mapped (λ class. takes_one_of (map of_leader firsts) counts class.household) of_leader firsts
+      ∙ list_all_equal (λ l. takes_one_of (map of_leader firsts) counts (of_leader l).household) (λ l. by_leader.takes_one_of pool firsts counts (shared_household pool.volunteers l))
+      (λ l. one_of_same counts (shared_household pool.volunteers l)) firsts
+    where
+      list_all-mapped : {X Y : Type 0} (p : Y → Bool) (f : X → Y) (xs : List X) → list_all p (map f xs) ≡ list_all (λ x. p (f x)) xs
+      list_all-mapped p f [] = refl
+      list_all-mapped p f (x ∷ xs) = ap (λ rest. p (f x) && rest) (list_all-mapped p f xs)
+
   composition_same : (counts : List ℕ) → is_composition (classes_by alike pool) counts ≡ by_leader.is_composition pool firsts counts
   composition_same counts =
       let bounds =
@@ -83,7 +87,7 @@ module _ (pool : Pool) (alike : ℕ → ℕ → Bool) where
       (λ (v, value). is_within value (by_leader.taken_of (λ leader. eqb (slice_index (volunteer pool.volunteers leader).values c) v) firsts counts))
       (λ (v, value). ap (is_within value) (taken_same (has_value c v) firsts counts)) (enumerate_from 0 category.values))
       (enumerate_from 0 pool.categories) in
-      rw (taken_same (λ class. true) firsts counts, bounds) refl
+      rw (taken_same (λ class. true) firsts counts, bounds, households_same counts) refl
 
   pub compositions_same : compositions (classes_by alike pool) ≡ by_leader.compositions pool alike
   compositions_same =
@@ -219,7 +223,7 @@ module _ (pool : Pool) (alike : ℕ → ℕ → Bool) (makes : MakesClasses pool
   members_in_all =
       sum_by-is-total (λ class. length class.members) (map class_at (leaders alike many))
       ∙ each_size (leaders alike many)
-      ∙ sym (by_class alike makes.same many (λ i. 1) (λ i j e. refl) (range_with_len 0 many) (each_range (λ i. i < many) 0 many (λ k l m. omega arith)))
+      ∙ sym (by_class alike makes.same many (λ i. 1) (λ i j a b e. refl) (range_with_len 0 many) (each_range (λ i. i < many) 0 many (λ k l m. omega arith)))
       ∙ ones 0 many
     where
       each_size : (xs : List ℕ) → total (λ class. length class.members) (map class_at xs) ≡ total (λ l. taken alike l (range_with_len 0 many) * 1) xs
@@ -243,7 +247,7 @@ module _ (pool : Pool) (alike : ℕ → ℕ → Bool) (makes : MakesClasses pool
       (λ counts fits. let e = first_panel_same counts in rw e fits.0) (by_leader.compositions pool alike) (each_first_panel pool alike makes))
 
   -- who is in a class is alike its leader
-  composition_of_same : (panel : List ℕ) → AllByRecursion (λ i. i < many) panel → (xs : List ℕ) → map (λ class. count_by (includes class.members) panel) (map class_at xs) ≡ by_leader.composition_of alike xs panel
+  pub composition_of_same : (panel : List ℕ) → AllByRecursion (λ i. i < many) panel → (xs : List ℕ) → map (λ class. count_by (includes class.members) panel) (map class_at xs) ≡ by_leader.composition_of alike xs panel
   composition_of_same panel below [] = refl
   composition_of_same panel below (l ∷ xs) =
       let here : count_by (includes (class_of alike many l)) panel ≡ count_by (alike l) panel =

@@ -1,13 +1,13 @@
 -- Classes of volunteers.
-use Rattle.std.specs.Prelude.{◌≡◌, ℕ, ◌==◌, ◌≤◌, ◌<◌, Bool, not, IsTrue, List, [], map, length, filter, slice_index, slice_index_or, sum_by, count_by}
-use Rattle.std.specs.List.{list_any, range_with_len, All, AllByRecursion}
+use Rattle.std.specs.Prelude.{◌≡◌, ℕ, ◌==◌, ◌≤◌, ◌<◌, nat_le, if◌then◌else◌, Bool, true, false, not, ◌&&◌, ◌||◌, IsTrue, List, [], map, length, filter, slice_index, slice_index_or, sum_by, count_by, bytes_eq, Option, Some, None, is_some}
+use Rattle.std.specs.List.{find, list_any, position_or_len, range_with_len, All, AllByRecursion}
 use Rattle.pool_definitions.specs.declared.Standing.{Standing}
 use Rattle.pool_definitions.specs.declared.Standing.TheVariants.{Open, Seated, Gone}
 use Rattle.pool_definitions.specs.Lists.{includes, is_increasing}
-use Rattle.pool_definitions.specs.Pool.{Category, Pool, volunteer}
+use Rattle.pool_definitions.specs.Pool.{Category, Pool, Volunteer, share_household, volunteer}
 use Rattle.search_definitions.specs.declared.Bounds.{Bounds}
 
--- volunteers with the same values and standing
+-- volunteers with the same values and standing; who shares a household is a class alone
 pub record Class : Type 0 where
   -- their numbers, rising
   pub members : List ℕ
@@ -16,6 +16,8 @@ pub record Class : Type 0 where
   -- the least and the greatest number of them that a panel may have
   pub least : ℕ
   pub most : ℕ
+  -- the number of the household that the one member shares with a volunteer of another class
+  pub household : Option ℕ
 
 -- what a search for panels goes through: the size of a panel, for each category the bounds of its values, and the classes
 pub record Classes : Type 0 where
@@ -32,6 +34,10 @@ pub record HasPlaces (bounds : List (List Bounds)) (class : Class) : Type 0 wher
 pub record IsSearchable (all : Classes) : Type 0 where
   pub in_order : AllByRecursion (λ class. class.least ≤ class.most) all.classes
 
+-- the number of the class that has a volunteer, the number of all classes where none has
+abbrev pub class_number : List Class → ℕ → ℕ
+class_number classes i = position_or_len (λ class. includes class.members i) classes
+
 -- how many volunteers the classes hold in all
 abbrev pub volunteer_count : Classes → ℕ
 volunteer_count all = sum_by (λ class. length class.members) all.classes
@@ -41,6 +47,11 @@ pub record PartVolunteers (all : Classes) : Type 0 where
   pub rising : AllByRecursion (λ class. IsTrue (is_increasing class.members)) all.classes
   pub known : AllByRecursion (λ class. AllByRecursion (λ i. i < volunteer_count all) class.members) all.classes
   pub once : (i : ℕ) → i < volunteer_count all → count_by (λ class. includes class.members i) all.classes ≡ 1
+
+-- the number of a household, where there is one, is that of a volunteer
+abbrev pub IsKnownHousehold : ℕ → Option ℕ → Type 0
+IsKnownHousehold count None = Unit {0}
+IsKnownHousehold count (Some h) = h < count
 
 -- what the classes of each pool keep: few of everything, so that sums over them stay small
 pub record KeepsLimits (all : Classes) : Type 0 where
@@ -59,6 +70,7 @@ pub record KeepsLimits (all : Classes) : Type 0 where
   pub searchable : IsSearchable all
   -- each class has one value per category
   pub values : All (HasPlaces all.bounds) all.classes
+  pub households : All (λ class. IsKnownHousehold (volunteer_count all) class.household) all.classes
 
 -- the seated are on each panel, the gone on none
 abbrev pub least_taken : Standing → ℕ → ℕ
@@ -70,6 +82,12 @@ abbrev pub most_taken : Standing → ℕ → ℕ
 most_taken Open size = size
 most_taken Seated size = size
 most_taken Gone size = 0
+
+-- the number of a shared household is that of its first member; a household of one volunteer alone has none
+abbrev pub shared_household : List Volunteer → ℕ → Option ℕ
+shared_household volunteers i =
+    let everybody = range_with_len 0 (length volunteers) in
+    if nat_le 2 (count_by (share_household volunteers i) everybody) then find (share_household volunteers i) everybody else None
 
 -- the first member of each class: nobody before is alike
 abbrev pub leaders : (ℕ → ℕ → Bool) → ℕ → List ℕ
@@ -88,6 +106,7 @@ class_by alike pool leader =
       values = (volunteer pool.volunteers leader).values;
       least = least_taken (volunteer pool.volunteers leader).standing (length members);
       most = most_taken (volunteer pool.volunteers leader).standing (length members);
+      household = shared_household pool.volunteers leader;
     }
 
 -- for each category the bounds of its values
@@ -102,9 +121,29 @@ classes_by alike pool = record {
   classes = map (class_by alike pool) (leaders alike (length pool.volunteers));
 }
 
--- each volunteer is a class alone
+abbrev pub is_same_standing : Standing → Standing → Bool
+is_same_standing Open Open = true
+is_same_standing Open Seated = false
+is_same_standing Open Gone = false
+is_same_standing Seated Open = false
+is_same_standing Seated Seated = true
+is_same_standing Seated Gone = false
+is_same_standing Gone Open = false
+is_same_standing Gone Seated = false
+is_same_standing Gone Gone = true
+
+-- the same values and the same standing
+abbrev pub are_equal : Volunteer → Volunteer → Bool
+are_equal one other = bytes_eq one.values other.values && is_same_standing one.standing other.standing
+
+-- a volunteer shares a household with another one
+abbrev pub shares_household : Pool → ℕ → Bool
+shares_household pool i = is_some (shared_household pool.volunteers i)
+
+-- volunteers of equal values and equal standing are alike, but who shares a household is alike nobody else
 abbrev pub are_alike : Pool → ℕ → ℕ → Bool
-are_alike pool i j = i == j
+are_alike pool i j =
+    i == j || (are_equal (volunteer pool.volunteers i) (volunteer pool.volunteers j) && not (shares_household pool i) && not (shares_household pool j))
 
 -- the classes of a pool
 abbrev pub classes_of : Pool → Classes
@@ -116,8 +155,10 @@ pub record IsEquivalenceTest (alike : ℕ → ℕ → Bool) : Type 0 where
   pub back : (i j : ℕ) → IsTrue (alike i j) → IsTrue (alike j i)
   pub along : (i j k : ℕ) → IsTrue (alike i j) → IsTrue (alike j k) → IsTrue (alike i k)
 
--- a test that makes classes of volunteers: an equivalence, and who is alike has the same values and standing
+-- a test that makes classes of volunteers: an equivalence, who is alike has the same values and standing, and who shares a household is
+-- alike nobody else
 pub record MakesClasses (pool : Pool) (alike : ℕ → ℕ → Bool) : Type 0 where
   pub same : IsEquivalenceTest alike
   pub values : (i j : ℕ) → IsTrue (alike i j) → (volunteer pool.volunteers i).values ≡ (volunteer pool.volunteers j).values
   pub standing : (i j : ℕ) → IsTrue (alike i j) → (volunteer pool.volunteers i).standing ≡ (volunteer pool.volunteers j).standing
+  pub alone : (i j : ℕ) → IsTrue (alike i j) → IsTrue (is_some (shared_household pool.volunteers i)) → i ≡ j

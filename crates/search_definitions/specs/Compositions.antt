@@ -41,9 +41,24 @@ meets_bounds bounds classes counts =
     list_all (λ (v, bound). lies_within bound (taken_of (has_value c v) classes counts)) (enumerate_from 0 values))
     (enumerate_from 0 bounds)
 
--- the counts sum to the size, and each value's number lies within its bounds
+-- the one member of a class is of the household of a number
+abbrev pub is_of_household : ℕ → Option ℕ → Bool
+is_of_household h None = false
+is_of_household h (Some number) = number == h
+
+-- at most one is taken of a household
+abbrev pub takes_one_of : List Class → List ℕ → Option ℕ → Bool
+takes_one_of classes counts None = true
+takes_one_of classes counts (Some h) = nat_le (taken_of (λ class. is_of_household h class.household) classes counts) 1
+
+-- no household has two taken
+abbrev pub takes_one_a_household : List Class → List ℕ → Bool
+takes_one_a_household classes counts = list_all (λ class. takes_one_of classes counts class.household) classes
+
+-- the counts sum to the size, each value's number lies within its bounds, and no household has two taken
 abbrev pub is_composition : Classes → List ℕ → Bool
-is_composition all counts = taken_of (λ class. true) all.classes counts == all.size && meets_bounds all.bounds all.classes counts
+is_composition all counts =
+    taken_of (λ class. true) all.classes counts == all.size && meets_bounds all.bounds all.classes counts && takes_one_a_household all.classes counts
 
 -- all compositions, in order
 abbrev pub compositions : Classes → List (List ℕ)

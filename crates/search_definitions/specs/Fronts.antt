@@ -4,7 +4,7 @@ use Rattle.std.specs.List.{list_all, enumerate_from, AllByRecursion}
 use Rattle.row_definitions.specs.Row.{Row, reach}
 use Rattle.search_definitions.specs.declared.Bounds.{Bounds}
 use Rattle.search_definitions.specs.Classes.{Class, Classes}
-use Rattle.search_definitions.specs.Compositions.{taken_of, has_value, weight_in}
+use Rattle.search_definitions.specs.Compositions.{taken_of, has_value, takes_one_a_household, weight_in}
 
 -- the classes after a front
 abbrev pub later_than : List ℕ → List Class → List Class
@@ -45,9 +45,9 @@ abbrev pub values_reachable : Classes → List ℕ → Bool
 values_reachable all front =
     list_all (λ (c, values). list_all (value_reachable all front c) (enumerate_from 0 values)) (enumerate_from 0 all.bounds)
 
--- a front is live for the first composition: size and values are in reach
+-- a front is live for the first composition: size and values are in reach, and no household has two taken
 abbrev pub is_reachable : Classes → List ℕ → Bool
-is_reachable all front = size_reachable all front && values_reachable all front
+is_reachable all front = size_reachable all front && values_reachable all front && takes_one_a_household all.classes front
 
 -- a number put into a falling list, in its place
 abbrev pub put_falling : ℤ → List ℤ → List ℤ

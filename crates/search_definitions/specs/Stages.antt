@@ -1,14 +1,14 @@
 -- Stages of a certificate as rows over classes.
-use Rattle.std.specs.Prelude.{◌≡◌, ℕ, Bool, IsTrue, List, map, length}
+use Rattle.std.specs.Prelude.{◌≡◌, ℕ, ◌<◌, Bool, IsTrue, List, map, length}
 use Rattle.std.specs.List.{AllByRecursion}
 use Rattle.pool_definitions.specs.Pool.{Pool}
 use Rattle.pool_definitions.specs.Certificate.{Stage, weight_of}
 use Rattle.row_definitions.specs.Row.{Row}
 use Rattle.search_definitions.specs.Classes.{leaders}
 
--- each of the stages weighs alike volunteers alike
-abbrev pub WeighAlike : (ℕ → ℕ → Bool) → List Stage → Type 0
-WeighAlike alike stages = AllByRecursion (λ stage. (i j : ℕ) → IsTrue (alike i j) → weight_of stage i ≡ weight_of stage j) stages
+-- each of the stages weighs alike volunteers alike, of so many
+abbrev pub WeighAlike : (ℕ → ℕ → Bool) → ℕ → List Stage → Type 0
+WeighAlike alike count stages = AllByRecursion (λ stage. (i j : ℕ) → i < count → j < count → IsTrue (alike i j) → weight_of stage i ≡ weight_of stage j) stages
 
 -- the cap of a stage, and for each class the weight of its first member
 abbrev pub row_of : (ℕ → ℕ → Bool) → Pool → Stage → Row

@@ -5,12 +5,12 @@
 //! The functions here have no body: their contracts are laws over the definitions, and worked examples.
 #![tactic(auto)]
 
-ghost use Rattle.std.specs.Prelude.{◌≡◌, ◌↔◌, ℕ, Bool, List, [], ◌∷◌, map, length, MatchOption, None, Some, IsTrue, pos};
-ghost use Rattle.std.specs.List.{AllByRecursion};
+ghost use Rattle.std.specs.Prelude.{◌≡◌, ◌↔◌, ℕ, Bool, List, [], ◌∷◌, map, length, nat_lt, Contains, MatchOption, None, Some, IsTrue, pos};
+ghost use Rattle.std.specs.List.{AllByRecursion, list_all};
 ghost use Rattle.pool_definitions.specs.Certificate.{Stage, is_capped};
 ghost use Rattle.pool_definitions.specs.Lists.{is_increasing};
 ghost use Rattle.pool_definitions.specs.Pool.{Pool, IsPool, panels, is_quota_panel};
-ghost use Rattle.pool_definitions.specs.WorkedExamples.{four, crossed, nobody};
+ghost use Rattle.pool_definitions.specs.WorkedExamples.{couple, four, family, crossed, nobody};
 ghost use Rattle.row_definitions.specs.Row.{Row};
 ghost use Rattle.search_definitions.specs.Best.{IsBest, Qualifies};
 ghost use Rattle.search_definitions.specs.Classes.{Classes, IsSearchable, KeepsLimits, MakesClasses, PartVolunteers, are_alike, classes_by, classes_of, volunteer_count};
@@ -29,7 +29,7 @@ pub struct Bounds {
     pub upper: usize,
 }
 
-/// Volunteers make classes, each alone.
+/// Volunteers of equal values and equal standing make classes, where who shares a household is alone.
 pub fn alike_make_classes()
     ensures { (pool : Pool) → MakesClasses pool (are_alike pool) }
 {}
@@ -67,6 +67,13 @@ pub fn first_members_compose()
         AllByRecursion (λ counts. composition_of (classes_by alike pool) (first_panel (classes_by alike pool) counts) ≡ counts) (compositions (classes_by alike pool)) }
 {}
 
+/// An increasing list of volunteers with a composition is a quota panel.
+pub fn composed_panels_fit()
+    ensures { (pool : Pool) (alike : ℕ → ℕ → Bool) (counts panel : List ℕ) → MakesClasses pool alike → Contains (compositions (classes_by alike pool)) counts →
+        IsTrue (is_increasing panel) → IsTrue (list_all (λ i. nat_lt i (length pool.volunteers)) panel) →
+        composition_of (classes_by alike pool) panel ≡ counts → IsTrue (is_quota_panel pool panel) }
+{}
+
 /// The first members of any counts rise.
 pub fn first_members_rise()
     ensures { (all : Classes) (counts : List ℕ) → IsTrue (is_increasing (first_panel all counts)) }
@@ -102,15 +109,17 @@ pub fn best_search_is_price()
 /// Where pricing finds nothing over the classes of a pool, with stages that weigh alike volunteers alike, no quota panel that attains
 /// the earlier caps weighs more than the cap.
 pub fn nothing_to_price()
-    ensures { (pool : Pool) (alike : ℕ → ℕ → Bool) (earlier : List Stage) (stage : Stage) → MakesClasses pool alike → WeighAlike alike (stage ∷ earlier) →
+    ensures { (pool : Pool) (alike : ℕ → ℕ → Bool) (earlier : List Stage) (stage : Stage) → MakesClasses pool alike → WeighAlike alike (length pool.volunteers) (stage ∷ earlier) →
         price (classes_by alike pool) (map (row_of alike pool) earlier) (row_of alike pool stage) ≡ None → IsTrue (is_capped pool earlier stage) }
 {}
 
 /// The first compositions of small pools, with the visits that find them.
 pub fn worked_first_searches()
-    ensures four { first_search (classes_of four) ≡ record { visits = 5; found = Some (1 ∷ 0 ∷ 1 ∷ 0 ∷ []) } }
-    ensures four_panel { first_panel (classes_of four) (1 ∷ 0 ∷ 1 ∷ 0 ∷ []) ≡ 0 ∷ 2 ∷ [] }
+    ensures four { first_search (classes_of four) ≡ record { visits = 3; found = Some (1 ∷ 1 ∷ []) } }
+    ensures four_panel { first_panel (classes_of four) (1 ∷ 1 ∷ []) ≡ 0 ∷ 2 ∷ [] }
     ensures either { first_search (classes_of either) ≡ record { visits = 3; found = Some (1 ∷ 0 ∷ []) } }
+    ensures family { first_composition (classes_of family) ≡ Some (1 ∷ 0 ∷ 0 ∷ 1 ∷ []) }
+    ensures couple { first_composition (classes_of couple) ≡ None }
     ensures crossed { first_search (classes_of crossed) ≡ record { visits = 2; found = None } }
     ensures nobody { first_search (classes_of nobody) ≡ record { visits = 1; found = None } }
 {}

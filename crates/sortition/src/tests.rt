@@ -7,7 +7,7 @@ use std::alloc::{AllocError, Global};
 use std::io;
 use std::test::Fail;
 
-/// Two women and two men, one of each to be chosen. The search makes 5 visits.
+/// Two women and two men, one of each to be chosen. The search makes 3 visits.
 const FOUR: &[u8] =
     b"pool\t1\nsize\t2\ncategory\tgender\nvalue\tfemale\t1\t1\nvalue\tmale\t1\t1\nvolunteer\ta\tfemale\nvolunteer\tb\tfemale\nvolunteer\tc\tmale\nvolunteer\td\tmale\nend\n";
 
@@ -27,7 +27,7 @@ const NOBODY: &[u8] = b"pool\t1\nsize\t1\nend\n";
 
 /// The bundle of two women and two men.
 const FOUR_BUNDLE: &[u8] =
-    b"bundle\t1\npool\t1\nsize\t2\ncategory\tgender\nvalue\tfemale\t1\t1\nvalue\tmale\t1\t1\nvolunteer\ta\tfemale\nvolunteer\tb\tfemale\nvolunteer\tc\tmale\nvolunteer\td\tmale\nend\ntotal\t2\npanel\t1\t1\t2\npanel\t1\t0\t3\nstage\t1\t1\t1\t0\t0\nstage\t0\t-1\t-1\t1\t1\ndone\n";
+    b"bundle\t1\npool\t1\nsize\t2\ncategory\tgender\nvalue\tfemale\t1\t1\nvalue\tmale\t1\t1\nvolunteer\ta\tfemale\nvolunteer\tb\tfemale\nvolunteer\tc\tmale\nvolunteer\td\tmale\nend\ntotal\t2\npanel\t1\t0\t2\npanel\t1\t1\t3\nstage\t1\t1\t1\t0\t0\nstage\t0\t-1\t-1\t1\t1\ndone\n";
 
 /// One woman and three men, one of each to be chosen.
 const ONE_WOMAN: &[u8] =
@@ -40,6 +40,10 @@ const BARRED: &[u8] =
 /// One of three and one of two.
 const FIVE: &[u8] =
     b"pool\t1\nsize\t2\ncategory\tone\nvalue\tx\t1\t1\nvalue\ty\t1\t1\nvolunteer\ta\tx\nvolunteer\tb\tx\nvolunteer\tc\tx\nvolunteer\td\ty\nvolunteer\te\ty\nend\n";
+
+/// Two seats, for at most two of p and at most one of each other value, of two volunteers each.
+const SIX: &[u8] =
+    b"pool\t1\nsize\t2\ncategory\tone\nvalue\tp\t0\t2\nvalue\tq\t0\t1\nvalue\tr\t0\t1\nvolunteer\ta\tp\nvolunteer\tb\tp\nvolunteer\tc\tq\nvolunteer\td\tq\nvolunteer\te\tr\nvolunteer\tf\tr\nend\n";
 
 /// One seat for one of two.
 const EITHER: &[u8] =
@@ -158,25 +162,25 @@ const ROWS: &[(&[&str], &[u8], u8, &[u8], &[u8])] = &[
     ),
     (&["lottery", "--nodes", "3"], EITHER, 0, EITHER_BUNDLE, b""),
     (
-        &["lottery", "--pivots", "3"],
+        &["lottery", "--pivots", "1"],
         FOUR,
         5,
         b"",
-        b"spent\tpivots\t3\t2\t3\t3\n",
+        b"spent\tpivots\t1\t2\t1\t1\n",
     ),
     (
         &["lottery", "--bits", "3"],
         FIVE,
         4,
         b"",
-        b"wide\t1\t4\t3\t4\tadd\t7\t3\n",
+        b"wide\t1\t1\t0\t2\tadd\t7\t6\n",
     ),
     (
-        &["lottery", "--nodes", "8"],
-        FIVE,
+        &["lottery", "--nodes", "5"],
+        SIX,
         5,
         b"",
-        b"spent\tnodes\t8\t1\t2\t2\n",
+        b"spent\tnodes\t5\t1\t2\t2\n",
     ),
 ];
 

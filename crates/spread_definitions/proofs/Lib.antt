@@ -8,3 +8,4 @@ pub mod Arcs
 pub mod Panels
 pub mod Lotteries
 pub mod FewPanels
+pub mod SpreadPanels

@@ -19,9 +19,10 @@ use Rattle.pool_definitions.specs.declared.Standing.{Standing}
 use Rattle.pool_definitions.specs.declared.Standing.TheVariants.{Open, Seated, Gone}
 use Rattle.search_definitions.specs.Classes.{Class, Classes, KeepsLimits, MakesClasses, PartVolunteers, class_by, class_of, classes_by, leaders, most_taken, volunteer_count}
 use Rattle.search_definitions.specs.Compositions.{compositions, composition_of}
-use Rattle.search_definitions.proofs.FirstPanel.{filter_increases, least_to_most}
+use Rattle.search_definitions.proofs.ComposedPanels.{composed_panel_fits}
+use Rattle.search_definitions.proofs.FirstPanel.{filter_increases}
+use Rattle.search_definitions.proofs.LeaderPanels.{least_to_most}
 use Rattle.search_definitions.proofs.Parting.{all_counted, classes_part}
-use Rattle.spread_definitions.specs.Given.{ComposedPanelsFit}
 use Rattle.spread_definitions.specs.Spreading.{AreParts, HasEvenChances, IsCommonTotal, TotalPass, arcs, arcs_between, cuts, dial, is_given, lottery_of, panel_at, rows_of, spread, total_from}
 use Rattle.spread_definitions.proofs.Arcs.{arcs_begin, each_long}
 use Rattle.spread_definitions.proofs.CommonTotals.{common_total}
@@ -140,7 +141,7 @@ module _ (all : Classes) (sum : ℕ) where
       ∙ sym (map-map (panel_at all part.0) (λ a. a.0) (arcs all part.0))
       ∙ ap (map (panel_at all part.0)) (arcs_begin (dial all part.0) (cuts all part.0))
 
-  all_panels_are : (parts : List (List ℕ × Fraction)) → map (λ row. row.panel) (flat_map (rows_of all sum) parts) ≡ panels_of parts
+  pub all_panels_are : (parts : List (List ℕ × Fraction)) → map (λ row. row.panel) (flat_map (rows_of all sum) parts) ≡ panels_of parts
   all_panels_are [] = refl
   all_panels_are (part ∷ parts) =
       ap (map (λ (row : LotteryRow). row.panel)) (flat_map-cons (rows_of all sum) part parts)
@@ -269,7 +270,7 @@ is_spread all parts lottery are e = by (total_from all 0 1 parts) refl e
         subst (IsSpread all parts) same (record { common = common_total all parts sum are f; is = refl })
     by (Err pass) f g = absurd cc
 
-parts_within : (all : Classes) (parts : List (List ℕ × Fraction)) → CanGive all.classes → AreParts all parts → AllByRecursion (λ part. Within all.classes part.0) parts
+pub parts_within : (all : Classes) (parts : List (List ℕ × Fraction)) → CanGive all.classes → AreParts all parts → AllByRecursion (λ part. Within all.classes part.0) parts
 parts_within all parts can are = each_composition (Within all.classes) all parts are (compositions_within all can)
 
 -- the members of a class have even chances
@@ -296,11 +297,11 @@ pool_can_give pool alike =
     (each_everywhere (λ l. ((class_by alike pool l).least ≤ (class_by alike pool l).most) × ((class_by alike pool l).most ≤ length (class_by alike pool l).members))
     (λ l. let size = length (class_of alike (length pool.volunteers) l) in (least_to_most (volunteer pool.volunteers l).standing size, most_fits (volunteer pool.volunteers l).standing size)) (leaders alike (length pool.volunteers)))
 
-module _ (pool : Pool) (alike : ℕ → ℕ → Bool) (makes : MakesClasses pool alike) (fit : ComposedPanelsFit pool alike) where
+module _ (pool : Pool) (alike : ℕ → ℕ → Bool) (makes : MakesClasses pool alike) where
   abbrev of_pool : Classes
   of_pool = classes_by alike pool
 
-  panel_below : (counts : List ℕ) (at : ℕ) → list_all (λ i. ltb i (length pool.volunteers)) (panel_at of_pool counts at) ≡ true
+  pub panel_below : (counts : List ℕ) (at : ℕ) → list_all (λ i. ltb i (length pool.volunteers)) (panel_at of_pool counts at) ≡ true
   panel_below counts at =
       let many = all_counted pool alike makes in
       list_all_from_each (λ i. ltb i (length pool.volunteers)) (panel_at of_pool counts at)
@@ -309,7 +310,7 @@ module _ (pool : Pool) (alike : ℕ → ℕ → Bool) (makes : MakesClasses pool
 
   panel_fits : (counts : List ℕ) (at : ℕ) → Contains (compositions of_pool) counts → Within of_pool.classes counts → at < dial of_pool counts → is_quota_panel pool (panel_at of_pool counts at) ≡ true
   panel_fits counts at there within below =
-      fit counts (panel_at of_pool counts at) there (filter_increases (is_given (dial of_pool counts) at of_pool.classes counts) 0 (volunteer_count of_pool)) (panel_below counts at)
+      composed_panel_fits pool alike makes counts (panel_at of_pool counts at) there (filter_increases (is_given (dial of_pool counts) at of_pool.classes counts) 0 (volunteer_count of_pool)) (panel_below counts at)
       (panel_composes of_pool (classes_part pool alike makes) counts within at below)
 
   all_fit : (parts : List (List ℕ × Fraction)) → AllByRecursion (λ part. Contains (compositions of_pool) part.0) parts → AllByRecursion (λ part. Within of_pool.classes part.0) parts →

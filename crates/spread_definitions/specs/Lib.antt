@@ -1,3 +1,2 @@
 pub mod Spreading
 pub mod WorkedSpreads
-pub mod Given

@@ -1,13 +1,13 @@
 -- Small classes on which spreading computes.
-use Rattle.std.specs.Prelude.{ℕ, List, [], ◌∷◌, codes, length}
+use Rattle.std.specs.Prelude.{ℕ, List, [], ◌∷◌, codes, length, None}
 use Rattle.frac128.specs.Fractions.{Fraction}
 use Rattle.pool_definitions.specs.Pool.{Pool}
-use Rattle.pool_definitions.specs.WorkedExamples.{person}
+use Rattle.pool_definitions.specs.WorkedExamples.{bounded, category, person}
 use Rattle.search_definitions.specs.Classes.{Class, Classes}
 
 -- a class of these members, each of whom may be taken
 abbrev pub class : List ℕ → Class
-class members = record { members = members; values = []; least = 0; most = length members }
+class members = record { members = members; values = []; least = 0; most = length members; household = None }
 
 -- two seats, for one of three and one of two
 abbrev pub three_and_two : Classes
@@ -16,6 +16,10 @@ three_and_two = record { size = 2; bounds = []; classes = class (0 ∷ 1 ∷ 2 �
 abbrev pub over : ℕ → ℕ → Fraction
 over num den = record { num = num; den = den }
 
--- one seat, for one of three volunteers
+-- one seat, for one of three volunteers, each of another value
 abbrev pub one_of_three : Pool
-one_of_three = record { size = 1; categories = []; volunteers = person (codes "a") [] ∷ person (codes "b") [] ∷ person (codes "c") [] ∷ [] }
+one_of_three = record {
+  size = 1;
+  categories = category (codes "value") (bounded (codes "p") 0 1 ∷ bounded (codes "q") 0 1 ∷ bounded (codes "r") 0 1 ∷ []) ∷ [];
+  volunteers = person (codes "a") (0 ∷ []) ∷ person (codes "b") (1 ∷ []) ∷ person (codes "c") (2 ∷ []) ∷ [];
+}

@@ -11,7 +11,6 @@ ghost use Rattle.pool_definitions.specs.Lottery.{Lottery, IsLottery};
 ghost use Rattle.pool_definitions.specs.Pool.{Pool};
 ghost use Rattle.search_definitions.specs.Classes.{Classes, KeepsLimits, MakesClasses, PartVolunteers, classes_by, classes_of};
 ghost use Rattle.search_definitions.specs.Compositions.{compositions};
-ghost use Rattle.spread_definitions.specs.Given.{ComposedPanelsFit};
 ghost use Rattle.spread_definitions.specs.Spreading.{AreParts, AreShares, HasEvenChances, IsCommonTotal, greatest_total, with_fraction, arcs, rows_of, spread, total_from};
 ghost use Rattle.spread_definitions.specs.WorkedSpreads.{one_of_three, three_and_two, over};
 
@@ -29,7 +28,7 @@ pub fn total_is_common()
 /// What is spread over the classes of a pool is a lottery over the pool's quota panels, of a total of at most 10^38.
 pub fn spread_is_lottery()
     ensures lottery { (pool : Pool) (alike : ℕ → ℕ → Bool) (parts : List (List ℕ × Fraction)) (lottery : Lottery) → MakesClasses pool alike →
-        ComposedPanelsFit pool alike → AreParts (classes_by alike pool) parts → spread (classes_by alike pool) parts ≡ Ok lottery → IsLottery pool lottery }
+        AreParts (classes_by alike pool) parts → spread (classes_by alike pool) parts ≡ Ok lottery → IsLottery pool lottery }
     ensures within { (all : Classes) (parts : List (List ℕ × Fraction)) (lottery : Lottery) → AreParts all parts → spread all parts ≡ Ok lottery →
         lottery.total ≤ greatest_total }
 {}
@@ -60,7 +59,7 @@ pub fn worked_spread()
     }) }
 {}
 
-/// One seat for three volunteers: each alone is a composition.
+/// One seat for three volunteers of different values: each alone is a composition.
 pub fn worked_compositions()
     ensures { compositions (classes_of one_of_three) ≡ (1 ∷ 0 ∷ 0 ∷ []) ∷ (0 ∷ 1 ∷ 0 ∷ []) ∷ (0 ∷ 0 ∷ 1 ∷ []) ∷ [] }
 {}

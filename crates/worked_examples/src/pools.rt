@@ -4,7 +4,7 @@ ghost use Rattle.std.specs.Prelude.{◌≡◌, [], ◌∷◌, map, pos};
 ghost use Rattle.pool_definitions.specs.Pool.{IsPool, panels};
 ghost use Rattle.pool_definitions.specs.Lottery.{IsLottery, counts};
 ghost use Rattle.pool_definitions.specs.Certificate.{Certifies, panel_weight};
-ghost use Rattle.pool_definitions.specs.WorkedExamples.{four, four_lottery, four_stages, after_dropout, dropout_lottery, dropout_stages, crossed, nobody};
+ghost use Rattle.pool_definitions.specs.WorkedExamples.{four, four_lottery, four_stages, after_dropout, dropout_lottery, dropout_stages, family, family_lottery, family_stages, couple, crossed, nobody};
 ghost use Rattle.worked_examples.specs.Pools.{barred, barred_lottery, barred_stages, short, pair, pair_lottery, pair_stages, one_woman, one_woman_lottery, one_woman_stages, three_and_two, three_and_two_lottery, three_and_two_stages, apart, apart_lottery, apart_stages};
 
 /// Two women and two men, one of each to be chosen.
@@ -23,6 +23,16 @@ pub fn four_after_dropout()
     ensures lottery { IsLottery after_dropout dropout_lottery }
     ensures counts { counts after_dropout dropout_lottery ≡ 0 ∷ 1 ∷ 1 ∷ 0 ∷ [] }
     ensures certified { Certifies after_dropout dropout_lottery dropout_stages }
+{}
+
+/// One woman and one man of the four are of one household: no panel has both.
+pub fn four_with_a_family()
+    ensures pool { IsPool family }
+    ensures panels { panels family ≡ (0 ∷ 3 ∷ []) ∷ (1 ∷ 2 ∷ []) ∷ (1 ∷ 3 ∷ []) ∷ [] }
+    ensures lottery { IsLottery family family_lottery }
+    ensures counts { counts family family_lottery ≡ 1 ∷ 1 ∷ 1 ∷ 1 ∷ [] }
+    ensures certified { Certifies family family_lottery family_stages }
+    ensures couple { panels couple ≡ [] }
 {}
 
 /// One seat, which one of three volunteers may not have.

@@ -4,6 +4,9 @@ use Rattle.std.specs.Str.{is_utf8, chars}
 use lib.Utf8.{encode}
 use Rattle.pool_definitions.specs.Pool.{IsPool}
 use Rattle.pool_definitions.specs.WorkedExamples.{four}
+use Rattle.search_definitions.specs.Classes.{are_alike}
+use Rattle.search_definitions.proofs.AlikeClasses.{alike_makes}
+use Rattle.run_definitions.specs.Run.{run_limits}
 use Rattle.run_definitions.specs.WorkedRuns.{limits, pairs}
 use Rattle.run_laws.proofs.Certified.{found_certified}
 use Rattle.run_laws.proofs.worked_certificate.Goals as goal
@@ -13,5 +16,5 @@ unfolding is_utf8 chars encode
 four_is_pool = record { size = refl; few_categories = refl; categories = refl; different_categories = refl; few_volunteers = refl; ids = refl; different_ids = refl; values = refl; households = refl }
 
 pub returns : goal.returns
-returns c = found_certified four (limits 127 4 100) c.worked_runs.ensures.four.0 pairs four_is_pool
+returns c = found_certified four (are_alike four) (alike_makes four) (run_limits (limits 127 4 100)) c.worked_runs.ensures.four.0 pairs four_is_pool
     (record { some_bits = omega arith; few_bits = omega arith; few_pivots = omega arith }) c.worked_runs.ensures.four.1

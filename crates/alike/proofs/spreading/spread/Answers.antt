@@ -40,12 +40,12 @@ returns-clause-spread c =
     is
 
 pub returns-clause-lottery : goal.returns-clause-lottery
-returns-clause-lottery c pool alike makes fit of_pool =
+returns-clause-lottery c pool alike makes of_pool =
     let all = c.args.classes.now in let parts = c.args.parts.now in
     let common = common_total all parts c.in_ok-total.total c.requires c.in_ok-total.ensures in
     let is : spread all parts ≡ Ok c.new.result = lottery_made all parts c.in_ok-total.total (unsigned_abs (to_z w128 c.in_ok-total.total)) c.in_ok-rows.rows.items c.new.result c.in_ok-total.ensures c.in_ok-rows.ensures
     (ap unsigned_abs (signed_is c.in_ok-total.total common.within)) c.new.ensures in
-    pool_lottery pool alike makes fit parts c.new.result (subst (λ all. AreParts all parts) of_pool c.requires) (subst (λ all. spread all parts ≡ Ok c.new.result) of_pool is)
+    pool_lottery pool alike makes parts c.new.result (subst (λ all. AreParts all parts) of_pool c.requires) (subst (λ all. spread all parts ≡ Ok c.new.result) of_pool is)
 
 pub returns-clause-even : goal.returns-clause-even
 returns-clause-even c =

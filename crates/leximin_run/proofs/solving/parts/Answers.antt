@@ -3,8 +3,8 @@ use Rattle.std.specs.List.{All}
 use Rattle.leximin_run.proofs.Ending.{known_columns}
 use Rattle.leximin_run.proofs.solving.parts.Goals as goal
 
-pub composition-requires : goal.composition-requires
-composition-requires c =
+pub copied_column-requires : goal.copied_column-requires
+copied_column-requires c =
     let table = c.args.table.now in
     let items = c.deref-column-items.ensures.value ∙ c.in_ok-solution.ensures.values in
     let known = subst (All (λ part. part.0 < length table.columns)) (sym items) (known_columns table c.facts.ensures) in

@@ -8,5 +8,5 @@ pub returns-clause-ok : goal.returns-clause-ok
 unfolding add_column
 returns-clause-ok c =
     ap (λ columns. frame_of c.self.inside.sizes.items c.self.inside.settled_at.items c.self.inside.stages columns c.self.inside.closed.items c.self.inside.in_stage c.self.inside.bits c.self.inside.pivots)
-    (c.in_ok-push.ensures.items ∙ ap (λ counts. c.self.inside.columns.items ++ counts ∷ []) c.in_ok-counts.ensures)
-    ∙ ap (λ (table : Table). record table { columns = table.columns ++ c.args.counts.now ∷ [] }) c.self.view_is
+    c.in_ok-push.ensures.items
+    ∙ ap (λ (table : Table). record table { columns = table.columns ++ c.args.column ∷ [] }) c.self.view_is

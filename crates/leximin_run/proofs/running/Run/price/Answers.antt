@@ -1,7 +1,7 @@
-use Rattle.std.proofs.Common.{◌≡◌, ◌<◌, ◌≤◌, ◌∷◌, [], ◌++◌, length, Err, refl, sym, ap, ◌∙◌, subst, arith}
-use Rattle.std.specs.Prelude.{slice_index}
+use Rattle.std.proofs.Common.{◌≡◌, ◌∷◌, [], ◌++◌, sym, ap, ◌∙◌, subst, arith}
 use Rattle.std.proofs.lemmas.Result.{err_from_is_err_and}
 use Rattle.row_definitions.specs.Steps.{add_column, close_stage}
+use Rattle.row_definitions.specs.Table.{row_at}
 use Rattle.run_definitions.specs.Run.{GoOn, run_limits, step}
 use Rattle.run_definitions.proofs.Priced.{may_be_added}
 use Rattle.leximin_run.proofs.Turns.{asked_so, close_made, close_stands, column_made, column_stands, have_entries, have_reach, priced_so, refused_so, visits_are}
@@ -11,68 +11,68 @@ use Rattle.leximin_run.proofs.running.Run.price.Goals as goal
 pub best-requires-clause-entries : goal.best-requires-clause-entries
 best-requires-clause-entries c =
     let run = c.args.self.now in
-    have_entries run.classes (run_limits run.limits) run.table c.requires.stands.keeps c.in_ok-row.row c.open_row.result c.open_row.ensures.place c.in_ok-row.ensures c.deref.result.now (c.deref.ensures.value ∙ c.requires.stands.closed_are)
+    have_entries run.classes (run_limits run.limits) run.table c.requires.stands.keeps c.row-row.result.now c.open_row.result c.open_row.ensures.place c.row-row.ensures c.deref.result.now (c.deref.ensures.value ∙ c.requires.stands.closed_are)
 
 pub best-requires-clause-reaches : goal.best-requires-clause-reaches
 best-requires-clause-reaches c =
     let run = c.args.self.now in
-    have_reach run.classes (run_limits run.limits) run.table c.requires.stands.keeps c.in_ok-row.row c.open_row.result c.open_row.ensures.place c.in_ok-row.ensures c.deref.result.now (c.deref.ensures.value ∙ c.requires.stands.closed_are)
+    have_reach run.classes (run_limits run.limits) run.table c.requires.stands.keeps c.row-row.result.now c.open_row.result c.open_row.ensures.place c.row-row.ensures c.deref.result.now (c.deref.ensures.value ∙ c.requires.stands.closed_are)
 
 pub add_column-requires-clause-counts : goal.add_column-requires-clause-counts
 add_column-requires-clause-counts c =
-    let run = c.args.self.now in let asked = asked_so c.requires.stands c.requires.open c.requires.done c.deref.ensures.value c.in_ok-row.ensures c.open_row.ensures.row in
-    let counts = c.in-Some.composition in let found = sym c.in-Some.is ∙ c.in_ok-found.ensures.best in
-    let may = may_be_added run.classes (run_limits run.limits) run.table counts c.requires.stands.limited (priced_so run.classes (run_limits run.limits) run.table c.deref.result.now c.in_ok-row.row asked counts found) in
-    ap length c.counts.ensures ∙ may.each
+    let run = c.args.self.now in let asked = asked_so c.requires.stands c.requires.open c.requires.done c.deref.ensures.value c.row-row.ensures c.open_row.ensures.row in
+    let counts = c.in-Some.column in let found = sym c.in-Some.is ∙ c.in_ok-found.ensures.best in
+    let may = may_be_added run.classes (run_limits run.limits) run.table counts c.requires.stands.limited (priced_so run.classes (run_limits run.limits) run.table c.deref.result.now c.row-row.result.now asked counts found) in
+    may.each
 
 pub add_column-requires-clause-bounds : goal.add_column-requires-clause-bounds
 add_column-requires-clause-bounds c =
-    let run = c.args.self.now in let asked = asked_so c.requires.stands c.requires.open c.requires.done c.deref.ensures.value c.in_ok-row.ensures c.open_row.ensures.row in
-    let counts = c.in-Some.composition in let found = sym c.in-Some.is ∙ c.in_ok-found.ensures.best in
-    let may = may_be_added run.classes (run_limits run.limits) run.table counts c.requires.stands.limited (priced_so run.classes (run_limits run.limits) run.table c.deref.result.now c.in_ok-row.row asked counts found) in
-    λ t l. subst (λ cs. slice_index cs t ≤ slice_index run.table.sizes t) (sym c.counts.ensures) (may.bounds t l)
+    let run = c.args.self.now in let asked = asked_so c.requires.stands c.requires.open c.requires.done c.deref.ensures.value c.row-row.ensures c.open_row.ensures.row in
+    let counts = c.in-Some.column in let found = sym c.in-Some.is ∙ c.in_ok-found.ensures.best in
+    let may = may_be_added run.classes (run_limits run.limits) run.table counts c.requires.stands.limited (priced_so run.classes (run_limits run.limits) run.table c.deref.result.now c.row-row.result.now asked counts found) in
+    may.bounds
 
 pub add_column-requires-clause-fresh : goal.add_column-requires-clause-fresh
 add_column-requires-clause-fresh c =
-    let run = c.args.self.now in let asked = asked_so c.requires.stands c.requires.open c.requires.done c.deref.ensures.value c.in_ok-row.ensures c.open_row.ensures.row in
-    let counts = c.in-Some.composition in let found = sym c.in-Some.is ∙ c.in_ok-found.ensures.best in
-    let may = may_be_added run.classes (run_limits run.limits) run.table counts c.requires.stands.limited (priced_so run.classes (run_limits run.limits) run.table c.deref.result.now c.in_ok-row.row asked counts found) in
-    λ k l e. may.fresh k l (e ∙ c.counts.ensures)
+    let run = c.args.self.now in let asked = asked_so c.requires.stands c.requires.open c.requires.done c.deref.ensures.value c.row-row.ensures c.open_row.ensures.row in
+    let counts = c.in-Some.column in let found = sym c.in-Some.is ∙ c.in_ok-found.ensures.best in
+    let may = may_be_added run.classes (run_limits run.limits) run.table counts c.requires.stands.limited (priced_so run.classes (run_limits run.limits) run.table c.deref.result.now c.row-row.result.now asked counts found) in
+    may.fresh
 
 pub returns-in_ok-add_column-in-Some-clause-makes : goal.returns-in_ok-add_column-in-Some-clause-makes
 returns-in_ok-add_column-in-Some-clause-makes c =
-    let run = c.args.self.now in let asked = asked_so c.requires.stands c.requires.open c.requires.done c.deref.ensures.value c.in_ok-row.ensures c.open_row.ensures.row in
-    let counts = c.in-Some.composition in let found = sym c.in-Some.is ∙ c.in_ok-found.ensures.best in
-    let same : c.add_column.new.self ≡ add_column run.table counts = c.in_ok-add_column-in-Some.ensures.ok ∙ ap (add_column run.table) c.counts.ensures in
+    let run = c.args.self.now in let asked = asked_so c.requires.stands c.requires.open c.requires.done c.deref.ensures.value c.row-row.ensures c.open_row.ensures.row in
+    let counts = c.in-Some.column in let found = sym c.in-Some.is ∙ c.in_ok-found.ensures.best in
+    let same : c.add_column.new.self ≡ add_column run.table counts = c.in_ok-add_column-in-Some.ensures.ok in
     subst (λ t. step run.classes (run_limits run.limits) run.table ≡ GoOn t) (sym same)
-    (column_made run.classes (run_limits run.limits) run.table c.deref.result.now c.in_ok-row.row asked counts (omega (arith, visits_are run.classes c.deref.result.now c.in_ok-row.row, c.in_ok-found.ensures.answers.0, c.nodes.ensures.value)) found)
+    (column_made run.classes (run_limits run.limits) run.table c.deref.result.now c.row-row.result.now asked counts (omega (arith, visits_are run.classes c.deref.result.now c.row-row.result.now, c.in_ok-found.ensures.answers.0, c.nodes.ensures.value)) found)
 
 pub returns-in_ok-add_column-in-Some-clause-stands : goal.returns-in_ok-add_column-in-Some-clause-stands
 returns-in_ok-add_column-in-Some-clause-stands c =
-    let run = c.args.self.now in let asked = asked_so c.requires.stands c.requires.open c.requires.done c.deref.ensures.value c.in_ok-row.ensures c.open_row.ensures.row in
-    let counts = c.in-Some.composition in let found = sym c.in-Some.is ∙ c.in_ok-found.ensures.best in
-    let same : c.add_column.new.self ≡ add_column run.table counts = c.in_ok-add_column-in-Some.ensures.ok ∙ ap (add_column run.table) c.counts.ensures in
+    let run = c.args.self.now in let asked = asked_so c.requires.stands c.requires.open c.requires.done c.deref.ensures.value c.row-row.ensures c.open_row.ensures.row in
+    let counts = c.in-Some.column in let found = sym c.in-Some.is ∙ c.in_ok-found.ensures.best in
+    let same : c.add_column.new.self ≡ add_column run.table counts = c.in_ok-add_column-in-Some.ensures.ok in
     subst (λ t. Stands run.classes (run_limits run.limits) t run.closed.items) (sym same) (subst (Stands run.classes (run_limits run.limits) (add_column run.table counts)) c.deref.ensures.value
-    (column_stands run.classes (run_limits run.limits) run.table c.deref.result.now c.in_ok-row.row asked counts (omega (arith, visits_are run.classes c.deref.result.now c.in_ok-row.row, c.in_ok-found.ensures.answers.0, c.nodes.ensures.value)) found))
+    (column_stands run.classes (run_limits run.limits) run.table c.deref.result.now c.row-row.result.now asked counts (omega (arith, visits_are run.classes c.deref.result.now c.row-row.result.now, c.in_ok-found.ensures.answers.0, c.nodes.ensures.value)) found))
 
 pub returns-in_ok-close-in-None-clause-makes : goal.returns-in_ok-close-in-None-clause-makes
 returns-in_ok-close-in-None-clause-makes c =
-    let run = c.args.self.now in let asked = asked_so c.requires.stands c.requires.open c.requires.done c.deref.ensures.value c.in_ok-row.ensures c.open_row.ensures.row in
+    let run = c.args.self.now in let asked = asked_so c.requires.stands c.requires.open c.requires.done c.deref.ensures.value c.row-row.ensures c.open_row.ensures.row in
     subst (λ t. step run.classes (run_limits run.limits) run.table ≡ GoOn t) (sym c.in_ok-close-in-None.ensures.table)
-    (close_made run.classes (run_limits run.limits) run.table c.deref.result.now c.in_ok-row.row asked (omega (arith, visits_are run.classes c.deref.result.now c.in_ok-row.row, c.in_ok-found.ensures.answers.0, c.nodes.ensures.value)) (sym c.in-None.is ∙ c.in_ok-found.ensures.best))
+    (close_made run.classes (run_limits run.limits) run.table c.deref.result.now c.row-row.result.now asked (omega (arith, visits_are run.classes c.deref.result.now c.row-row.result.now, c.in_ok-found.ensures.answers.0, c.nodes.ensures.value)) (sym c.in-None.is ∙ c.in_ok-found.ensures.best))
 
 pub returns-in_ok-close-in-None-clause-stands : goal.returns-in_ok-close-in-None-clause-stands
 returns-in_ok-close-in-None-clause-stands c =
-    let run = c.args.self.now in let asked = asked_so c.requires.stands c.requires.open c.requires.done c.deref.ensures.value c.in_ok-row.ensures c.open_row.ensures.row in
-    let stands = close_stands run.classes (run_limits run.limits) run.table c.deref.result.now c.in_ok-row.row asked (omega (arith, visits_are run.classes c.deref.result.now c.in_ok-row.row, c.in_ok-found.ensures.answers.0, c.nodes.ensures.value)) (sym c.in-None.is ∙ c.in_ok-found.ensures.best) in
+    let run = c.args.self.now in let asked = asked_so c.requires.stands c.requires.open c.requires.done c.deref.ensures.value c.row-row.ensures c.open_row.ensures.row in
+    let stands = close_stands run.classes (run_limits run.limits) run.table c.deref.result.now c.row-row.result.now asked (omega (arith, visits_are run.classes c.deref.result.now c.row-row.result.now, c.in_ok-found.ensures.answers.0, c.nodes.ensures.value)) (sym c.in-None.is ∙ c.in_ok-found.ensures.best) in
     let told = c.in_ok-close-in-None.ensures in
     subst (λ all. Stands all (run_limits c.close.new.self.limits) c.close.new.self.table c.close.new.self.closed.items) (sym told.classes)
     (subst (λ limits. Stands run.classes (run_limits limits) c.close.new.self.table c.close.new.self.closed.items) (sym told.limits)
     (subst (λ t. Stands run.classes (run_limits run.limits) t c.close.new.self.closed.items) (sym told.table)
-    (subst (Stands run.classes (run_limits run.limits) (close_stage run.table)) (ap (λ cs. cs ++ c.in_ok-row.row ∷ []) c.deref.ensures.value ∙ sym told.closed) stands)))
+    (subst (Stands run.classes (run_limits run.limits) (close_stage run.table)) (ap (λ cs. cs ++ c.row-row.result.now ∷ []) c.deref.ensures.value ∙ ap (λ row. run.closed.items ++ row ∷ []) (c.row-row.ensures ∙ ap (row_at run.table) c.open_row.ensures.row) ∙ sym told.closed) stands)))
 
 pub returns-in_err-found-clause-makes : goal.returns-in_err-found-clause-makes
 returns-in_err-found-clause-makes c =
-    let run = c.args.self.now in let asked = asked_so c.requires.stands c.requires.open c.requires.done c.deref.ensures.value c.in_ok-row.ensures c.open_row.ensures.row in
-    let out = err_from_is_err_and c.from_residual-in_err-found.result c.from_residual-in_err-found.ensures.1 in
-    rw (out.1, out.2) (refused_so run.classes (run_limits run.limits) run.table c.deref.result.now c.in_ok-row.row asked c.in_err-found.field-0.0 c.nodes.result c.nodes.ensures.value c.in_err-found.ensures.answers)
+    let run = c.args.self.now in let asked = asked_so c.requires.stands c.requires.open c.requires.done c.deref.ensures.value c.row-row.ensures c.open_row.ensures.row in
+    let out = err_from_is_err_and c.from_residual.result c.from_residual.ensures.1 in
+    rw (out.1, out.2) (refused_so run.classes (run_limits run.limits) run.table c.deref.result.now c.row-row.result.now asked c.in_err-found.field-0.0 c.nodes.result c.nodes.ensures.value c.in_err-found.ensures.answers)

@@ -1,6 +1,8 @@
 use Rattle.std.proofs.Common.{◌∙◌, ap}
 use Rattle.std.proofs.lemmas.Result.{IfOk-weaker}
-use Rattle.run_definitions.specs.Run.{Ending}
+use Rattle.run_definitions.specs.Run.{Ending, run_limits}
+use Rattle.search_definitions.specs.Classes.{are_alike}
+use Rattle.search_definitions.proofs.AlikeClasses.{alike_makes}
 use Rattle.command_shell.specs.declared.status.Printed.TheVariants as printed
 use Rattle.command_shell.specs.Answers.{Prints, saying}
 use Rattle.pool_commands.proofs.RunAnswers.{stop_is_meant}
@@ -27,7 +29,7 @@ returns-in-Ok-NoPanel c =
       says = record {
         ends = ends;
         none = rw c.in-Ok-NoPanel.field-0-is at c.in-Ok-NoPanel.ensures.certified;
-        within = c.no_panel_where_none.ensures.within c.args.pool.now c.args.self.now.limits ends;
+        within = c.no_panel_where_none.ensures.within c.args.pool.now (are_alike c.args.pool.now) (alike_makes c.args.pool.now) (run_limits c.args.self.now.limits) ends;
       };
       is = is;
     }) c.no_panel.ensures

@@ -1,4 +1,4 @@
-use Rattle.std.proofs.Common.{◌≡◌, ℕ, ◌≤◌, Bool, true, false, cond, not, ltb, List, length, Some, None, refl, ap, ◌∙◌, arith, rules, tests}
+use Rattle.std.proofs.Common.{◌≡◌, Bool, true, false, cond, not, ltb, List, length, Some, None, refl, ap, ◌∙◌, arith, rules, tests}
 use Rattle.std.specs.Prelude.{unwrap_or}
 use Rattle.std.specs.List.{position_or_len}
 use Rattle.std.proofs.lemmas.Bool.{ltb-false}
@@ -7,7 +7,7 @@ use Rattle.std.proofs.lemmas.Iterator.Search.{position_from_yields_List}
 use Rattle.std.proofs.lemmas.List.Sums.{prefix_len-le-length}
 use Rattle.pool_definitions.specs.Lists.{includes}
 use Rattle.search_definitions.specs.Classes.{Class}
-use Rattle.leximin_run.proofs.certifying.number_of.Goals as goal
+use Rattle.alike.proofs.numbers.class_number.Goals as goal
 
 -- where none passes, the place is the length
 past_all : (p : Class → Bool) (xs : List Class) → unwrap_or (cond (ltb (position_or_len p xs) (length xs)) (Some (position_or_len p xs)) None) (length xs) ≡ position_or_len p xs
@@ -19,7 +19,7 @@ past_all p xs = by (ltb (position_or_len p xs) (length xs)) refl
 
 pub returns : goal.returns
 returns c =
-    let classes = c.args.classes.now in
+    let classes = c.args.groups.now in
     c.unwrap_or.ensures
     ∙ ap (λ o. unwrap_or o (length classes)) (position_from_yields_List (λ class. includes class.members c.args.volunteer) c.position-number.new.self _ c.position-number.result c.position-number.ensures.ran
     (YieldsList-from_slice {s = c.iter.result} classes cc) (λ x b q k. search (rules, tests)))

@@ -1,0 +1,36 @@
+//! The class of each volunteer.
+
+ghost use Rattle.std.specs.Prelude.{◌≡◌, IfOk, map};
+ghost use Rattle.std.specs.List.{range_with_len};
+ghost use Rattle.search_definitions.specs.Classes.{class_number as class_number_of, volunteer_count};
+
+use crate::groups::{Class, Classes};
+use std::alloc::{AllocError, Global};
+
+/// For each volunteer in order the number of the class that has the volunteer, counted from 0.
+pub fn class_numbers(alloc: Global, classes: &Classes) -> Result<Vec<usize>, AllocError>
+    ensures { IfOk result (λ numbers. numbers.items ≡ map (class_number_of classes.now.classes) (range_with_len 0 (volunteer_count classes.now))) }
+{
+    let volunteers = classes.volunteers();
+    numbers_up_to(alloc, classes.classes(), volunteers)
+}
+
+fn numbers_up_to(
+    alloc: Global,
+    groups: &[Class],
+    volunteers: usize,
+) -> Result<Vec<usize>, AllocError>
+    ensures { IfOk result (λ numbers. numbers.items ≡ map (class_number_of groups.now) (range_with_len 0 volunteers)) }
+{
+    (0..volunteers).map(|i| class_number(groups, i)).collect(alloc)
+}
+
+// The number of a volunteer's class, or of all classes where the volunteer is in none.
+fn class_number(groups: &[Class], volunteer: usize) -> usize
+    ensures { result ≡ class_number_of groups.now volunteer }
+{
+    let number = groups
+        .iter()
+        .position(|class| class.members().contains(&volunteer));
+    number.unwrap_or(groups.len())
+}
