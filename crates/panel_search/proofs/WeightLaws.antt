@@ -1,5 +1,5 @@
 -- What fronts weigh, and how wide it is.
-use Rattle.std.proofs.Common.{◌≡◌, ℕ, zero, suc, ◌+◌, ◌-◌, ◌*◌, ◌^◌, ◌≤◌, ◌<◌, true, false, eqb, leb, List, [], ◌∷◌, ◌++◌, length, take, drop, set, map, get_or, ℤ, pos, ◌+ℤ◌, ◌*ℤ◌, refl, sym, ap, ◌∙◌, arith, mul-le-mul_right, subst, length-append}
+use Rattle.std.proofs.Common.{◌≡◌, ℕ, zero, suc, ◌+◌, ◌-◌, ◌*◌, ◌^◌, ◌≤◌, ◌<◌, true, false, ◌&&◌, eqb, leb, List, [], ◌∷◌, ◌++◌, length, take, drop, set, map, get_or, ℤ, pos, ◌+ℤ◌, ◌*ℤ◌, refl, sym, ap, ◌∙◌, arith, mul-le-mul_right, subst, length-append}
 use Rattle.std.specs.Prelude.{unsigned_abs, slice_index}
 use Rattle.std.specs.List.{AllByRecursion}
 use Rattle.std.proofs.lemmas.Bool.{eqb-true, eqb-false, leb-true, and_parts}
@@ -10,7 +10,7 @@ use Rattle.std.proofs.lemmas.Nat.{mul-add-lt}
 use Rattle.row_definitions.specs.Row.{Row, sum_of_sizes}
 use Rattle.row_definitions.proofs.SumLaws.{abs_sum_le}
 use Rattle.search_definitions.specs.Classes.{Class, Classes, KeepsLimits}
-use Rattle.search_definitions.specs.Compositions.{weight_in}
+use Rattle.search_definitions.specs.Compositions.{takes_one_a_household, weight_in}
 use Rattle.search_definitions.specs.Fronts.{sizes_of, is_reachable, size_reachable, values_reachable, taken_by, units, greatest_sum, optimistic}
 use Rattle.panel_search.specs.Weights.{at, cell_of, AreNarrow, AreWithin, HoldsSums, Weighs}
 use Rattle.panel_search.specs.declared.weighing.Weighing.{Weighing}
@@ -158,7 +158,8 @@ optimistic_none all row =
 
 pub taken_few : (all : Classes) (front : List ℕ) → is_reachable all front ≡ true → taken_by all front ≤ all.size
 taken_few all front live =
-    let parts = and_parts (size_reachable all front) (values_reachable all front) live in
+    let both = and_parts (size_reachable all front && values_reachable all front) (takes_one_a_household all.classes front) live in
+    let parts = and_parts (size_reachable all front) (values_reachable all front) both.0 in
     leb-true (taken_by all front) all.size (and_parts (leb (taken_by all front) all.size) _ parts.0).0
 
 pub element_at : {X : Type 0} (xs : List X) (i : ℕ) → i < length xs → (x : X) × (x ≡ get_or xs i x)

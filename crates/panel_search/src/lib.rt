@@ -5,6 +5,7 @@
 #[cfg(test)]
 mod best_tests;
 mod greatest;
+mod homes;
 mod pricing;
 mod searching;
 mod tallies;
