@@ -7,6 +7,8 @@
 mod best_tests;
 mod greatest;
 mod homes;
+#[cfg(test)]
+mod household_tests;
 mod pricer;
 mod pricing;
 mod searching;
