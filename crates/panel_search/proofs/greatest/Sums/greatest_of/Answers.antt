@@ -4,11 +4,11 @@ use Rattle.std.proofs.lemmas.Int.{to_z-of_z}
 use Rattle.std.proofs.lemmas.List.{get_or_read}
 use Rattle.panel_search.specs.Weights.{at, cell_of}
 use Rattle.panel_search.proofs.WeightLaws.{cell_within}
-use Rattle.panel_search.proofs.weighing.Weighing.greatest_of.Goals as goal
+use Rattle.panel_search.proofs.greatest.Sums.greatest_of.Goals as goal
 
 pub returns : goal.returns
 returns c =
-    let all = c.args.classes.now in let table = c.args.self.now.greatest.items in let later = length all.classes - c.args.place in
+    let all = c.args.classes.now in let table = c.args.self.now.cells.items in let later = length all.classes - c.args.place in
     let fits : FitsSigned w128 c.index.result.now = search rules in
     let cell : (length c.classes.result.now - c.args.place) * (c.size.result + 1) + c.args.count ≡ cell_of all later c.args.count =
     ap (λ cs. (length cs - c.args.place) * (c.size.result + 1) + c.args.count) c.classes.ensures ∙ ap (λ n. later * (n + 1) + c.args.count) c.size.ensures in

@@ -4,7 +4,7 @@ use Rattle.std.specs.Prelude.{unsigned_abs}
 use Rattle.std.proofs.lemmas.Int.{to_z-of_z, fits_signed_from_abs}
 use Rattle.panel_search.specs.Weights.{at}
 use Rattle.panel_search.proofs.WeightLaws.{child_narrow, child_is, weighs_child}
-use Rattle.panel_search.proofs.weighing.Weighing.child.Goals as goal
+use Rattle.panel_search.proofs.weighing.Weights.child.Goals as goal
 
 pub with_count-weight-requires : goal.with_count-weight-requires
 with_count-weight-requires c =
@@ -55,4 +55,4 @@ returns-clause-weighs c =
     let child = child_is c.args.classes.now c.args.row.now c.args.front.now c.args.count c.args.lack c.facts.ensures c.requires.narrow c.requires.below c.requires.counts c.requires.lack
     made c.weight.ensures (ap (λ xs. at xs depth) c.entries.ensures) c.greatest_of-rest.ensures in
     weighs_child c.args.classes.now c.args.row.now c.args.front.now c.args.count self _ c.requires.narrow c.requires.below c.requires.stands
-    (ap (set self.weights.items (depth + 1)) (to_z-of_z w128 c.with_count-weight.result fv ∙ child.weight)) refl
+    (ap (set self.by_length.items (depth + 1)) (to_z-of_z w128 c.with_count-weight.result fv ∙ child.weight))

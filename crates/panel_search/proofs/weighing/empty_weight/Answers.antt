@@ -3,7 +3,7 @@ use Rattle.std.specs.Int.{w128}
 use Rattle.std.proofs.lemmas.Int.{to_z-of_z}
 use Rattle.search_definitions.specs.Fronts.{greatest_sum}
 use Rattle.panel_search.proofs.WeightLaws.{optimistic_none}
-use Rattle.panel_search.proofs.weighing.Weighing.empty.Goals as goal
+use Rattle.panel_search.proofs.weighing.empty_weight.Goals as goal
 
 pub returns : goal.returns
 returns c =
