@@ -1,4 +1,5 @@
-use Rattle.std.proofs.Common.{◌≡◌, ◌∙◌, ap, ap₂, map, ℤ, List}
+use Rattle.std.proofs.Common.{◌≡◌, ◌∙◌, ap, ap₂, map, ℤ, List, FitsSigned, rules}
+use Rattle.std.specs.Int.{w128}
 use Rattle.std.specs.List.{range_with_len}
 use Rattle.std.proofs.lemmas.Int.{to_z-of_z}
 use Rattle.basic_laws.proofs.Lists.{map-map}
@@ -7,10 +8,13 @@ use Rattle.row_definitions.specs.Row.{entry}
 use Rattle.search_definitions.specs.Classes.{class_number, volunteer_count}
 use Rattle.leximin_run.proofs.certifying.stage.Goals as goal
 
+abbrev made : List ℤ → ℤ → Stage
+made weights cap = record { weights = weights; cap = cap }
+
 pub returns : goal.returns
 returns c = λ all numbers.
     let row = c.args.row.now in
-    let made : c.new.result ≡ (let stage : Stage = record { weights = c.in_ok-weights.weights.items; cap = c.side.result } in stage) = simp to_z-of_z at c.new.ensures in
+    let fits : FitsSigned w128 c.side.result = search rules in
     let weights : c.in_ok-weights.weights.items ≡ map (λ i. entry row (class_number all.classes i)) (range_with_len 0 (volunteer_count all)) =
     c.in_ok-weights.ensures ∙ ap (map (entry row)) numbers ∙ map-map (entry row) (class_number all.classes) (range_with_len 0 (volunteer_count all)) in
-    made ∙ ap₂ (λ (weights : List ℤ) (cap : ℤ). let stage : Stage = record { weights = weights; cap = cap } in stage) weights c.side.ensures
+    c.new.ensures ∙ ap (made c.in_ok-weights.weights.items) (to_z-of_z w128 c.side.result fits) ∙ ap₂ made weights c.side.ensures
