@@ -181,7 +181,9 @@ fn shared_households(
 ) -> Result<Vec<Option<usize>>, AllocError>
     ensures { IfOk result (λ found. found.items ≡ map (shared volunteers.now) (range_with_len 0 (length volunteers.now))) }
 {
-    (0..volunteers.len()).map(|i| shared_household(volunteers, i)).collect(alloc)
+    (0..volunteers.len())
+        .map(|i| shared_household(volunteers, i))
+        .collect(alloc)
 }
 
 /// The number of the household that a volunteer shares with another one: that of its first member.
@@ -197,7 +199,9 @@ fn shared_household(volunteers: &[Volunteer], i: usize) -> Option<usize>
 fn household_size(volunteers: &[Volunteer], i: usize) -> usize
     ensures { result ≡ count_by (share volunteers.now i) (range_with_len 0 (length volunteers.now)) }
 {
-    (0..volunteers.len()).filter(|j| share_household(volunteers, i, *j)).count()
+    (0..volunteers.len())
+        .filter(|j| share_household(volunteers, i, *j))
+        .count()
 }
 
 /// The first of them.

@@ -22,7 +22,9 @@ fn numbers_up_to(
 ) -> Result<Vec<usize>, AllocError>
     ensures { IfOk result (λ numbers. numbers.items ≡ map (class_number_of groups.now) (range_with_len 0 volunteers)) }
 {
-    (0..volunteers).map(|i| class_number(groups, i)).collect(alloc)
+    (0..volunteers)
+        .map(|i| class_number(groups, i))
+        .collect(alloc)
 }
 
 // The number of a volunteer's class, or of all classes where the volunteer is in none.

@@ -1,24 +1,47 @@
-//! Lotteries over one seat for three volunteers.
+//! Lotteries over one seat for three volunteers, each alone or two of them alike.
 
 ghost use Rattle.std.specs.Prelude.{◌≡◌, ◌<ℤ◌, ◌+ℤ◌, pos, unsigned_abs, IfOk};
 ghost use Rattle.frac128.specs.Fractions.{lowest_of};
 ghost use Rattle.search_definitions.specs.Classes.{classes_of};
-ghost use Rattle.spread_definitions.specs.WorkedSpreads.{one_of_three};
+ghost use Rattle.spread_definitions.specs.WorkedSpreads.{one_of_three, pair_and_one};
 
 use crate::{Classes, Composition, SpreadStop, classes, spread};
 use frac128::{Frac, lowest};
-use pool_model::{BuildStop, Lottery, Pool};
+use pool_model::{BuildStop, Lottery, Name, Pool};
 use std::alloc::{AllocError, Global};
 use std::test::Fail;
 
-/// One seat, for one of three volunteers.
+/// One seat, for one of three volunteers, each of another value.
 fn three(alloc: Global) -> Result<Classes, BuildStop>
     ensures { IfOk result (λ found. found ≡ classes_of one_of_three) }
 {
     let mut pool = Pool::new(alloc, 1)?;
-    pool.add_volunteer("a", &[])?;
-    pool.add_volunteer("b", &[])?;
-    pool.add_volunteer("c", &[])?;
+    pool.add_category("value")?;
+    pool.add_value("p", 0, 1)?;
+    pool.add_value("q", 0, 1)?;
+    pool.add_value("r", 0, 1)?;
+    let p = [Name::new(alloc, "p")?];
+    let q = [Name::new(alloc, "q")?];
+    let r = [Name::new(alloc, "r")?];
+    pool.add_volunteer("a", &p)?;
+    pool.add_volunteer("b", &q)?;
+    pool.add_volunteer("c", &r)?;
+    Ok(classes(alloc, &pool)?)
+}
+
+/// One seat, for one of two volunteers of a value and one of another.
+fn pair(alloc: Global) -> Result<Classes, BuildStop>
+    ensures { IfOk result (λ found. found ≡ classes_of pair_and_one) }
+{
+    let mut pool = Pool::new(alloc, 1)?;
+    pool.add_category("value")?;
+    pool.add_value("p", 0, 1)?;
+    pool.add_value("q", 0, 1)?;
+    let p = [Name::new(alloc, "p")?];
+    let q = [Name::new(alloc, "q")?];
+    pool.add_volunteer("a", &p)?;
+    pool.add_volunteer("b", &p)?;
+    pool.add_volunteer("c", &q)?;
     Ok(classes(alloc, &pool)?)
 }
 
@@ -76,6 +99,24 @@ fn spread_three(
     told(alloc, &spread(alloc, found, &parts))
 }
 
+/// The pair has a share, and the one the rest.
+fn spread_pair(
+    alloc: Global,
+    found: &Classes,
+    whole: i128,
+    first: i128,
+) -> Result<String, AllocError>
+    requires found { found.now ≡ classes_of pair_and_one }
+    requires first { pos 0 <ℤ first }
+    requires rest { first <ℤ whole }
+{
+    let parts = [
+        part(alloc, &[1, 0], first, whole)?,
+        part(alloc, &[0, 1], whole - first, whole)?,
+    ];
+    told(alloc, &spread(alloc, found, &parts))
+}
+
 const TEN_38: i128 = 100000000000000000000000000000000000000;
 
 const TEN_19: i128 = 10000000000000000000;
@@ -112,6 +153,33 @@ fn three_shares(rt: HostRuntime) -> Result<(), Fail> {
         assert!(rt; first < whole);
         assert!(rt; second < whole - first);
         let text = spread_three(alloc, &found, whole, first, second)?;
+        assert_eq!(rt; text.as_str(), expected);
+    }
+    Ok(())
+}
+
+#[test]
+fn shares_of_a_pair(rt: HostRuntime) -> Result<(), Fail> {
+    let alloc = rt.alloc();
+    let found = pair(alloc)?;
+    for (whole, first, expected) in [
+        (2, 1, "4: 1 [0] 1 [1] 2 [2]"),
+        (3, 2, "6: 2 [0] 2 [1] 2 [2]"),
+        (
+            TEN_38 / 2,
+            1,
+            "100000000000000000000000000000000000000: 1 [0] 1 [1] 99999999999999999999999999999999999998 [2]",
+        ),
+        // the dial has two places
+        (
+            TEN_38,
+            1,
+            "the total 1 passes 10^38 at composition 0, of denominator 100000000000000000000000000000000000000",
+        ),
+    ] {
+        assert!(rt; 0 < first);
+        assert!(rt; first < whole);
+        let text = spread_pair(alloc, &found, whole, first)?;
         assert_eq!(rt; text.as_str(), expected);
     }
     Ok(())

@@ -59,7 +59,11 @@ fn alike_volunteers_are_a_class(rt: HostRuntime) -> Result<(), Fail> {
     let alloc = rt.alloc();
     let found = classes(alloc, &four(alloc)?)?;
     assert_eq!(rt; (found.size(), found.volunteers()), (2, 4));
-    check_classes(&rt, &found, &[(&[0, 1], (0, 2), None), (&[2, 3], (0, 2), None)]);
+    check_classes(
+        &rt,
+        &found,
+        &[(&[0, 1], (0, 2), None), (&[2, 3], (0, 2), None)],
+    );
     let one = Bounds { lower: 1, upper: 1 };
     assert_eq!(rt; found.bounds().len(), 1);
     let gender = found.bounds().first().ok_or("no category")?;

@@ -23,3 +23,11 @@ one_of_three = record {
   categories = category (codes "value") (bounded (codes "p") 0 1 ∷ bounded (codes "q") 0 1 ∷ bounded (codes "r") 0 1 ∷ []) ∷ [];
   volunteers = person (codes "a") (0 ∷ []) ∷ person (codes "b") (1 ∷ []) ∷ person (codes "c") (2 ∷ []) ∷ [];
 }
+
+-- one seat, for one of two volunteers of a value and one of another
+abbrev pub pair_and_one : Pool
+pair_and_one = record {
+  size = 1;
+  categories = category (codes "value") (bounded (codes "p") 0 1 ∷ bounded (codes "q") 0 1 ∷ []) ∷ [];
+  volunteers = person (codes "a") (0 ∷ []) ∷ person (codes "b") (0 ∷ []) ∷ person (codes "c") (1 ∷ []) ∷ [];
+}
