@@ -1,8 +1,7 @@
 -- At most one is taken of each household.
-use Rattle.std.proofs.Common.{◌≡◌, ℕ, ◌+◌, ◌≤◌, ◌<◌, Bool, true, false, cond, ◌&&◌, eqb, leb, List, [], ◌∷◌, ◌++◌, length, Option, Some, None, refl, sym, ap, ◌∙◌, arith, subst}
+use Rattle.std.proofs.Common.{◌≡◌, ℕ, ◌+◌, Bool, true, false, cond, ◌&&◌, eqb, leb, List, [], ◌∷◌, ◌++◌, length, Option, Some, None, refl, sym, ap, ◌∙◌, arith, subst}
 use Rattle.std.specs.Prelude.{slice_index}
-use Rattle.std.specs.List.{list_all, All}
-use Rattle.std.proofs.lemmas.Bool.{and_from, eqb-true, eq-eqb, false≢true, false_from_ne_true}
+use Rattle.std.proofs.lemmas.Bool.{eqb-true, eq-eqb, false≢true, false_from_ne_true}
 use Rattle.std.proofs.lemmas.List.Elements.{All-get_or}
 use Rattle.basic_laws.proofs.Each.{each_everywhere, each_from_list_all, list_all_from_each, list_all_implies}
 use Rattle.search_definitions.specs.Classes.{Class, Classes, IsKnownHousehold, KeepsLimits, volunteer_count}
@@ -16,8 +15,8 @@ use Rattle.panel_search.proofs.Tracking.{Stands, few_taken, nothing_taken, taken
 
 -- ---- the empty front
 
-none_taken : (classes whole : List Class) → takes_one_a_household whole [] ≡ true
-none_taken classes whole = list_all_from_each (λ class. takes_one_of whole [] class.household) whole (each_everywhere (λ class. takes_one_of whole [] class.household ≡ true) (λ class. one (class.household)) whole)
+none_taken : (whole : List Class) → takes_one_a_household whole [] ≡ true
+none_taken whole = list_all_from_each (λ class. takes_one_of whole [] class.household) whole (each_everywhere (λ class. takes_one_of whole [] class.household ≡ true) (λ class. one (class.household)) whole)
   where
     one : (household : Option ℕ) → takes_one_of whole [] household ≡ true
     one None = refl
@@ -28,7 +27,7 @@ both true c e = e
 both false c e = refl
 
 pub empty_reachable : (all : Classes) → is_reachable all [] ≡ (size_reachable all [] && values_reachable all [])
-empty_reachable all = both (size_reachable all [] && values_reachable all []) (takes_one_a_household all.classes []) (none_taken [] all.classes)
+empty_reachable all = both (size_reachable all [] && values_reachable all []) (takes_one_a_household all.classes []) (none_taken all.classes)
 
 -- ---- the household of a class
 

@@ -9,7 +9,7 @@ use Rattle.search_definitions.specs.Fronts.{HaveEntries, HaveReach, sizes_of}
 use Rattle.search_definitions.specs.Visits.{Pricing}
 use Rattle.panel_search.specs.Answers.{AnswersBest}
 use Rattle.panel_search.specs.Pricers.{AreClosed}
-use Rattle.panel_search.specs.Weights.{IsSummed, SumEach}
+use Rattle.panel_search.specs.Weights.{IsSummed}
 use Rattle.panel_search.specs.declared.greatest.Sums.{Sums}
 use Rattle.panel_search.specs.declared.searching.SearchStop.{SearchStop}
 use Rattle.panel_search.proofs.ClosedRows.{get_pushed}
