@@ -1,0 +1,2 @@
+pub mod TicketLemmas
+pub mod DiceLemmas
