@@ -1,10 +1,10 @@
 -- How many digits a group has, how many groups name one ticket, and which groups name the tickets of a row.
-use Rattle.std.proofs.Common.{◌≡◌, ◌↔◌, ℕ, zero, suc, ◌+◌, ◌-◌, ◌*◌, ◌/◌, ◌^◌, ◌<◌, ◌≤◌, Bool, true, false, cond, ◌&&◌, eqb, ltb, leb, List, [], ◌∷◌, length, filter, get_or, refl, sym, ap, ◌∙◌, arith, subst, ⊎_elim}
+use Rattle.std.proofs.Common.{◌≡◌, ℕ, zero, suc, ◌+◌, ◌-◌, ◌*◌, ◌^◌, ◌<◌, ◌≤◌, Bool, true, false, cond, eqb, leb, List, ◌∷◌, length, filter, get_or, refl, sym, ◌∙◌, arith, subst, ⊎_elim}
 use Rattle.std.specs.Prelude.{sum}
 use Rattle.std.specs.List.{range_with_len}
 use Rattle.std.proofs.lemmas.Bool.{and_parts, eqb-true, eq-eqb, leb-true, leb-false, ltb-true, lt-ltb, false≢true, cases_lt}
 use Rattle.std.proofs.lemmas.Nat.{le-div}
-use Rattle.std.proofs.Math.Nat.{div-lt_iff_lt-mul, le-div_iff_mul-le, mul-div-le, mul-le-mul_left, pow-suc}
+use Rattle.std.proofs.Math.Nat.{div-lt_iff_lt-mul, mul-div-le, mul-le-mul_left, pow-suc}
 use Rattle.draw_definitions.specs.Dice.{group_size, is_accepted, least_from, names_row, share, ticket_of}
 use Rattle.draw_definitions.specs.Tickets.{HoldsTicket, first_ticket, row_of}
 use Rattle.draw_definitions.proofs.TicketLemmas.{only_row, range_within, row_of_holds}

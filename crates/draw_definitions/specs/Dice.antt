@@ -1,6 +1,7 @@
 -- Dice: which of so many tickets some digits name. The digits are read in groups, all of one size; a group names a ticket or is
 -- refused, so that each ticket is named by as many groups as any other.
-use Rattle.std.specs.Prelude.{◌≡◌, ℕ, ℤ, pos, zero, suc, ◌+◌, ◌*◌, ◌/◌, ◌^◌, ◌==◌, Bool, true, false, not, ◌&&◌, nat_le, nat_lt, List, length, take, drop, position, sum, Option, Some, None, Result, Ok, Err}
+use Rattle.std.specs.Prelude.{ℕ, pos, zero, suc, ◌+◌, ◌*◌, ◌/◌, ◌^◌, ◌==◌, Bool, true, false, not, ◌&&◌, nat_le, nat_lt, List, length, take, drop, position, sum, Option, Some, None, Result, Ok, Err}
+use Rattle.std.specs.Char.{is_ascii_digit}
 use Rattle.std.specs.List.{find, range_with_len}
 use Rattle.std.specs.Str.Parse.{digits_value}
 use Rattle.draw_definitions.specs.declared.Named.{Named}
@@ -33,10 +34,6 @@ ticket_of total group = group / share total
 abbrev pub names_row : List ℕ → ℕ → ℕ → Bool
 names_row weights row group = is_accepted (sum weights) group && (row_of weights (ticket_of (sum weights) group) == row)
 
--- '0' to '9'
-abbrev pub is_digit : ℕ → Bool
-is_digit byte = nat_le 48 byte && nat_le byte 57
-
 -- the group of this place, counted from 0
 abbrev pub group_at : ℕ → List ℕ → ℕ → ℕ
 group_at size digits place = digits_value 10 (take size (drop (place * size) digits))
@@ -59,4 +56,4 @@ named_but total digits None = named_at total digits (first_accepted total digits
 
 -- the ticket that the digits name, of so many
 abbrev pub name_ticket : ℕ → List ℕ → Result Named DiceStop
-name_ticket total digits = named_but total digits (position (λ byte. not (is_digit byte)) digits)
+name_ticket total digits = named_but total digits (position (λ byte. not (is_ascii_digit byte)) digits)

@@ -1,6 +1,5 @@
-use Rattle.std.proofs.Common.{◌≡◌, ℕ, ◌+◌, ◌-◌, ◌*◌, ◌/◌, ◌^◌, ◌≤◌, length, filter, get_or, arith}
+use Rattle.std.proofs.Common.{◌+◌, ◌*◌, ◌^◌, get_or, arith}
 use Rattle.std.specs.Prelude.{sum}
-use Rattle.std.specs.List.{range_with_len}
 use Rattle.draw_definitions.specs.Dice.{group_size, names_row, share}
 use Rattle.draw_definitions.specs.Tickets.{first_ticket}
 use Rattle.draw_definitions.proofs.DiceLemmas.{between-named, count_between, named-between, share-some, share-within, to-within}
