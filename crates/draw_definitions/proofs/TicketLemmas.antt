@@ -1,8 +1,9 @@
 -- Which row's range holds a ticket.
-use Rattle.std.proofs.Common.{◌≡◌, ℕ, zero, suc, ◌+◌, ◌-◌, ◌<◌, ◌≤◌, Bool, true, false, cond, ltb, List, [], ◌∷◌, length, get_or, take, refl, ap, arith}
+use Rattle.std.proofs.Common.{◌≡◌, ℕ, zero, suc, ◌+◌, ◌-◌, ◌<◌, ◌≤◌, Bool, true, false, cond, ltb, List, [], ◌∷◌, length, get_or, map, take, refl, sym, ap, ◌∙◌, arith}
 use Rattle.std.specs.Prelude.{sum}
 use Rattle.std.proofs.lemmas.Bool.{ltb-true, ltb-false, lt-ltb, le-ltb}
-use Rattle.std.proofs.lemmas.List.Sums.{sum_by-cons, sum_by_more_le}
+use Rattle.std.proofs.lemmas.List.Sums.{sum_by-cons, sum_by_more, sum_by_more_le}
+use Rattle.pool_definitions.specs.Lottery.{LotteryRow}
 use Rattle.draw_definitions.specs.Tickets.{HoldsTicket, first_ticket, row_of}
 
 -- a sum with one more term in front
@@ -38,3 +39,19 @@ only_row (weight ∷ weights) (suc row) ticket h =
 -- a row's range ends within the sum of all weights
 pub range_within : (weights : List ℕ) (row : ℕ) → row < length weights → first_ticket weights row + get_or weights row 0 ≤ sum weights
 range_within weights row h = sum_by_more_le (λ n. n) weights row 0 h
+
+-- ---- the rows of a lottery, one after the other
+
+-- the weight of a row that was read
+pub weight_at : (rows : List LotteryRow) (j : ℕ) (row : LotteryRow) → j < length rows → row ≡ get_or rows j row → get_or (map (λ (r : LotteryRow). r.weight) rows) j 0 ≡ row.weight
+weight_at [] j row l e = absurd (omega arith)
+weight_at (first ∷ rows) zero row l e = ap (λ (r : LotteryRow). r.weight) (sym e)
+weight_at (first ∷ rows) (suc j) row l e = weight_at rows j row (omega arith) e
+
+-- the sum with one weight more
+pub sum_pushed : (weights : List ℕ) (j weight : ℕ) → j < length weights → get_or weights j 0 ≡ weight → sum (take (j + 1) weights) ≡ sum (take j weights) + weight
+sum_pushed weights j weight l e = sum_by_more (λ n. n) weights j 0 l ∙ ap (λ w. sum (take j weights) + w) e
+
+-- the sum so far and one weight more are no more than all
+pub sum_room : (weights : List ℕ) (j weight : ℕ) → j < length weights → get_or weights j 0 ≡ weight → sum (take j weights) + weight ≤ sum weights
+sum_room weights j weight l e = let h = sum_by_more_le (λ n. n) weights j 0 l in omega arith

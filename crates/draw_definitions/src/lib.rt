@@ -1,13 +1,15 @@
-//! The words of a public draw: the tickets of a lottery's rows, and which ticket the digits of dice name. They stand in `specs/`, over
-//! the lotteries of `pool_definitions`.
+//! The words of a public draw: the tickets of a lottery's rows, which ticket the digits of dice name, seals, and what is drawn. They
+//! stand in `specs/`, over the lotteries of `pool_definitions`, and over SHA-256 as the kit's sha2 defines it.
 //!
 //! The functions here have no body: their contracts are laws over the definitions, and worked examples.
 #![tactic(auto)]
 
 ghost use Rattle.std.specs.Prelude.{◌≡◌, ◌↔◌, ◌≤◌, ◌<◌, ◌+◌, ◌*◌, ◌^◌, ℕ, List, [], ◌∷◌, codes, filter, length, map, slice_index, sum, IsTrue, Ok, Err, pos};
+ghost use Rattle.std.specs.Char.{to_ascii_lowercase};
 ghost use Rattle.std.specs.List.{range_with_len};
 ghost use Rattle.pool_definitions.specs.Lottery.{Lottery, TotalAgrees};
 ghost use Rattle.draw_definitions.specs.Dice.{group_size, is_accepted, name_ticket, names_row, share, ticket_of};
+ghost use Rattle.draw_definitions.specs.Draw.{Drawn, draw, panel_at};
 ghost use Rattle.draw_definitions.specs.Tickets.{HoldsTicket, first_ticket, row_of, weights_of};
 
 use thiserror::Error;
@@ -71,6 +73,14 @@ pub fn dice_are_fair()
     ensures some { (total : ℕ) → 1 ≤ total → 1 ≤ share total }
     ensures count { (weights : List ℕ) (row : ℕ) → row < length weights → 1 ≤ sum weights →
         length (filter (names_row weights row) (range_with_len 0 (10 ^ group_size (sum weights)))) ≡ share (sum weights) * slice_index weights row }
+{}
+
+/// What is drawn from a lottery whose weights sum to its total is the panel of a row in whose range the ticket is, and it is drawn only
+/// where the seal that was given is the one that is kept.
+pub fn draws_the_row_of_the_ticket()
+    ensures row { (lottery : Lottery) (kept given digits : List ℕ) (drawn : Drawn) → TotalAgrees lottery → 1 ≤ lottery.total → draw lottery kept given digits ≡ Ok drawn →
+        (row : ℕ) × (HoldsTicket (weights_of lottery) row drawn.ticket × (drawn.panel ≡ panel_at lottery row)) }
+    ensures seal { (lottery : Lottery) (kept given digits : List ℕ) (drawn : Drawn) → draw lottery kept given digits ≡ Ok drawn → map to_ascii_lowercase given ≡ kept }
 {}
 
 /// Draws of small lotteries, computed on the definitions.

@@ -73,24 +73,9 @@ held_at ends i ticket rise h point =
     (λ k d l. leb-true (get_or ends k d) ticket (point.0 k d (omega arith) l))
     (λ k d l m. leb-false (get_or ends k d) ticket (point.1 k d l m)))
 
--- ---- the rows of a lottery
-
--- the weight of a row that was read
-pub weight_at : (rows : List LotteryRow) (j : ℕ) (row : LotteryRow) → j < length rows → row ≡ get_or rows j row → get_or (map (λ (r : LotteryRow). r.weight) rows) j 0 ≡ row.weight
-weight_at [] j row l e = absurd (omega arith)
-weight_at (first ∷ rows) zero row l e = ap (λ (r : LotteryRow). r.weight) (sym e)
-weight_at (first ∷ rows) (suc j) row l e = weight_at rows j row (omega arith) e
-
 -- one row more
 pub end_pushed : (weights : List ℕ) (j weight : ℕ) → j < length weights → get_or weights j 0 ≡ weight → ends_of 0 (take (j + 1) weights) ≡ ends_of 0 (take j weights) ++ (sum (take j weights) + weight) ∷ []
 end_pushed weights j weight l e =
     let more : take (j + 1) weights ≡ take j weights ++ get_or weights j 0 ∷ [] = take_more weights j 0 l in
     let none : 0 + sum (take j weights) + weight ≡ sum (take j weights) + weight = omega arith in
     ap (ends_of 0) (more ∙ ap (λ w. take j weights ++ w ∷ []) e) ∙ (ends-more 0 (take j weights) weight ∙ ap (λ end. ends_of 0 (take j weights) ++ end ∷ []) none)
-
-pub sum_pushed : (weights : List ℕ) (j weight : ℕ) → j < length weights → get_or weights j 0 ≡ weight → sum (take (j + 1) weights) ≡ sum (take j weights) + weight
-sum_pushed weights j weight l e = sum_by_more (λ n. n) weights j 0 l ∙ ap (λ w. sum (take j weights) + w) e
-
--- the sum so far and one weight more are no more than all
-pub sum_room : (weights : List ℕ) (j weight : ℕ) → j < length weights → get_or weights j 0 ≡ weight → sum (take j weights) + weight ≤ sum weights
-sum_room weights j weight l e = let h = sum_by_more_le (λ n. n) weights j 0 l in omega arith

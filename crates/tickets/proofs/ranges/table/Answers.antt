@@ -6,7 +6,8 @@ use Rattle.std.proofs.lemmas.List.{length-map, take_all}
 use Rattle.pool_definitions.specs.Lottery.{LotteryRow}
 use Rattle.draw_definitions.specs.Tickets.{weights_of}
 use Rattle.tickets.specs.Ends.{Rise, gaps}
-use Rattle.tickets.proofs.Ends.{end_pushed, ends-rise, ends_of, gaps-ends, sum_pushed, weight_at}
+use Rattle.draw_definitions.proofs.TicketLemmas.{sum_pushed, weight_at}
+use Rattle.tickets.proofs.Ends.{end_pushed, ends-rise, ends_of, gaps-ends}
 use Rattle.tickets.proofs.ranges.table.Goals as goal
 
 pub loop-row-preserved : goal.loop-row-preserved
