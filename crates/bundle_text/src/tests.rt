@@ -1,8 +1,5 @@
 //! The bundle of two women and two men, the widest numbers, and the edges of the ranges.
 
-ghost use Rattle.std.specs.Prelude.{◌≡◌, false, IfOk};
-ghost use Rattle.pool_definitions.specs.Pool.{has_households};
-
 use crate::{is_in_ranges, write_bundle};
 use pool_model::{Answer, Certificate, Lottery, LotteryRow, Panel, Pool, Stage};
 use pool_text::read_pool;
@@ -35,9 +32,7 @@ fn spelled(alloc: Global, shown: &str) -> Result<Vec<u8>, AllocError> {
     Ok(text)
 }
 
-fn four(alloc: Global) -> Result<Pool, Fail>
-    ensures { IfOk result (λ pool. has_households pool ≡ false) }
-{
+fn four(alloc: Global) -> Result<Pool, Fail> {
     Ok(read_pool(alloc, &spelled(alloc, FOUR)?)?)
 }
 
