@@ -1,15 +1,19 @@
 -- A panel's weight in a stage stays within the sum of the absolute values of the stage's weights.
-use Rattle.std.proofs.Common.{◌≡◌, ℕ, zero, suc, ◌+◌, ◌<◌, ◌≤◌, Bool, true, ltb, leb, List, [], ◌∷◌, ◌++◌, length, get_or, take, drop, fold, refl, sym, ◌∙◌, ap, arith, ℤ, pos, negsuc, ◌+ℤ◌}
+use Rattle.std.proofs.Common.{◌≡◌, ℕ, zero, suc, ◌+◌, ◌<◌, ◌≤◌, true, ltb, leb, List, [], ◌∷◌, length, get_or, take, drop, fold, refl, sym, ◌∙◌, ap, subst, arith, ℤ, pos, negsuc, ◌+ℤ◌}
 use Rattle.std.specs.Prelude.{sum_by, unsigned_abs}
 use Rattle.std.specs.List.{list_all}
 use Rattle.std.proofs.lemmas.Bool.{and_parts, ltb-true, leb-true, le-leb}
+use Rattle.std.proofs.lemmas.Int.{ints}
 use Rattle.std.proofs.lemmas.List.Sums.{sum_by-cons, sum_by-take-le}
 use Rattle.pool_definitions.specs.Lists.{is_increasing}
 use Rattle.pool_definitions.specs.Certificate.{Stage, weight_of, panel_weight}
 
 -- the sum of two numbers is no greater than the sum of their absolute values
 abs-add : (a b : ℤ) → unsigned_abs (a +ℤ b) ≤ unsigned_abs a + unsigned_abs b
-abs-add a b = omega arith
+abs-add (pos a) (pos b) = omega arith
+abs-add (pos a) (negsuc b) = omega (arith, ints)
+abs-add (negsuc a) (pos b) = omega (arith, ints)
+abs-add (negsuc a) (negsuc b) = omega arith
 
 -- one weight, and those behind it, are within those from a number up to it on
 one_more : (ws : List ℤ) (from m : ℕ) → from ≤ m → unsigned_abs (get_or ws m (pos 0)) + sum_by unsigned_abs (drop (suc m) ws) ≤ sum_by unsigned_abs (drop from ws)
@@ -75,3 +79,14 @@ one_weight_more stage panel n d l = from (pos 0) panel n l
     from start (i ∷ panel) zero m = refl
     from start (i ∷ panel) (suc n) m =
         let e : suc n + 1 ≡ suc (n + 1) = omega arith in rw e (from (start +ℤ weight_of stage i) panel n (omega arith))
+
+-- with the next member's weight the sum is that of one member more, and within the stage's weights
+pub next_within : (stage : Stage) (panel items : List ℕ) (n d : ℕ) (sum weight : ℤ) → items ≡ panel → is_increasing panel ≡ true → n < length items → sum ≡ panel_weight stage (take n panel) →
+    weight ≡ weight_of stage (get_or items n d) →
+    (sum +ℤ weight ≡ panel_weight stage (take (n + 1) panel)) × (unsigned_abs (sum +ℤ weight) ≤ sum_by unsigned_abs stage.weights)
+next_within stage panel items n d sum weight same increasing l e f =
+    let inside : n < length panel = subst (λ xs. n < length xs) same l in
+    let here : weight ≡ weight_of stage (get_or panel n d) = f ∙ ap (λ (xs : List ℕ). weight_of stage (get_or xs n d)) same in
+    let next : sum +ℤ weight ≡ panel_weight stage (take (n + 1) panel) =
+    ap (λ s. s +ℤ weight) e ∙ (ap (λ w. panel_weight stage (take n panel) +ℤ w) here ∙ sym (one_weight_more stage panel n d inside)) in
+    (next, subst (λ z. unsigned_abs z ≤ sum_by unsigned_abs stage.weights) (sym next) (first_within stage panel (n + 1) increasing))

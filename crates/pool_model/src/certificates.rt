@@ -1,6 +1,6 @@
 //! Certificates: stages, which give each volunteer a weight and cap a panel's; and answers, which are lotteries with their certificates.
 
-ghost use Rattle.std.specs.Prelude.{◌≡◌, ◌≤◌, ◌+◌, ◌-◌, ◌^◌, ◌++◌, ◌∷◌, [], sum_by, unsigned_abs, IfOk, OnOk, OnErr};
+ghost use Rattle.std.specs.Prelude.{◌≡◌, ◌≤◌, ◌+◌, ◌+ℤ◌, ◌-◌, ◌^◌, ◌++◌, ◌∷◌, [], sum_by, unsigned_abs, IfOk, OnOk, OnErr};
 ghost use Rattle.pool_definitions.specs.Certificate.{panel_weight as weight_of_panel, weight_of as weight_of_one};
 
 use crate::lotteries::Lottery;
@@ -173,9 +173,17 @@ pub fn panel_weight(panel: &Panel, stage: &Stage) -> i128
 {
     let mut sum = 0;
     for i in panel.members() {
-        sum += weight_of(stage, *i);
+        sum = with_weight(sum, weight_of(stage, *i));
     }
     sum
+}
+
+/// A sum with one weight more, which 127 bits and a sign hold.
+fn with_weight(sum: i128, weight: i128) -> i128
+    requires { unsigned_abs (sum +ℤ weight) ≤ 2 ^ 127 - 1 }
+    ensures { result ≡ sum +ℤ weight }
+{
+    sum + weight
 }
 
 /// A volunteer's weight, or 0 where the stage has none.
