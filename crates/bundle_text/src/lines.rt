@@ -1,6 +1,6 @@
 //! The lines behind the pool: what one says.
 
-ghost use Rattle.std.specs.Prelude.{◌≡◌, ◌-◌, ◌^◌, ◌≤ℤ◌, pos, map, Some, IfOk, option_map, unsigned_abs};
+ghost use Rattle.std.specs.Prelude.{◌≡◌, ◌-◌, ◌^◌, ◌≤ℤ◌, pos, map, Some, IfOk, IfSome, option_map, unsigned_abs};
 ghost use Rattle.line_definitions.specs.Lines.{fields_of};
 ghost use Rattle.line_definitions.specs.Numbers.{number_up_to as number_in};
 ghost use Rattle.bundle_definitions.specs.BundleReading.{answer_line as line_in, panel_said as panel_in, stage_said as stage_in, row_of as row_in, stage_of as stage_words, numbers_up_to as numbers_in, signed_of, total_of as total_in};
@@ -153,7 +153,8 @@ fn signed_numbers(alloc: Global, fields: &[&[u8]]) -> Result<Option<Vec<i128>>, 
 
 /// The number from 0 to 10^38 that the field spells.
 fn small_number(field: &[u8]) -> Option<i128>
-    ensures { result ≡ option_map pos (number_in (10 ^ 38) field.now) }
+    ensures value { result ≡ option_map pos (number_in (10 ^ 38) field.now) }
+    ensures least { IfSome result (λ number. pos 0 ≤ℤ number) }
 {
     match signed_number(field) {
         Some(number) if 0 <= number && number <= MAX_WEIGHT => Some(number),

@@ -99,10 +99,7 @@ fn after_pool(
             Some(total) => Ok(Progress::InRows(pool, Lottery::new(total, Vec::new(alloc)))),
             None => Err(BuildStop::Kind(TOTAL)),
         },
-        progress => Ok(Progress::InPool(
-            second,
-            pool_text::after(alloc, progress, line)?,
-        )),
+        progress => Ok(Progress::InPool(second, pool_text::after(alloc, progress, line)?)),
     }
 }
 

@@ -3,14 +3,14 @@
 ghost use Rattle.std.specs.Prelude.{◌≡◌, Ok, IfOk};
 ghost use Rattle.bundle_definitions.specs.BundleText.{Bundle as Words, IsBundle, bundle_spelling};
 ghost use Rattle.bundle_definitions.specs.BundleReading.{read_bundle as read, at_last, missing_kind};
-ghost use Rattle.bundle_definitions.proofs.Spelled.{IsRight};
+ghost use Rattle.bundle_definitions.specs.Ranges.{IsInRanges};
 ghost use Rattle.bundle_text.specs.Answers.{Reads, stopped};
-ghost use Rattle.bundle_text.specs.Progress.{seen};
+ghost use Rattle.bundle_text.specs.Progress.{seen, IsDoneRight};
 
 use crate::bundles::Bundle;
 use crate::faults::{BundleFault, ReadBundle};
 use crate::progress::{ENDING, Progress, after};
-use pool_model::BuildStop;
+use pool_model::{Answer, BuildStop, Pool};
 use pool_text::Progress as PoolProgress;
 use std::alloc::Global;
 use text_lines::next_line;
@@ -60,16 +60,31 @@ fn stop_at(line: usize, stop: BuildStop) -> ReadBundle
 
 /// What the text comes to, where `rest` stands behind its last LF.
 fn last(progress: Progress, line: usize, rest: &[u8]) -> Result<Bundle, ReadBundle>
-    requires { IsRight (seen progress) }
+    requires { IsDoneRight (seen progress) }
     ensures { Reads (at_last line (seen progress) rest.now) result }
 {
     let kind = missing_kind(&progress);
+    let missing = ReadBundle::Fault(BundleFault { line, kind });
+    if !rest.is_empty() {
+        return Err(missing);
+    }
     match progress {
-        Progress::Done(pool, answer) if rest.is_empty() => match Bundle::new(pool, answer) {
-            Some(bundle) => Ok(bundle),
-            None => unreachable!(),
-        },
-        _ => Err(ReadBundle::Fault(BundleFault { line, kind })),
+        Progress::Done(pool, answer) => Ok(finished(pool, answer)),
+        Progress::Begun => Err(missing),
+        Progress::InPool(_second, _progress) => Err(missing),
+        Progress::InRows(_pool, _lottery) => Err(missing),
+        Progress::InStages(_pool, _lottery, _certificate) => Err(missing),
+    }
+}
+
+/// The bundle of this pool and answer, whose numbers keep the ranges.
+fn finished(pool: Pool, answer: Answer) -> Bundle
+    requires { IsInRanges pool answer }
+    ensures { result ≡ record { pool = pool; answer = answer } }
+{
+    match Bundle::new(pool, answer) {
+        Some(bundle) => bundle,
+        None => unreachable!(),
     }
 }
 
