@@ -1,5 +1,5 @@
 -- A bundle's weights are at least 1, so its total agrees exactly where they sum to it.
-use Rattle.std.proofs.Common.{◌≡◌, ◌↔◌, ◌∙◌, ◌^◌, ℕ, Bool, true, ◌&&◌, eqb, leb, List, [], ◌∷◌, length, refl, sym, ap, subst, IsTrue}
+use Rattle.std.proofs.Common.{◌≡◌, ◌↔◌, ◌∙◌, ◌^◌, ℕ, Bool, true, eqb, leb, List, [], ◌∷◌, length, refl, sym, IsTrue}
 use Rattle.std.specs.Prelude.{sum}
 use Rattle.std.specs.List.{list_all}
 use Rattle.std.proofs.lemmas.Bool.{and_parts, eq-eqb, eqb-true}

@@ -1,6 +1,5 @@
-use Rattle.std.proofs.Common.{◌≡◌, ◌∙◌, sym, ap}
+use Rattle.std.proofs.Common.{◌≡◌, ◌∙◌, ap}
 use Rattle.pool_definitions.specs.Certificate.{Answer}
-use Rattle.pool_definitions.specs.Lottery.{Lottery}
 use Rattle.sealed_draw.proofs.Totals.{agrees_exactly}
 use Rattle.sealed_draw.proofs.agreeing.total_agrees.Goals as goal
 

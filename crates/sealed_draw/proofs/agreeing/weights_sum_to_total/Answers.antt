@@ -1,4 +1,4 @@
-use Rattle.std.proofs.Common.{◌≡◌, ◌+◌, ◌<◌, ◌≤◌, List, get_or, length, take, unsigned_abs, ap, sym, ◌∙◌, arith, rules}
+use Rattle.std.proofs.Common.{◌≡◌, ◌<◌, List, get_or, length, unsigned_abs, ap, sym, ◌∙◌, arith, rules}
 use Rattle.std.specs.Prelude.{FitsSigned, sum}
 use Rattle.std.specs.Int.{w128}
 use Rattle.std.proofs.lemmas.Bool.{ne_eqb}
