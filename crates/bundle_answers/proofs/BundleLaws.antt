@@ -1,8 +1,6 @@
 -- The commands about a bundle have one answer about a text.
-use Rattle.std.proofs.Common.{◌≡◌, ◌∙◌, ℕ, List, Ok, Err, ap, sym, subst}
-use Rattle.pool_definitions.specs.Lottery.{TotalAgrees}
+use Rattle.std.proofs.Common.{◌≡◌, ◌∙◌, ℕ, List, ap, sym, subst}
 use Rattle.bundle_definitions.specs.BundleText.{Bundle}
-use Rattle.draw_definitions.specs.Draw.{Drawn, Refused, draw}
 use Rattle.command_shell.specs.declared.status.Printed.TheVariants as printed
 use Rattle.command_shell.specs.declared.status.Cause.TheVariants as cause
 use Rattle.command_shell.specs.Answers.{AnswersOnce, Saying, Prints, Stops}

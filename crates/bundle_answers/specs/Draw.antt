@@ -4,7 +4,6 @@ use Rattle.std.specs.Prelude.{◌≡◌, ℕ, List, [], ◌∷◌, ◌++◌, cod
 use Rattle.std.specs.Fmt.{decimal}
 use Rattle.pool_definitions.specs.Lottery.{TotalAgrees}
 use Rattle.bundle_definitions.specs.BundleText.{Bundle}
-use Rattle.draw_definitions.specs.declared.DiceStop.{DiceStop}
 use Rattle.draw_definitions.specs.declared.DiceStop.TheVariants.{BadDigit, MoreDigits}
 use Rattle.draw_definitions.specs.Draw.{Drawn, Refused, draw}
 use Rattle.command_shell.specs.declared.status.Printed.TheVariants as printed

@@ -1,12 +1,11 @@
 -- A draw that is refused is told with its cause.
 use Rattle.std.proofs.Common.{◌≡◌, ◌∙◌, ℕ, List, ap₂, subst}
-use Rattle.std.specs.Prelude.{Err, Result}
+use Rattle.std.specs.Prelude.{Err}
 use Rattle.pool_definitions.specs.Lottery.{TotalAgrees}
 use Rattle.bundle_definitions.specs.BundleText.{Bundle}
 use Rattle.draw_definitions.specs.declared.DiceStop.TheVariants as dice
 use Rattle.draw_definitions.specs.Draw.{Refused}
 use Rattle.sealed_draw.specs.Answers.{DrawSays}
-use Rattle.sealed_draw.specs.declared.drawn.Draw.{Draw}
 use Rattle.sealed_draw.specs.declared.drawn.DrawStop.{DrawStop}
 use Rattle.sealed_draw.specs.declared.drawn.DrawStop.TheVariants.{SealDiffers, BadDigit, MoreDigits, OutOfMemory}
 use Rattle.command_shell.specs.declared.status.Cause.TheVariants.{Rule}

@@ -2,7 +2,7 @@ use Rattle.std.proofs.Common.{◌≡◌, ◌<◌, ◌∙◌, ◌++◌, ◌∷◌
 use Rattle.std.proofs.lemmas.List.{take_all}
 use Rattle.std.proofs.lemmas.Result.{on_ok_weaker}
 use Rattle.pool_definitions.specs.Pool.{volunteer}
-use Rattle.line_definitions.specs.Lines.{line_feed, tab, tabbed}
+use Rattle.line_definitions.specs.Lines.{line_feed, tabbed}
 use Rattle.line_definitions.proofs.LineLemmas.{line_written}
 use Rattle.pool_answers.proofs.PanelLines.{one_id}
 use Rattle.bundle_commands.proofs.Members.{number_in_range}

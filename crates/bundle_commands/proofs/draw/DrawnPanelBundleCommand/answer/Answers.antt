@@ -1,8 +1,7 @@
-use Rattle.std.proofs.Common.{◌≡◌, ◌++◌, ◌∙◌, IsTrue, List, ap, string_bytes, subst, unsigned_abs, rules, Ok}
+use Rattle.std.proofs.Common.{◌≡◌, ◌++◌, ◌∙◌, IsTrue, ap, subst, unsigned_abs, rules, Ok}
 use Rattle.std.specs.Prelude.{Err}
 use Rattle.sealed_draw.specs.Answers.{DrawSays}
 use Rattle.std.proofs.lemmas.Result.{IfOk-weaker}
-use Rattle.pool_definitions.specs.Lottery.{TotalAgrees}
 use Rattle.pool_definitions.specs.Pool.{Pool}
 use Rattle.command_shell.specs.declared.status.Printed.TheVariants as printed
 use Rattle.command_shell.specs.Answers.{Prints, saying}
