@@ -1,14 +1,26 @@
--- The text of a bundle, which is a pool with its answer: each bundle has one spelling.
-use Rattle.std.specs.Prelude.{ℕ, List, [], ◌∷◌, ◌++◌, map, codes}
+-- The text of a bundle, which is a pool with its answer: each bundle has one spelling. Its version is that of its pool's text.
+use Rattle.std.specs.Prelude.{ℕ, Bool, List, [], ◌∷◌, ◌++◌, map, codes}
 use Rattle.std.specs.Fmt.{decimal, signed_decimal}
-use Rattle.pool_definitions.specs.Pool.{Pool}
+use Rattle.pool_definitions.specs.Pool.{Pool, IsPool, has_households}
 use Rattle.pool_definitions.specs.Lottery.{LotteryRow}
 use Rattle.pool_definitions.specs.Certificate.{Stage, Answer}
 use Rattle.line_definitions.specs.Lines.{line_of, text_of}
-use Rattle.text_definitions.specs.PoolText.{lines_before_end, end_line}
+use Rattle.text_definitions.specs.PoolText.{version, lines_before_end, end_line}
+use Rattle.bundle_definitions.specs.Ranges.{IsInRanges}
 
-abbrev pub bundle_line : List ℕ
-bundle_line = line_of (codes "bundle" ∷ codes "1" ∷ [])
+-- a pool with its answer
+pub record Bundle : Type 0 where
+  pub pool : Pool
+  pub answer : Answer
+
+-- what each bundle keeps
+pub record IsBundle (bundle : Bundle) : Type 0 where
+  pub is_pool : IsPool bundle.pool
+  pub in_ranges : IsInRanges bundle.pool bundle.answer
+
+-- the first line, in a text of a version
+abbrev pub bundle_line : Bool → List ℕ
+bundle_line second = line_of (codes "bundle" ∷ version second ∷ [])
 
 -- the lines of a pool
 abbrev pub pool_lines : Pool → List (List ℕ)
@@ -34,8 +46,12 @@ answer_lines answer = total_line answer.lottery.total ∷ (map panel_line answer
 
 -- the lines of a bundle before its end
 abbrev pub lines_before_done : Pool → Answer → List (List ℕ)
-lines_before_done pool answer = bundle_line ∷ (pool_lines pool ++ answer_lines answer)
+lines_before_done pool answer = bundle_line (has_households pool) ∷ (pool_lines pool ++ answer_lines answer)
 
--- the text of a bundle
+-- the text of a pool with an answer
 abbrev pub bundle_text : Pool → Answer → List ℕ
 bundle_text pool answer = text_of (lines_before_done pool answer ++ done_line ∷ [])
+
+-- the text of a bundle
+abbrev pub bundle_spelling : Bundle → List ℕ
+bundle_spelling bundle = bundle_text bundle.pool bundle.answer

@@ -1,3 +1,4 @@
 pub mod Ranges
 pub mod BundleText
+pub mod BundleReading
 pub mod WorkedExamples

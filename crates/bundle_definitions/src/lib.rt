@@ -1,16 +1,34 @@
-//! The words of a bundle, which is a pool with its answer: the ranges of an answer's numbers, and the text. They stand in
-//! `specs/`, over the words of `pool_definitions` and `text_definitions`.
+//! The words of a bundle, which is a pool with its answer: the ranges of an answer's numbers, the text, and the first fault of bytes
+//! that are none. They stand in `specs/`, over the words of `pool_definitions` and `text_definitions`.
 //!
-//! The functions here have no body: their contracts are worked examples.
+//! The functions here have no body: their contracts are laws over the definitions, and worked examples.
 #![tactic(auto)]
 
-ghost use Rattle.std.specs.Prelude.{◌≡◌, [], ◌∷◌, ◌+◌, ◌-◌, ◌^◌, true, false, map, length, drop, codes, pos, negsuc};
+ghost use Rattle.std.specs.Prelude.{◌≡◌, ◌≢◌, [], ◌∷◌, ◌++◌, ◌+◌, ◌-◌, ◌^◌, true, false, map, length, drop, take, codes, pos, negsuc, ℕ, List, Ok, Err, MatchResult};
 ghost use Rattle.std.specs.Fmt.{signed_decimal};
 ghost use Rattle.pool_definitions.specs.WorkedExamples.{four, after_dropout, row, stage};
 ghost use Rattle.line_definitions.specs.Lines.{line_of};
 ghost use Rattle.bundle_definitions.specs.Ranges.{IsInRanges, is_row, is_stage};
-ghost use Rattle.bundle_definitions.specs.BundleText.{bundle_text, lines_before_done};
+ghost use Rattle.bundle_definitions.specs.BundleText.{Bundle, IsBundle, bundle_text, bundle_spelling, lines_before_done};
+ghost use Rattle.bundle_definitions.specs.BundleReading.{read_bundle};
 ghost use Rattle.bundle_definitions.specs.WorkedExamples.{four_answer, dropout_answer, widest_answer};
+
+/// A list of bytes is the text of a bundle, which is then read, or has a first fault and is the text of none.
+pub fn bundle_or_fault()
+    ensures { (bytes : List ℕ) → MatchResult (read_bundle bytes)
+        (λ bundle. IsBundle bundle × (bytes ≡ bundle_spelling bundle))
+        (λ fault. (bundle : Bundle) → IsBundle bundle → bytes ≢ bundle_spelling bundle) }
+{}
+
+/// The text of a bundle is read again.
+pub fn bundle_is_read()
+    ensures { (bundle : Bundle) → IsBundle bundle → read_bundle (bundle_spelling bundle) ≡ Ok bundle }
+{}
+
+/// Bundles of one text are one bundle.
+pub fn one_bundle_per_text()
+    ensures { (first second : Bundle) → IsBundle first → IsBundle second → bundle_spelling first ≡ bundle_spelling second → first ≡ second }
+{}
 
 /// The bundle of two women and two men.
 pub fn four_volunteers()

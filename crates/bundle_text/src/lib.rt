@@ -1,11 +1,20 @@
-//! The text of a bundle, which is a pool with its answer: a lottery, and the stages that certify it. Below stand `pool_text`,
-//! which writes the pool, `text_lines` and the words of `bundle_definitions`.
+//! The text of a bundle, which is a pool with its answer: a lottery, and the stages that certify it. It is read into a bundle or
+//! answered with its first fault, and a bundle is written as its text. Below stand `pool_text`, which reads and writes the pool,
+//! `text_lines` and the words of `bundle_definitions`.
 #![tactic(auto)]
 
+mod bundles;
+mod faults;
+mod lines;
+mod progress;
 mod ranges;
+mod reading;
 #[cfg(test)]
 mod tests;
 mod writing;
 
+pub use bundles::Bundle;
+pub use faults::{BundleFault, ReadBundle};
 pub use ranges::is_in_ranges;
+pub use reading::read_bundle;
 pub use writing::write_bundle;

@@ -6,7 +6,8 @@ ghost use Rattle.bundle_definitions.specs.Ranges.{IsInRanges, is_weight as keeps
 
 use pool_model::{Answer, LotteryRow, Pool, Stage};
 
-const MAX_WEIGHT: i128 = 100_000_000_000_000_000_000_000_000_000_000_000_000;
+/// The greatest weight.
+pub(crate) const MAX_WEIGHT: i128 = 100_000_000_000_000_000_000_000_000_000_000_000_000;
 
 const MAX_REACH: u128 = 170_141_183_460_469_231_731_687_303_715_884_105_727;
 
@@ -25,7 +26,7 @@ pub fn is_in_ranges(pool: &Pool, answer: &Answer) -> bool
 }
 
 /// From 1 to 10^38.
-fn is_weight(weight: i128) -> bool
+pub(crate) fn is_weight(weight: i128) -> bool
     requires { pos 0 ≤ℤ weight }
     ensures { result ≡ keeps_weight (unsigned_abs weight) }
 {
@@ -38,7 +39,7 @@ fn are_rows(volunteers: usize, rows: &[LotteryRow]) -> bool
     rows.iter().all(|row| is_row(volunteers, row))
 }
 
-fn is_row(volunteers: usize, row: &LotteryRow) -> bool
+pub(crate) fn is_row(volunteers: usize, row: &LotteryRow) -> bool
     ensures { result ≡ keeps_row volunteers row.now }
 {
     let members = row.panel().members();
@@ -57,7 +58,7 @@ fn are_stages(volunteers: usize, stages: &[Stage]) -> bool
     stages.iter().all(|stage| is_stage(volunteers, stage))
 }
 
-fn is_stage(volunteers: usize, stage: &Stage) -> bool
+pub(crate) fn is_stage(volunteers: usize, stage: &Stage) -> bool
     ensures { result ≡ keeps_stage volunteers stage.now }
 {
     stage.weights().len() == volunteers && keeps_reach(stage)

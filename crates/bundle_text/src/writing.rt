@@ -1,24 +1,25 @@
 //! Writing the text of a bundle, line by line into one growing buffer.
 
-ghost use Rattle.std.specs.Prelude.{◌≡◌, false, ◌++◌, ◌∷◌, [], map, IfOk, OnOk};
-ghost use Rattle.pool_definitions.specs.Pool.{has_households};
+ghost use Rattle.std.specs.Prelude.{◌≡◌, ◌++◌, ◌∷◌, [], map, Ok, IfOk, OnOk};
 ghost use Rattle.line_definitions.specs.Lines.{text_of};
 ghost use Rattle.bundle_definitions.specs.Ranges.{IsInRanges};
 ghost use Rattle.bundle_definitions.specs.BundleText.{total_line, panel_line, stage_line, done_line, answer_lines, bundle_text};
+ghost use Rattle.bundle_definitions.specs.BundleReading.{read_bundle};
 
-use pool_model::{Answer, Lottery, LotteryRow, Pool, Stage};
-use pool_text::push_pool;
+use pool_model::{Answer, Lottery, LotteryRow, Pool, Stage, has_households};
+use pool_text::{push_pool, version};
 use std::alloc::{AllocError, Global};
 use text_lines::{end_line, push_line, push_numbers, push_signed, push_signed_numbers};
 
-/// The text of the pool, which has no households, with this answer, whose numbers keep the ranges of a bundle.
+/// The text of the pool with this answer, whose numbers keep the ranges of a bundle. It is read again as this bundle.
 pub fn write_bundle(alloc: Global, pool: &Pool, answer: &Answer) -> Result<Vec<u8>, AllocError>
-    requires households { has_households pool.now ≡ false }
-    requires ranges { IsInRanges pool.now answer.now }
-    ensures { IfOk result (λ bytes. bytes.items ≡ bundle_text pool.now answer.now) }
+    requires { IsInRanges pool.now answer.now }
+    ensures spelled { IfOk result (λ bytes. bytes.items ≡ bundle_text pool.now answer.now) }
+    ensures read { IfOk result (λ bytes. read_bundle bytes.items ≡ Ok (record { pool = pool.now; answer = answer.now })) }
 {
+    pool.facts();
     let mut text = Vec::new(alloc);
-    push_line(&mut text, b"bundle", &[b"1"])?;
+    push_line(&mut text, b"bundle", &[version(has_households(pool))])?;
     push_pool(&mut text, pool)?;
     push_answer(&mut text, answer)?;
     Ok(text)

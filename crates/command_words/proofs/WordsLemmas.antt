@@ -5,10 +5,9 @@ use Rattle.clap.specs.declared.error.Error.{Error}
 use Rattle.clap.specs.declared.error.kind.ErrorKind.{ErrorKind}
 use Rattle.clap.specs.declared.error.kind.ErrorKind.TheVariants as kind
 use Rattle.clap.proofs.OnLiterals.{clap_on_literals}
-use Rattle.command_words.specs.declared.asked.Asked.{Asked}
 use Rattle.command_words.specs.declared.asked.WordsStop.{WordsStop}
 use Rattle.command_words.specs.declared.asked.WordsStop.TheVariants.{Usage, OutOfMemory}
-use Rattle.command_words.specs.Words.{MatchesSay, StopSays, asked, asked_of, program_app, unless_any}
+use Rattle.command_words.specs.Words.{MatchesSay, Order, StopSays, asked, asked_of, program_app, unless_any}
 
 -- the program's command is one that `clap`'s rule is stated for
 pub is_plain : is_simple program_app ≡ true
@@ -27,7 +26,7 @@ asked_taken a words met app none rows =
     let same : met ≡ subcommand_of program_app words = rows ∙ ap (λ b. subcommand_of b words) app in
     ap (λ kinds. unless_any kinds (asked_of (subcommand_of program_app words))) clear ∙ ap asked_of (sym same)
 
-some_kind : (k : ErrorKind) (kinds : Kinds) (o : Option Asked) → IsAmong k kinds → unless_any kinds o ≡ None
+some_kind : (k : ErrorKind) (kinds : Kinds) (o : Option Order) → IsAmong k kinds → unless_any kinds o ≡ None
 some_kind k [] o h = absurd h
 some_kind k (x ∷ xs) o h = refl
 

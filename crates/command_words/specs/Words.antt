@@ -3,7 +3,7 @@ use Rattle.std.specs.Prelude.{◌≡◌, ◌≢◌, ◌^◌, ◌&&◌, ℕ, Bool
 use Rattle.std.specs.List.{list_all}
 use Rattle.std.specs.Char.{digit_value}
 use Rattle.std.specs.Str.Parse.{digits_value, without_leading_plus}
-use Rattle.clap.specs.Words.{App, Kinds, Row, Rule, Text, fault_of, kind_of, new_app, new_rule, one_of, subcommand_of, subcommand_rows_of, with_rule, with_subcommand}
+use Rattle.clap.specs.Words.{App, Kinds, Row, Rule, Text, fault_of, first_of, kind_of, new_app, new_rule, one_of, subcommand_of, subcommand_rows_of, with_rule, with_subcommand}
 use Rattle.clap.specs.Simple.{on_top}
 use Rattle.clap.specs.declared.builder.value_parser.ValueParser.TheVariants as parser
 use Rattle.clap.specs.declared.error.Error.{Error}
@@ -12,9 +12,26 @@ use Rattle.clap.specs.declared.parser.matches.ArgMatches.{ArgMatches}
 use Rattle.run_definitions.specs.Run.{Limits}
 use Rattle.run_limits.specs.declared.TheConstants.{LEAST_BITS, MOST_BITS, MOST_NODES, MOST_PIVOTS}
 use Rattle.command_words.specs.declared.asked.Asked.{Asked}
-use Rattle.command_words.specs.declared.asked.Asked.TheVariants.{Lottery, Panel}
+use Rattle.command_words.specs.declared.asked.Asked.TheVariants as asked_for
 use Rattle.command_words.specs.declared.asked.WordsStop.{WordsStop}
 use Rattle.command_words.specs.declared.asked.WordsStop.TheVariants.{Usage, OutOfMemory}
+
+-- what the words ask for
+pub data Order : Type 0 where
+  -- the first panel of a pool, by a search of at most so many visits
+  Panel : ℕ → Order
+  -- the lottery over the panels of a pool, by a run under these limits
+  Lottery : Limits → Order
+  -- the seal of a bundle
+  Seal : Order
+  -- the panel that is drawn from a bundle, by a seal that is given and digits
+  Draw : Text → Text → Order
+
+abbrev pub order : Asked → Order
+order (asked_for.Panel nodes) = Panel nodes
+order (asked_for.Lottery limits) = Lottery limits
+order asked_for.Seal = Seal
+order (asked_for.Draw seal digits) = Draw seal.now digits.now
 
 -- an option that holds a number of a range, with the text of its default
 abbrev pub number_rule : Text → ℕ → ℕ → Text → Rule
@@ -33,18 +50,39 @@ pivots_rule = number_rule (codes "pivots") 0 MOST_PIVOTS (codes "100000")
 abbrev pub nodes_rule : Rule
 nodes_rule = number_rule (codes "nodes") 0 MOST_NODES (codes "50000000")
 
+-- an option that is required and holds a text
+abbrev pub text_rule : Text → Rule
+text_rule name = record (new_rule name) { long = Some name; required = true }
+
+abbrev pub seal_rule : Rule
+seal_rule = text_rule (codes "seal")
+
+abbrev pub digits_rule : Rule
+digits_rule = text_rule (codes "digits")
+
 abbrev pub panel_app : App
 panel_app = with_rule (new_app (codes "panel")) nodes_rule
 
 abbrev pub lottery_app : App
 lottery_app = with_rule (with_rule (with_rule (new_app (codes "lottery")) bits_rule) pivots_rule) nodes_rule
 
+abbrev pub seal_app : App
+seal_app = new_app (codes "seal")
+
+abbrev pub draw_app : App
+draw_app = with_rule (with_rule (new_app (codes "draw")) seal_rule) digits_rule
+
 -- the program, of which one subcommand is required; the words don't include its name
 abbrev pub program_alone : App
 program_alone = on_top (λ top. record top { no_binary_name = true; subcommand_required = true }) (new_app (codes "sortition"))
 
+-- the same with the commands about a pool
+abbrev pub program_of_pools : App
+program_of_pools = with_subcommand (with_subcommand program_alone panel_app.top) lottery_app.top
+
+-- and with those about a bundle
 abbrev pub program_app : App
-program_app = with_subcommand (with_subcommand program_alone panel_app.top) lottery_app.top
+program_app = with_subcommand (with_subcommand program_of_pools seal_app.top) draw_app.top
 
 -- some digits of a number below 2 ^ 64
 abbrev pub is_number : Text → Bool
@@ -67,7 +105,7 @@ within least most n = if nat_le least n && nat_le n most then Some n else None
 abbrev pub number_within : Text → ℕ → ℕ → List Row → Option ℕ
 number_within name least most rows = option_and_then (within least most) (number_at name rows)
 
-abbrev pub panel_asked : List Row → Option Asked
+abbrev pub panel_asked : List Row → Option Order
 panel_asked rows = option_map Panel (number_within (codes "nodes") 0 MOST_NODES rows)
 
 -- the limits of a run, where each is in its range
@@ -80,30 +118,35 @@ limits_asked rows =
     (number_within (codes "pivots") 0 MOST_PIVOTS rows))
     (number_within (codes "bits") LEAST_BITS MOST_BITS rows)
 
-abbrev pub lottery_asked : List Row → Option Asked
+abbrev pub lottery_asked : List Row → Option Order
 lottery_asked rows = option_map Lottery (limits_asked rows)
 
+abbrev pub draw_asked : List Row → Option Order
+draw_asked rows = option_and_then (λ seal. option_map (Draw seal) (first_of (codes "digits") rows)) (first_of (codes "seal") rows)
+
 -- the command of a subcommand's name, with its values
-abbrev pub asked_named : Text → List Row → Option Asked
+abbrev pub asked_named : Text → List Row → Option Order
 asked_named name rows =
     if bytes_eq name (codes "panel") then panel_asked rows
     else if bytes_eq name (codes "lottery") then lottery_asked rows
+    else if bytes_eq name (codes "seal") then Some Seal
+    else if bytes_eq name (codes "draw") then draw_asked rows
     else None
 
-abbrev pub asked_of : Option (Text × List Row) → Option Asked
+abbrev pub asked_of : Option (Text × List Row) → Option Order
 asked_of = option_and_then (λ met. asked_named met.0 met.1)
 
-abbrev pub unless_any : Kinds → Option Asked → Option Asked
+abbrev pub unless_any : Kinds → Option Order → Option Order
 unless_any [] asked = asked
 unless_any (kind ∷ kinds) asked = None
 
 -- what the words ask for, where `clap` refuses nothing in them and each number is in its range; else nothing
-abbrev pub asked : List Text → Option Asked
+abbrev pub asked : List Text → Option Order
 asked words = unless_any (fault_of program_app words) (asked_of (subcommand_of program_app words))
 
 -- what reading the words says; want of memory may come at any time
 abbrev pub WordsSay : List Text → Result Asked WordsStop → Type 0
-WordsSay words (Ok it) = asked words ≡ Some it
+WordsSay words (Ok it) = asked words ≡ Some (order it)
 WordsSay words (Err (Usage text)) = asked words ≡ None
 WordsSay words (Err OutOfMemory) = ⊤
 

@@ -3,9 +3,9 @@
 use run_limits::Limits;
 use thiserror::Error;
 
-/// What the words ask for.
+/// What the words ask for. Texts are lent from the words.
 #[derive(Clone, Copy, Debug)]
-pub enum Asked {
+pub enum Asked<'a> {
     /// The first quota panel of a pool, by a search of at most so many visits.
     Panel {
         /// From 0 to 1,000,000,000,000.
@@ -15,6 +15,15 @@ pub enum Asked {
     Lottery {
         /// How wide its numbers may be, and how many pivots and visits it may make.
         limits: Limits,
+    },
+    /// The seal of a bundle.
+    Seal,
+    /// The panel that is drawn from a bundle.
+    Draw {
+        /// The bundle's seal, as it is given.
+        seal: &'a str,
+        /// The digits of dice.
+        digits: &'a str,
     },
 }
 

@@ -5,12 +5,17 @@ ghost use Rattle.clap.specs.Words.{app_of, rule_of};
 ghost use Rattle.clap.specs.declared.builder.command.Command.TheViews.{out-Command};
 ghost use Rattle.command_words.specs.Words.{
   bits_rule,
+  digits_rule,
+  draw_app,
   lottery_app,
   nodes_rule,
   panel_app,
   pivots_rule,
   program_alone as words_of_program_alone,
   program_app,
+  program_of_pools as words_of_program_of_pools,
+  seal_app,
+  seal_rule,
 };
 
 use clap::{Arg, Command, value_parser};
@@ -20,6 +25,15 @@ use std::alloc::{AllocError, Global};
 /// The program with its subcommands.
 pub(crate) fn program<'a>(alloc: Global) -> Result<Command<'a>, AllocError>
     ensures { IfOk result (λ program. app_of program ≡ program_app) }
+{
+    program_of_pools(alloc)?
+        .subcommand(seal(alloc))?
+        .subcommand(draw(alloc)?)
+}
+
+/// The program with the subcommands about a pool.
+fn program_of_pools<'a>(alloc: Global) -> Result<Command<'a>, AllocError>
+    ensures { IfOk result (λ program. app_of program ≡ words_of_program_of_pools) }
 {
     program_alone(alloc)?
         .subcommand(panel(alloc)?)?
@@ -54,6 +68,42 @@ fn lottery<'a>(alloc: Global) -> Result<Command<'a>, AllocError>
         .arg(bits_option(alloc))?
         .arg(pivots_option(alloc))?
         .arg(nodes_option(alloc))
+}
+
+fn seal<'a>(alloc: Global) -> Command<'a>
+    ensures app { app_of result ≡ seal_app }
+    ensures local { (out-Command result).has_globals ≡ false }
+{
+    Command::new(alloc, "seal").about("Prints the seal of the bundle on standard input")
+}
+
+fn draw<'a>(alloc: Global) -> Result<Command<'a>, AllocError>
+    ensures { IfOk result (λ draw. (app_of draw ≡ draw_app) × ((out-Command draw).has_globals ≡ false)) }
+{
+    Command::new(alloc, "draw")
+        .about("Prints the panel that dice draw from the bundle on standard input")
+        .arg(seal_option(alloc))?
+        .arg(digits_option(alloc))
+}
+
+fn seal_option<'a>(alloc: Global) -> Arg<'a>
+    ensures rule { rule_of result ≡ seal_rule }
+    ensures local { result.global ≡ false }
+{
+    Arg::new(alloc, "seal")
+        .long("seal")
+        .help("The seal of the bundle, as it was published")
+        .required(true)
+}
+
+fn digits_option<'a>(alloc: Global) -> Arg<'a>
+    ensures rule { rule_of result ≡ digits_rule }
+    ensures local { result.global ≡ false }
+{
+    Arg::new(alloc, "digits")
+        .long("digits")
+        .help("The digits of ten-sided dice, in the order of the throws")
+        .required(true)
 }
 
 fn bits_option<'a>(alloc: Global) -> Arg<'a>

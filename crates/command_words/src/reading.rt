@@ -14,8 +14,8 @@ use std::alloc::Global;
 const OUT_OF_RANGE: &str = "error: a number is out of its range\n";
 
 /// The command that the words ask for. They don't include the program's name.
-pub fn read_words(alloc: Global, words: &[String]) -> Result<Asked, WordsStop>
-    ensures { WordsSay (map string_bytes words.now) result }
+pub fn read_words<'a>(alloc: Global, words: &'a [String]) -> Result<Asked<'a>, WordsStop>
+    ensures { WordsSay (map string_bytes words.entry.now) result }
 {
     let matches = matches_of(alloc, words)?;
     match asked_by(&matches) {

@@ -38,6 +38,15 @@ const WORDS: &[(&[&str], &str)] = &[
         ],
         "Lottery { limits: Limits { bits: 127, pivots: 1000000000, nodes: 1000000000000 } }",
     ),
+    (&["seal"], "Seal"),
+    (
+        &["draw", "--seal", "A0 b", "--digits", "97"],
+        "Draw { seal: \"A0 b\", digits: \"97\" }",
+    ),
+    (
+        &["draw", "--digits", "", "--seal=x"],
+        "Draw { seal: \"x\", digits: \"\" }",
+    ),
     (&[], USAGE),
     (&[""], USAGE),
     (&["pane"], USAGE),
@@ -64,6 +73,13 @@ const WORDS: &[(&[&str], &str)] = &[
     (&["panel", "--nodes", "5", "--nodes", "5"], USAGE),
     (&["help"], USAGE),
     (&["panel", "-h"], USAGE),
+    (&["seal", "x"], USAGE),
+    (&["draw", "--seal", "x"], USAGE),
+    (&["draw", "--digits", "7"], USAGE),
+    (
+        &["draw", "--seal", "x", "--digits", "7", "--digits", "7"],
+        USAGE,
+    ),
     (&["check"], USAGE),
 ];
 
@@ -71,7 +87,7 @@ const WORDS: &[(&[&str], &str)] = &[
 const TEXTS: &[(&[&str], &str)] = &[
     (
         &[],
-        "error: 'sortition' requires a subcommand but one was not provided\n  [subcommands: panel, lottery, help]\n\nUsage: sortition <COMMAND>\n\nFor more information, try '--help'.\n",
+        "error: 'sortition' requires a subcommand but one was not provided\n  [subcommands: panel, lottery, seal, draw, help]\n\nUsage: sortition <COMMAND>\n\nFor more information, try '--help'.\n",
     ),
     (
         &["panel", "--nodes", "x"],

@@ -1,13 +1,15 @@
 //! The values of the subcommand that was met, where its numbers are in their ranges.
 
-ghost use Rattle.std.specs.Prelude.{◌≡◌};
-ghost use Rattle.clap.specs.Words.{found_of, rows_of, subcommand_rows_of};
+ghost use Rattle.std.specs.Prelude.{◌≡◌, option_map};
+ghost use Rattle.clap.specs.Words.{first_of, found_of, rows_of, subcommand_rows_of};
 ghost use Rattle.command_words.specs.Words.{
   asked_of,
+  draw_asked,
   limits_asked,
   lottery_asked,
   number_at as number_said,
   number_within as number_said_within,
+  order,
   panel_asked,
 };
 
@@ -16,28 +18,45 @@ use clap::ArgMatches;
 use run_limits::{LEAST_BITS, Limits, MOST_BITS, MOST_NODES, MOST_PIVOTS};
 
 /// What the subcommand that was met asks for, where its numbers are in their ranges.
-pub(crate) fn asked_by(matches: &ArgMatches) -> Option<Asked>
-    ensures { result ≡ asked_of (subcommand_rows_of matches.now) }
+pub(crate) fn asked_by<'a>(matches: &ArgMatches<'a>) -> Option<Asked<'a>>
+    ensures { option_map order result ≡ asked_of (subcommand_rows_of matches.now) }
 {
     match matches.subcommand() {
         Some(("panel", own)) => panel_of(own),
         Some(("lottery", own)) => lottery_of(own),
+        Some(("seal", _)) => Some(Asked::Seal),
+        Some(("draw", own)) => draw_of(own),
         _ => None,
     }
 }
 
-fn panel_of(matches: &ArgMatches) -> Option<Asked>
-    ensures { result ≡ panel_asked (rows_of (found_of matches.now)) }
+fn panel_of<'a>(matches: &ArgMatches<'a>) -> Option<Asked<'a>>
+    ensures { option_map order result ≡ panel_asked (rows_of (found_of matches.now)) }
 {
     let nodes = number_within(matches, "nodes", 0, MOST_NODES)?;
     Some(Asked::Panel { nodes })
 }
 
-fn lottery_of(matches: &ArgMatches) -> Option<Asked>
-    ensures { result ≡ lottery_asked (rows_of (found_of matches.now)) }
+fn lottery_of<'a>(matches: &ArgMatches<'a>) -> Option<Asked<'a>>
+    ensures { option_map order result ≡ lottery_asked (rows_of (found_of matches.now)) }
 {
     let limits = limits_of(matches)?;
     Some(Asked::Lottery { limits })
+}
+
+fn draw_of<'a>(matches: &ArgMatches<'a>) -> Option<Asked<'a>>
+    ensures { option_map order result ≡ draw_asked (rows_of (found_of matches.now)) }
+{
+    let seal = text_at(matches, "seal")?;
+    let digits = text_at(matches, "digits")?;
+    Some(Asked::Draw { seal, digits })
+}
+
+/// The text that an option has.
+fn text_at<'a>(matches: &ArgMatches<'a>, name: &str) -> Option<&'a str>
+    ensures { option_map (λ text. text.now) result ≡ first_of name.now (rows_of (found_of matches.now)) }
+{
+    matches.get_str(name)
 }
 
 /// The limits of a run, where each is in its range.

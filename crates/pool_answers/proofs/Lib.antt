@@ -3,3 +3,4 @@ pub mod PanelLaws
 pub mod LotteryLaws
 pub mod LotteryByStatus
 pub mod PanelByStatus
+pub mod PanelLines

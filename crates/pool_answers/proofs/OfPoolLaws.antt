@@ -23,7 +23,7 @@ of_pool_once Means once bytes a b (AboutFault fault f e) (AboutFault other g h) 
 -- the source held the text of the pool that its bytes spell
 holds_pool : (Means : List ℕ → Saying → Type 0) (source : Bytes) (answer : Saying) (pool : Pool) (is : IsAnswer Means source answer) → IsTextOf pool is.bytes → HoldsPool source pool
 holds_pool Means source answer pool is t = record {
-  text = record { is_pool = t.is_pool; households = t.households; spelled = refl; read = subst (λ bytes. read bytes ≡ Ok pool) t.spelled t.read };
+  text = record { is_pool = t.is_pool; spelled = refl; read = subst (λ bytes. read bytes ≡ Ok pool) t.spelled t.read };
   within = subst (λ bytes. length bytes ≤ input_limit) t.spelled is.within;
   held = subst (λ bytes. HeldAll source bytes) t.spelled is.held;
   no_fault = is.no_fault;

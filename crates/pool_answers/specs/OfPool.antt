@@ -1,6 +1,6 @@
 -- What a command about a pool answers about a text: it is about the pool whose text it is, or tells where it first goes wrong.
-use Rattle.std.specs.Prelude.{◌≡◌, ◌≤◌, ℕ, false, nat_lt, if◌then◌else◌, List, length, Result, Ok, Err}
-use Rattle.pool_definitions.specs.Pool.{IsPool, Pool, has_households}
+use Rattle.std.specs.Prelude.{◌≡◌, ◌≤◌, ℕ, nat_lt, if◌then◌else◌, List, length, Result, Ok, Err}
+use Rattle.pool_definitions.specs.Pool.{IsPool, Pool}
 use Rattle.line_definitions.specs.Lines.{Fault}
 use Rattle.text_definitions.specs.PoolText.{spelling}
 use Rattle.text_definitions.specs.PoolReading.{read}
@@ -12,7 +12,6 @@ use Rattle.command_shell.specs.Told.{Bytes, Told, GainsLine, HasNoFault, HeldAll
 -- the bytes are the text of this pool
 pub record IsTextOf (pool : Pool) (bytes : List ℕ) : Type 0 where
   pub is_pool : IsPool pool
-  pub households : has_households pool ≡ false
   pub spelled : bytes ≡ spelling pool
   pub read : read bytes ≡ Ok pool
 

@@ -1,7 +1,7 @@
 //! Commands about a pool, whose text is read for them.
 
-ghost use Rattle.std.specs.Prelude.{◌≡◌, false, IfOk};
-ghost use Rattle.pool_definitions.specs.Pool.{Pool as PoolWords, has_households};
+ghost use Rattle.std.specs.Prelude.{IfOk};
+ghost use Rattle.pool_definitions.specs.Pool.{Pool as PoolWords};
 ghost use Rattle.command_shell.specs.Answers.{AnswersOnce, Saying, saying};
 
 use command_shell::{Answer, Cause, TextCommand, input_line};
@@ -14,9 +14,8 @@ pub trait PoolCommand {
     /// Which answers are right about a pool.
     ghost means: { Self → PoolWords → Saying → Type 0 };
 
-    /// An answer that is right about the pool, which has no households, as texts say none; or want of memory.
+    /// An answer that is right about the pool, or want of memory.
     fn answer(&self, alloc: Global, pool: &Pool) -> Result<Answer, AllocError>
-        requires { has_households pool.now ≡ false }
         ensures { IfOk result (λ answer. means self.now pool.now (saying answer)) };
 
     /// At most one answer is right about a pool.

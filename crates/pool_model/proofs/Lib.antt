@@ -1,2 +1,3 @@
 pub mod NameLists
 pub mod LastCategory
+pub mod PanelWeights

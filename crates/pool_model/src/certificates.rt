@@ -1,8 +1,10 @@
 //! Certificates: stages, which give each volunteer a weight and cap a panel's; and answers, which are lotteries with their certificates.
 
-ghost use Rattle.std.specs.Prelude.{◌≡◌, IfOk};
+ghost use Rattle.std.specs.Prelude.{◌≡◌, ◌≤◌, ◌+◌, ◌+ℤ◌, ◌-◌, ◌^◌, ◌++◌, ◌∷◌, [], sum_by, unsigned_abs, IfOk, OnOk, OnErr};
+ghost use Rattle.pool_definitions.specs.Certificate.{panel_weight as weight_of_panel, weight_of as weight_of_one};
 
 use crate::lotteries::Lottery;
+use crate::panels::Panel;
 use std::alloc::{AllocError, Global};
 use std::marker::Model;
 
@@ -75,6 +77,15 @@ impl Certificate {
         ensures { result ≡ stages.items }
     {
         Certificate { stages }
+    }
+
+    /// Adds a stage behind the others.
+    pub fn add_stage(&mut self, stage: Stage) -> Result<(), AllocError>
+        ensures ok { OnOk result (self.new ≡ self.old ++ stage ∷ []) }
+        ensures err { OnErr result (self.new ≡ self.old) }
+    {
+        self.stages.push(stage)?;
+        Ok(())
     }
 
     /// The stages, in order.
@@ -152,4 +163,32 @@ impl Answer {
             certificate: self.certificate.copy()?,
         })
     }
+}
+
+/// The panel's weight in the stage: the sum of its members' weights. A number that the stage has no weight for counts 0. The stage's
+/// cap and its weights have absolute values that sum to at most 2^127 - 1, so no sum passes 128 bits.
+pub fn panel_weight(panel: &Panel, stage: &Stage) -> i128
+    requires { unsigned_abs stage.now.cap + sum_by unsigned_abs stage.now.weights ≤ 2 ^ 127 - 1 }
+    ensures { result ≡ weight_of_panel stage.now panel.now }
+{
+    let mut sum = 0;
+    for i in panel.members() {
+        sum = with_weight(sum, weight_of(stage, *i));
+    }
+    sum
+}
+
+/// A sum with one weight more, which 127 bits and a sign hold.
+fn with_weight(sum: i128, weight: i128) -> i128
+    requires { unsigned_abs (sum +ℤ weight) ≤ 2 ^ 127 - 1 }
+    ensures { result ≡ sum +ℤ weight }
+{
+    sum + weight
+}
+
+/// A volunteer's weight, or 0 where the stage has none.
+fn weight_of(stage: &Stage, i: usize) -> i128
+    ensures { result ≡ weight_of_one stage.now i }
+{
+    stage.weights.get(i).copied().unwrap_or(0)
 }

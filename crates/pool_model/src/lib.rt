@@ -17,12 +17,12 @@ mod quotas;
 mod tests;
 
 pub use building::BuildStop;
-pub use certificates::{Answer, Certificate, Stage};
+pub use certificates::{Answer, Certificate, Stage, panel_weight};
 pub use counting::chances;
 pub use households::{has_households, share_household};
 pub use lotteries::{Lottery, LotteryRow};
 pub use panels::Panel;
 pub use parts::{Bound, BoundedValue, Category, Name, Volunteer};
 pub use pool_definitions::Standing;
-pub use pools::Pool;
+pub use pools::{Pool, household_kind};
 pub use quotas::fits;

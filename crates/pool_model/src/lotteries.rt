@@ -1,6 +1,6 @@
 //! Lotteries: panels with their weights, and the weights' total.
 
-ghost use Rattle.std.specs.Prelude.{◌≡◌, ◌<◌, ◌^◌, ◌≤ℤ◌, pos, unsigned_abs, IfOk};
+ghost use Rattle.std.specs.Prelude.{◌≡◌, ◌<◌, ◌^◌, ◌≤ℤ◌, ◌++◌, ◌∷◌, [], pos, unsigned_abs, IfOk, OnOk, OnErr};
 
 use crate::panels::Panel;
 use std::alloc::{AllocError, Global};
@@ -83,6 +83,15 @@ impl Lottery {
         ensures { result ≡ record { total = unsigned_abs total; rows = rows.items } }
     {
         Lottery { total, rows }
+    }
+
+    /// Adds a row behind the others.
+    pub fn add_row(&mut self, row: LotteryRow) -> Result<(), AllocError>
+        ensures ok { OnOk result (self.new ≡ record { total = self.old.total; rows = self.old.rows ++ row ∷ [] }) }
+        ensures err { OnErr result (self.new ≡ self.old) }
+    {
+        self.rows.push(row)?;
+        Ok(())
     }
 
     /// The total, at least 0.

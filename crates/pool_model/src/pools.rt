@@ -276,12 +276,34 @@ impl Pool {
         ensures ok { OnOk result (self.new ≡ household_set self.old number name.now) }
         ensures err { OnErr result (self.new ≡ self.old) }
     {
-        if !keeps_name_limits(name.as_bytes()) {
-            return Err(BuildStop::Kind(10));
+        if let Some(kind) = household_kind(name.as_bytes()) {
+            return Err(BuildStop::Kind(kind));
         }
+        self.set_right_household(number, name)?;
+        Ok(())
+    }
+
+    /// Sets a household for whose name `household_kind` tells no fault.
+    pub fn set_right_household(&mut self, number: usize, name: &str) -> Result<(), AllocError>
+        requires number { number < length self.old.volunteers }
+        requires name { household_kind name.now ≡ None }
+        ensures ok { OnOk result (self.new ≡ household_set self.old number name.now) }
+        ensures err { OnErr result (self.new ≡ self.old) }
+    {
         let household = Name::new(*self.volunteers.allocator(), name)?;
         set_household_of(&mut self.volunteers, number, household);
         Ok(())
+    }
+}
+
+/// The kind of fault of a household's name: 10 exactly where no such name may be.
+pub fn household_kind(name: &[u8]) -> Option<u8>
+    ensures { result ≡ household_kind name.now }
+{
+    if keeps_name_limits(name) {
+        None
+    } else {
+        Some(10)
     }
 }
 

@@ -7,7 +7,8 @@ use Rattle.std.proofs.lemmas.Str.{IsUtf8-from_is_utf8}
 use Rattle.pool_definitions.specs.Pool.{Pool}
 use Rattle.basic_laws.proofs.Each.{each_map}
 use Rattle.line_definitions.specs.Lines.{fields_of}
-use Rattle.text_definitions.specs.PoolReading.{Entry, Word, CategoryWord, ValueWord, VolunteerWord, StandingWord, EndWord, words, word_among, entry_of_word, entry_behind, entry_of, entry_kind, line_kind, Inside}
+use Rattle.text_definitions.specs.declared.Passed.{Passed}
+use Rattle.text_definitions.specs.PoolReading.{Entry, Word, CategoryWord, ValueWord, VolunteerWord, HouseholdWord, StandingWord, EndWord, words, word_among, entry_of_word, entry_behind, entry_of, entry_kind, line_kind, Inside}
 use Rattle.text_definitions.proofs.LowestKinds.{kind_or, encoding_kind, line_kind_of}
 use Rattle.line_definitions.proofs.LineLemmas.{each_field_is_utf8, line_of-fields_of}
 use Rattle.pool_text.specs.Entries.{IsText}
@@ -23,6 +24,10 @@ word_says_text ValueWord (name ∷ lower ∷ upper ∷ []) h = h.0
 word_says_text ValueWord (name ∷ lower ∷ upper ∷ other ∷ fields) h = tt
 word_says_text VolunteerWord [] h = tt
 word_says_text VolunteerWord (id ∷ names) h = h.0
+word_says_text HouseholdWord [] h = tt
+word_says_text HouseholdWord (id ∷ []) h = tt
+word_says_text HouseholdWord (id ∷ name ∷ []) h = h.1.0
+word_says_text HouseholdWord (id ∷ name ∷ other ∷ fields) h = tt
 word_says_text (StandingWord standing) [] h = tt
 word_says_text (StandingWord standing) (id ∷ []) h = tt
 word_says_text (StandingWord standing) (id ∷ other ∷ fields) h = tt
@@ -45,10 +50,10 @@ line_says_text line h =
     entry_is_text (fields_of line) (each_map (λ field. is_utf8 field ≡ true) IsUtf8 IsUtf8-from_is_utf8 (fields_of line) each)
 
 -- the kind of a line whose entry is right
-pub kind_of_text : (pool : Pool) (passed : ℕ) (line : List ℕ) → entry_kind pool passed (entry_of (fields_of line)) ≡ None → is_utf8 line ≡ true → line_kind (Inside pool passed) line ≡ None
+pub kind_of_text : (pool : Pool) (passed : Passed) (line : List ℕ) → entry_kind pool passed (entry_of (fields_of line)) ≡ None → is_utf8 line ≡ true → line_kind (Inside pool passed) line ≡ None
 kind_of_text pool passed line h text = line_kind_of pool passed line ∙ ap (λ kind. kind_or kind (encoding_kind line)) h ∙ ap (λ test. cond (not test) (Some 11) None) text
 
-pub kind_of_no_text : (pool : Pool) (passed : ℕ) (line : List ℕ) → entry_kind pool passed (entry_of (fields_of line)) ≡ None → is_utf8 line ≡ false → line_kind (Inside pool passed) line ≡ Some 11
+pub kind_of_no_text : (pool : Pool) (passed : Passed) (line : List ℕ) → entry_kind pool passed (entry_of (fields_of line)) ≡ None → is_utf8 line ≡ false → line_kind (Inside pool passed) line ≡ Some 11
 kind_of_no_text pool passed line h text = line_kind_of pool passed line ∙ ap (λ kind. kind_or kind (encoding_kind line)) h ∙ ap (λ test. cond (not test) (Some 11) None) text
 
 -- what the fields that were taken from a line say is what the line says
@@ -57,6 +62,6 @@ pub says : (entry : Entry) (lent taken : List (Bor (List ℕ))) (line : List ℕ
 says entry lent taken line h same is = h ∙ (ap (λ fields. entry_of (map (λ field. field.now) fields)) same ∙ ap entry_of is)
 
 -- an entry in which no kind was found
-pub is_right : (pool : Pool) (passed : ℕ) (entry : Entry) (line : List ℕ) (found : Option ℕ) → entry ≡ entry_of (fields_of line) → found ≡ entry_kind pool passed entry → found ≡ None →
+pub is_right : (pool : Pool) (passed : Passed) (entry : Entry) (line : List ℕ) (found : Option ℕ) → entry ≡ entry_of (fields_of line) → found ≡ entry_kind pool passed entry → found ≡ None →
     entry_kind pool passed (entry_of (fields_of line)) ≡ None
 is_right pool passed entry line found same is none = ap (entry_kind pool passed) (sym same) ∙ (sym is ∙ none)

@@ -6,7 +6,8 @@ use Rattle.line_definitions.proofs.LineLemmas.{some_piece}
 use Rattle.pool_model.specs.declared.building.BuildStop.{BuildStop}
 use Rattle.pool_model.specs.declared.building.BuildStop.TheVariants.{Kind, OutOfMemory}
 use Rattle.pool_text.specs.Answers.{Reads, Tells, IsRightBefore, stopped}
-use Rattle.text_definitions.specs.PoolReading.{Progress, Begun, Versioned, Inside, Ended, Entry, OfCategory, OfValue, OfVolunteer, OfStanding, TheEnd, Unknown, entry_of, after_entry, line_kind, after_line, at_last, fault_or, read_lines}
+use Rattle.text_definitions.specs.declared.Passed.{Passed}
+use Rattle.text_definitions.specs.PoolReading.{Progress, Begun, Versioned, Inside, Ended, Entry, OfCategory, OfValue, OfVolunteer, OfHousehold, OfStanding, TheEnd, Unknown, entry_of, after_entry, line_kind, after_line, at_last, fault_or, read_lines}
 use Rattle.pool_definitions.specs.Pool.{Pool}
 use Rattle.pool_text.specs.declared.faults.ReadPool.TheVariants.{OutOfMemory as Unread}
 use Rattle.pool_text.specs.Progress.{line_due}
@@ -34,10 +35,11 @@ leads_on number progress next line later h e =
     ∙ (sym (ap (λ k. fault_or k number (read_lines (number + 1) (after_line progress line) (pieces_of later))) h) ∙ sym (one_line number progress line later))
 
 -- what follows an entry is due no earlier than the third line
-entry_due : (pool : Pool) (passed : ℕ) (entry : Entry) (number : ℕ) → 3 ≤ number → line_due (after_entry pool passed entry) ≤ number + 1
+entry_due : (pool : Pool) (passed : Passed) (entry : Entry) (number : ℕ) → 3 ≤ number → line_due (after_entry pool passed entry) ≤ number + 1
 entry_due pool passed (OfCategory name) number h = omega arith
 entry_due pool passed (OfValue value) number h = omega arith
 entry_due pool passed (OfVolunteer id names) number h = omega arith
+entry_due pool passed (OfHousehold id name) number h = omega arith
 entry_due pool passed (OfStanding standing id) number h = omega arith
 entry_due pool passed TheEnd number h = omega arith
 entry_due pool passed Unknown number h = omega arith
@@ -45,14 +47,14 @@ entry_due pool passed Unknown number h = omega arith
 -- one line further
 pub next_due : (progress : Progress) (line : List ℕ) (number : ℕ) → line_due progress ≤ number → line_due (after_line progress line) ≤ number + 1
 next_due Begun line number h = omega arith
-next_due Versioned line number h = omega arith
+next_due (Versioned second) line number h = omega arith
 next_due (Inside pool passed) line number h = entry_due pool passed (entry_of (fields_of line)) number h
 next_due (Ended pool) line number h = omega arith
 
 -- a fault that is read from a line on is none of an earlier line
 last_from : (number : ℕ) (progress : Progress) (bytes : List ℕ) → IsRightBefore number (at_last number progress bytes)
 last_from number Begun bytes = omega arith
-last_from number Versioned bytes = omega arith
+last_from number (Versioned second) bytes = omega arith
 last_from number (Inside pool passed) bytes = omega arith
 last_from number (Ended pool) [] = tt
 last_from number (Ended pool) (byte ∷ bytes) = omega arith

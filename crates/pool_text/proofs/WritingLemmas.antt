@@ -4,9 +4,9 @@ use Rattle.std.proofs.lemmas.Bool.{and_parts, false≢true, ltb-true}
 use Rattle.std.proofs.lemmas.List.{append-nil}
 use Rattle.std.specs.List.{flat_map}
 use Rattle.std.proofs.lemmas.Grind.{flat_map-append}
-use Rattle.pool_definitions.specs.Pool.{Category, Pool, has_values}
+use Rattle.pool_definitions.specs.Pool.{Category, Pool, has_values, has_households}
 use Rattle.pool_definitions.specs.Building.{value_names}
-use Rattle.text_definitions.specs.PoolText.{version_line, size_line, category_lines, names_at, volunteer_line, standing_lines, end_line, lines_before_end, spelling}
+use Rattle.text_definitions.specs.PoolText.{version_line, size_line, category_lines, names_at, volunteer_line, household_lines, standing_lines, end_line, lines_before_end, spelling}
 use Rattle.line_definitions.specs.Lines.{tab, tabbed, line_feed, text_of}
 
 -- a place is that of a value of its category
@@ -43,17 +43,19 @@ joined text xs ys = append_assoc text (text_of xs) (text_of ys) ∙ ap (λ lines
 
 -- the parts of a pool's text, one after the other
 pub pool_written : (text : List ℕ) (pool : Pool) →
-    (((((text ++ text_of (version_line ∷ [])) ++ text_of (size_line pool.size ∷ [])) ++ text_of (flat_map category_lines pool.categories))
-    ++ text_of (map (volunteer_line pool.categories) pool.volunteers)) ++ text_of (standing_lines pool.volunteers)) ++ text_of (end_line ∷ []) ≡ text ++ spelling pool
+    ((((((text ++ text_of (version_line (has_households pool) ∷ [])) ++ text_of (size_line pool.size ∷ [])) ++ text_of (flat_map category_lines pool.categories))
+    ++ text_of (map (volunteer_line pool.categories) pool.volunteers)) ++ text_of (household_lines pool.volunteers)) ++ text_of (standing_lines pool.volunteers)) ++ text_of (end_line ∷ []) ≡ text ++ spelling pool
 pool_written text pool =
-    let version = version_line ∷ [] in
+    let version = version_line (has_households pool) ∷ [] in
     let size = size_line pool.size ∷ [] in
     let categories = flat_map category_lines pool.categories in
     let volunteers = map (volunteer_line pool.categories) pool.volunteers in
+    let households = household_lines pool.volunteers in
     let standings = standing_lines pool.volunteers in
     let last = end_line ∷ [] in
-    ap (λ t. (((t ++ text_of categories) ++ text_of volunteers) ++ text_of standings) ++ text_of last) (joined text version size)
-    ∙ (ap (λ t. ((t ++ text_of volunteers) ++ text_of standings) ++ text_of last) (joined text (version ++ size) categories)
-    ∙ (ap (λ t. (t ++ text_of standings) ++ text_of last) (joined text (version ++ size ++ categories) volunteers)
-    ∙ (ap (λ t. t ++ text_of last) (joined text (version ++ size ++ categories ++ volunteers) standings)
-    ∙ joined text (lines_before_end pool) last)))
+    ap (λ t. ((((t ++ text_of categories) ++ text_of volunteers) ++ text_of households) ++ text_of standings) ++ text_of last) (joined text version size)
+    ∙ (ap (λ t. (((t ++ text_of volunteers) ++ text_of households) ++ text_of standings) ++ text_of last) (joined text (version ++ size) categories)
+    ∙ (ap (λ t. ((t ++ text_of households) ++ text_of standings) ++ text_of last) (joined text (version ++ size ++ categories) volunteers)
+    ∙ (ap (λ t. (t ++ text_of standings) ++ text_of last) (joined text (version ++ size ++ categories ++ volunteers) households)
+    ∙ (ap (λ t. t ++ text_of last) (joined text (version ++ size ++ categories ++ volunteers ++ households) standings)
+    ∙ joined text (lines_before_end pool) last))))

@@ -3,12 +3,13 @@ use Rattle.std.specs.Prelude.{map}
 use Rattle.std.specs.Str.{IsUtf8}
 use Rattle.text_definitions.specs.PoolReading as words
 use Rattle.pool_text.specs.declared.entries.Entry.{Entry}
-use Rattle.pool_text.specs.declared.entries.Entry.TheVariants.{Category, Value, Volunteer, Standing, End, Unknown}
+use Rattle.pool_text.specs.declared.entries.Entry.TheVariants.{Category, Value, Volunteer, Household, Standing, End, Unknown}
 
 abbrev pub said : Entry → words.Entry
 said (Category name) = words.OfCategory name.now
 said (Value name lower upper) = words.OfValue (record { name = name.now; lower = lower; upper = upper })
 said (Volunteer id values) = words.OfVolunteer id.now (map (λ name. name.now) values.now)
+said (Household id name) = words.OfHousehold id.now name.now
 said (Standing standing id) = words.OfStanding standing id.now
 said End = words.TheEnd
 said Unknown = words.Unknown
@@ -18,6 +19,7 @@ abbrev pub IsText : words.Entry → Type 0
 IsText (words.OfCategory name) = IsUtf8 name
 IsText (words.OfValue value) = IsUtf8 value.name
 IsText (words.OfVolunteer id names) = IsUtf8 id
+IsText (words.OfHousehold id name) = IsUtf8 name
 IsText (words.OfStanding standing id) = Unit {0}
 IsText words.TheEnd = Unit {0}
 IsText words.Unknown = Unit {0}

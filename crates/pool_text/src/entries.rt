@@ -1,15 +1,17 @@
 //! The lines between the size and the end: what one says, and what it adds to the pool.
 
-ghost use Rattle.std.specs.Prelude.{◌≡◌, ◌<◌, length, map, IfOk, IfSome, IsSome, None, Option, unwrap_or};
+ghost use Rattle.std.specs.Prelude.{◌≡◌, ◌<◌, ◌+◌, length, map, IfOk, IfSome, IsSome, None, OnOk, Option, unwrap_or};
+ghost use Rattle.pool_definitions.specs.Building.{household_kind as name_kind, household_set, standing_set};
 ghost use Rattle.std.specs.Str.{IsUtf8, is_utf8};
 ghost use Rattle.pool_text.specs.Answers.{Tells};
-ghost use Rattle.text_definitions.specs.PoolReading.{Inside, line_kind, after_line, after_entry, after_standing, ValueWord, StandingWord, entry_of_word, entry_of as entry_in, entry_kind as kind_in, number_of as number_in, bound_of as bound_in};
+ghost use Rattle.text_definitions.specs.PoolReading.{Inside, line_kind, after_line, after_entry, ValueWord, StandingWord, entry_of_word, entry_of as entry_in, entry_kind as kind_in, number_of as number_in, bound_of as bound_in, awaits_household as awaits, is_ahead as is_number_ahead};
 ghost use Rattle.pool_text.specs.Entries.{said, IsText};
 ghost use Rattle.pool_text.specs.Progress.{with_pool};
 
-use pool_model::{BuildStop, Pool, Standing, Volunteer};
+use pool_model::{BuildStop, Pool, Standing, Volunteer, household_kind};
 use std::alloc::{AllocError, Global};
 use std::str;
+use text_definitions::Passed;
 use text_lines::{fields, number_up_to};
 
 /// The greatest bound.
@@ -21,7 +23,7 @@ const NO_BOUND: usize = 1000;
 /// The kind of a line that is of no form that may stand there.
 pub(crate) const FORM: u8 = 1;
 
-/// The kind of a standing line whose id isn't that of a volunteer after the one of the standing line before.
+/// The kind of a household or standing line whose id isn't that of a volunteer after the one of such a line before.
 const NOT_AHEAD: u8 = 9;
 
 /// The kind of a line that isn't UTF-8.
@@ -32,6 +34,8 @@ const CATEGORY: &[u8] = b"category";
 const VALUE: &[u8] = b"value";
 
 const VOLUNTEER: &[u8] = b"volunteer";
+
+const HOUSEHOLD: &[u8] = b"household";
 
 const SEATED: &[u8] = b"seated";
 
@@ -45,6 +49,7 @@ pub(crate) enum Entry<'a> {
     Category(&'a [u8]),
     Value(&'a [u8], usize, usize),
     Volunteer(&'a [u8], &'a [&'a [u8]]),
+    Household(&'a [u8], &'a [u8]),
     Standing(Standing, &'a [u8]),
     End,
     Unknown,
@@ -75,6 +80,11 @@ fn entry_of<'a>(fields: &'a [&'a [u8]]) -> Entry<'a>
             Some((id, values)) => Entry::Volunteer(id, values),
             None => Entry::Unknown,
         }
+    } else if first == HOUSEHOLD {
+        match rest {
+            [id, name] => Entry::Household(id, name),
+            _ => Entry::Unknown,
+        }
     } else if first == SEATED {
         standing_entry(Standing::Seated, rest)
     } else if first == GONE {
@@ -104,14 +114,14 @@ fn standing_entry<'a>(standing: Standing, rest: &'a [&'a [u8]]) -> Entry<'a>
     }
 }
 
-/// Adds to the pool what a line says, where standing lines have passed so many volunteers. The answer is how many they have passed
-/// then, or None at the end. A line with a fault changes nothing.
+/// Adds to the pool what a line says, where the lines are so far. The answer is how far they are then, or None at the end. A line
+/// with a fault changes nothing.
 pub(crate) fn read_entry(
     alloc: Global,
     pool: &mut Pool,
-    passed: usize,
+    passed: Passed,
     line: &[u8],
-) -> Result<Option<usize>, BuildStop>
+) -> Result<Option<Passed>, BuildStop>
     ensures kind { Tells (line_kind (Inside pool.old passed) line.now) result }
     ensures ok { IfOk result (λ next. after_line (Inside pool.old passed) line.now ≡ with_pool pool.new next) }
 {
@@ -133,20 +143,38 @@ fn is_text(line: &[u8]) -> bool
 }
 
 /// The lowest kind of fault of an entry.
-fn entry_kind(pool: &Pool, passed: usize, entry: &Entry<'_>) -> Option<u8>
+fn entry_kind(pool: &Pool, passed: Passed, entry: &Entry<'_>) -> Option<u8>
     ensures { result ≡ kind_in pool.now passed (said entry.now) }
 {
     match entry {
         Entry::Category(name) => pool.category_kind(name),
         Entry::Value(name, lower, upper) => pool.value_kind(name, *lower, *upper),
-        Entry::Volunteer(_, _) if 0 < passed => Some(FORM),
+        Entry::Volunteer(_, _) if 0 < passed.households || 0 < passed.standings => Some(FORM),
         Entry::Volunteer(id, values) => pool.volunteer_kind(id, values),
-        Entry::Standing(_, id) => match number_of(pool.volunteers(), id) {
-            Some(number) if passed <= number => None,
-            _ => Some(NOT_AHEAD),
-        },
-        Entry::End => None,
+        Entry::Household(_, _) if !passed.second || 0 < passed.standings => Some(FORM),
+        Entry::Household(id, _) if !is_ahead(pool, passed.households, id) => Some(NOT_AHEAD),
+        Entry::Household(_, name) => household_kind(name),
+        Entry::Standing(_, _) | Entry::End if awaits_household(passed) => Some(FORM),
+        Entry::Standing(_, id) if !is_ahead(pool, passed.standings, id) => Some(NOT_AHEAD),
+        Entry::Standing(_, _) | Entry::End => None,
         Entry::Unknown => Some(FORM),
+    }
+}
+
+/// The first household line is due.
+fn awaits_household(passed: Passed) -> bool
+    ensures { result ≡ awaits passed }
+{
+    passed.second && passed.households == 0
+}
+
+/// Whether this is the id of a volunteer whom lines that have passed so many have not passed.
+fn is_ahead(pool: &Pool, passed: usize, id: &[u8]) -> bool
+    ensures { result ≡ is_number_ahead passed (number_in pool.now.volunteers id.now) }
+{
+    match number_of(pool.volunteers(), id) {
+        Some(number) => passed <= number,
+        None => false,
     }
 }
 
@@ -161,7 +189,11 @@ fn number_of(volunteers: &[Volunteer], id: &[u8]) -> Option<usize>
 }
 
 /// Adds a right entry, whose new name is text. The answer is that of `read_entry`.
-fn add_entry(pool: &mut Pool, passed: usize, entry: &Entry<'_>) -> Result<Option<usize>, AllocError>
+fn add_entry(
+    pool: &mut Pool,
+    passed: Passed,
+    entry: &Entry<'_>,
+) -> Result<Option<Passed>, AllocError>
     requires right { kind_in pool.old passed (said entry.now) ≡ None }
     requires text { IsText (said entry.now) }
     ensures ok { IfOk result (λ next. after_entry pool.old passed (said entry.now) ≡ with_pool pool.new next) }
@@ -170,7 +202,20 @@ fn add_entry(pool: &mut Pool, passed: usize, entry: &Entry<'_>) -> Result<Option
         Entry::Category(name) => pool.add_right_category(text_of(name))?,
         Entry::Value(name, lower, upper) => pool.add_right_value(text_of(name), *lower, *upper)?,
         Entry::Volunteer(id, values) => pool.add_right_volunteer(text_of(id), values)?,
-        Entry::Standing(standing, id) => return Ok(Some(add_standing(pool, *standing, id))),
+        Entry::Household(id, name) => {
+            let households = add_household(pool, id, text_of(name))?;
+            return Ok(Some(Passed {
+                households,
+                ..passed
+            }));
+        }
+        Entry::Standing(standing, id) => {
+            let standings = add_standing(pool, *standing, id);
+            return Ok(Some(Passed {
+                standings,
+                ..passed
+            }));
+        }
         Entry::End => return Ok(None),
         Entry::Unknown => {}
     }
@@ -180,12 +225,29 @@ fn add_entry(pool: &mut Pool, passed: usize, entry: &Entry<'_>) -> Result<Option
 /// Sets the standing of the volunteer of this id. The answer is how many volunteers standing lines have passed then.
 fn add_standing(pool: &mut Pool, standing: Standing, id: &[u8]) -> usize
     requires { IsSome (number_in pool.old.volunteers id.now) }
-    ensures { after_standing pool.old (unwrap_or (number_in pool.old.volunteers id.now) 0) standing ≡ Inside pool.new result }
+    ensures set { pool.new ≡ standing_set pool.old (unwrap_or (number_in pool.old.volunteers id.now) 0) standing }
+    ensures passed { result ≡ unwrap_or (number_in pool.old.volunteers id.now) 0 + 1 }
 {
     match number_of(pool.volunteers(), id) {
         Some(number) => {
             pool.set_standing(number, standing);
             number + 1
+        }
+        None => unreachable!(),
+    }
+}
+
+/// Sets the household of the volunteer of this id. The answer is how many volunteers household lines have passed then.
+fn add_household(pool: &mut Pool, id: &[u8], name: &str) -> Result<usize, AllocError>
+    requires found { IsSome (number_in pool.old.volunteers id.now) }
+    requires right { name_kind name.now ≡ None }
+    ensures set { OnOk result (pool.new ≡ household_set pool.old (unwrap_or (number_in pool.old.volunteers id.now) 0) name.now) }
+    ensures passed { IfOk result (λ passed. passed ≡ unwrap_or (number_in pool.old.volunteers id.now) 0 + 1) }
+{
+    match number_of(pool.volunteers(), id) {
+        Some(number) => {
+            pool.set_right_household(number, name)?;
+            Ok(number + 1)
         }
         None => unreachable!(),
     }

@@ -11,5 +11,6 @@ mod tests;
 mod writing;
 
 pub use faults::{PoolFault, ReadPool};
+pub use progress::{Progress, after};
 pub use reading::read_pool;
-pub use writing::{push_pool, write_pool};
+pub use writing::{push_pool, version, write_pool};

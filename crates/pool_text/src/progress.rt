@@ -9,6 +9,7 @@ ghost use Rattle.pool_text.specs.Progress.{seen, line_due};
 
 use crate::entries::{FORM, read_entry};
 use pool_model::{BuildStop, Pool};
+use text_definitions::Passed;
 use std::alloc::Global;
 use text_lines::number_up_to;
 
@@ -18,39 +19,52 @@ const MAX_SIZE: usize = 200;
 /// What no size may be.
 const NO_SIZE: usize = 0;
 
-const VERSION_LINE: &[u8] = b"pool\t1";
+/// The first line, in version 1.
+const FIRST_VERSION: &[u8] = b"pool\t1";
+
+/// And in version 2.
+const SECOND_VERSION: &[u8] = b"pool\t2";
 
 /// How the second line begins.
 const SIZE: &[u8] = b"size\t";
 
 /// What right lines make of a text so far.
-#[derive(Drop)]
-pub(crate) enum Progress {
+#[derive(Debug, Drop)]
+pub enum Progress {
     /// No line stood.
     Begun,
-    /// The first line stood.
-    Versioned,
-    /// The size stood, the lines up to now make this pool, and standing lines have passed so many of its volunteers.
-    Inside(Pool, usize),
+    /// The first line stood: of version 2, or of version 1.
+    Versioned(bool),
+    /// The size stood, the lines up to now make this pool, and are so far.
+    Inside(Pool, Passed),
     /// The end stood.
     Ended(Pool),
 }
 
 /// What one more line makes of it. Stops with the lowest kind of fault that the line has.
-pub(crate) fn after(alloc: Global, progress: Progress, line: &[u8]) -> Result<Progress, BuildStop>
+pub fn after(alloc: Global, progress: Progress, line: &[u8]) -> Result<Progress, BuildStop>
     ensures kind { Tells (line_kind (seen progress) line.now) result }
     ensures ok { IfOk result (λ next. seen next ≡ after_line (seen progress) line.now) }
     ensures memory { result ≡ Err OutOfMemory → 3 ≤ line_due (seen progress) }
 {
     match progress {
         Progress::Begun => {
-            if line == VERSION_LINE {
-                Ok(Progress::Versioned)
+            if line == FIRST_VERSION {
+                Ok(Progress::Versioned(false))
+            } else if line == SECOND_VERSION {
+                Ok(Progress::Versioned(true))
             } else {
                 Err(BuildStop::Kind(FORM))
             }
         }
-        Progress::Versioned => Ok(Progress::Inside(Pool::new(alloc, size_of(line))?, 0)),
+        Progress::Versioned(second) => {
+            let passed = Passed {
+                second,
+                households: 0,
+                standings: 0,
+            };
+            Ok(Progress::Inside(Pool::new(alloc, size_of(line))?, passed))
+        }
         Progress::Inside(mut pool, passed) => {
             match read_entry(alloc, &mut pool, passed, line)? {
                 Some(passed) => Ok(Progress::Inside(pool, passed)),

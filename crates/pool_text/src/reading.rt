@@ -1,7 +1,7 @@
 //! Reading the text of a pool, line by line.
 
-ghost use Rattle.std.specs.Prelude.{◌≡◌, ◌≢◌, ◌<◌, false, length, Ok, Err, IfOk};
-ghost use Rattle.pool_definitions.specs.Pool.{Pool as Words, IsPool, has_households};
+ghost use Rattle.std.specs.Prelude.{◌≡◌, ◌≢◌, ◌<◌, length, Ok, Err, IfOk};
+ghost use Rattle.pool_definitions.specs.Pool.{Pool as Words, IsPool};
 ghost use Rattle.text_definitions.specs.PoolText.{spelling};
 ghost use Rattle.text_definitions.specs.PoolReading.{read, at_last};
 ghost use Rattle.pool_text.specs.Answers.{Reads, IsRightBefore, stopped};
@@ -24,10 +24,8 @@ const MISSING_END: u8 = 12;
 pub fn read_pool(alloc: Global, bytes: &[u8]) -> Result<Pool, ReadPool>
     // What is read is spelled so, each byte of it.
     ensures spelled { IfOk result (λ pool. IsPool pool × (bytes.now ≡ spelling pool)) }
-    // No text says a household.
-    ensures households { IfOk result (λ pool. has_households pool ≡ false) }
     // What is spelled so is read, unless memory runs out.
-    ensures read { (pool : Words) → IsPool pool → has_households pool ≡ false → bytes.now ≡ spelling pool → Reads (Ok pool) result }
+    ensures read { (pool : Words) → IsPool pool → bytes.now ≡ spelling pool → Reads (Ok pool) result }
     // Which fault it is.
     ensures exact { Reads (read bytes.now) result }
     // Memory is wanted only where the first two lines are right and a third is finished.

@@ -9,6 +9,10 @@ use std::test::Fail;
 const FOUR: &[u8] =
     b"pool 1/size 2/category gender/value female 1 1/value male 1 1/volunteer a female/volunteer b female/volunteer c male/volunteer d male/";
 
+/// The same in a text of version 2, before their households.
+const FOUR_HOUSED: &[u8] =
+    b"pool 2/size 2/category gender/value female 1 1/value male 1 1/volunteer a female/volunteer b female/volunteer c male/volunteer d male/";
+
 /// The lines of a pool of two before its first category.
 const SIZED: &[u8] = b"pool 1/size 2/";
 
@@ -76,9 +80,16 @@ fn again(rt: &impl Abort, alloc: Global, text: &[u8]) -> Result<(), Fail> {
 
 #[test]
 fn reads_and_writes_pools(rt: HostRuntime) -> Result<(), Fail> {
-    let rows: [(&[u8], &[u8], usize); 4] = [
+    let rows: [(&[u8], &[u8], usize); 7] = [
         (FOUR, b"end/", 138),
         (FOUR, b"gone a/seated c/end/", 154),
+        (FOUR_HOUSED, b"household a h/household c h/end/", 166),
+        (FOUR_HOUSED, b"household d h/gone a/seated d/end/", 168),
+        (
+            b"pool 2/size 1/volunteer a/",
+            b"household a \xc3\xa9_/end/",
+            46,
+        ),
         (b"pool 1/size 200/", b"end/", 20),
         (
             b"pool 1/size 10/category \xc3\xa9/category b/value x_y 0 999/",
@@ -111,13 +122,16 @@ fn misses_the_end(rt: HostRuntime) -> Result<(), Fail> {
     Ok(())
 }
 
-const STARTS: [(usize, u8, &[u8]); 49] = [
+const STARTS: [(usize, u8, &[u8]); 52] = [
     (1, 12, b""),
     (1, 1, b"/"),
     (1, 12, b"pool 1"),
     (1, 12, b"pool 2"),
     (2, 12, b"pool 1/"),
-    (1, 1, b"pool 2/"),
+    (2, 12, b"pool 2/"),
+    (2, 2, b"pool 2/pool 1/"),
+    (3, 1, b"pool 2/size 1/end/"),
+    (1, 1, b"pool 3/"),
     (1, 1, b"pool/"),
     (1, 1, b"pool 1 /"),
     (1, 1, b"pool 01/"),
@@ -307,7 +321,7 @@ const VOLUNTEERS: [(usize, u8, &[u8]); 53] = [
     (6, 7, b"volunteer a/volunteer/end/end/"),
 ];
 
-const STANDINGS: [(usize, u8, &[u8]); 30] = [
+const STANDINGS: [(usize, u8, &[u8]); 32] = [
     (0, 0, b"end/"),
     (0, 0, b"gone d/end/"),
     (0, 0, b"seated a/gone b/seated c/gone d/end/"),
@@ -338,16 +352,48 @@ const STANDINGS: [(usize, u8, &[u8]); 30] = [
     (11, 1, b"gone d/end a/"),
     (11, 1, b"end/seated a/"),
     (12, 1, b"seated a/end/gone b"),
+    (10, 1, b"household a h/end/"),
+    (10, 1, b"household e /end/"),
+];
+
+const HOUSEHOLDS: [(usize, u8, &[u8]); 26] = [
+    (10, 1, b"end/"),
+    (10, 1, b"gone a/end/"),
+    (10, 1, b"seated e/end/"),
+    (0, 0, b"household d h/end/"),
+    (0, 0, b"household a h/household b i/household d h/gone a/end/"),
+    (10, 12, b""),
+    (10, 12, b"household a h"),
+    (11, 12, b"household a h/"),
+    (10, 1, b"household/end/"),
+    (10, 1, b"household a/end/"),
+    (10, 1, b"household e/end/"),
+    (10, 1, b"household a h h/end/"),
+    (10, 1, b"Household a h/end/"),
+    (10, 9, b"household e h/end/"),
+    (10, 9, b"household  /end/"),
+    (10, 9, b"household \xff \xff/end/"),
+    (11, 9, b"household c h/household a h/end/"),
+    (13, 9, b"household a h/household b h/household d h/household d h/end/"),
+    (10, 10, b"household a /end/"),
+    (10, 10, b"household a \xff\x7f/end/"),
+    (10, 11, b"household a \xff/end/"),
+    (11, 1, b"household a h/volunteer e male/end/"),
+    (11, 1, b"household a h/category h/end/"),
+    (12, 1, b"household a h/seated d/household d /end/"),
+    (12, 9, b"household d h/gone b/gone a/end/"),
+    (12, 1, b"household a h/end/household b h/"),
 ];
 
 /// Lines of a text, of which each table has the lines behind a start.
 #[test]
 fn tells_first_faults(rt: HostRuntime) -> Result<(), Fail> {
-    let tables: [(&[u8], &[(usize, u8, &[u8])]); 4] = [
+    let tables: [(&[u8], &[(usize, u8, &[u8])]); 5] = [
         (b"", &STARTS),
         (SIZED, &CATEGORIES),
         (GENDERS, &VOLUNTEERS),
         (FOUR, &STANDINGS),
+        (FOUR_HOUSED, &HOUSEHOLDS),
     ];
     for (start, rows) in tables {
         let start = spelled(rt.alloc(), start)?;
@@ -356,7 +402,7 @@ fn tells_first_faults(rt: HostRuntime) -> Result<(), Fail> {
     Ok(())
 }
 
-/// A name in a category's, a value's and a volunteer's line, where no fault but in the name is.
+/// A name in a category's, a value's, a volunteer's and a household's line, where no fault but in the name is.
 #[test]
 fn tests_names(rt: HostRuntime) -> Result<(), Fail> {
     let rows: [(u8, &[u8], usize); 14] = [
@@ -381,13 +427,14 @@ fn tests_names(rt: HostRuntime) -> Result<(), Fail> {
             add(&mut name, part)?;
         }
         let line = if kind == 0 { 0 } else { 4 };
-        let places: [(&[u8], &[u8]); 3] = [
-            (b"category c/category ", b"/end/"),
-            (b"category c/value ", b" 0 1/end/"),
-            (b"volunteer v/volunteer ", b"/end/"),
+        let places: [(&[u8], &[u8], &[u8]); 4] = [
+            (SIZED, b"category c/category ", b"/end/"),
+            (SIZED, b"category c/value ", b" 0 1/end/"),
+            (SIZED, b"volunteer v/volunteer ", b"/end/"),
+            (b"pool 2/size 1/", b"volunteer v/household v ", b"/end/"),
         ];
-        for (before, behind) in places {
-            let mut text = spelled(rt.alloc(), SIZED)?;
+        for (first, before, behind) in places {
+            let mut text = spelled(rt.alloc(), first)?;
             add(&mut text, before)?;
             text.extend_from_slice(&name)?;
             add(&mut text, behind)?;

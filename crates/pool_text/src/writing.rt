@@ -1,21 +1,20 @@
 //! Writing the text of a pool, line by line into one growing buffer.
 
-ghost use Rattle.std.specs.Prelude.{◌≡◌, false, ◌++◌, ◌∷◌, [], map, Ok, IfOk, OnOk, IsTrue, ◌<◌, length, slice_index_or};
+ghost use Rattle.std.specs.Prelude.{◌≡◌, ◌++◌, ◌∷◌, [], map, Ok, IfOk, OnOk, IsTrue, ◌<◌, length, slice_index_or};
 ghost use Rattle.pool_definitions.specs.Building.{value_names};
 ghost use Rattle.std.specs.List.{flat_map, list_all};
-ghost use Rattle.pool_definitions.specs.Pool.{has_values, has_households};
+ghost use Rattle.pool_definitions.specs.Pool.{has_values};
 ghost use Rattle.line_definitions.specs.Lines.{tabbed, text_of};
-ghost use Rattle.text_definitions.specs.PoolText.{size_line, category_lines, value_line, names_at, volunteer_line, standing_line, standing_lines, spelling};
+ghost use Rattle.text_definitions.specs.PoolText.{version as version_words, household_line, household_lines, size_line, category_lines, value_line, names_at, volunteer_line, standing_line, standing_lines, spelling};
 ghost use Rattle.text_definitions.specs.PoolReading.{read};
 
 use itoa::Buffer;
-use pool_model::{BoundedValue, Category, Pool, Standing, Volunteer};
+use pool_model::{BoundedValue, Category, Pool, Standing, Volunteer, has_households};
 use std::alloc::{AllocError, Global};
 use text_lines::{end_line, push_field, push_line};
 
-/// The text of the pool, which has no households and is read again as this pool.
+/// The text of the pool, which is read again as this pool.
 pub fn write_pool(alloc: Global, pool: &Pool) -> Result<Vec<u8>, AllocError>
-    requires { has_households pool.now ≡ false }
     ensures spelled { IfOk result (λ text. text.items ≡ spelling pool.now) }
     ensures read { IfOk result (λ text. read text.items ≡ Ok pool.now) }
 {
@@ -25,18 +24,25 @@ pub fn write_pool(alloc: Global, pool: &Pool) -> Result<Vec<u8>, AllocError>
     Ok(text)
 }
 
-/// Adds the text of the pool, which has no households, to another.
+/// Adds the text of the pool to another.
 pub fn push_pool(text: &mut Vec<u8>, pool: &Pool) -> Result<(), AllocError>
-    requires { has_households pool.now ≡ false }
     ensures { OnOk result (text.new.items ≡ text.old.items ++ spelling pool.now) }
 {
     pool.facts();
-    push_line(text, b"pool", &[b"1"])?;
+    push_line(text, b"pool", &[version(has_households(pool))])?;
     push_size(text, pool.size())?;
     push_categories(text, pool.categories())?;
     push_volunteers(text, pool.categories(), pool.volunteers())?;
+    push_households(text, pool.volunteers())?;
     push_standings(text, pool.volunteers())?;
     push_line(text, b"end", &[])
+}
+
+/// How the version is spelled: 2 in the second, and else 1.
+pub fn version(second: bool) -> &'static [u8]
+    ensures { result.now ≡ version_words second }
+{
+    if second { b"2" } else { b"1" }
 }
 
 fn push_size(text: &mut Vec<u8>, size: usize) -> Result<(), AllocError>
@@ -138,6 +144,29 @@ fn name_at(values: &[BoundedValue], place: usize) -> &[u8]
     ensures { result.now ≡ slice_index_or (value_names values.now) place [] }
 {
     values[place].name().as_bytes()
+}
+
+fn push_households(text: &mut Vec<u8>, volunteers: &[Volunteer]) -> Result<(), AllocError>
+    ensures { OnOk result (text.new.items ≡ text.old.items ++ text_of (household_lines volunteers.now)) }
+{
+    for volunteer in volunteers {
+        push_household(text, volunteer)?;
+    }
+    Ok(())
+}
+
+/// Adds the line of a volunteer who has a household.
+fn push_household(text: &mut Vec<u8>, volunteer: &Volunteer) -> Result<(), AllocError>
+    ensures { OnOk result (text.new.items ≡ text.old.items ++ text_of (household_line volunteer.now.household volunteer.now.id)) }
+{
+    match volunteer.household() {
+        Some(name) => push_line(
+            text,
+            b"household",
+            &[volunteer.id().as_bytes(), name.as_bytes()],
+        ),
+        None => Ok(()),
+    }
 }
 
 fn push_standings(text: &mut Vec<u8>, volunteers: &[Volunteer]) -> Result<(), AllocError>

@@ -2,9 +2,11 @@
 use Rattle.std.specs.Prelude.{◌≡◌, ◌≢◌, ℕ, List, [], ◌∷◌, codes, Option, Some, None}
 use Rattle.command_shell.specs.Lines.{line, want_of_memory_line}
 use Rattle.command_shell.specs.Told.{Told, GainsLine, IsUntouched}
-use Rattle.command_words.specs.Words.{asked}
-use Rattle.command_words.specs.declared.asked.Asked.{Asked}
-use Rattle.command_words.specs.declared.asked.Asked.TheVariants.{Lottery, Panel}
+use Rattle.command_shell.specs.Calls.{CallIsRight}
+use Rattle.command_words.specs.Words.{Order, asked}
+use Rattle.bundle_answers.specs.OfBundle.{OfBundle}
+use Rattle.bundle_answers.specs.Seal.{SealMeans}
+use Rattle.bundle_answers.specs.Draw.{DrawMeans}
 use Rattle.pool_answers.specs.Lottery.{LotteryIsRight}
 use Rattle.pool_answers.specs.Panel.{PanelIsRight}
 
@@ -21,10 +23,12 @@ pub record UsageIsRight (told : Told) : Type 0 where
   pub out : IsUntouched told.out
 
 -- a call that asks for this command, or for nothing, is right
-abbrev pub AnswersRightly : Option Asked → Told → Type 0
+abbrev pub AnswersRightly : Option Order → Told → Type 0
 AnswersRightly None told = UsageIsRight told
-AnswersRightly (Some (Panel nodes)) told = PanelIsRight nodes told
-AnswersRightly (Some (Lottery limits)) told = LotteryIsRight limits told
+AnswersRightly (Some (Order.Panel nodes)) told = PanelIsRight nodes told
+AnswersRightly (Some (Order.Lottery limits)) told = LotteryIsRight limits told
+AnswersRightly (Some Order.Seal) told = CallIsRight (OfBundle SealMeans) told
+AnswersRightly (Some (Order.Draw seal digits)) told = CallIsRight (OfBundle (DrawMeans seal digits)) told
 
 -- a call is right
 abbrev pub OfficeIsRight : List (List ℕ) → Told → Type 0

@@ -3,8 +3,10 @@
 ghost use Rattle.std.specs.Prelude.{map, string_bytes, Some};
 ghost use Rattle.command_shell.specs.Told.{object, told};
 ghost use Rattle.command_shell.specs.Answers.{number_of};
+ghost use Rattle.command_words.specs.Words.{order};
 ghost use Rattle.sortition.specs.Office.{AnswersRightly, OfficeIsRight};
 
+use bundle_commands::{BundleSeal, DrawnPanel, OfBundle};
 use command_shell::{Status, call, refuse_words, want_memory};
 use command_words::{Asked, WordsStop, read_words};
 use outside::{Sink, Source};
@@ -37,12 +39,12 @@ pub fn office<S: Source, O: Sink, E: Sink>(
 /// One call of a command.
 fn run<S: Source, O: Sink, E: Sink>(
     alloc: Global,
-    asked: Asked,
+    asked: Asked<'_>,
     source: &mut S,
     out: &mut O,
     errs: &mut E,
 ) -> Status
-    ensures { AnswersRightly (Some asked) (told (number_of result)
+    ensures { AnswersRightly (Some (order asked.entry)) (told (number_of result)
         (object (S.left source.old) (S.left source.new) (S.faults source.old) (S.faults source.new))
         (object (O.written out.old) (O.written out.new) (O.faults out.old) (O.faults out.new))
         (object (E.written errs.old) (E.written errs.new) (E.faults errs.old) (E.faults errs.new))) }
@@ -53,6 +55,16 @@ fn run<S: Source, O: Sink, E: Sink>(
         Asked::Panel { nodes } => call(alloc, &OfPool(FirstPanel { nodes }), source, out, errs),
         Asked::Lottery { limits } => {
             call(alloc, &OfPool(PoolLottery { limits }), source, out, errs)
+        }
+        Asked::Seal => call(alloc, &OfBundle(BundleSeal), source, out, errs),
+        Asked::Draw { seal, digits } => {
+            call(
+                alloc,
+                &OfBundle(DrawnPanel { seal, digits }),
+                source,
+                out,
+                errs,
+            )
         }
     }
 }

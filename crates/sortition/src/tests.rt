@@ -65,6 +65,22 @@ const WOMEN_GONE: &[u8] =
 const REPLACED_ANSWER: &[u8] =
     b"total\t1\npanel\t1\t1\t2\nstage\t0\t1\t0\t0\t0\nstage\t0\t-1\t0\t0\t1\nstage\t1\t0\t1\t0\t-1\nstage\t0\t0\t-1\t1\t0\ndone\n";
 
+/// The bundle of one woman and three men.
+const ONE_WOMAN_BUNDLE: &[u8] =
+    b"bundle\t1\npool\t1\nsize\t2\ncategory\tgender\nvalue\tfemale\t1\t1\nvalue\tmale\t1\t1\nvolunteer\tw\tfemale\nvolunteer\tx\tmale\nvolunteer\ty\tmale\nvolunteer\tz\tmale\nend\ntotal\t3\npanel\t1\t0\t1\npanel\t1\t0\t2\npanel\t1\t0\t3\nstage\t1\t0\t1\t1\t1\nstage\t2\t3\t-1\t-1\t-1\ndone\n";
+
+/// The same with a total that the weights don't sum to.
+const WRONG_TOTAL: &[u8] =
+    b"bundle\t1\npool\t1\nsize\t2\ncategory\tgender\nvalue\tfemale\t1\t1\nvalue\tmale\t1\t1\nvolunteer\tw\tfemale\nvolunteer\tx\tmale\nvolunteer\ty\tmale\nvolunteer\tz\tmale\nend\ntotal\t4\npanel\t1\t0\t1\npanel\t1\t0\t2\npanel\t1\t0\t3\nstage\t1\t0\t1\t1\t1\nstage\t2\t3\t-1\t-1\t-1\ndone\n";
+
+/// A bundle of one panel.
+const SURE_BUNDLE: &[u8] =
+    b"bundle\t1\npool\t1\nsize\t2\ncategory\tgender\nvalue\tfemale\t0\t2\nvalue\tmale\t0\t2\nvolunteer\ta\tfemale\nvolunteer\tb\tmale\nend\ntotal\t1\npanel\t1\t0\t1\nstage\t1\t1\t0\nstage\t0\t-1\t1\ndone\n";
+
+/// A bundle of the greatest total, 10^38, and two panels.
+const WIDE_BUNDLE: &[u8] =
+    b"bundle\t1\npool\t1\nsize\t2\ncategory\tgender\nvalue\tfemale\t1\t1\nvalue\tmale\t1\t1\nvolunteer\tw\tfemale\nvolunteer\tx\tmale\nvolunteer\ty\tmale\nend\ntotal\t100000000000000000000000000000000000000\npanel\t10000000000000000000000000000000000000\t0\t1\npanel\t90000000000000000000000000000000000000\t0\t2\nstage\t1\t1\t0\t0\ndone\n";
+
 /// One call: its words, what the source holds, and the calls of each object that fail, counted from 1.
 #[derive(Clone, Copy)]
 struct Call<'a> {
@@ -184,14 +200,172 @@ const ROWS: &[(&[&str], &[u8], u8, &[u8], &[u8])] = &[
     ),
 ];
 
+/// The same of commands about a bundle. The seals are those that `sha256sum` prints.
+const BUNDLE_ROWS: &[(&[&str], &[u8], u8, &[u8], &[u8])] = &[
+    (
+        &["seal"],
+        ONE_WOMAN_BUNDLE,
+        0,
+        b"seal\t440a3e187e51d93413b4194ba9406ee50616ee839ed8f5a89869fd72bea7eda9\n",
+        b"",
+    ),
+    (
+        &["seal"],
+        WRONG_TOTAL,
+        0,
+        b"seal\t031d0ee43efe91c626aefe66f6b984ef9321b5f3a0fd62bb545a64b2000aa987\n",
+        b"",
+    ),
+    (&["seal"], ONE_WOMAN, 3, b"", b"input\t1\t13\n"),
+    (
+        &[
+            "draw",
+            "--seal",
+            "440a3e187e51d93413b4194ba9406ee50616ee839ed8f5a89869fd72bea7eda9",
+            "--digits",
+            "97",
+        ],
+        ONE_WOMAN_BUNDLE,
+        0,
+        b"ticket\t2\t2\npanel\tw\tz\n",
+        b"",
+    ),
+    (
+        &[
+            "draw",
+            "--seal",
+            "440A3E187E51D93413B4194BA9406EE50616EE839ED8F5A89869FD72BEA7EDA9",
+            "--digits",
+            "997",
+        ],
+        ONE_WOMAN_BUNDLE,
+        0,
+        b"ticket\t2\t3\npanel\tw\tz\n",
+        b"",
+    ),
+    (
+        &[
+            "draw",
+            "--seal",
+            "0000000000000000000000000000000000000000000000000000000000000000",
+            "--digits",
+            "97",
+        ],
+        ONE_WOMAN_BUNDLE,
+        6,
+        b"",
+        b"rule\tSealDiffers\t0000000000000000000000000000000000000000000000000000000000000000\t440a3e187e51d93413b4194ba9406ee50616ee839ed8f5a89869fd72bea7eda9\n",
+    ),
+    (
+        &["draw", "--seal", "ABC", "--digits", "x"],
+        ONE_WOMAN_BUNDLE,
+        6,
+        b"",
+        b"rule\tSealDiffers\tABC\t440a3e187e51d93413b4194ba9406ee50616ee839ed8f5a89869fd72bea7eda9\n",
+    ),
+    (
+        &[
+            "draw",
+            "--seal",
+            "440a3e187e51d93413b4194ba9406ee50616ee839ed8f5a89869fd72bea7eda9",
+            "--digits",
+            "",
+        ],
+        ONE_WOMAN_BUNDLE,
+        6,
+        b"",
+        b"rule\tMoreDigits\t0\n",
+    ),
+    (
+        &[
+            "draw",
+            "--seal",
+            "440a3e187e51d93413b4194ba9406ee50616ee839ed8f5a89869fd72bea7eda9",
+            "--digits",
+            "9",
+        ],
+        ONE_WOMAN_BUNDLE,
+        6,
+        b"",
+        b"rule\tMoreDigits\t1\n",
+    ),
+    (
+        &[
+            "draw",
+            "--seal",
+            "440a3e187e51d93413b4194ba9406ee50616ee839ed8f5a89869fd72bea7eda9",
+            "--digits",
+            "9 7",
+        ],
+        ONE_WOMAN_BUNDLE,
+        6,
+        b"",
+        b"rule\tBadDigit\t2\n",
+    ),
+    (
+        &[
+            "draw",
+            "--seal",
+            "0000000000000000000000000000000000000000000000000000000000000000",
+            "--digits",
+            "97",
+        ],
+        WRONG_TOTAL,
+        3,
+        b"",
+        b"input\t0\t14\n",
+    ),
+    (
+        &[
+            "draw",
+            "--seal",
+            "0000000000000000000000000000000000000000000000000000000000000000",
+            "--digits",
+            "97",
+        ],
+        FOUR,
+        3,
+        b"",
+        b"input\t1\t13\n",
+    ),
+    (
+        &[
+            "draw",
+            "--seal",
+            "c82948eb26297f15d8b4fea0b50612a4b7ce67f6b9100aedb613ebe799d6ab70",
+            "--digits",
+            "7",
+        ],
+        SURE_BUNDLE,
+        0,
+        b"ticket\t0\t1\npanel\ta\tb\n",
+        b"",
+    ),
+    (
+        &[
+            "draw",
+            "--seal",
+            "36cc9db090337e86d3378b04c71cfeb452ba9fca2e66fa85353e2ed3832e41d0",
+            "--digits",
+            "100000000000000000000000000000000000009",
+        ],
+        WIDE_BUNDLE,
+        0,
+        b"ticket\t10000000000000000000000000000000000000\t38\npanel\tw\ty\n",
+        b"",
+    ),
+];
+
 #[test]
 fn calls_are_answered(rt: HostRuntime) -> Result<(), AllocError> {
     let alloc = rt.alloc();
-    for (words, text, status, out, errs) in ROWS {
-        let told = answer_of(alloc, &asking(words, text))?;
-        assert_eq!(rt; told.status, *status, "{words:?}");
-        assert_eq!(rt; told.out.written(), *out, "{words:?}");
-        assert_eq!(rt; told.errs.written(), *errs, "{words:?}");
+    for rows in [ROWS, BUNDLE_ROWS] {
+        for (words, text, status, out, errs) in rows {
+            let told = answer_of(alloc, &asking(words, text))?;
+            assert_eq!(rt; told.status, *status, "{words:?}");
+            assert_eq!(rt; told.out.written(), *out, "{words:?}");
+            assert_eq!(rt; told.errs.written(), *errs, "{words:?}");
+        }
     }
     let told = answer_of(alloc, &asking(&["lottery"], REPLACED))?;
     assert!(rt; told.status == 0 && told.out.written().ends_with(REPLACED_ANSWER));

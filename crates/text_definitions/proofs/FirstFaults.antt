@@ -1,21 +1,27 @@
 -- Where the first fault stands: the lines before it begin a pool's text, and with it they don't.
-use Rattle.std.proofs.Common.{◌≡◌, ◌≢◌, ℕ, suc, ◌+◌, ◌-◌, ◌<◌, List, [], ◌∷◌, ◌++◌, length, take, get_or, refl, sym, ◌∙◌, ap, subst, arith, append_assoc, length-append, Some, None, ◌⊎◌, inl, inr}
+use Rattle.std.proofs.Common.{◌≡◌, ◌≢◌, ℕ, suc, Bool, true, false, eqb, ltb, ◌+◌, ◌-◌, ◌<◌, List, [], ◌∷◌, ◌++◌, length, take, get_or, refl, sym, ◌∙◌, ap, subst, arith, append_assoc, length-append, Some, None, ◌⊎◌, inl, inr}
 use Rattle.std.specs.Prelude.{Result, Ok, Err}
 use Rattle.std.specs.List.{AllByRecursion}
 use Rattle.std.proofs.Math.Seq.{get_or-append_seam, take-append_seam}
 use Rattle.std.proofs.lemmas.Grind.{flat_map-append}
 use Rattle.std.proofs.lemmas.List.{append-nil}
+use Rattle.std.proofs.lemmas.Bool.{and_parts, eqb-true}
+use Rattle.std.specs.Prelude.{codes}
+use Rattle.std.specs.Str.{is_utf8, chars}
+use lib.Utf8.{encode}
+use Rattle.pool_definitions.specs.declared.Standing.TheVariants.{Open}
 use Rattle.pool_definitions.specs.Pool.{Pool, IsPool}
 use Rattle.pool_definitions.specs.Building.{empty_pool}
 use Rattle.pool_definitions.proofs.BuildingLemmas.{IsPool-empty_pool}
 use Rattle.line_definitions.specs.Lines.{Fault, line_feed, pieces_of, text_of}
 use Rattle.line_definitions.proofs.LineLemmas.{Lacks, pieces_lack, some_piece, pieces_of-text_of_then}
-use Rattle.text_definitions.specs.PoolText.{version_line, size_line, end_line, lines_before_end, spelling}
-use Rattle.text_definitions.specs.PoolReading.{Progress, Begun, Versioned, Inside, Ended, line_kind, line_kinds, after_line, at_last, fault_or, read_lines, read}
-use Rattle.text_definitions.specs.FirstFault.{IsPoolText, BeginsPoolText, lines_before, lines_up_to, IsLowest, after_lines, kinds_at}
+use Rattle.text_definitions.specs.PoolText.{version_line, size_line, end_line, lines_in, lines_before_end, spelling}
+use Rattle.text_definitions.specs.declared.Passed.{Passed}
+use Rattle.text_definitions.specs.PoolReading.{Progress, Begun, Versioned, Inside, Ended, awaits_household, line_kind, line_kinds, after_line, at_last, fault_or, read_lines, read}
+use Rattle.text_definitions.specs.FirstFault.{IsPoolText, BeginsPoolText, AwaitsHousehold, lines_before, lines_up_to, IsLowest, after_lines, kinds_at}
 use Rattle.text_definitions.proofs.LowestKinds.{not_the_end, lowest_is, line_kinds_rise}
-use Rattle.text_definitions.proofs.ReadAgain.{said_pool, spelled_is_said}
-use Rattle.text_definitions.proofs.Spelled.{IsRight, lines_so_far, line_adds}
+use Rattle.text_definitions.proofs.ReadAgain.{spelled_is_read}
+use Rattle.text_definitions.proofs.Spelled.{IsRight, IsRightInside, own_version, lines_so_far, line_adds}
 
 -- each of the lines has no fault, after those before it
 abbrev Passes : Progress → List (List ℕ) → Type 0
@@ -35,19 +41,48 @@ passed progress (line ∷ lines) right h =
 begins : (pool : Pool) (lines rest : List (List ℕ)) → IsPool pool → lines_before_end pool ++ end_line ∷ [] ≡ lines ++ rest → BeginsPoolText lines
 begins pool lines rest has same = (pool, text_of rest, has, ap text_of same ∙ flat_map-append (λ line. line ++ line_feed ∷ []) lines rest)
 
--- what stands begins some pool's text
-stands : (progress : Progress) → IsRight progress → BeginsPoolText (lines_so_far progress)
-stands Begun right = begins (empty_pool 1) [] (lines_before_end (empty_pool 1) ++ end_line ∷ []) (IsPool-empty_pool 1 refl) refl
-stands Versioned right = begins (empty_pool 1) (version_line ∷ []) (size_line 1 ∷ end_line ∷ []) (IsPool-empty_pool 1 refl) refl
-stands (Inside pool passed) right = begins pool (lines_before_end pool) (end_line ∷ []) right.is_pool refl
-stands (Ended pool) right = begins pool (lines_before_end pool ++ end_line ∷ []) [] right (sym (append-nil (lines_before_end pool ++ end_line ∷ [])))
+-- a pool of one volunteer, who has a household
+lodger : Pool
+lodger = record { size = 1; categories = []; volunteers = record { id = codes "a"; values = []; standing = Open; household = Some (codes "h") } ∷ [] }
 
--- after the second line what stands is a pool's text, or lacks the end alone
+-- the lines of the end, behind those before it
+version_begins : (second : Bool) → BeginsPoolText (version_line second ∷ [])
+unfolding lodger is_utf8 chars encode
+version_begins true =
+    begins lodger (version_line true ∷ []) _ (record { size = refl; few_categories = refl; categories = refl; different_categories = refl; few_volunteers = refl; ids = refl; different_ids = refl; values = refl; households = refl }) refl
+version_begins false = begins (empty_pool 1) (version_line false ∷ []) (size_line 1 ∷ end_line ∷ []) (IsPool-empty_pool 1 refl) refl
+
+-- right lines between the size and the end are those of the pool's own version, or the first household line is due
+own_or_awaits : (pool : Pool) (passed : Passed) → IsRightInside pool passed → (lines_in passed.second pool ≡ lines_before_end pool) ⊎ AwaitsHousehold (lines_in passed.second pool)
+own_or_awaits pool passed right =
+    (elim (awaits_household passed) as (λ b. awaits_household passed ≡ b → (lines_in passed.second pool ≡ lines_before_end pool) ⊎ AwaitsHousehold (lines_in passed.second pool)) [
+      | false ↦ λ e. inl (ap (λ second. lines_in second pool) (sym (own_version pool passed right e)))
+      | true ↦ λ e.
+          let parts = and_parts passed.second (eqb passed.households 0) e in
+          inr (pool, right.is_pool, right.housed ∙ ap (ltb 0) (eqb-true passed.households 0 parts.1), ap (λ second. lines_in second pool) parts.0)
+    ]) refl
+
+-- what stands begins some pool's text, or the first household line is due
+stands : (progress : Progress) → IsRight progress → BeginsPoolText (lines_so_far progress) ⊎ AwaitsHousehold (lines_so_far progress)
+stands Begun right = inl (begins (empty_pool 1) [] (lines_before_end (empty_pool 1) ++ end_line ∷ []) (IsPool-empty_pool 1 refl) refl)
+stands (Versioned second) right = inl (version_begins second)
+stands (Inside pool passed) right =
+    elim (own_or_awaits pool passed right) as (λ _. BeginsPoolText (lines_in passed.second pool) ⊎ AwaitsHousehold (lines_in passed.second pool)) [
+      | inl own ↦ inl (begins pool (lines_in passed.second pool) (end_line ∷ []) right.is_pool (ap (λ lines. lines ++ end_line ∷ []) (sym own)))
+      | inr due ↦ inr due
+    ]
+stands (Ended pool) right = inl (begins pool (lines_before_end pool ++ end_line ∷ []) [] right (sym (append-nil (lines_before_end pool ++ end_line ∷ []))))
+
+-- after the second line what stands is a pool's text, or lacks the end alone, or the first household line is due
 closed : (progress : Progress) → IsRight progress → 1 < length (lines_so_far progress) →
-    IsPoolText (text_of (lines_so_far progress)) ⊎ IsPoolText (text_of (lines_so_far progress ++ end_line ∷ []))
+    IsPoolText (text_of (lines_so_far progress)) ⊎ IsPoolText (text_of (lines_so_far progress ++ end_line ∷ [])) ⊎ AwaitsHousehold (lines_so_far progress)
 closed Begun right more = absurd (omega arith)
-closed Versioned right more = absurd (omega arith)
-closed (Inside pool passed) right more = inr (pool, right.is_pool, refl)
+closed (Versioned second) right more = absurd (omega arith)
+closed (Inside pool passed) right more =
+    elim (own_or_awaits pool passed right) as (λ _. IsPoolText (text_of (lines_in passed.second pool)) ⊎ IsPoolText (text_of (lines_in passed.second pool ++ end_line ∷ [])) ⊎ AwaitsHousehold (lines_in passed.second pool)) [
+      | inl own ↦ inr (inl (pool, right.is_pool, ap (λ lines. text_of (lines ++ end_line ∷ [])) own))
+      | inr due ↦ inr (inr due)
+    ]
 closed (Ended pool) right more = inl (pool, right, refl)
 
 -- the first fault of pieces: right lines, and one at which the reading stops
@@ -74,7 +109,7 @@ same_fault r first second h k = cc
 
 last_stops : (number : ℕ) (progress : Progress) (bytes : List ℕ) (fault : Fault) → at_last number progress bytes ≡ Err fault → Stops number progress (bytes ∷ []) fault
 last_stops number Begun bytes fault h = subst (Stops number Begun (bytes ∷ [])) (same_fault _ _ fault refl h) (lacks_end number Begun bytes)
-last_stops number Versioned bytes fault h = subst (Stops number Versioned (bytes ∷ [])) (same_fault _ _ fault refl h) (lacks_end number Versioned bytes)
+last_stops number (Versioned second) bytes fault h = subst (Stops number (Versioned second) (bytes ∷ [])) (same_fault _ _ fault refl h) (lacks_end number (Versioned second) bytes)
 last_stops number (Inside pool stood) bytes fault h = subst (Stops number (Inside pool stood) (bytes ∷ [])) (same_fault _ _ fault refl h) (lacks_end number (Inside pool stood) bytes)
 last_stops number (Ended pool) [] fault h = cc
 last_stops number (Ended pool) (byte ∷ bytes) fault h = subst (Stops number (Ended pool) ((byte ∷ bytes) ∷ [])) (same_fault _ _ fault refl h) (fails_here number (Ended pool) (byte ∷ bytes) [] 1 refl)
@@ -117,20 +152,20 @@ up_to_is bytes fault at =
     ap (λ pieces. take fault.line pieces) parted
     ∙ (ap (λ m. take m ((at.before ++ at.line ∷ []) ++ at.later)) n ∙ take-append_seam (at.before ++ at.line ∷ []) at.later)
 
-pub before_begins : (bytes : List ℕ) (fault : Fault) → read bytes ≡ Err fault → BeginsPoolText (lines_before fault bytes)
+pub before_begins : (bytes : List ℕ) (fault : Fault) → read bytes ≡ Err fault → BeginsPoolText (lines_before fault bytes) ⊎ AwaitsHousehold (lines_before fault bytes)
 before_begins bytes fault h =
     let at = stops_at bytes fault h in
     let stood = passed Begun at.before tt at.passes in
-    subst BeginsPoolText (stood.1 ∙ sym (before_is bytes fault at)) (stands (after_lines Begun at.before) stood.0)
+    subst (λ lines. BeginsPoolText lines ⊎ AwaitsHousehold lines) (stood.1 ∙ sym (before_is bytes fault at)) (stands (after_lines Begun at.before) stood.0)
 
 pub before_is_closed : (bytes : List ℕ) (fault : Fault) → read bytes ≡ Err fault → 2 < fault.line →
-    IsPoolText (text_of (lines_before fault bytes)) ⊎ IsPoolText (text_of (lines_before fault bytes ++ end_line ∷ []))
+    IsPoolText (text_of (lines_before fault bytes)) ⊎ IsPoolText (text_of (lines_before fault bytes ++ end_line ∷ [])) ⊎ AwaitsHousehold (lines_before fault bytes)
 before_is_closed bytes fault h third =
     let at = stops_at bytes fault h in
     let stood = passed Begun at.before tt at.passes in
     let same = stood.1 ∙ sym (before_is bytes fault at) in
     let size : length (lines_so_far (after_lines Begun at.before)) ≡ length at.before = ap (λ (ls : List (List ℕ)). length ls) stood.1 in
-    subst (λ lines. IsPoolText (text_of lines) ⊎ IsPoolText (text_of (lines ++ end_line ∷ []))) same
+    subst (λ lines. IsPoolText (text_of lines) ⊎ IsPoolText (text_of (lines ++ end_line ∷ [])) ⊎ AwaitsHousehold lines) same
     (closed (after_lines Begun at.before) stood.0 (let p = at.place in omega (arith, size)))
 
 -- lines with a fault have it before any others
@@ -163,11 +198,11 @@ none_begins bytes fault h other text =
     let some = some_piece rest in
     let pieces : pieces_of (spelling pool) ≡ at.before ++ at.line ∷ some.0 ∷ some.1 =
     ap pieces_of same ∙ (pieces_of-text_of_then lines rest lack ∙ (ap (λ ps. lines ++ ps) some.2 ∙ append_assoc at.before (at.line ∷ []) (some.0 ∷ some.1))) in
-    let read_so = spelled_is_said pool text.2 in
+    let read_so = spelled_is_read pool text.2 in
     (elim at.stop as (λ _. ⊥) [
       | inl kind ↦
           let again = fault_again 1 Begun at.before at.line some.0 some.1 fault.kind at.passes kind in
-          not_both (read (spelling pool)) (said_pool pool) again.0 read_so (ap (read_lines 1 Begun) pieces ∙ again.1)
+          not_both (read (spelling pool)) pool again.0 read_so (ap (read_lines 1 Begun) pieces ∙ again.1)
       | inr last ↦ other last.0
     ])
 

@@ -3,4 +3,3 @@ pub mod LowestKinds
 pub mod ReadAgain
 pub mod Spelled
 mod FirstFaults
-pub mod NoHouseholds

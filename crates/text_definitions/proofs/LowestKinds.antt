@@ -7,7 +7,8 @@ use Rattle.pool_definitions.specs.Lists.{includes, is_increasing}
 use Rattle.pool_definitions.specs.Pool.{Pool}
 use Rattle.pool_definitions.specs.Building.{lowest_kind}
 use Rattle.line_definitions.specs.Lines.{fields_of}
-use Rattle.text_definitions.specs.PoolReading.{Entry, OfCategory, OfValue, OfVolunteer, OfStanding, TheEnd, Unknown, Progress, Begun, Versioned, Inside, Ended, entry_of, entry_kinds, entry_kind, line_kind, line_kinds}
+use Rattle.text_definitions.specs.declared.Passed.{Passed}
+use Rattle.text_definitions.specs.PoolReading.{Entry, OfCategory, OfValue, OfVolunteer, OfHousehold, OfStanding, TheEnd, Unknown, Progress, Begun, Versioned, Inside, Ended, entry_of, entry_kinds, entry_kind, line_kind, line_kinds}
 use Rattle.text_definitions.specs.FirstFault.{applies_among, IsLowest}
 
 -- the first of two kinds
@@ -25,7 +26,7 @@ abbrev pub encoding_kind : List ℕ → Option ℕ
 encoding_kind line = lowest_kind ((11, not (is_utf8 line)) ∷ [])
 
 -- a line's kind is that of its entry, and else that of its encoding
-pub line_kind_of : (pool : Pool) (passed : ℕ) (line : List ℕ) →
+pub line_kind_of : (pool : Pool) (passed : Passed) (line : List ℕ) →
     line_kind (Inside pool passed) line ≡ kind_or (entry_kind pool passed (entry_of (fields_of line))) (encoding_kind line)
 line_kind_of pool passed line = lowest_kind-append (entry_kinds pool passed (entry_of (fields_of line))) ((11, not (is_utf8 line)) ∷ [])
 
@@ -70,10 +71,11 @@ lowest_is ((first, false) ∷ kinds) kind rises h =
     unskip true b h = h
     unskip false b h = h
 
-entry_kinds_rise : (pool : Pool) (passed : ℕ) (entry : Entry) (last : Bool) → is_increasing (map (λ k. k.0) (entry_kinds pool passed entry ++ (11, last) ∷ [])) ≡ true
+entry_kinds_rise : (pool : Pool) (passed : Passed) (entry : Entry) (last : Bool) → is_increasing (map (λ k. k.0) (entry_kinds pool passed entry ++ (11, last) ∷ [])) ≡ true
 entry_kinds_rise pool passed (OfCategory name) last = refl
 entry_kinds_rise pool passed (OfValue value) last = refl
 entry_kinds_rise pool passed (OfVolunteer id names) last = refl
+entry_kinds_rise pool passed (OfHousehold id name) last = refl
 entry_kinds_rise pool passed (OfStanding standing id) last = refl
 entry_kinds_rise pool passed TheEnd last = refl
 entry_kinds_rise pool passed Unknown last = refl
@@ -81,7 +83,7 @@ entry_kinds_rise pool passed Unknown last = refl
 -- the kinds of a line rise
 pub line_kinds_rise : (progress : Progress) (line : List ℕ) → is_increasing (map (λ k. k.0) (line_kinds progress line)) ≡ true
 line_kinds_rise Begun line = refl
-line_kinds_rise Versioned line = refl
+line_kinds_rise (Versioned second) line = refl
 line_kinds_rise (Inside pool passed) line = entry_kinds_rise pool passed (entry_of (fields_of line)) (not (is_utf8 line))
 line_kinds_rise (Ended pool) line = refl
 
@@ -91,17 +93,18 @@ lowest_stands [] kind h = cc
 lowest_stands ((first, true) ∷ kinds) kind h = let same : first ≡ kind = cc in rw (eq-eqb first kind same) refl
 lowest_stands ((first, false) ∷ kinds) kind h = or_right (eqb first kind) (includes (map (λ k. k.0) kinds) kind) (lowest_stands kinds kind h)
 
-entry_kinds_end : (pool : Pool) (passed : ℕ) (entry : Entry) (last : Bool) → includes (map (λ k. k.0) (entry_kinds pool passed entry ++ (11, last) ∷ [])) 12 ≡ false
+entry_kinds_end : (pool : Pool) (passed : Passed) (entry : Entry) (last : Bool) → includes (map (λ k. k.0) (entry_kinds pool passed entry ++ (11, last) ∷ [])) 12 ≡ false
 entry_kinds_end pool passed (OfCategory name) last = refl
 entry_kinds_end pool passed (OfValue value) last = refl
 entry_kinds_end pool passed (OfVolunteer id names) last = refl
+entry_kinds_end pool passed (OfHousehold id name) last = refl
 entry_kinds_end pool passed (OfStanding standing id) last = refl
 entry_kinds_end pool passed TheEnd last = refl
 entry_kinds_end pool passed Unknown last = refl
 
 line_kinds_end : (progress : Progress) (line : List ℕ) → includes (map (λ k. k.0) (line_kinds progress line)) 12 ≡ false
 line_kinds_end Begun line = refl
-line_kinds_end Versioned line = refl
+line_kinds_end (Versioned second) line = refl
 line_kinds_end (Inside pool passed) line = entry_kinds_end pool passed (entry_of (fields_of line)) (not (is_utf8 line))
 line_kinds_end (Ended pool) line = refl
 

@@ -1,9 +1,9 @@
 -- The first fault of a text, said without reading line after line.
-use Rattle.std.specs.Prelude.{◌≡◌, ℕ, ◌-◌, ◌==◌, ◌≤◌, Bool, ◌&&◌, IsTrue, List, [], ◌++◌, take, slice_index_or}
+use Rattle.std.specs.Prelude.{◌≡◌, ℕ, ◌-◌, ◌==◌, ◌≤◌, Bool, true, false, ◌&&◌, IsTrue, List, [], ◌++◌, take, slice_index_or}
 use Rattle.std.specs.List.{fold, list_any}
-use Rattle.pool_definitions.specs.Pool.{Pool, IsPool}
+use Rattle.pool_definitions.specs.Pool.{Pool, IsPool, has_households}
 use Rattle.line_definitions.specs.Lines.{Fault, pieces_of, text_of}
-use Rattle.text_definitions.specs.PoolText.{spelling}
+use Rattle.text_definitions.specs.PoolText.{spelling, lines_in}
 use Rattle.text_definitions.specs.PoolReading.{Progress, Begun, after_line, line_kinds}
 
 -- the bytes are the text of some pool
@@ -13,6 +13,10 @@ IsPoolText bytes = (pool : Pool) × IsPool pool × (bytes ≡ spelling pool)
 -- the text of some pool begins with these lines
 abbrev pub BeginsPoolText : List (List ℕ) → Type 0
 BeginsPoolText lines = (pool : Pool) × (rest : List ℕ) × IsPool pool × (spelling pool ≡ text_of lines ++ rest)
+
+-- these are right lines of version 2, whose first household line is still to come: those of a pool without households
+abbrev pub AwaitsHousehold : List (List ℕ) → Type 0
+AwaitsHousehold lines = (pool : Pool) × IsPool pool × (has_households pool ≡ false) × (lines ≡ lines_in true pool)
 
 -- the lines before the faulty one
 abbrev pub lines_before : Fault → List ℕ → List (List ℕ)

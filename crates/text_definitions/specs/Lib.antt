@@ -1,3 +1,4 @@
 pub mod PoolText
 pub mod PoolReading
 pub mod FirstFault
+pub mod WorkedExamples

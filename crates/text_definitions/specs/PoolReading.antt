@@ -1,12 +1,13 @@
 -- What a list of bytes says as the text of a pool: the pool, or the first faulty line and in it the lowest kind.
-use Rattle.std.specs.Prelude.{ℕ, ◌+◌, nat_lt, nat_le, if◌then◌else◌, Bool, true, false, not, List, [], ◌∷◌, ◌++◌, bytes_eq, codes, Option, Some, None, Result, Ok, Err, unwrap_or, position}
+use Rattle.std.specs.Prelude.{ℕ, ◌+◌, ◌==◌, nat_lt, nat_le, if◌then◌else◌, Bool, true, false, not, ◌&&◌, ◌||◌, List, [], ◌∷◌, ◌++◌, bytes_eq, codes, Option, Some, None, Result, Ok, Err, unwrap_or, position}
 use Rattle.std.specs.Str.{is_utf8}
 use Rattle.pool_definitions.specs.declared.Standing.{Standing}
 use Rattle.pool_definitions.specs.declared.Standing.TheVariants.{Seated, Gone}
 use Rattle.pool_definitions.specs.Pool.{Pool, BoundedValue, Volunteer}
-use Rattle.pool_definitions.specs.Building.{lowest_kind, size_kinds, empty_pool, category_kinds, category_added, value_kinds, value_added, volunteer_kinds, volunteer_added, standing_set}
+use Rattle.pool_definitions.specs.Building.{lowest_kind, size_kinds, empty_pool, category_kinds, category_added, value_kinds, value_added, volunteer_kinds, volunteer_added, standing_set, household_set, household_kinds}
 use Rattle.line_definitions.specs.Lines.{Fault, fields_of, pieces_of}
 use Rattle.line_definitions.specs.Numbers.{number_up_to}
+use Rattle.text_definitions.specs.declared.Passed.{Passed}
 use Rattle.text_definitions.specs.PoolText.{version_line}
 
 -- what right lines make of a text so far
@@ -14,10 +15,9 @@ pub data Progress : Type 0 where
   -- no line stood
   Begun : Progress
   -- the first line stood
-  Versioned : Progress
-  -- the size stood, and the lines up to now make this pool; standing lines have passed so many of the volunteers, which is 0
-  -- where no such line stood, and else the volunteers up to the one of the last
-  Inside : (pool : Pool) (passed : ℕ) → Progress
+  Versioned : (second : Bool) → Progress
+  -- the size stood, and the lines up to now make this pool
+  Inside : (pool : Pool) (passed : Passed) → Progress
   -- the end stood
   Ended : (pool : Pool) → Progress
 
@@ -26,6 +26,7 @@ pub data Entry : Type 0 where
   OfCategory : (name : List ℕ) → Entry
   OfValue : (value : BoundedValue) → Entry
   OfVolunteer : (id : List ℕ) (names : List (List ℕ)) → Entry
+  OfHousehold : (id : List ℕ) (name : List ℕ) → Entry
   OfStanding : (standing : Standing) (id : List ℕ) → Entry
   TheEnd : Entry
   Unknown : Entry
@@ -35,13 +36,14 @@ pub data Word : Type 0 where
   CategoryWord : Word
   ValueWord : Word
   VolunteerWord : Word
+  HouseholdWord : Word
   StandingWord : (standing : Standing) → Word
   EndWord : Word
 
 abbrev pub words : List (List ℕ × Word)
 words =
     (codes "category", CategoryWord) ∷ (codes "value", ValueWord) ∷ (codes "volunteer", VolunteerWord)
-    ∷ (codes "seated", StandingWord Seated) ∷ (codes "gone", StandingWord Gone) ∷ (codes "end", EndWord) ∷ []
+    ∷ (codes "household", HouseholdWord) ∷ (codes "seated", StandingWord Seated) ∷ (codes "gone", StandingWord Gone) ∷ (codes "end", EndWord) ∷ []
 
 -- the word, of these, that a field is
 abbrev pub word_among : List (List ℕ × Word) → List ℕ → Option Word
@@ -57,6 +59,7 @@ abbrev pub entry_of_word : Word → List (List ℕ) → Entry
 entry_of_word CategoryWord (name ∷ []) = OfCategory name
 entry_of_word ValueWord (name ∷ lower ∷ upper ∷ []) = OfValue (record { name = name; lower = bound_of lower; upper = bound_of upper })
 entry_of_word VolunteerWord (id ∷ names) = OfVolunteer id names
+entry_of_word HouseholdWord (id ∷ name ∷ []) = OfHousehold id name
 entry_of_word (StandingWord standing) (id ∷ []) = OfStanding standing id
 entry_of_word EndWord [] = TheEnd
 entry_of_word _ _ = Unknown
@@ -75,23 +78,33 @@ entry_of (first ∷ fields) = entry_behind (word_among words first) fields
 abbrev pub number_of : List Volunteer → List ℕ → Option ℕ
 number_of volunteers id = position (λ volunteer. bytes_eq id volunteer.id) volunteers
 
--- there is a number, and standing lines have not passed it
+-- there is a number, and lines that have passed so many have not passed it
 abbrev pub is_ahead : ℕ → Option ℕ → Bool
 is_ahead passed None = false
 is_ahead passed (Some number) = nat_le passed number
 
--- the kinds of fault that an entry may have, rising, each with whether it applies, given the pool that stood before and how many
--- standing lines have passed. 1: it may not stand there, as a volunteer behind a standing line; 9: the id isn't that of a
--- volunteer after the one of the standing line before
-abbrev pub entry_kinds : Pool → ℕ → Entry → List (ℕ × Bool)
+-- the first household line is due: in version 2 one stands before each standing line and before the end
+abbrev pub awaits_household : Passed → Bool
+awaits_household passed = passed.second && passed.households == 0
+
+-- the kinds of fault that an entry may have, rising, each with whether it applies, given the pool that stood before and how far
+-- the lines are. 1: it may not stand there: a volunteer behind a household or standing line, a household in version 1 or
+-- behind a standing line, a standing or the end where the first household line is due; 9: the id isn't that of a volunteer after
+-- the one of the household or standing line before
+abbrev pub entry_kinds : Pool → Passed → Entry → List (ℕ × Bool)
 entry_kinds pool passed (OfCategory name) = category_kinds pool name
 entry_kinds pool passed (OfValue value) = value_kinds pool value
-entry_kinds pool passed (OfVolunteer id names) = (1, nat_lt 0 passed) ∷ volunteer_kinds pool id names
-entry_kinds pool passed (OfStanding standing id) = (9, not (is_ahead passed (number_of pool.volunteers id))) ∷ []
-entry_kinds pool passed TheEnd = []
+entry_kinds pool passed (OfVolunteer id names) = (1, nat_lt 0 passed.households || nat_lt 0 passed.standings) ∷ volunteer_kinds pool id names
+entry_kinds pool passed (OfHousehold id name) =
+    (1, not passed.second || nat_lt 0 passed.standings)
+    ∷ (9, not (is_ahead passed.households (number_of pool.volunteers id)))
+    ∷ household_kinds name
+entry_kinds pool passed (OfStanding standing id) =
+    (1, awaits_household passed) ∷ (9, not (is_ahead passed.standings (number_of pool.volunteers id))) ∷ []
+entry_kinds pool passed TheEnd = (1, awaits_household passed) ∷ []
 entry_kinds pool passed Unknown = (1, true) ∷ []
 
-abbrev pub entry_kind : Pool → ℕ → Entry → Option ℕ
+abbrev pub entry_kind : Pool → Passed → Entry → Option ℕ
 entry_kind pool passed entry = lowest_kind (entry_kinds pool passed entry)
 
 -- the size that the fields of the second line give, or 0, which no size may be
@@ -102,8 +115,8 @@ size_of _ = 0
 -- the kinds of fault that a line may have, rising, each with whether it applies, given what stood before. 1: another first line,
 -- or a line after the end; 2: no size; 11: the line isn't UTF-8
 abbrev pub line_kinds : Progress → List ℕ → List (ℕ × Bool)
-line_kinds Begun line = (1, not (bytes_eq line version_line)) ∷ []
-line_kinds Versioned line = size_kinds (size_of (fields_of line))
+line_kinds Begun line = (1, not (bytes_eq line (version_line false) || bytes_eq line (version_line true))) ∷ []
+line_kinds (Versioned second) line = size_kinds (size_of (fields_of line))
 line_kinds (Inside pool passed) line = entry_kinds pool passed (entry_of (fields_of line)) ++ (11, not (is_utf8 line)) ∷ []
 line_kinds (Ended pool) line = (1, true) ∷ []
 
@@ -111,23 +124,32 @@ line_kinds (Ended pool) line = (1, true) ∷ []
 abbrev pub line_kind : Progress → List ℕ → Option ℕ
 line_kind progress line = lowest_kind (line_kinds progress line)
 
+-- what stands after the household line of the volunteer of a number
+abbrev pub after_household : Pool → Passed → ℕ → List ℕ → Progress
+after_household pool passed number name = Inside (household_set pool number name) (record passed { households = number + 1 })
+
 -- what stands after the standing line of the volunteer of a number
-abbrev pub after_standing : Pool → ℕ → Standing → Progress
-after_standing pool number standing = Inside (standing_set pool number standing) (number + 1)
+abbrev pub after_standing : Pool → Passed → ℕ → Standing → Progress
+after_standing pool passed number standing = Inside (standing_set pool number standing) (record passed { standings = number + 1 })
 
 -- what stands after a right entry
-abbrev pub after_entry : Pool → ℕ → Entry → Progress
+abbrev pub after_entry : Pool → Passed → Entry → Progress
 after_entry pool passed (OfCategory name) = Inside (category_added pool name) passed
 after_entry pool passed (OfValue value) = Inside (value_added pool value) passed
 after_entry pool passed (OfVolunteer id names) = Inside (volunteer_added pool id names) passed
-after_entry pool passed (OfStanding standing id) = after_standing pool (unwrap_or (number_of pool.volunteers id) 0) standing
+after_entry pool passed (OfHousehold id name) = after_household pool passed (unwrap_or (number_of pool.volunteers id) 0) name
+after_entry pool passed (OfStanding standing id) = after_standing pool passed (unwrap_or (number_of pool.volunteers id) 0) standing
 after_entry pool passed TheEnd = Ended pool
 after_entry pool passed Unknown = Inside pool passed
 
+-- no household line and no standing line stood in a text of this version
+abbrev pub none_passed : Bool → Passed
+none_passed second = record { second = second; households = 0; standings = 0 }
+
 -- what stands after a right line
 abbrev pub after_line : Progress → List ℕ → Progress
-after_line Begun line = Versioned
-after_line Versioned line = Inside (empty_pool (size_of (fields_of line))) 0
+after_line Begun line = Versioned (bytes_eq line (version_line true))
+after_line (Versioned second) line = Inside (empty_pool (size_of (fields_of line))) (none_passed second)
 after_line (Inside pool passed) line = after_entry pool passed (entry_of (fields_of line))
 after_line (Ended pool) line = Ended pool
 

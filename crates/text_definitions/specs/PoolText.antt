@@ -1,15 +1,21 @@
--- The text of a pool: each pool has one spelling. It says no households.
-use Rattle.std.specs.Prelude.{ℕ, List, [], ◌∷◌, ◌++◌, map, codes, slice_index_or}
+-- The text of a pool: each pool has one spelling. A pool without households has a text of version 1, and one with households a
+-- text of version 2.
+use Rattle.std.specs.Prelude.{ℕ, Bool, true, false, List, [], ◌∷◌, ◌++◌, map, codes, slice_index_or, Option, Some, None}
 use Rattle.std.specs.List.{flat_map}
 use Rattle.std.specs.Fmt.{decimal}
 use Rattle.pool_definitions.specs.declared.Standing.{Standing}
 use Rattle.pool_definitions.specs.declared.Standing.TheVariants.{Open, Seated, Gone}
-use Rattle.pool_definitions.specs.Pool.{BoundedValue, Category, Volunteer, Pool}
+use Rattle.pool_definitions.specs.Pool.{BoundedValue, Category, Volunteer, Pool, has_households}
 use Rattle.pool_definitions.specs.Building.{value_names}
 use Rattle.line_definitions.specs.Lines.{line_of, text_of}
 
-abbrev pub version_line : List ℕ
-version_line = line_of (codes "pool" ∷ codes "1" ∷ [])
+-- how the version is spelled: 2 in the second, and else 1
+abbrev pub version : Bool → List ℕ
+version true = codes "2"
+version false = codes "1"
+
+abbrev pub version_line : Bool → List ℕ
+version_line second = line_of (codes "pool" ∷ version second ∷ [])
 
 abbrev pub size_line : ℕ → List ℕ
 size_line size = line_of (codes "size" ∷ decimal size ∷ [])
@@ -32,6 +38,15 @@ names_at (category ∷ categories) (place ∷ places) = slice_index_or (value_na
 abbrev pub volunteer_line : List Category → Volunteer → List ℕ
 volunteer_line categories volunteer = line_of (codes "volunteer" ∷ volunteer.id ∷ names_at categories volunteer.values)
 
+-- the line of a household, if there is one: its word, the volunteer's id, and the household's name
+abbrev pub household_line : Option (List ℕ) → List ℕ → List (List ℕ)
+household_line None id = []
+household_line (Some name) id = line_of (codes "household" ∷ id ∷ name ∷ []) ∷ []
+
+-- the lines of those who have a household, in the order of the volunteers
+abbrev pub household_lines : List Volunteer → List (List ℕ)
+household_lines volunteers = flat_map (λ volunteer. household_line volunteer.household volunteer.id) volunteers
+
 -- the line of a standing, if it has one: its word, and the volunteer's id
 abbrev pub standing_line : Standing → List ℕ → List (List ℕ)
 standing_line Open id = []
@@ -45,12 +60,17 @@ standing_lines volunteers = flat_map (λ volunteer. standing_line volunteer.stan
 abbrev pub end_line : List ℕ
 end_line = codes "end"
 
--- the lines of a pool before its end
-abbrev pub lines_before_end : Pool → List (List ℕ)
-lines_before_end pool =
-    version_line ∷ size_line pool.size
-    ∷ (flat_map category_lines pool.categories ++ map (volunteer_line pool.categories) pool.volunteers ++ standing_lines pool.volunteers)
+-- the lines of a pool before its end, in a text of a version
+abbrev pub lines_in : Bool → Pool → List (List ℕ)
+lines_in second pool =
+    version_line second ∷ size_line pool.size
+    ∷ (flat_map category_lines pool.categories ++ map (volunteer_line pool.categories) pool.volunteers
+    ++ household_lines pool.volunteers ++ standing_lines pool.volunteers)
 
--- the text of a pool; of one with households it is the text of that pool without them
+-- the lines of a pool before its end, in its own version
+abbrev pub lines_before_end : Pool → List (List ℕ)
+lines_before_end pool = lines_in (has_households pool) pool
+
+-- the text of a pool
 abbrev pub spelling : Pool → List ℕ
 spelling pool = text_of (lines_before_end pool ++ end_line ∷ [])

@@ -4,40 +4,54 @@
 //! The functions here have no body: their contracts are laws over the definitions, and worked examples.
 #![tactic(auto)]
 
-ghost use Rattle.std.specs.Prelude.{◌≡◌, ◌≢◌, ◌<◌, ◌⊎◌, [], ◌∷◌, ◌++◌, codes, Bool, false, List, length, map, take, ℕ, IsTrue, Some, Ok, Err, MatchResult};
-ghost use Rattle.pool_definitions.specs.Pool.{Pool, IsPool, has_households};
+ghost use Rattle.std.specs.Prelude.{true, false, ◌≡◌, ◌≢◌, ◌<◌, ◌⊎◌, [], ◌∷◌, ◌++◌, codes, Bool, List, length, map, take, ℕ, IsTrue, Some, Ok, Err, MatchResult};
+ghost use Rattle.pool_definitions.specs.Pool.{Pool, IsPool};
 ghost use Rattle.pool_definitions.specs.WorkedExamples.{four, after_dropout, nobody};
 ghost use Rattle.pool_definitions.specs.Lists.{is_increasing};
-ghost use Rattle.pool_definitions.specs.Building.{lowest_kind};
+ghost use Rattle.pool_definitions.specs.Building.{lowest_kind, household_set};
 ghost use Rattle.line_definitions.specs.Lines.{Fault, line_of, text_of, pieces_of};
-ghost use Rattle.text_definitions.specs.PoolText.{lines_before_end, end_line, spelling};
+ghost use Rattle.text_definitions.specs.PoolText.{lines_before_end, lines_in, end_line, spelling};
+ghost use Rattle.text_definitions.specs.WorkedExamples.{housed};
 ghost use Rattle.text_definitions.specs.PoolReading.{Progress, line_kinds, read};
-ghost use Rattle.text_definitions.specs.FirstFault.{IsPoolText, BeginsPoolText, lines_before, lines_up_to, IsLowest, kinds_at};
+ghost use Rattle.text_definitions.specs.FirstFault.{IsPoolText, BeginsPoolText, AwaitsHousehold, lines_before, lines_up_to, IsLowest, kinds_at};
 
-/// A list of bytes is the text of a pool without households, which is then read, or has a first fault and is the text of none.
+/// How far the lines behind the size of a pool are.
+#[derive(Clone, Copy, Debug, PartialEq, Eq)]
+pub struct Passed {
+    /// The text is of version 2.
+    pub second: bool,
+    /// Household lines have passed so many of the volunteers: 0 where no such line stood, and else those up to the one of the last.
+    pub households: usize,
+    /// Standing lines have passed so many, counted likewise.
+    pub standings: usize,
+}
+
+/// A list of bytes is the text of a pool, which is then read, or has a first fault and is the text of none.
 pub fn pool_or_fault()
     ensures { (bytes : List ℕ) → MatchResult (read bytes)
-        (λ pool. IsPool pool × (has_households pool ≡ false) × (bytes ≡ spelling pool))
+        (λ pool. IsPool pool × (bytes ≡ spelling pool))
         (λ fault. (pool : Pool) → IsPool pool → bytes ≢ spelling pool) }
 {}
 
-/// The text of a pool without households is read again.
+/// The text of a pool is read again.
 pub fn text_is_read()
-    ensures { (pool : Pool) → IsPool pool → has_households pool ≡ false → read (spelling pool) ≡ Ok pool }
+    ensures { (pool : Pool) → IsPool pool → read (spelling pool) ≡ Ok pool }
 {}
 
-/// Pools of one text, both without households, are one pool.
+/// Pools of one text are one pool.
 pub fn one_pool_per_text()
-    ensures { (first second : Pool) → IsPool first → IsPool second → has_households first ≡ false → has_households second ≡ false → spelling first ≡ spelling second → first ≡ second }
+    ensures { (first second : Pool) → IsPool first → IsPool second → spelling first ≡ spelling second → first ≡ second }
 {}
 
 /// The first fault stands in the first line with which the lines are no longer the beginning of a pool's text, or, of kind 12,
 /// behind the finished lines where these are such a beginning. Behind the second line the lines before it, closed by the end,
-/// are the text of a pool, or are so already.
+/// are the text of a pool, or are so already. Right lines of version 2 without a household line are taken as a beginning,
+/// whether or not a volunteer could still follow, and the end doesn't close them.
 pub fn first_fault_is_first()
-    ensures before { (bytes : List ℕ) (fault : Fault) → read bytes ≡ Err fault → BeginsPoolText (lines_before fault bytes) }
+    ensures before { (bytes : List ℕ) (fault : Fault) → read bytes ≡ Err fault →
+        BeginsPoolText (lines_before fault bytes) ⊎ AwaitsHousehold (lines_before fault bytes) }
     ensures closed { (bytes : List ℕ) (fault : Fault) → read bytes ≡ Err fault → 2 < fault.line →
-        IsPoolText (text_of (lines_before fault bytes)) ⊎ IsPoolText (text_of (lines_before fault bytes ++ end_line ∷ [])) }
+        IsPoolText (text_of (lines_before fault bytes)) ⊎ IsPoolText (text_of (lines_before fault bytes ++ end_line ∷ [])) ⊎ AwaitsHousehold (lines_before fault bytes) }
     ensures up_to { (bytes : List ℕ) (fault : Fault) → read bytes ≡ Err fault → fault.kind ≢ 12 → ¬ BeginsPoolText (lines_up_to fault bytes) }
     ensures missing_end { (bytes : List ℕ) (fault : Fault) → read bytes ≡ Err fault → fault.kind ≡ 12 → length (pieces_of bytes) ≡ fault.line }
 {}
@@ -49,13 +63,20 @@ pub fn first_fault_is_lowest()
     ensures fault { (bytes : List ℕ) (fault : Fault) → read bytes ≡ Err fault → fault.kind ≢ 12 → IsLowest (kinds_at fault bytes) fault.kind }
 {}
 
-/// The texts of two women and two men, of the same after a dropout, and of nobody, and bytes that are no text.
+/// The texts of two women and two men, of the same after a dropout, of the same where a and c share a household, and of nobody, and
+/// bytes that are no text.
 pub fn worked_texts()
     ensures four_length { length (spelling four) ≡ 138 }
     ensures four { read (spelling four) ≡ Ok four }
     ensures after_dropout_length { length (spelling after_dropout) ≡ 154 }
     ensures after_dropout { read (spelling after_dropout) ≡ Ok after_dropout }
     ensures out_of_order { read (text_of (lines_before_end after_dropout ++ line_of (codes "gone" ∷ codes "b" ∷ []) ∷ [])) ≡ Err (record { line = 12; kind = 9 }) }
+    ensures housed_length { length (spelling housed) ≡ 166 }
+    ensures housed { read (spelling housed) ≡ Ok housed }
+    ensures housed_in_first { read (text_of (lines_in false housed ++ end_line ∷ [])) ≡ Err (record { line = 10; kind = 1 }) }
+    ensures nobody_housed { read (text_of (lines_in true four ++ end_line ∷ [])) ≡ Err (record { line = 10; kind = 1 }) }
+    ensures households_out_of_order { read (text_of (lines_in true (household_set four 2 (codes "h")) ++ line_of (codes "household" ∷ codes "a" ∷ codes "h" ∷ []) ∷ end_line ∷ []))
+        ≡ Err (record { line = 11; kind = 9 }) }
     ensures nobody { read (spelling nobody) ≡ Ok nobody }
     ensures empty { read [] ≡ Err (record { line = 1; kind = 12 }) }
     ensures cut { read (take 134 (spelling four)) ≡ Err (record { line = 10; kind = 12 }) }

@@ -32,3 +32,23 @@ returns-clause-after_dropout c = refl
 pub returns-clause-out_of_order : goal.returns-clause-out_of_order
 unfolding digits is_utf8 chars encode
 returns-clause-out_of_order c = refl
+
+pub returns-clause-housed_length : goal.returns-clause-housed_length
+unfolding digits
+returns-clause-housed_length c = refl
+
+pub returns-clause-housed : goal.returns-clause-housed
+unfolding digits is_utf8 chars encode
+returns-clause-housed c = refl
+
+pub returns-clause-housed_in_first : goal.returns-clause-housed_in_first
+unfolding digits is_utf8 chars encode
+returns-clause-housed_in_first c = refl
+
+pub returns-clause-nobody_housed : goal.returns-clause-nobody_housed
+unfolding digits is_utf8 chars encode
+returns-clause-nobody_housed c = refl
+
+pub returns-clause-households_out_of_order : goal.returns-clause-households_out_of_order
+unfolding digits is_utf8 chars encode
+returns-clause-households_out_of_order c = refl

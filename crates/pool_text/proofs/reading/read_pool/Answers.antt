@@ -1,9 +1,8 @@
-use Rattle.std.proofs.Common.{◌≡◌, ℕ, false, List, ◌∙◌, subst, ap}
+use Rattle.std.proofs.Common.{◌≡◌, ℕ, List, ◌∙◌, subst, ap}
 use Rattle.std.specs.Prelude.{Result, Ok, Err, IfOk}
-use Rattle.pool_definitions.specs.Pool.{Pool, IsPool, has_households}
+use Rattle.pool_definitions.specs.Pool.{Pool, IsPool}
 use Rattle.text_definitions.specs.PoolText.{spelling}
 use Rattle.text_definitions.specs.PoolReading.{read}
-use Rattle.text_definitions.proofs.NoHouseholds.{read_has_none}
 use Rattle.text_definitions.proofs.ReadAgain.{spelled_is_read}
 use Rattle.text_definitions.proofs.Spelled.{read_is_spelled}
 use Rattle.pool_text.specs.declared.faults.ReadPool.{ReadPool}
@@ -14,15 +13,8 @@ spelled : (bytes : List ℕ) (r : Result Pool ReadPool) → Reads (read bytes) r
 spelled bytes (Ok pool) h = read_is_spelled bytes pool h
 spelled bytes (Err stop) h = tt
 
-unhoused : (bytes : List ℕ) (r : Result Pool ReadPool) → Reads (read bytes) r → IfOk r (λ pool. has_households pool ≡ false)
-unhoused bytes (Ok pool) h = read_has_none bytes pool h
-unhoused bytes (Err stop) h = tt
-
-pub returns-clause-households : goal.returns-clause-households
-returns-clause-households c = unhoused c.args.bytes.now c.read_lines.result c.read_lines.ensures.exact
-
 pub returns-clause-spelled : goal.returns-clause-spelled
 returns-clause-spelled c = spelled c.args.bytes.now c.read_lines.result c.read_lines.ensures.exact
 
 pub returns-clause-read : goal.returns-clause-read
-returns-clause-read c pool has none same = subst (λ said. Reads said c.read_lines.result) (ap read same ∙ spelled_is_read pool has none) c.read_lines.ensures.exact
+returns-clause-read c pool has same = subst (λ said. Reads said c.read_lines.result) (ap read same ∙ spelled_is_read pool has) c.read_lines.ensures.exact

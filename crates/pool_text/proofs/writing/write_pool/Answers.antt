@@ -8,4 +8,4 @@ use Rattle.pool_text.proofs.writing.write_pool.Goals as goal
 pub returns-clause-read : goal.returns-clause-read
 returns-clause-read c =
     let spelled : c.push_pool.new.text.items ≡ spelling c.args.pool.now = grind (arith, common_steps) in
-    ap read spelled ∙ spelled_is_read c.args.pool.now c.facts.ensures c.requires
+    ap read spelled ∙ spelled_is_read c.args.pool.now c.facts.ensures

@@ -16,7 +16,7 @@ returns-in_ok-write_bundle-in-Ok-Found c =
       ending = Ending.Found ends.0 c.in-Ok-Found.answer;
       ends = ends.1;
       says = record { ends = ends; certified = certified.0; greatest = certified.1 };
-      is = ap (Prints printed.Done) c.in_ok-write_bundle-in-Ok-Found.ensures;
+      is = ap (Prints printed.Done) c.in_ok-write_bundle-in-Ok-Found.ensures.spelled;
     }
 
 pub returns-in-Ok-NoPanel : goal.returns-in-Ok-NoPanel

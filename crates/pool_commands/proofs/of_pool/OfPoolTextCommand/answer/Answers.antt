@@ -10,7 +10,7 @@ pub returns-in-Ok : goal.returns-in-Ok
 returns-in-Ok g c =
     let read = c.in-Ok.ensures in
     IfOk-weaker c.answer.result _ _
-    (λ answer means. AboutPool c.in-Ok.pool (record { is_pool = read.spelled.0; households = read.households; spelled = read.spelled.1; read = read.exact }) means)
+    (λ answer means. AboutPool c.in-Ok.pool (record { is_pool = read.spelled.0; spelled = read.spelled.1; read = read.exact }) means)
     c.answer.ensures
 
 pub returns-in_ok-input_line-in-Err-Fault : goal.returns-in_ok-input_line-in-Err-Fault

@@ -1,0 +1,3 @@
+pub mod OfBundle
+pub mod Seal
+pub mod Draw

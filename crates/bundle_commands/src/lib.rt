@@ -1,0 +1,12 @@
+//! The commands about a bundle: `seal` and `draw`. Each is a function from its arguments and a bundle to an answer, whose meaning stands
+//! in `bundle_answers`; `OfBundle` reads the bundle for them. Below stand the draw and the texts of bundles.
+#![tactic(auto)]
+
+mod draw;
+mod lines;
+mod of_bundle;
+mod seal;
+
+pub use draw::DrawnPanel;
+pub use of_bundle::{BundleCommand, OfBundle};
+pub use seal::BundleSeal;

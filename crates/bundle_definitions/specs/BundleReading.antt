@@ -1,0 +1,206 @@
+-- What a list of bytes says as the text of a bundle: the bundle, or the first faulty line and in it the lowest kind.
+use Rattle.std.specs.Prelude.{ℕ, ◌+◌, ◌-◌, ◌^◌, nat_lt, if◌then◌else◌, Bool, true, false, not, ◌||◌, List, [], ◌∷◌, ◌++◌, length, bytes_eq, codes, ℤ, Option, Some, None, Result, Ok, Err, unwrap_or, is_some}
+use Rattle.pool_definitions.specs.Pool.{Pool}
+use Rattle.pool_definitions.specs.Lottery.{Lottery, LotteryRow}
+use Rattle.pool_definitions.specs.Certificate.{Answer, Stage}
+use Rattle.pool_definitions.specs.Building.{lowest_kind}
+use Rattle.line_definitions.specs.Lines.{Fault, fields_of, pieces_of}
+use Rattle.line_definitions.specs.Numbers.{number_up_to, signed_up_to}
+use Rattle.text_definitions.specs.PoolText.{version_line}
+use Rattle.text_definitions.specs.PoolReading as pools
+use Rattle.bundle_definitions.specs.Ranges.{is_weight, is_row, is_stage}
+use Rattle.bundle_definitions.specs.BundleText.{Bundle, bundle_line}
+
+-- what right lines make of a bundle's text so far
+pub data Progress : Type 0 where
+  -- no line stood
+  Begun : Progress
+  -- the first line stood, of a version, and the pool's lines up to now come to this
+  InPool : (second : Bool) (progress : pools.Progress) → Progress
+  -- the total's line stood, and these panels' lines
+  InRows : (pool : Pool) (lottery : Lottery) → Progress
+  -- and these stages' lines, at least one
+  InStages : (pool : Pool) (answer : Answer) → Progress
+  -- the last line stood
+  Done : (bundle : Bundle) → Progress
+
+-- what a line behind the total says
+pub data AnswerLine : Type 0 where
+  OfRow : (row : LotteryRow) → AnswerLine
+  OfStage : (stage : Stage) → AnswerLine
+  -- it begins as a stage's line, and is none
+  FaultyStage : AnswerLine
+  TheDone : AnswerLine
+  Unknown : AnswerLine
+
+-- a weight that is in range
+abbrev pub weight_in_range : Option ℕ → Option ℕ
+weight_in_range None = None
+weight_in_range (Some weight) = if is_weight weight then Some weight else None
+
+-- the number from 1 to 10^38 that a field spells
+abbrev pub weight_of : List ℕ → Option ℕ
+weight_of field = weight_in_range (number_up_to (10 ^ 38) field)
+
+-- a first number, if there is one, before others, if these are numbers
+abbrev pub with_number : {A : Type 0} → Option A → Option (List A) → Option (List A)
+with_number (Some number) (Some numbers) = Some (number ∷ numbers)
+with_number _ _ = None
+
+-- the numbers of fields each of which spells one
+abbrev pub numbers_up_to : ℕ → List (List ℕ) → Option (List ℕ)
+numbers_up_to limit [] = Some []
+numbers_up_to limit (field ∷ fields) = with_number (number_up_to limit field) (numbers_up_to limit fields)
+
+-- the greatest absolute value of a stage's number
+abbrev pub stage_limit : ℕ
+stage_limit = 2 ^ 127 - 1
+
+-- the numbers with a sign of fields each of which spells one
+abbrev pub signed_of : List (List ℕ) → Option (List ℤ)
+signed_of [] = Some []
+signed_of (field ∷ fields) = with_number (signed_up_to stage_limit field) (signed_of fields)
+
+-- a row of a weight and members, if these are right
+abbrev pub row_of : ℕ → Option ℕ → Option (List ℕ) → AnswerLine
+row_of volunteers (Some weight) (Some panel) =
+    let row : LotteryRow = record { panel = panel; weight = weight } in if is_row volunteers row then OfRow row else Unknown
+row_of volunteers _ _ = Unknown
+
+-- a stage of a cap and weights, if these are right
+abbrev pub stage_of : ℕ → Option ℤ → Option (List ℤ) → AnswerLine
+stage_of volunteers (Some most) (Some weights) =
+    let stage : Stage = record { weights = weights; cap = most } in if is_stage volunteers stage then OfStage stage else FaultyStage
+stage_of volunteers _ _ = FaultyStage
+
+-- what the fields behind each word say, given the number of volunteers
+abbrev pub panel_said : ℕ → List (List ℕ) → AnswerLine
+panel_said volunteers [] = Unknown
+panel_said volunteers (weight ∷ members) = row_of volunteers (number_up_to (10 ^ 38) weight) (numbers_up_to volunteers members)
+
+abbrev pub stage_said : ℕ → List (List ℕ) → AnswerLine
+stage_said volunteers [] = FaultyStage
+stage_said volunteers (cap ∷ weights) = stage_of volunteers (signed_up_to stage_limit cap) (signed_of weights)
+
+abbrev pub done_said : List (List ℕ) → AnswerLine
+done_said [] = TheDone
+done_said (field ∷ fields) = Unknown
+
+-- what the fields of a line say
+abbrev pub answer_line : ℕ → List (List ℕ) → AnswerLine
+answer_line volunteers [] = Unknown
+answer_line volunteers (first ∷ fields) =
+    (if bytes_eq first (codes "panel") then panel_said volunteers fields
+    else if bytes_eq first (codes "stage") then stage_said volunteers fields
+    else if bytes_eq first (codes "done") then done_said fields
+    else Unknown)
+
+-- the total that the fields of its line give
+abbrev pub total_of : List (List ℕ) → Option ℕ
+total_of (first ∷ field ∷ []) = if bytes_eq first (codes "total") then weight_of field else None
+total_of _ = None
+
+-- the kinds of fault of a line of the pool, by what its lines came to. 1: its version isn't the bundle's; 14: behind its end, no
+-- total
+abbrev pub pool_kinds : Bool → pools.Progress → List ℕ → List (ℕ × Bool)
+pool_kinds second pools.Begun line = (1, not (bytes_eq line (version_line second))) ∷ []
+pool_kinds second (pools.Versioned version) line = pools.line_kinds (pools.Versioned version) line
+pool_kinds second (pools.Inside pool passed) line = pools.line_kinds (pools.Inside pool passed) line
+pool_kinds second (pools.Ended pool) line = (14, not (is_some (total_of (fields_of line)))) ∷ []
+
+-- the kind of fault of a line before any stage's, and whether a panel's line stood. 15: it is neither a right panel line nor,
+-- behind one, a right stage line; 16: there it begins as a stage's line, and isn't right
+abbrev pub row_kinds : Bool → AnswerLine → List (ℕ × Bool)
+row_kinds behind (OfRow row) = []
+row_kinds behind (OfStage stage) = (15, not behind) ∷ []
+row_kinds behind FaultyStage = (15, not behind) ∷ (16, behind) ∷ []
+row_kinds behind TheDone = (15, true) ∷ []
+row_kinds behind Unknown = (15, true) ∷ []
+
+-- the kind of fault of a line behind a stage's. 16: it is neither a right stage line nor the last line
+abbrev pub stage_kinds : AnswerLine → List (ℕ × Bool)
+stage_kinds (OfRow row) = (16, true) ∷ []
+stage_kinds (OfStage stage) = []
+stage_kinds FaultyStage = (16, true) ∷ []
+stage_kinds TheDone = []
+stage_kinds Unknown = (16, true) ∷ []
+
+-- what a line says behind the total of a bundle of this pool
+abbrev pub said_of : Pool → List ℕ → AnswerLine
+said_of pool line = answer_line (length pool.volunteers) (fields_of line)
+
+-- the kinds of fault that a line may have, rising, each with whether it applies, given what stood before. 13: another first line;
+-- 17: a line behind the last
+abbrev pub line_kinds : Progress → List ℕ → List (ℕ × Bool)
+line_kinds Begun line = (13, not (bytes_eq line (bundle_line false) || bytes_eq line (bundle_line true))) ∷ []
+line_kinds (InPool second progress) line = pool_kinds second progress line
+line_kinds (InRows pool lottery) line = row_kinds (nat_lt 0 (length lottery.rows)) (said_of pool line)
+line_kinds (InStages pool answer) line = stage_kinds (said_of pool line)
+line_kinds (Done bundle) line = (17, true) ∷ []
+
+-- the lowest kind of fault of a line
+abbrev pub line_kind : Progress → List ℕ → Option ℕ
+line_kind progress line = lowest_kind (line_kinds progress line)
+
+-- what stands after a right line of the pool, or of the total
+abbrev pub after_pool : Bool → pools.Progress → List ℕ → Progress
+after_pool second pools.Begun line = InPool second (pools.after_line pools.Begun line)
+after_pool second (pools.Versioned version) line = InPool second (pools.after_line (pools.Versioned version) line)
+after_pool second (pools.Inside pool passed) line = InPool second (pools.after_line (pools.Inside pool passed) line)
+after_pool second (pools.Ended pool) line = InRows pool (record { total = unwrap_or (total_of (fields_of line)) 0; rows = [] })
+
+-- what stands after a right line before any stage's
+abbrev pub after_row : Pool → Lottery → AnswerLine → Progress
+after_row pool lottery (OfRow row) = InRows pool (record lottery { rows = lottery.rows ++ row ∷ [] })
+after_row pool lottery (OfStage stage) = InStages pool (record { lottery = lottery; stages = stage ∷ [] })
+after_row pool lottery FaultyStage = InRows pool lottery
+after_row pool lottery TheDone = InRows pool lottery
+after_row pool lottery Unknown = InRows pool lottery
+
+-- and behind one
+abbrev pub after_stage : Pool → Answer → AnswerLine → Progress
+after_stage pool answer (OfRow row) = InStages pool answer
+after_stage pool answer (OfStage stage) = InStages pool (record answer { stages = answer.stages ++ stage ∷ [] })
+after_stage pool answer FaultyStage = InStages pool answer
+after_stage pool answer TheDone = Done (record { pool = pool; answer = answer })
+after_stage pool answer Unknown = InStages pool answer
+
+-- what stands after a right line
+abbrev pub after_line : Progress → List ℕ → Progress
+after_line Begun line = InPool (bytes_eq line (bundle_line true)) pools.Begun
+after_line (InPool second progress) line = after_pool second progress line
+after_line (InRows pool lottery) line = after_row pool lottery (said_of pool line)
+after_line (InStages pool answer) line = after_stage pool answer (said_of pool line)
+after_line (Done bundle) line = Done bundle
+
+-- the kind of lines that run out: 12 where the pool's end is missing, and else 17
+abbrev pub missing_kind : Progress → ℕ
+missing_kind Begun = 17
+missing_kind (InPool second pools.Begun) = 12
+missing_kind (InPool second (pools.Versioned version)) = 12
+missing_kind (InPool second (pools.Inside pool passed)) = 12
+missing_kind (InPool second (pools.Ended pool)) = 17
+missing_kind (InRows pool lottery) = 17
+missing_kind (InStages pool answer) = 17
+missing_kind (Done bundle) = 17
+
+-- What the lines come to, with what stands behind the last LF. 17: bytes behind the last line
+abbrev pub at_last : ℕ → Progress → List ℕ → Result Bundle Fault
+at_last number (Done bundle) [] = Ok bundle
+at_last number progress bytes = Err (record { line = number; kind = missing_kind progress })
+
+-- a fault in the line of a number, or what comes of the later lines
+abbrev pub fault_or : Option ℕ → ℕ → Result Bundle Fault → Result Bundle Fault
+fault_or None number later = later
+fault_or (Some kind) number later = Err (record { line = number; kind = kind })
+
+-- the first line that has a fault, counting from a number, or the bundle
+abbrev pub read_lines : ℕ → Progress → List (List ℕ) → Result Bundle Fault
+read_lines number progress [] = at_last number progress []
+read_lines number progress (bytes ∷ []) = at_last number progress bytes
+read_lines number progress (line ∷ next ∷ later) =
+    fault_or (line_kind progress line) number (read_lines (number + 1) (after_line progress line) (next ∷ later))
+
+-- the bundle that the bytes spell, or their first fault
+abbrev pub read_bundle : List ℕ → Result Bundle Fault
+read_bundle bytes = read_lines 1 Begun (pieces_of bytes)

@@ -1,0 +1,7 @@
+use Rattle.std.proofs.Common.{◌≡◌, map, take, Some}
+use Rattle.bundle_definitions.specs.BundleReading.{signed_of}
+use Rattle.bundle_text.proofs.lines.signed_numbers.Given as goal
+
+-- the numbers of the fields so far
+abbrev pub invariant-loop-field : goal.invariant-loop-field
+invariant-loop-field l = signed_of (map (λ field. field.now) (take l.field-index l.fields)) ≡ Some l.numbers.items

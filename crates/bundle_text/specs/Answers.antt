@@ -1,0 +1,24 @@
+-- What reading a text answers.
+use Rattle.std.specs.Prelude.{◌≡◌, ℕ, Result, Ok, Err, ⊤}
+use Rattle.line_definitions.specs.Lines.{Fault}
+use Rattle.bundle_definitions.specs.BundleText.{Bundle}
+use Rattle.pool_model.specs.declared.building.BuildStop.{BuildStop}
+use Rattle.pool_model.specs.declared.building.BuildStop.TheVariants.{Kind, OutOfMemory as NoMemory}
+use Rattle.bundle_text.specs.declared.faults.BundleFault.{BundleFault}
+use Rattle.bundle_text.specs.declared.faults.ReadBundle.{ReadBundle}
+use Rattle.bundle_text.specs.declared.faults.ReadBundle.TheVariants.{Fault as fault, OutOfMemory}
+
+-- a fault as the definitions have it
+abbrev pub fault_of : BundleFault → Fault
+fault_of f = record { line = f.line; kind = f.kind }
+
+-- a bundle only where the bytes say this bundle, a fault only where they say this fault; want of memory may come at any time
+abbrev pub Reads : Result Bundle Fault → Result Bundle ReadBundle → Type 0
+Reads said (Ok bundle) = said ≡ Ok bundle
+Reads said (Err (fault f)) = said ≡ Err (fault_of f)
+Reads said (Err OutOfMemory) = ⊤
+
+-- what a stop at a line makes of the reading
+abbrev pub stopped : ℕ → BuildStop → ReadBundle
+stopped line (Kind kind) = fault (record { line = line; kind = kind })
+stopped line NoMemory = OutOfMemory

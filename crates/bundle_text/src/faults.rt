@@ -1,0 +1,30 @@
+//! Faults of the text of a bundle.
+
+use thiserror::Error;
+
+/// Where a text first goes wrong.
+#[derive(Clone, Copy, Debug, PartialEq, Eq)]
+pub struct BundleFault {
+    /// The first faulty line, counted from 1.
+    pub line: usize,
+    /// The lowest kind of fault in it:
+    /// - 1 to 12 within the pool's text, as there; 1 also where the pool's version isn't that of the bundle
+    /// - 13 the first line isn't that of a bundle of version 1 or 2
+    /// - 14 the line behind the pool isn't a total from 1 to 10^38
+    /// - 15 before any stage line, the line is neither a right panel line nor, behind one, a right stage line
+    /// - 16 behind a stage line, the line is neither a right stage line nor `done`; or behind a panel line it begins with `stage` and
+    ///   isn't right
+    /// - 17 the lines run out outside the pool's text, or anything follows `done`
+    pub kind: u8,
+}
+
+/// Why no bundle was read.
+#[derive(Debug, Drop, Error)]
+pub enum ReadBundle {
+    /// The bytes are not the text of a bundle.
+    #[error("fault {0:?}")]
+    Fault(BundleFault),
+    /// No memory was left.
+    #[error("out of memory")]
+    OutOfMemory,
+}

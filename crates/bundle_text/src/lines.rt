@@ -1,0 +1,183 @@
+//! The lines behind the pool: what one says.
+
+ghost use Rattle.std.specs.Prelude.{◌≡◌, ◌-◌, ◌^◌, ◌≤ℤ◌, pos, map, Some, IfOk, IfSome, option_map, unsigned_abs};
+ghost use Rattle.line_definitions.specs.Lines.{fields_of};
+ghost use Rattle.line_definitions.specs.Numbers.{number_up_to as number_in};
+ghost use Rattle.bundle_definitions.specs.BundleReading.{answer_line as line_in, panel_said as panel_in, stage_said as stage_in, row_of as row_in, stage_of as stage_words, numbers_up_to as numbers_in, signed_of, total_of as total_in};
+ghost use Rattle.bundle_text.specs.Progress.{said};
+
+use crate::ranges::{MAX_WEIGHT, is_row, is_stage, is_weight};
+use pool_model::{LotteryRow, Panel, Stage};
+use std::alloc::{AllocError, Global};
+use text_lines::{fields, number_up_to, signed_number};
+
+const TOTAL: &[u8] = b"total";
+
+const PANEL: &[u8] = b"panel";
+
+const STAGE: &[u8] = b"stage";
+
+const DONE: &[u8] = b"done";
+
+/// What a line behind the total says.
+#[derive(Debug, Drop)]
+pub(crate) enum AnswerLine {
+    Row(LotteryRow),
+    Stage(Stage),
+    /// It begins as a stage's line, and is none.
+    FaultyStage,
+    Done,
+    Unknown,
+}
+
+/// What a line behind the total says, where there are so many volunteers.
+pub(crate) fn answer_line(
+    alloc: Global,
+    volunteers: usize,
+    line: &[u8],
+) -> Result<AnswerLine, AllocError>
+    ensures { IfOk result (λ answer. said answer ≡ line_in volunteers (fields_of line.now)) }
+{
+    let fields = fields(alloc, line)?;
+    line_of(alloc, volunteers, &fields)
+}
+
+fn line_of(alloc: Global, volunteers: usize, fields: &[&[u8]]) -> Result<AnswerLine, AllocError>
+    ensures { IfOk result (λ answer. said answer ≡ line_in volunteers (map (λ field. field.now) fields.now)) }
+{
+    let Some((first, rest)) = fields.split_first() else {
+        return Ok(AnswerLine::Unknown);
+    };
+    let first = *first;
+    if first == PANEL {
+        panel_of(alloc, volunteers, rest)
+    } else if first == STAGE {
+        stage_of(alloc, volunteers, rest)
+    } else if first == DONE && rest.is_empty() {
+        Ok(AnswerLine::Done)
+    } else {
+        Ok(AnswerLine::Unknown)
+    }
+}
+
+/// What the fields behind `panel` say.
+fn panel_of(alloc: Global, volunteers: usize, fields: &[&[u8]]) -> Result<AnswerLine, AllocError>
+    ensures { IfOk result (λ answer. said answer ≡ panel_in volunteers (map (λ field. field.now) fields.now)) }
+{
+    let Some((weight, members)) = fields.split_first() else {
+        return Ok(AnswerLine::Unknown);
+    };
+    let Some(weight) = small_number(weight) else {
+        return Ok(AnswerLine::Unknown);
+    };
+    match numbers_up_to(alloc, volunteers, members)? {
+        Some(members) => Ok(row_of(volunteers, weight, members)),
+        None => Ok(AnswerLine::Unknown),
+    }
+}
+
+/// The row of this weight and these members, if they are right.
+fn row_of(volunteers: usize, weight: i128, members: Vec<usize>) -> AnswerLine
+    requires { pos 0 ≤ℤ weight }
+    ensures { said result ≡ row_in volunteers (Some (unsigned_abs weight)) (Some members.items) }
+{
+    let Some(panel) = Panel::new(members) else {
+        return AnswerLine::Unknown;
+    };
+    let row = LotteryRow::new(panel, weight);
+    if is_row(volunteers, &row) {
+        AnswerLine::Row(row)
+    } else {
+        AnswerLine::Unknown
+    }
+}
+
+/// What the fields behind `stage` say.
+fn stage_of(alloc: Global, volunteers: usize, fields: &[&[u8]]) -> Result<AnswerLine, AllocError>
+    ensures { IfOk result (λ answer. said answer ≡ stage_in volunteers (map (λ field. field.now) fields.now)) }
+{
+    let Some((cap, weights)) = fields.split_first() else {
+        return Ok(AnswerLine::FaultyStage);
+    };
+    let Some(cap) = signed_number(cap) else {
+        return Ok(AnswerLine::FaultyStage);
+    };
+    match signed_numbers(alloc, weights)? {
+        Some(weights) => Ok(right_stage(volunteers, Stage::new(weights, cap))),
+        None => Ok(AnswerLine::FaultyStage),
+    }
+}
+
+/// The stage, if it is right.
+fn right_stage(volunteers: usize, stage: Stage) -> AnswerLine
+    ensures { said result ≡ stage_words volunteers (Some stage.cap) (Some stage.weights) }
+{
+    if is_stage(volunteers, &stage) {
+        AnswerLine::Stage(stage)
+    } else {
+        AnswerLine::FaultyStage
+    }
+}
+
+/// The numbers up to `limit` of fields each of which spells one.
+fn numbers_up_to(
+    alloc: Global,
+    limit: usize,
+    fields: &[&[u8]],
+) -> Result<Option<Vec<usize>>, AllocError>
+    ensures { IfOk result (λ numbers. option_map (λ v. v.items) numbers ≡ numbers_in limit (map (λ field. field.now) fields.now)) }
+{
+    let mut numbers = Vec::with_capacity(alloc, fields.len())?;
+    for field in fields {
+        let Some(number) = number_up_to(limit, field) else {
+            return Ok(None);
+        };
+        numbers.push(number)?;
+    }
+    Ok(Some(numbers))
+}
+
+/// The numbers with a sign of fields each of which spells one.
+fn signed_numbers(alloc: Global, fields: &[&[u8]]) -> Result<Option<Vec<i128>>, AllocError>
+    ensures { IfOk result (λ numbers. option_map (λ v. v.items) numbers ≡ signed_of (map (λ field. field.now) fields.now)) }
+{
+    let mut numbers = Vec::with_capacity(alloc, fields.len())?;
+    for field in fields {
+        let Some(number) = signed_number(field) else {
+            return Ok(None);
+        };
+        numbers.push(number)?;
+    }
+    Ok(Some(numbers))
+}
+
+/// The number from 0 to 10^38 that the field spells.
+fn small_number(field: &[u8]) -> Option<i128>
+    ensures value { result ≡ option_map pos (number_in (10 ^ 38) field.now) }
+    ensures least { IfSome result (λ number. pos 0 ≤ℤ number) }
+{
+    match signed_number(field) {
+        Some(number) if 0 <= number && number <= MAX_WEIGHT => Some(number),
+        _ => None,
+    }
+}
+
+/// The total that a line gives.
+pub(crate) fn total_of(alloc: Global, line: &[u8]) -> Result<Option<i128>, AllocError>
+    ensures { IfOk result (λ total. total ≡ option_map pos (total_in (fields_of line.now))) }
+{
+    let fields = fields(alloc, line)?;
+    Ok(total_in_fields(&fields))
+}
+
+fn total_in_fields(fields: &[&[u8]]) -> Option<i128>
+    ensures { result ≡ option_map pos (total_in (map (λ field. field.now) fields.now)) }
+{
+    match fields {
+        [first, field] if *first == TOTAL => match small_number(field) {
+            Some(total) if is_weight(total) => Some(total),
+            _ => None,
+        },
+        _ => None,
+    }
+}

@@ -1,0 +1,158 @@
+//! What the lines that were read make of a bundle's text so far, and what one more makes of it.
+
+ghost use Rattle.std.specs.Prelude.{◌≡◌, IfOk};
+ghost use Rattle.pool_text.specs.Answers.{Tells};
+ghost use Rattle.pool_text.specs.Progress.{seen as pool_seen};
+ghost use Rattle.text_definitions.specs.PoolText.{version_line};
+ghost use Rattle.bundle_definitions.specs.BundleReading.{line_kind, after_line, Begun, InPool, InRows, InStages};
+ghost use Rattle.bundle_text.specs.Progress.{seen};
+
+use crate::lines::{AnswerLine, answer_line, total_of};
+use pool_model::{Answer, BuildStop, Certificate, Lottery, Pool};
+use pool_text::Progress as PoolProgress;
+use std::alloc::Global;
+
+const FIRST_VERSION: &[u8] = b"bundle\t1";
+
+const SECOND_VERSION: &[u8] = b"bundle\t2";
+
+/// The pool's first line in a bundle of version 1, and of version 2.
+const FIRST_POOL: &[u8] = b"pool\t1";
+
+const SECOND_POOL: &[u8] = b"pool\t2";
+
+/// The kind of a pool's first line that isn't of the bundle's version.
+const FORM: u8 = 1;
+
+/// The kind of a first line that is no bundle's.
+const VERSION: u8 = 13;
+
+/// The kind of a line behind the pool that is no total.
+const TOTAL: u8 = 14;
+
+/// The kind of a faulty line before any stage's.
+const ROW: u8 = 15;
+
+/// The kind of a faulty line behind a stage's, and of a faulty stage's behind a panel's.
+const STAGE: u8 = 16;
+
+/// The kind of lines that run out behind the pool, and of what follows the last line.
+pub(crate) const ENDING: u8 = 17;
+
+/// What right lines make of a text so far.
+#[derive(Debug, Drop)]
+pub(crate) enum Progress {
+    /// No line stood.
+    Begun,
+    /// The first line stood, of version 2 or 1, and the pool's lines up to now come to this.
+    InPool(bool, PoolProgress),
+    /// The total's line stood, and these panels' lines.
+    InRows(Pool, Lottery),
+    /// And these stages' lines, at least one.
+    InStages(Pool, Lottery, Certificate),
+    /// The last line stood.
+    Done(Pool, Answer),
+}
+
+/// What one more line makes of it. Stops with the lowest kind of fault that the line has.
+pub(crate) fn after(alloc: Global, progress: Progress, line: &[u8]) -> Result<Progress, BuildStop>
+    ensures kind { Tells (line_kind (seen progress) line.now) result }
+    ensures ok { IfOk result (λ next. seen next ≡ after_line (seen progress) line.now) }
+{
+    match progress {
+        Progress::Begun => first_line(line),
+        Progress::InPool(second, progress) => after_pool(alloc, second, progress, line),
+        Progress::InRows(pool, lottery) => after_row(alloc, pool, lottery, line),
+        Progress::InStages(pool, lottery, certificate) => {
+            after_stage(alloc, pool, lottery, certificate, line)
+        }
+        Progress::Done(_, _) => Err(BuildStop::Kind(ENDING)),
+    }
+}
+
+fn first_line(line: &[u8]) -> Result<Progress, BuildStop>
+    ensures kind { Tells (line_kind Begun line.now) result }
+    ensures ok { IfOk result (λ next. seen next ≡ after_line Begun line.now) }
+{
+    if line == FIRST_VERSION {
+        Ok(Progress::InPool(false, PoolProgress::Begun))
+    } else if line == SECOND_VERSION {
+        Ok(Progress::InPool(true, PoolProgress::Begun))
+    } else {
+        Err(BuildStop::Kind(VERSION))
+    }
+}
+
+/// The line is one of the pool, or the total's behind the pool's end.
+fn after_pool(
+    alloc: Global,
+    second: bool,
+    progress: PoolProgress,
+    line: &[u8],
+) -> Result<Progress, BuildStop>
+    ensures kind { Tells (line_kind (InPool second (pool_seen progress)) line.now) result }
+    ensures ok { IfOk result (λ next. seen next ≡ after_line (InPool second (pool_seen progress)) line.now) }
+{
+    match progress {
+        PoolProgress::Begun if line != pool_line(second) => Err(BuildStop::Kind(FORM)),
+        PoolProgress::Ended(pool) => match total_of(alloc, line)? {
+            Some(total) => Ok(Progress::InRows(pool, Lottery::new(total, Vec::new(alloc)))),
+            None => Err(BuildStop::Kind(TOTAL)),
+        },
+        progress => Ok(Progress::InPool(second, pool_text::after(alloc, progress, line)?)),
+    }
+}
+
+/// The pool's first line in a bundle of version 2, or 1.
+fn pool_line(second: bool) -> &'static [u8]
+    ensures { result.now ≡ version_line second }
+{
+    if second { SECOND_POOL } else { FIRST_POOL }
+}
+
+/// The line stands behind the total and before any stage's.
+fn after_row(
+    alloc: Global,
+    pool: Pool,
+    mut lottery: Lottery,
+    line: &[u8],
+) -> Result<Progress, BuildStop>
+    ensures kind { Tells (line_kind (InRows pool lottery) line.now) result }
+    ensures ok { IfOk result (λ next. seen next ≡ after_line (InRows pool lottery) line.now) }
+{
+    let behind = !lottery.rows().is_empty();
+    match answer_line(alloc, pool.volunteers().len(), line)? {
+        AnswerLine::Row(row) => {
+            lottery.add_row(row)?;
+            Ok(Progress::InRows(pool, lottery))
+        }
+        AnswerLine::Stage(stage) if behind => {
+            let mut certificate = Certificate::new(Vec::new(alloc));
+            certificate.add_stage(stage)?;
+            Ok(Progress::InStages(pool, lottery, certificate))
+        }
+        AnswerLine::FaultyStage if behind => Err(BuildStop::Kind(STAGE)),
+        _ => Err(BuildStop::Kind(ROW)),
+    }
+}
+
+/// The line stands behind a stage's.
+fn after_stage(
+    alloc: Global,
+    pool: Pool,
+    lottery: Lottery,
+    mut certificate: Certificate,
+    line: &[u8],
+) -> Result<Progress, BuildStop>
+    ensures kind { Tells (line_kind (InStages pool (record { lottery = lottery; stages = certificate })) line.now) result }
+    ensures ok { IfOk result (λ next. seen next ≡ after_line (InStages pool (record { lottery = lottery; stages = certificate })) line.now) }
+{
+    match answer_line(alloc, pool.volunteers().len(), line)? {
+        AnswerLine::Stage(stage) => {
+            certificate.add_stage(stage)?;
+            Ok(Progress::InStages(pool, lottery, certificate))
+        }
+        AnswerLine::Done => Ok(Progress::Done(pool, Answer::new(lottery, certificate))),
+        _ => Err(BuildStop::Kind(STAGE)),
+    }
+}

@@ -1,0 +1,4 @@
+pub mod Tickets
+pub mod Dice
+pub mod Seal
+pub mod Draw

@@ -1,0 +1,2 @@
+pub mod DrawnRow
+pub mod Totals

@@ -1,0 +1,16 @@
+//! A public draw from a bundle: the seal of its text, and the panel of the ticket that the digits of dice name, drawn only under the
+//! seal that is kept. Below stand the words of `draw_definitions`,
+//! `tickets`, and the bundles of `bundle_text`.
+#![tactic(auto)]
+
+mod agreeing;
+mod drawing;
+mod drawn;
+mod sealing;
+#[cfg(test)]
+mod tests;
+
+pub use agreeing::total_agrees;
+pub use drawing::draw;
+pub use drawn::{Draw, DrawStop};
+pub use sealing::seal;

@@ -1,0 +1,139 @@
+-- Groups of digits: their size, their numbers, and which is the first that is accepted.
+use Rattle.std.proofs.Common.{◌≡◌, ℕ, zero, suc, ◌+◌, ◌-◌, ◌*◌, ◌/◌, ◌^◌, ◌<◌, ◌≤◌, Bool, true, false, not, List, length, get_or, take, pos, refl, sym, ap, ap₂, ◌∙◌, arith, Some, None, ⊎_elim}
+use Rattle.std.specs.Prelude.{position, Ok, Err}
+use Rattle.basic_laws.proofs.Found.{position-None}
+use Rattle.draw_definitions.specs.declared.Named.{Named}
+use Rattle.draw_definitions.specs.declared.DiceStop.TheVariants.{MoreDigits}
+use Rattle.std.specs.Char.{digit_value, is_ascii_digit}
+use Rattle.std.specs.List.{find, range_with_len}
+use Rattle.std.specs.Str.Parse.{digits_value}
+use Rattle.std.proofs.lemmas.Int.Digits.{digits_value_more}
+use Rattle.std.proofs.lemmas.Bool.{cases_lt, false≢true, lt-ltb}
+use Rattle.std.proofs.lemmas.Bool.Decides.{nat_tests}
+use Rattle.std.proofs.Math.Nat.{le-div_iff_mul-le, le_antisymm, pow-le-pow_right, pow-suc}
+use Rattle.draw_definitions.specs.Dice.{first_accepted, group_at, group_size, is_accepted, named_at, share}
+use Rattle.tickets.specs.declared.dice.Groups.{Groups}
+use Rattle.tickets.specs.Reading.{AreDigits, AreGroupsOf}
+use Rattle.draw_definitions.proofs.DiceLemmas.{share-within, size-enough, size-least, size-some, ticket-below}
+
+-- ---- sizes
+
+pub is_group_size : (total size : ℕ) → 1 ≤ size → total ≤ 10 ^ size → ((other : ℕ) → 1 ≤ other → other < size → 10 ^ other < total) → size ≡ group_size total
+is_group_size total size some enough smaller =
+    let most = size-least total size some enough in
+    ⊎_elim
+    (λ (less : group_size total < size). let h = smaller (group_size total) (size-some total) less in absurd (omega (arith, size-enough total)))
+    (λ (least : size ≤ group_size total). le_antisymm least most)
+    (cases_lt (group_size total) size)
+
+-- a power of ten below 10^38 has a smaller exponent
+pub exponent-below : (size : ℕ) → 10 ^ size < 10 ^ 38 → size < 38
+exponent-below size h =
+    ⊎_elim (λ (less : size < 38). less) (λ (more : 38 ≤ size). let l = pow-le-pow_right {n = 10} (omega arith) more in absurd (omega arith)) (cases_lt size 38)
+
+-- there are at most 10^38 groups
+pub most_groups : (total : ℕ) (groups : Groups) → AreGroupsOf total groups → total * groups.share ≤ 10 ^ 38
+most_groups total groups are =
+    let few : group_size total ≤ 38 = omega (arith, are.size, are.few) in
+    let power = pow-le-pow_right {n = 10} (omega arith) {i = group_size total} {j = 38} few in
+    omega (arith, share-within total, power, ap (λ n. total * n) are.share)
+
+pub some_digits : (total : ℕ) (groups : Groups) → AreGroupsOf total groups → 1 ≤ groups.size
+some_digits total groups are = omega (arith, are.size, size-some total)
+
+-- a whole group lies within the digits
+pub group_inside : (digits size place : ℕ) → 0 < size → place < digits / size → (place + 1) * size ≤ digits
+group_inside digits size place some l = (le-div_iff_mul-le {k = size} {x = place + 1} {y = digits} some).0 (omega arith)
+
+-- ---- digits
+
+pub digit_is : (byte : ℕ) → is_ascii_digit byte ≡ true → (digit_value byte ≡ byte - 48) × (48 ≤ byte) × (byte ≤ 57)
+digit_is byte h = (grind (arith, nat_tests), grind (arith, nat_tests), grind (arith, nat_tests))
+
+-- one more digit
+pub next_value : (digits : List ℕ) (i value : ℕ) → i < length digits → is_ascii_digit (get_or digits i 0) ≡ true → value ≡ digits_value 10 (take i digits) → value * 10 + (get_or digits i 0 - 48) ≡ digits_value 10 (take (i + 1) digits)
+next_value digits i value l digit is = omega (arith, digits_value_more 10 digits i l, (digit_is (get_or digits i 0) digit).0)
+
+pub next_small : (value i digit : ℕ) → value < 10 ^ i → digit ≤ 9 → value * 10 + digit < 10 ^ (i + 1)
+next_small value i digit small few = let e : i + 1 ≡ suc i = omega arith in rw e (omega (arith, pow-suc 10 i))
+
+-- a power of ten with a smaller exponent than 38
+pub small-power : (i : ℕ) → i < 38 → 10 ^ i ≤ 10 ^ 37
+small-power i l = pow-le-pow_right {n = 10} (omega arith) {i = i} {j = 37} (omega arith)
+
+-- ---- the first group that is accepted
+
+pub find-first : (p : ℕ → Bool) (from n k : ℕ) → k < n → p (from + k) ≡ true → ((j : ℕ) → j < k → p (from + j) ≡ false) → find p (range_with_len from n) ≡ Some (from + k)
+find-first p from zero k l e before = absurd (omega arith)
+find-first p from (suc n) zero l e before =
+    let same : from + 0 ≡ from = omega arith in
+    let here : p from ≡ true = rw same at e in
+    rw (here, same) refl
+find-first p from (suc n) (suc k) l e before =
+    let same : from + 0 ≡ from = omega arith in
+    let here : p from ≡ false = rw same at (before 0 (omega arith)) in
+    let next : from + suc k ≡ from + 1 + k = omega arith in
+    let rest : find p (range_with_len (from + 1) n) ≡ Some (from + 1 + k) =
+    find-first p (from + 1) n k (omega arith) (rw next at e) (λ j m. let e : from + suc j ≡ from + 1 + j = omega arith in rw e at (before (suc j) (omega arith))) in
+    rw (here, next) rest
+
+pub find-nothing : (p : ℕ → Bool) (from n : ℕ) → ((j : ℕ) → j < n → p (from + j) ≡ false) → find p (range_with_len from n) ≡ None
+find-nothing p from zero before = refl
+find-nothing p from (suc n) before =
+    let same : from + 0 ≡ from = omega arith in
+    let here : p from ≡ false = rw same at (before 0 (omega arith)) in
+    let rest : find p (range_with_len (from + 1) n) ≡ None =
+    find-nothing p (from + 1) n (λ j m. let e : from + suc j ≡ from + 1 + j = omega arith in rw e at (before (suc j) (omega arith))) in
+    rw here rest
+
+plain : (n : ℕ) → 0 + n ≡ n
+plain n = omega arith
+
+pub find-first_from_zero : (p : ℕ → Bool) (n k : ℕ) → k < n → p k ≡ true → ((j : ℕ) → j < k → p j ≡ false) → find p (range_with_len 0 n) ≡ Some k
+find-first_from_zero p n k l e before = find-first p 0 n k l (rw (plain k) e) (λ j m. rw (plain j) (before j m)) ∙ ap Some (plain k)
+
+pub find-nothing_from_zero : (p : ℕ → Bool) (n : ℕ) → ((j : ℕ) → j < n → p j ≡ false) → find p (range_with_len 0 n) ≡ None
+find-nothing_from_zero p n before = find-nothing p 0 n (λ j m. rw (plain j) (before j m))
+
+-- ---- what digits name
+
+-- where no byte is another one, all are digits
+pub digits_alone : (digits : List ℕ) → position (λ byte. not (is_ascii_digit byte)) digits ≡ None → AreDigits digits
+digits_alone digits e = record { each = λ place l. affirmed (is_ascii_digit (get_or digits place 0)) (position-None (λ byte. not (is_ascii_digit byte)) digits place 0 e l) }
+  where
+    affirmed : (b : Bool) → not b ≡ false → b ≡ true
+    affirmed true h = refl
+    affirmed false h = absurd (false≢true (sym h))
+
+module _ (total : ℕ) (groups : Groups) (digits : List ℕ) (are : AreGroupsOf total groups) where
+  abbrev is_accepted_at : ℕ → Bool
+  is_accepted_at place = is_accepted total (group_at (group_size total) digits place)
+
+  -- the first accepted group names its ticket
+  pub names : (place group : ℕ) → place < length digits / groups.size → group ≡ group_at groups.size digits place → group < total * groups.share →
+      ((before : ℕ) → before < place → is_accepted_at before ≡ false) →
+      Ok (record { ticket = pos (group / groups.share); used = (place + 1) * groups.size }) ≡ named_at total digits (first_accepted total digits)
+  names place group l is less before =
+      let here : group ≡ group_at (group_size total) digits place = is ∙ ap (λ size. group_at size digits place) are.size in
+      let shares : total * groups.share ≡ total * share total = ap (λ n. total * n) are.share in
+      let accepted : is_accepted_at place ≡ true = lt-ltb (group_at (group_size total) digits place) (total * share total) (omega (arith, here)) in
+      let sized : length digits / groups.size ≡ length digits / group_size total = ap (λ size. length digits / size) are.size in
+      let found : first_accepted total digits ≡ Some place = find-first_from_zero is_accepted_at (length digits / group_size total) place (omega arith) accepted before in
+      let ticket : group / groups.share ≡ group_at (group_size total) digits place / share total = ap₂ (λ g n. g / n) here are.share in
+      let used : (place + 1) * groups.size ≡ (place + 1) * group_size total = ap (λ size. (place + 1) * size) are.size in
+      ap₂ (λ (t u : ℕ). let named : Named = record { ticket = pos t; used = u } in Ok named) ticket used ∙ sym (ap (named_at total digits) found)
+
+  -- where no group is accepted, more digits are wanted
+  pub names_nothing : (places : ℕ) → length digits / groups.size ≤ places → ((place : ℕ) → place < places → is_accepted_at place ≡ false) →
+      Err (MoreDigits (length digits)) ≡ named_at total digits (first_accepted total digits)
+  names_nothing places l before =
+      let sized : length digits / groups.size ≡ length digits / group_size total = ap (λ size. length digits / size) are.size in
+      let nothing : first_accepted total digits ≡ None = find-nothing_from_zero is_accepted_at (length digits / group_size total) (λ place m. before place (omega arith)) in
+      sym (ap (named_at total digits) nothing)
+
+-- what is named is a ticket of the total
+pub named_below : (total group : ℕ) (groups : Groups) → AreGroupsOf total groups → 1 ≤ total → group < total * groups.share → group / groups.share < total
+named_below total group groups are some less =
+    let shares : total * groups.share ≡ total * share total = ap (λ n. total * n) are.share in
+    let ticket = ticket-below total group total some (omega arith) in
+    rw are.share ticket

@@ -1,0 +1,12 @@
+use Rattle.std.proofs.Common.{◌≡◌, take}
+use Rattle.std.specs.Prelude.{sum}
+use Rattle.draw_definitions.specs.Tickets.{weights_of}
+use Rattle.tickets.proofs.Ends.{ends_of}
+use Rattle.tickets.proofs.ranges.table.Given as goal
+
+-- where the ranges of the rows so far end, the last of them here
+abbrev pub invariant-loop-row : goal.invariant-loop-row
+invariant-loop-row l = record {
+  ends : l.ends.items ≡ ends_of 0 (take l.row-index (weights_of l.lottery));
+  last : l.end ≡ sum (take l.row-index (weights_of l.lottery));
+}

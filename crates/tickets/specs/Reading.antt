@@ -1,0 +1,14 @@
+-- How digits are read in groups.
+use Rattle.std.specs.Prelude.{◌≡◌, ℕ, ◌<◌, ◌≤◌, true, List, length, slice_index}
+use Rattle.std.specs.Char.{is_ascii_digit}
+use Rattle.draw_definitions.specs.Dice.{group_size, share}
+use Rattle.tickets.specs.declared.dice.Groups.{Groups}
+
+-- '0' to '9' alone
+pub record AreDigits (digits : List ℕ) : Type 0 where
+  pub each : (place : ℕ) → place < length digits → is_ascii_digit (slice_index digits place) ≡ true
+
+pub record AreGroupsOf (total : ℕ) (groups : Groups) : Type 0 where
+  pub size : groups.size ≡ group_size total
+  pub few : groups.size ≤ 38
+  pub share : groups.share ≡ share total
