@@ -1,4 +1,4 @@
-use Rattle.std.proofs.Common.{◌∙◌, ap}
+use Rattle.std.proofs.Common.{ap}
 use Rattle.std.proofs.lemmas.Result.{IfOk-weaker}
 use Rattle.run_definitions.specs.Run.{Ending}
 use Rattle.command_shell.specs.declared.status.Printed.TheVariants as printed
