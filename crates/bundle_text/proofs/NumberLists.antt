@@ -1,9 +1,10 @@
 -- Lists of fields each of which spells a number, one more at the end, and one that spells none.
-use Rattle.std.proofs.Common.{◌≡◌, ◌≢◌, ℕ, ◌+◌, ◌<◌, ◌≤◌, ◌^◌, List, [], ◌∷◌, ◌++◌, map, length, get_or, take, drop, refl, sym, ◌∙◌, ap, subst, arith, true, false, Option, Some, None, option_map, ℤ, pos, negsuc, ◌≤ℤ◌, Bor}
+use Rattle.std.proofs.Common.{◌≡◌, ◌≢◌, ℕ, ◌+◌, ◌-◌, ◌<◌, ◌≤◌, ◌^◌, List, [], ◌∷◌, ◌++◌, map, length, get_or, take, drop, refl, sym, ◌∙◌, ap, subst, arith, true, false, Option, Some, None, option_map, ℤ, pos, negsuc, ◌≤ℤ◌, Bor}
 use Rattle.std.specs.Prelude.{int_le}
 use Rattle.std.proofs.lemmas.Bool.{leb-true, le-leb, false≢true}
 use Rattle.std.specs.Fmt.{decimal, signed_decimal}
 use Rattle.std.proofs.lemmas.Int.{ints}
+use Rattle.std.proofs.lemmas.Fmt.{decimal_by_steps_wide}
 use Rattle.std.proofs.lemmas.List.{map-append, take_more, drop_more, take-append-drop}
 use Rattle.line_definitions.specs.Numbers.{number_up_to, signed_up_to}
 use Rattle.line_definitions.proofs.NumberLemmas.{number_again, no_number, signed_again, signed_spelled}
@@ -104,3 +105,20 @@ small_none field read h other = sym (ap (option_map pos) (no_number (10 ^ 38) fi
     none n most same =
         let again : signed_up_to stage_limit (decimal n) ≡ Some (pos n) = signed_again stage_limit (pos n) (omega arith) (omega arith) in
         other n most (sym h ∙ (ap (signed_up_to stage_limit) (sym same) ∙ again))
+
+-- one digit spells its number
+decimal_digit : (d : ℕ) → d < 10 → decimal d ≡ (48 + d) ∷ []
+decimal_digit d l = decimal_by_steps_wide (λ m digits. m < 10 → digits ≡ (48 + m) ∷ []) (λ m small again. refl) (λ m digits great k small. absurd (omega arith)) d (omega arith) l
+
+pub digit_said : (fields : List ℕ) (byte : ℕ) → fields ≡ byte ∷ [] → 48 ≤ byte → byte ≤ 57 → Some (pos (byte - 48)) ≡ signed_up_to stage_limit fields
+digit_said fields byte one least most =
+    let d = byte - 48 in
+    let again : signed_up_to stage_limit (decimal d) ≡ Some (pos d) = signed_again stage_limit (pos d) (omega arith) (omega arith) in
+    let same : 48 + d ≡ byte = omega arith in
+    let spelled : decimal d ≡ fields = decimal_digit d (omega arith) ∙ (ap (λ b. b ∷ []) same ∙ sym one) in
+    sym (subst (λ f. signed_up_to stage_limit f ≡ Some (pos d)) spelled again)
+
+pub one_byte : (fields : List ℕ) (d : ℕ) → length fields ≡ 1 → fields ≡ get_or fields 0 d ∷ []
+one_byte [] d h = absurd (omega arith)
+one_byte (byte ∷ []) d h = refl
+one_byte (byte ∷ other ∷ fields) d h = absurd (omega arith)

@@ -1,8 +1,8 @@
 //! The lines behind the pool: what one says.
 
-ghost use Rattle.std.specs.Prelude.{◌≡◌, ◌-◌, ◌^◌, ◌≤ℤ◌, pos, map, Some, IfOk, IfSome, option_map, unsigned_abs};
+ghost use Rattle.std.specs.Prelude.{◌≡◌, ◌≤◌, ◌-◌, ◌^◌, ◌≤ℤ◌, pos, map, Some, IfOk, IfSome, option_map, unsigned_abs};
 ghost use Rattle.line_definitions.specs.Lines.{fields_of};
-ghost use Rattle.line_definitions.specs.Numbers.{number_up_to as number_in};
+ghost use Rattle.line_definitions.specs.Numbers.{number_up_to as number_in, signed_up_to};
 ghost use Rattle.bundle_definitions.specs.BundleReading.{answer_line as line_in, panel_said as panel_in, stage_said as stage_in, row_of as row_in, stage_of as stage_words, numbers_up_to as numbers_in, signed_of, total_of as total_in};
 ghost use Rattle.bundle_text.specs.Progress.{said};
 
@@ -143,12 +143,32 @@ fn signed_numbers(alloc: Global, fields: &[&[u8]]) -> Result<Option<Vec<i128>>, 
 {
     let mut numbers = Vec::with_capacity(alloc, fields.len())?;
     for field in fields {
-        let Some(number) = signed_number(field) else {
+        let Some(number) = weight_of(field) else {
             return Ok(None);
         };
         numbers.push(number)?;
     }
     Ok(Some(numbers))
+}
+
+/// The number with a sign that the field spells. One digit, which most weights are, is read at once.
+fn weight_of(field: &[u8]) -> Option<i128>
+    ensures { result ≡ signed_up_to (2 ^ 127 - 1) field.now }
+{
+    if field.len() == 1 && field[0].is_ascii_digit() {
+        Some(digit(field[0]))
+    } else {
+        signed_number(field)
+    }
+}
+
+/// The number of a digit.
+fn digit(byte: u8) -> i128
+    requires least { 48 ≤ byte }
+    requires most { byte ≤ 57 }
+    ensures { result ≡ pos (byte - 48) }
+{
+    i128::from(byte - b'0')
 }
 
 /// The number from 0 to 10^38 that the field spells.

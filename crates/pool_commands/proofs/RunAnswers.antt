@@ -1,14 +1,12 @@
 -- A stop of the run that is told is what the run asks for.
-use Rattle.std.proofs.Common.{◌≡◌, Err, Some, subst, sym}
+use Rattle.std.proofs.Common.{Err}
 use Rattle.pool_definitions.specs.Pool.{Pool}
 use Rattle.search_definitions.specs.Classes.{classes_of}
 use Rattle.run_definitions.specs.Run.{Ending, Limits, run_limits}
 use Rattle.leximin_run.specs.Answers.{TellsEnding, stood}
 use Rattle.leximin_run.specs.declared.stops.Stop.{Stop}
 use Rattle.leximin_run.specs.declared.stops.Stop.TheVariants.{TooWide, TotalPasses, PivotsSpent, NodesSpent, OutOfMemory}
-use Rattle.command_shell.specs.declared.status.Cause.TheVariants.{Spent}
-use Rattle.command_shell.specs.Answers.{Saying, Stops}
-use Rattle.pool_answers.specs.Lines.{pivots_spent_line}
+use Rattle.command_shell.specs.Answers.{Saying}
 use Rattle.pool_answers.specs.Lottery.{LotteryMeans}
 use Rattle.pool_commands.specs.Found.{TellsStop}
 

@@ -9,8 +9,8 @@ ghost use Rattle.pool_text.specs.Progress.{seen, line_due};
 
 use crate::entries::{FORM, read_entry};
 use pool_model::{BuildStop, Pool};
-use text_definitions::Passed;
 use std::alloc::Global;
+use text_definitions::Passed;
 use text_lines::number_up_to;
 
 /// The greatest size of a panel.

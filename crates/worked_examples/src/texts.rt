@@ -1,23 +1,36 @@
-//! Texts byte for byte, each kind of fault of a pool's text, and answers that no bundle may have.
+//! Texts byte for byte, each kind of fault of a pool's text and of a bundle's, and answers that no bundle may have.
 
-ghost use Rattle.std.specs.Prelude.{◌≡◌, [], ◌∷◌, ◌++◌, ◌+◌, ◌-◌, ◌^◌, codes, Ok, Err, pos, negsuc};
+ghost use Rattle.std.specs.Prelude.{◌≡◌, [], ◌∷◌, ◌++◌, ◌+◌, ◌-◌, ◌^◌, codes, length, Ok, Err, pos, negsuc};
 ghost use Rattle.pool_definitions.specs.WorkedExamples.{four, after_dropout, row, stage};
 ghost use Rattle.text_definitions.specs.PoolText.{spelling};
 ghost use Rattle.text_definitions.specs.PoolReading.{read};
 ghost use Rattle.bundle_definitions.specs.Ranges.{IsInRanges};
+ghost use Rattle.text_definitions.specs.WorkedExamples.{housed};
 ghost use Rattle.bundle_definitions.specs.BundleText.{bundle_text};
-ghost use Rattle.worked_examples.specs.Bundles.{answer_of, four_text, head, head_with_value, printed_answer, printed_text};
+ghost use Rattle.bundle_definitions.specs.BundleReading.{read_bundle};
+ghost use Rattle.worked_examples.specs.Bundles.{answer_of, four_text, head, head_with_value, housed_answer, housed_bundle_text, housed_text, lines_of_four, printed_answer, printed_text, single};
 
 /// The text of two women and two men, and the bundle that the program prints for them, byte for byte.
 pub fn spelled_texts()
     ensures pool { spelling four ≡ four_text }
     ensures pool_is_read { read four_text ≡ Ok four }
     ensures bundle { bundle_text four printed_answer ≡ printed_text }
+    ensures bundle_is_read { read_bundle printed_text ≡ Ok (record { pool = four; answer = printed_answer }) }
+{}
+
+/// The text of the same four, of whom a and c share a household, and a bundle of them, byte for byte.
+pub fn housed_texts()
+    ensures pool { spelling housed ≡ housed_text }
+    ensures pool_is_read { read housed_text ≡ Ok housed }
+    ensures pool_length { length housed_text ≡ 166 }
+    ensures bundle { bundle_text housed housed_answer ≡ housed_bundle_text }
+    ensures bundle_is_read { read_bundle housed_bundle_text ≡ Ok (record { pool = housed; answer = housed_answer }) }
+    ensures bundle_length { length housed_bundle_text ≡ 263 }
 {}
 
 /// Each kind of fault of a pool's text, from 1 to 12.
 pub fn faulty_texts()
-    ensures form { read (codes "pool\t2\n") ≡ Err (record { line = 1; kind = 1 }) }
+    ensures form { read (codes "pool\t3\n") ≡ Err (record { line = 1; kind = 1 }) }
     ensures size { read (codes "pool\t1\nsize\t0\n") ≡ Err (record { line = 2; kind = 2 }) }
     ensures category_repeated { read (head_with_value ++ codes "category\tg\n") ≡ Err (record { line = 5; kind = 3 }) }
     ensures value_repeated { read (head_with_value ++ codes "value\tx\t0\t1\n") ≡ Err (record { line = 5; kind = 4 }) }
@@ -29,6 +42,37 @@ pub fn faulty_texts()
     ensures limit { read (head ++ codes "category\t\n") ≡ Err (record { line = 3; kind = 10 }) }
     ensures not_utf8 { read (head ++ codes "category\t" ++ 255 ∷ 10 ∷ []) ≡ Err (record { line = 3; kind = 11 }) }
     ensures missing_end { read head ≡ Err (record { line = 3; kind = 12 }) }
+{}
+
+/// Where households stand and may not, and where none stands: the same lines as a text of version 1; no household line before the end
+/// and before a standing line in version 2; two out of order; one without a name; one behind a standing line.
+pub fn faulty_households()
+    ensures first_version { read (lines_of_four 1 ++ codes "household\ta\th\nhousehold\tc\th\nend\n") ≡ Err (record { line = 10; kind = 1 }) }
+    ensures none_before_end { read (lines_of_four 2 ++ codes "end\n") ≡ Err (record { line = 10; kind = 1 }) }
+    ensures none_before_standing { read (lines_of_four 2 ++ codes "gone\ta\n") ≡ Err (record { line = 10; kind = 1 }) }
+    ensures out_of_order { read (lines_of_four 2 ++ codes "household\tc\th\nhousehold\ta\th\nend\n") ≡ Err (record { line = 11; kind = 9 }) }
+    ensures no_name { read (lines_of_four 2 ++ codes "household\ta\t\n") ≡ Err (record { line = 10; kind = 10 }) }
+    ensures behind_a_standing { read (lines_of_four 2 ++ codes "household\ta\th\ngone\ta\nhousehold\tc\th\n") ≡ Err (record { line = 12; kind = 1 }) }
+{}
+
+/// Each kind of fault that a bundle's text has besides those of its pool's: another first line; a pool of another version; no total;
+/// no panel, a member that the pool hasn't, a stage before any panel; a faulty stage behind a panel and behind a stage, a panel behind
+/// a stage; lines that run out within the pool, and behind it; bytes behind the last line.
+pub fn faulty_bundles()
+    ensures version { read_bundle (codes "bundle\t3\n") ≡ Err (record { line = 1; kind = 13 }) }
+    ensures other_version { read_bundle (codes "bundle\t2\npool\t1\n") ≡ Err (record { line = 2; kind = 1 }) }
+    ensures in_the_pool { read_bundle (codes "bundle\t1\n" ++ head ++ codes "category\t\n") ≡ Err (record { line = 4; kind = 10 }) }
+    ensures total { read_bundle (single ++ codes "total\t0\n") ≡ Err (record { line = 6; kind = 14 }) }
+    ensures no_panel { read_bundle (single ++ codes "total\t1\ndone\n") ≡ Err (record { line = 7; kind = 15 }) }
+    ensures no_member { read_bundle (single ++ codes "total\t1\npanel\t1\t1\n") ≡ Err (record { line = 7; kind = 15 }) }
+    ensures stage_first { read_bundle (single ++ codes "total\t1\nstage\t0\t0\n") ≡ Err (record { line = 7; kind = 15 }) }
+    ensures first_stage { read_bundle (single ++ codes "total\t1\npanel\t1\t0\nstage\t-0\t0\n") ≡ Err (record { line = 8; kind = 16 }) }
+    ensures later_stage { read_bundle (single ++ codes "total\t1\npanel\t1\t0\nstage\t0\t0\nstage\t0\n") ≡ Err (record { line = 9; kind = 16 }) }
+    ensures panel_last { read_bundle (single ++ codes "total\t1\npanel\t1\t0\nstage\t0\t0\npanel\t1\t0\n") ≡ Err (record { line = 9; kind = 16 }) }
+    ensures pool_cut { read_bundle (codes "bundle\t1\n" ++ head) ≡ Err (record { line = 4; kind = 12 }) }
+    ensures cut { read_bundle (single ++ codes "total\t1\n") ≡ Err (record { line = 7; kind = 17 }) }
+    ensures empty { read_bundle [] ≡ Err (record { line = 1; kind = 17 }) }
+    ensures behind_done { read_bundle (printed_text ++ 48 ∷ []) ≡ Err (record { line = 18; kind = 17 }) }
 {}
 
 /// The first faulty line tells, in it the lowest kind, and nothing may stand behind the end.

@@ -1,7 +1,7 @@
 use Rattle.std.proofs.Common.{◌≡◌, ◌<◌, ◌∙◌, ◌++◌, ◌∷◌, [], ap, codes, get_or, length, map, take}
 use Rattle.std.proofs.lemmas.List.{take_all}
 use Rattle.pool_definitions.specs.Pool.{volunteer}
-use Rattle.line_definitions.specs.Lines.{line_feed, tab, tabbed}
+use Rattle.line_definitions.specs.Lines.{line_feed, tabbed}
 use Rattle.line_definitions.proofs.LineLemmas.{line_written}
 use Rattle.pool_answers.proofs.PanelLines.{one_id}
 use Rattle.pool_commands.proofs.LineLemmas.{member_in_range}

@@ -16,3 +16,7 @@ returns-clause-pool_is_read c = refl
 pub returns-clause-bundle : goal.returns-clause-bundle
 unfolding digits is_utf8 chars encode
 returns-clause-bundle c = refl
+
+pub returns-clause-bundle_is_read : goal.returns-clause-bundle_is_read
+unfolding digits is_utf8 chars encode
+returns-clause-bundle_is_read c = refl

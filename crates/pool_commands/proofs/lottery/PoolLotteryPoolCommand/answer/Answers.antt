@@ -1,4 +1,4 @@
-use Rattle.std.proofs.Common.{◌∙◌, ap}
+use Rattle.std.proofs.Common.{ap}
 use Rattle.std.proofs.lemmas.Result.{IfOk-weaker}
 use Rattle.run_definitions.specs.Run.{Ending, run_limits}
 use Rattle.search_definitions.specs.Classes.{are_alike}
