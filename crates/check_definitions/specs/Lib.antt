@@ -1,0 +1,4 @@
+pub mod Caps
+pub mod Reasons
+pub mod Visits
+pub mod WorkedChecks
