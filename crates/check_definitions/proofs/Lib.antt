@@ -1,0 +1,3 @@
+pub mod CheckSearch
+pub mod CheckClasses
+pub mod PassedCaps
