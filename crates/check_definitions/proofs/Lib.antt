@@ -1,3 +1,5 @@
 pub mod CheckSearch
 pub mod CheckClasses
 pub mod PassedCaps
+pub mod Repeated
+pub mod ReasonsStand
