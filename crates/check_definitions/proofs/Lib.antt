@@ -3,3 +3,5 @@ pub mod CheckClasses
 pub mod PassedCaps
 pub mod Repeated
 pub mod ReasonsStand
+pub mod Budget
+pub mod GoesOn

@@ -62,9 +62,9 @@ lottery_reasons pool lottery =
     -- 3: the weights don't sum to the total
     reason 0 3 (nobody_unless (lottery.total == sum_by (λ row. row.weight) lottery.rows)) ∷ []
 
--- the reasons of a stage after earlier ones
-abbrev pub stage_reasons : Pool → Lottery → List Stage → Stage → List (Option Refusal)
-stage_reasons pool lottery earlier stage =
+-- the reasons of a stage, after earlier ones, that come before its cap
+abbrev pub reasons_before_cap : Pool → Lottery → List Stage → Stage → List (Option Refusal)
+reasons_before_cap pool lottery earlier stage =
     let number = length earlier + 1 in
     -- 4: somebody who is unsettled has a weight below 0
     reason number 4 (one (find (λ i. int_lt (weight_of stage i) (pos 0)) (unsettled pool earlier))) ∷
@@ -73,11 +73,20 @@ stage_reasons pool lottery earlier stage =
     -- 6: somebody whom the stage settles has another count than the least of them
     reason number 6 (one (find (λ i. not (count lottery i == shared_count pool lottery earlier stage)) (settling pool earlier stage))) ∷
     -- 7: somebody who is unsettled has a lower count
-    reason number 7 (one (find (λ i. nat_lt (count lottery i) (shared_count pool lottery earlier stage)) (unsettled pool earlier))) ∷
+    reason number 7 (one (find (λ i. nat_lt (count lottery i) (shared_count pool lottery earlier stage)) (unsettled pool earlier))) ∷ []
+
+-- those of its cap
+abbrev pub cap_reasons : Pool → Lottery → List Stage → Stage → List (Option Refusal)
+cap_reasons pool lottery earlier stage =
+    let number = length earlier + 1 in
     -- 8: a quota panel that attains the earlier caps weighs more than the cap
     reason number 8 (first_above_cap pool earlier stage) ∷
     -- 9: a listed panel doesn't weigh the cap
     reason number 9 (find (λ panel. not (int_eq (panel_weight stage panel) stage.cap)) (listed lottery)) ∷ []
+
+-- all reasons of a stage after earlier ones
+abbrev pub stage_reasons : Pool → Lottery → List Stage → Stage → List (Option Refusal)
+stage_reasons pool lottery earlier stage = reasons_before_cap pool lottery earlier stage ++ cap_reasons pool lottery earlier stage
 
 -- the reasons of stages after earlier ones, and of the end
 abbrev pub reasons_from : Pool → Lottery → List Stage → List Stage → List (Option Refusal)
