@@ -1,9 +1,9 @@
 -- What a check answers that may take so many visits at each stage.
-use Rattle.std.proofs.Common.{◌≡◌, ℕ, Bool, true, false, cond, Option, Some, None, Result, Ok, Err, List, [], refl, ap, ◌∙◌}
+use Rattle.std.proofs.Common.{◌≡◌, ℕ, true, false, cond, Option, Some, None, Result, Ok, Err, [], refl, ap, ◌∙◌}
 use Rattle.std.specs.Prelude.{MatchResult}
 use Rattle.pool_definitions.specs.Certificate.{Answer, Certifies}
 use Rattle.pool_definitions.specs.Pool.{Pool}
-use Rattle.check_definitions.specs.Reasons.{Refused, Valid, Verdict, verdict}
+use Rattle.check_definitions.specs.Reasons.{Valid, Verdict, verdict}
 use Rattle.check_definitions.specs.Visits.{check_answer, first_spent, is_ahead, unless_spent}
 use Rattle.check_definitions.proofs.ReasonsStand.{valid_where_certified}
 

@@ -1,7 +1,7 @@
 -- The search at a stage finds the first composition that attains the closed rows and weighs more than the row's right side.
-use Rattle.std.proofs.Common.{◌≡◌, ℕ, Bool, true, false, cond, ◌&&◌, List, [], ◌∷◌, ◌++◌, map, filter, ℤ, Option, Some, None, refl, sym, ap, ◌∙◌}
+use Rattle.std.proofs.Common.{◌≡◌, ℕ, Bool, true, false, cond, ◌&&◌, List, [], ◌∷◌, ◌++◌, map, filter, Some, None, refl, sym, ap, ◌∙◌}
 use Rattle.std.specs.Prelude.{int_lt, slice_get}
-use Rattle.std.specs.List.{flat_map, find, AllByRecursion}
+use Rattle.std.specs.List.{find}
 use Rattle.std.proofs.lemmas.Bool.{and_from, and_parts, false≢true, false_from_ne_true}
 use Rattle.std.proofs.lemmas.List.{append-nil}
 use Rattle.basic_laws.proofs.Each.{each_everywhere, each_filter, each_map, each_mapped, none_pass}
@@ -9,7 +9,6 @@ use Rattle.row_definitions.specs.Row.{Row}
 use Rattle.search_definitions.specs.Classes.{Class, Classes, IsSearchable}
 use Rattle.search_definitions.specs.Compositions.{all_counts, attains, compositions, counts_of, is_composition, weight_in}
 use Rattle.search_definitions.specs.Fronts.{HaveEntries, is_live_above}
-use Rattle.search_definitions.specs.Visits.{Search}
 use Rattle.search_definitions.proofs.BestSearch.{filter-flat_map, flat_map-map, live_from_better, whole_from_live}
 use Rattle.search_definitions.proofs.FirstSearch.{Gives, InOrder, Split, all_counts_give, child_splits, completions, completions_of_none, empty_splits, first, get_first, in_turn_finds, of_children}
 use Rattle.check_definitions.specs.Caps.{first_above}

@@ -1,17 +1,17 @@
 -- A check goes on from stage to stage: reasons bear the numbers of their stages, so that the first one is ahead of a later search.
-use Rattle.std.proofs.Common.{◌≡◌, ℕ, suc, ◌+◌, ◌≤◌, ◌<◌, Bool, true, false, cond, not, ◌&&◌, ◌||◌, eqb, ltb, List, [], ◌∷◌, ◌++◌, length, pos, Option, Some, None, Result, Ok, Err, refl, sym, ap, ◌∙◌, arith, le_of_eq}
+use Rattle.std.proofs.Common.{◌≡◌, ℕ, suc, ◌+◌, ◌≤◌, ◌<◌, Bool, true, false, cond, not, ◌&&◌, ◌||◌, eqb, ltb, List, [], ◌∷◌, ◌++◌, length, pos, Option, Some, None, Ok, Err, refl, ap, ◌∙◌, arith, le_of_eq}
 use Rattle.std.specs.Prelude.{int_lt, sum_by}
 use Rattle.std.specs.List.{AllByRecursion, find}
 use Rattle.std.specs.Ordering.{int_eq}
 use Rattle.std.proofs.lemmas.Bool.{eq-eqb, false_from_ne_true, le-ltb, lt-ltb, ltb-true, eqb-true, and_parts}
 use Rattle.basic_laws.proofs.Each.{each_append, each_map}
-use Rattle.pool_definitions.specs.Certificate.{Answer, Stage, is_settled, panel_weight, settling, unsettled, weight_of}
+use Rattle.pool_definitions.specs.Certificate.{Stage, is_settled, panel_weight, settling, unsettled, weight_of}
 use Rattle.pool_definitions.specs.Lottery.{Lottery, count}
 use Rattle.pool_definitions.specs.Pool.{Pool, everybody, is_quota_panel}
 use Rattle.check_definitions.specs.Caps.{first_above_cap}
 use Rattle.check_definitions.specs.Reasons.{Refusal, Refused, Valid, Verdict, cap_reasons, first_reason, first_repeated, listed, lottery_reasons, nobody_unless, one, reason, reasons_before_cap, reasons_from, shared_count, stage_reasons}
-use Rattle.check_definitions.specs.Steps.{BeginsWithLottery, GoesOnByStages, answer_from, or_next}
-use Rattle.check_definitions.specs.Visits.{check_answer, first_spent, is_ahead, stage_search, unless_spent}
+use Rattle.check_definitions.specs.Steps.{BeginsWithLottery, GoesOnByStages, or_next}
+use Rattle.check_definitions.specs.Visits.{first_spent, stage_search, unless_spent}
 
 -- ---- the first reason of lists that are joined
 

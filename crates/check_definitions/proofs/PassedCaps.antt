@@ -1,7 +1,7 @@
 -- A composition above the cap is found exactly where a quota panel that attains the earlier caps passes it.
 use Rattle.std.proofs.Common.{◌≡◌, ℕ, ◌<◌, Bool, true, false, not, ◌&&◌, ◌||◌, ltb, List, [], ◌∷◌, map, length, ℤ, Option, Some, None, refl, sym, ap, ap₂, ◌∙◌, subst, arith}
-use Rattle.std.specs.Prelude.{Contains, int_le, int_lt}
-use Rattle.std.specs.List.{AllByRecursion, find, list_all}
+use Rattle.std.specs.Prelude.{int_le, int_lt}
+use Rattle.std.specs.List.{AllByRecursion}
 use Rattle.std.specs.Option.{option_map}
 use Rattle.std.proofs.lemmas.Bool.{and_from, and_parts, false≢true, ltb-true}
 use Rattle.std.proofs.lemmas.List.{length-map}
@@ -16,8 +16,7 @@ use Rattle.pool_definitions.proofs.AllPanels.{each_panel, quota_parts}
 use Rattle.row_definitions.specs.Row.{Row}
 use Rattle.search_definitions.specs.Best.{Qualifies}
 use Rattle.search_definitions.specs.Classes.{Classes, MakesClasses, class_by, classes_by, leaders}
-use Rattle.search_definitions.specs.Compositions.{attains, composition_of, compositions, first_panel, price, weight_in}
-use Rattle.search_definitions.specs.Fronts.{HaveEntries}
+use Rattle.search_definitions.specs.Compositions.{attains, composition_of, compositions, first_panel, weight_in}
 use Rattle.search_definitions.specs.Stages.{WeighAlike, row_of}
 use Rattle.search_definitions.proofs.Best.{price_none_where}
 use Rattle.search_definitions.proofs.Contained.{each_contains}
@@ -25,7 +24,7 @@ use Rattle.search_definitions.proofs.LeaderForm as by_leader
 use Rattle.search_definitions.proofs.NothingToPrice.{capped_where_nothing_priced, weight_same}
 use Rattle.search_definitions.proofs.PanelCompositions.{weighing}
 use Rattle.search_definitions.proofs.PoolClasses.{classes_in_order, composition_of_same, first_panels_compose, first_panels_fit}
-use Rattle.check_definitions.specs.Caps.{alike_at, classes_at, composition_above, first_above, first_above_cap, row_at}
+use Rattle.check_definitions.specs.Caps.{alike_at, classes_at, composition_above, first_above_cap, stage_row}
 use Rattle.check_definitions.specs.Visits.{stage_search}
 use Rattle.check_definitions.proofs.CheckClasses.{alike_at_makes, alike_at_weigh}
 use Rattle.check_definitions.proofs.CheckSearch.{above_search_finds}
@@ -58,10 +57,10 @@ module _ (pool : Pool) (earlier : List Stage) (stage : Stage) where
   all = classes_at pool (stage ∷ earlier)
 
   abbrev closed : List Row
-  closed = map (row_at pool (stage ∷ earlier)) earlier
+  closed = map (stage_row pool (stage ∷ earlier)) earlier
 
   abbrev row : Row
-  row = row_at pool (stage ∷ earlier) stage
+  row = stage_row pool (stage ∷ earlier) stage
 
   makes : MakesClasses pool alike
   makes = alike_at_makes pool (stage ∷ earlier)
@@ -138,9 +137,9 @@ module _ (pool : Pool) (earlier : List Stage) (stage : Stage) where
 
   -- ---- the search
 
-  have_entries : (stages : List Stage) → AllByRecursion (λ (row : Row). length row.a ≡ length all.classes) (map (row_at pool (stage ∷ earlier)) stages)
-  have_entries stages = each_mapped (λ (row : Row). length row.a ≡ length all.classes) (row_at pool (stage ∷ earlier)) stages
-      (each_everywhere (λ s. length (row_at pool (stage ∷ earlier) s).a ≡ length all.classes) (λ s. length-map (leaders alike (length pool.volunteers)) (weight_of s)
+  have_entries : (stages : List Stage) → AllByRecursion (λ (row : Row). length row.a ≡ length all.classes) (map (stage_row pool (stage ∷ earlier)) stages)
+  have_entries stages = each_mapped (λ (row : Row). length row.a ≡ length all.classes) (stage_row pool (stage ∷ earlier)) stages
+      (each_everywhere (λ s. length (stage_row pool (stage ∷ earlier) s).a ≡ length all.classes) (λ s. length-map (leaders alike (length pool.volunteers)) (weight_of s)
       ∙ sym (length-map (leaders alike (length pool.volunteers)) (class_by alike pool))) stages)
 
   pub stage_search_finds : (stage_search pool earlier stage).found ≡ composition_above pool earlier stage

@@ -24,8 +24,8 @@ abbrev pub classes_at : Pool → List Stage → Classes
 classes_at pool stages = classes_by (alike_at pool stages) pool
 
 -- a stage as a row over these classes
-abbrev pub row_at : Pool → List Stage → Stage → Row
-row_at pool stages stage = row_of (alike_at pool stages) pool stage
+abbrev pub stage_row : Pool → List Stage → Stage → Row
+stage_row pool stages stage = row_of (alike_at pool stages) pool stage
 
 -- the first composition in order that attains the closed rows, and weighs more in a row than its right side
 abbrev pub first_above : Classes → List Row → Row → Option (List ℕ)
@@ -34,7 +34,7 @@ first_above all closed row = find (λ counts. attains closed counts && int_lt ro
 -- the first composition in order that attains each earlier cap, and weighs more than the cap of a stage
 abbrev pub composition_above : Pool → List Stage → Stage → Option (List ℕ)
 composition_above pool earlier stage =
-    first_above (classes_at pool (stage ∷ earlier)) (map (row_at pool (stage ∷ earlier)) earlier) (row_at pool (stage ∷ earlier) stage)
+    first_above (classes_at pool (stage ∷ earlier)) (map (stage_row pool (stage ∷ earlier)) earlier) (stage_row pool (stage ∷ earlier) stage)
 
 -- the first members of its classes: a quota panel that attains each earlier cap, and weighs more than the cap of a stage
 abbrev pub first_above_cap : Pool → List Stage → Stage → Option (List ℕ)

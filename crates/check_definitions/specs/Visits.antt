@@ -7,7 +7,7 @@ use Rattle.search_definitions.specs.Classes.{Class, Classes}
 use Rattle.search_definitions.specs.Compositions.{counts_of}
 use Rattle.search_definitions.specs.Fronts.{is_live_above}
 use Rattle.search_definitions.specs.Visits.{Search, one_by_one}
-use Rattle.check_definitions.specs.Caps.{classes_at, row_at}
+use Rattle.check_definitions.specs.Caps.{classes_at, stage_row}
 use Rattle.check_definitions.specs.Reasons.{Refused, Valid, Verdict, verdict}
 
 -- a front is entered, where these classes come after it: a front of all classes is a composition. The row's right side is the floor
@@ -25,7 +25,7 @@ above_search all closed row =
 -- the search at a stage: the earlier stages are the closed rows, and the stage's cap is the floor
 abbrev pub stage_search : Pool → List Stage → Stage → Search
 stage_search pool earlier stage =
-    above_search (classes_at pool (stage ∷ earlier)) (map (row_at pool (stage ∷ earlier)) earlier) (row_at pool (stage ∷ earlier) stage)
+    above_search (classes_at pool (stage ∷ earlier)) (map (stage_row pool (stage ∷ earlier)) earlier) (stage_row pool (stage ∷ earlier) stage)
 
 -- the number of the first stage whose search takes more visits than it may, of stages after earlier ones
 abbrev pub first_spent : Pool → ℕ → List Stage → List Stage → Option ℕ

@@ -12,8 +12,8 @@ use Rattle.check_definitions.specs.Reasons.{Refusal, Refused, Verdict, reasons}
 abbrev pub answer : Lottery → List Stage → Answer
 answer lottery stages = record { lottery = lottery; stages = stages }
 
-abbrev pub lottery : ℕ → List LotteryRow → Lottery
-lottery total rows = record { total = total; rows = rows }
+abbrev pub drawn : ℕ → List LotteryRow → Lottery
+drawn total rows = record { total = total; rows = rows }
 
 -- a reason that stands at a stage, with those who show it
 abbrev pub refusal : ℕ → ℕ → List ℕ → Refusal
@@ -23,8 +23,8 @@ abbrev pub refused : ℕ → ℕ → List ℕ → Verdict
 refused stage reason who = Refused (refusal stage reason who)
 
 -- all reasons that stand
-abbrev pub standing : Pool → Answer → List (Option Refusal)
-standing pool answer = filter is_some (reasons pool answer)
+abbrev pub reasons_that_stand : Pool → Answer → List (Option Refusal)
+reasons_that_stand pool answer = filter is_some (reasons pool answer)
 
 -- one reason and no other
 abbrev pub alone : ℕ → ℕ → List ℕ → List (Option Refusal)
@@ -38,15 +38,15 @@ all_at_once = stage (pos 2) (pos 1 ∷ pos 1 ∷ pos 1 ∷ pos 1 ∷ []) ∷ []
 
 -- two women, or two men
 abbrev pub two_women : Answer
-two_women = answer (lottery 2 (row (0 ∷ 1 ∷ []) 1 ∷ row (2 ∷ 3 ∷ []) 1 ∷ [])) all_at_once
+two_women = answer (drawn 2 (row (0 ∷ 1 ∷ []) 1 ∷ row (2 ∷ 3 ∷ []) 1 ∷ [])) all_at_once
 
 -- both panels twice
 abbrev pub twice : Answer
-twice = answer (lottery 4 (row (0 ∷ 2 ∷ []) 1 ∷ row (1 ∷ 3 ∷ []) 1 ∷ row (1 ∷ 3 ∷ []) 1 ∷ row (0 ∷ 2 ∷ []) 1 ∷ [])) four_stages
+twice = answer (drawn 4 (row (0 ∷ 2 ∷ []) 1 ∷ row (1 ∷ 3 ∷ []) 1 ∷ row (1 ∷ 3 ∷ []) 1 ∷ row (0 ∷ 2 ∷ []) 1 ∷ [])) four_stages
 
 -- two weights of 1
 abbrev pub three_in_all : Answer
-three_in_all = answer (lottery 3 (row (0 ∷ 2 ∷ []) 1 ∷ row (1 ∷ 3 ∷ []) 1 ∷ [])) four_stages
+three_in_all = answer (drawn 3 (row (0 ∷ 2 ∷ []) 1 ∷ row (1 ∷ 3 ∷ []) 1 ∷ [])) four_stages
 
 -- the men's weights are below 0 while they are unsettled
 abbrev pub below_zero : Answer
@@ -58,7 +58,7 @@ all_zero = answer four_lottery (stage (pos 0) (pos 0 ∷ pos 0 ∷ pos 0 ∷ pos
 
 -- b and d have twice the count of a and c
 abbrev pub uneven : Answer
-uneven = answer (lottery 3 (row (0 ∷ 2 ∷ []) 1 ∷ row (1 ∷ 3 ∷ []) 2 ∷ [])) all_at_once
+uneven = answer (drawn 3 (row (0 ∷ 2 ∷ []) 1 ∷ row (1 ∷ 3 ∷ []) 2 ∷ [])) all_at_once
 
 -- a with d weighs 2
 abbrev pub low_cap : Answer
@@ -83,13 +83,13 @@ without_b = standing_set four 1 Gone
 
 -- a is settled while c and d have a lower count
 abbrev pub too_early : Answer
-too_early = answer (lottery 2 (row (0 ∷ 2 ∷ []) 1 ∷ row (0 ∷ 3 ∷ []) 1 ∷ []))
+too_early = answer (drawn 2 (row (0 ∷ 2 ∷ []) 1 ∷ row (0 ∷ 3 ∷ []) 1 ∷ []))
     (stage (pos 0) (pos 0 ∷ pos 1 ∷ pos 0 ∷ pos 0 ∷ []) ∷ stage (pos 1) (pos 1 ∷ pos 0 ∷ pos 0 ∷ pos 0 ∷ []) ∷ stage (pos 1) (pos 0 ∷ pos 0 ∷ pos 1 ∷ pos 1 ∷ []) ∷ [])
 
 -- ---- one seat, for a or b
 
 abbrev pub either_lottery : Lottery
-either_lottery = lottery 2 (row (0 ∷ []) 1 ∷ row (1 ∷ []) 1 ∷ [])
+either_lottery = drawn 2 (row (0 ∷ []) 1 ∷ row (1 ∷ []) 1 ∷ [])
 
 abbrev pub either_stages : List Stage
 either_stages = stage (pos 1) (pos 1 ∷ pos 1 ∷ []) ∷ []

@@ -20,7 +20,7 @@ ghost use Rattle.check_definitions.specs.Caps.{alike_at, composition_above, firs
 ghost use Rattle.check_definitions.specs.Reasons.{Refusal, Refused, Valid, verdict};
 ghost use Rattle.check_definitions.specs.Steps.{BeginsWithLottery, GoesOnByStages};
 ghost use Rattle.check_definitions.specs.Visits.{above_search, check_answer, first_spent, is_ahead, stage_search};
-ghost use Rattle.check_definitions.specs.WorkedChecks.{all_zero, alone, answer, below_zero, either_lottery, either_stages, high_cap, low_cap, low_cap_and_negative, one_stage, refusal, refused, standing, three_in_all, too_early, twice, two_women, uneven, without_b};
+ghost use Rattle.check_definitions.specs.WorkedChecks.{all_zero, alone, answer, below_zero, either_lottery, either_stages, high_cap, low_cap, low_cap_and_negative, one_stage, refusal, refused, reasons_that_stand, three_in_all, too_early, twice, two_women, uneven, without_b};
 
 /// Volunteers who are alike at a stage make classes, and the stages up to it weigh them alike.
 pub fn alike_at_make_classes()
@@ -92,39 +92,39 @@ pub fn valid_certificates()
 
 /// Lotteries that are none: two women, a panel twice, a total that isn't the sum. In A, B, B, A the third is the first repeated one.
 pub fn lotteries_refused()
-    ensures no_quota_panel { standing four two_women ≡ alone 0 1 (0 ∷ 1 ∷ []) }
-    ensures listed_twice { standing four twice ≡ alone 0 2 (1 ∷ 3 ∷ []) }
-    ensures other_total { standing four three_in_all ≡ alone 0 3 [] }
+    ensures no_quota_panel { reasons_that_stand four two_women ≡ alone 0 1 (0 ∷ 1 ∷ []) }
+    ensures listed_twice { reasons_that_stand four twice ≡ alone 0 2 (1 ∷ 3 ∷ []) }
+    ensures other_total { reasons_that_stand four three_in_all ≡ alone 0 3 [] }
 {}
 
 /// Stages whose weights refuse: one below 0 for somebody unsettled, and none above 0.
 pub fn weights_refused()
-    ensures negative { standing four below_zero ≡ alone 1 4 (2 ∷ []) }
-    ensures none_positive { standing four all_zero ≡ alone 1 5 [] }
+    ensures negative { reasons_that_stand four below_zero ≡ alone 1 4 (2 ∷ []) }
+    ensures none_positive { reasons_that_stand four all_zero ≡ alone 1 5 [] }
 {}
 
 /// Stages that settle who have different counts, or while somebody has a lower one.
 pub fn counts_refused()
-    ensures different { standing four uneven ≡ alone 1 6 (1 ∷ []) }
-    ensures lower { standing without_b too_early ≡ alone 2 7 (2 ∷ []) }
+    ensures different { reasons_that_stand four uneven ≡ alone 1 6 (1 ∷ []) }
+    ensures lower { reasons_that_stand without_b too_early ≡ alone 2 7 (2 ∷ []) }
 {}
 
 /// Stages whose caps refuse: a quota panel that weighs more, which no row lists, and a listed panel that weighs less.
 pub fn caps_refused()
-    ensures passed { standing four low_cap ≡ alone 1 8 (0 ∷ 3 ∷ []) }
-    ensures not_reached { standing four high_cap ≡ alone 1 9 (1 ∷ 3 ∷ []) }
+    ensures passed { reasons_that_stand four low_cap ≡ alone 1 8 (0 ∷ 3 ∷ []) }
+    ensures not_reached { reasons_that_stand four high_cap ≡ alone 1 9 (1 ∷ 3 ∷ []) }
 {}
 
 /// Stages that leave somebody unsettled.
 pub fn ends_refused()
-    ensures left { standing four one_stage ≡ alone 1 10 (2 ∷ []) }
+    ensures left { reasons_that_stand four one_stage ≡ alone 1 10 (2 ∷ []) }
 {}
 
 /// The verdict is the first reason that stands: a weight below 0 in the second stage, which then leaves somebody unsettled, comes after
 /// the cap of the first.
 pub fn first_reasons()
     ensures cap_first { verdict four low_cap_and_negative ≡ refused 1 8 (0 ∷ 3 ∷ []) }
-    ensures three { standing four low_cap_and_negative ≡ Some (refusal 1 8 (0 ∷ 3 ∷ [])) ∷ Some (refusal 2 4 (1 ∷ [])) ∷ alone 2 10 (1 ∷ []) }
+    ensures three { reasons_that_stand four low_cap_and_negative ≡ Some (refusal 1 8 (0 ∷ 3 ∷ [])) ∷ Some (refusal 2 4 (1 ∷ [])) ∷ alone 2 10 (1 ∷ []) }
 {}
 
 /// Checks that may take so many visits at each stage. The empty front counts one, and a reason that is tried ahead of the search comes

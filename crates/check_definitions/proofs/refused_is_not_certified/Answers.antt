@@ -1,6 +1,4 @@
 use Rattle.std.proofs.Common.{◌≡◌}
-use Rattle.pool_definitions.specs.Certificate.{Answer}
-use Rattle.pool_definitions.specs.Pool.{Pool}
 use Rattle.check_definitions.specs.Reasons.{Refusal, Refused, Valid, Verdict}
 use Rattle.check_definitions.proofs.ReasonsStand.{valid_where_certified}
 use Rattle.check_definitions.proofs.refused_is_not_certified.Goals as goal
