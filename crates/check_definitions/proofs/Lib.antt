@@ -1,5 +1,6 @@
 pub mod CheckSearch
 pub mod CheckClasses
+pub mod StageRows
 pub mod PassedCaps
 pub mod Repeated
 pub mod ReasonsStand

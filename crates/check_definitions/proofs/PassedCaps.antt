@@ -28,6 +28,7 @@ use Rattle.check_definitions.specs.Caps.{alike_at, classes_at, composition_above
 use Rattle.check_definitions.specs.Visits.{stage_search}
 use Rattle.check_definitions.proofs.CheckClasses.{alike_at_makes, alike_at_weigh}
 use Rattle.check_definitions.proofs.CheckSearch.{above_search_finds}
+use Rattle.check_definitions.proofs.StageRows.{rows_have_entries}
 
 module _ (pool : Pool) (alike : ℕ → ℕ → Bool) (makes : MakesClasses pool alike) (counts panel : List ℕ) (below : AllByRecursion (λ i. i < length pool.volunteers) panel)
     (composed : composition_of (classes_by alike pool) panel ≡ counts) where
@@ -137,10 +138,5 @@ module _ (pool : Pool) (earlier : List Stage) (stage : Stage) where
 
   -- ---- the search
 
-  have_entries : (stages : List Stage) → AllByRecursion (λ (row : Row). length row.a ≡ length all.classes) (map (stage_row pool (stage ∷ earlier)) stages)
-  have_entries stages = each_mapped (λ (row : Row). length row.a ≡ length all.classes) (stage_row pool (stage ∷ earlier)) stages
-      (each_everywhere (λ s. length (stage_row pool (stage ∷ earlier) s).a ≡ length all.classes) (λ s. length-map (leaders alike (length pool.volunteers)) (weight_of s)
-      ∙ sym (length-map (leaders alike (length pool.volunteers)) (class_by alike pool))) stages)
-
   pub stage_search_finds : (stage_search pool earlier stage).found ≡ composition_above pool earlier stage
-  stage_search_finds = above_search_finds all closed row ((have_entries (stage ∷ earlier))) (classes_in_order pool alike)
+  stage_search_finds = above_search_finds all closed row (rows_have_entries pool (stage ∷ earlier) (stage ∷ earlier)) (classes_in_order pool alike)

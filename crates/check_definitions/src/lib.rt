@@ -5,18 +5,19 @@
 //! The functions here have no body: their contracts are laws over the definitions, and worked examples.
 #![tactic(auto)]
 
-ghost use Rattle.std.specs.Prelude.{◌≡◌, ◌↔◌, [], ◌∷◌, ℕ, pos, List, length, IsTrue, IsFalse, MatchResult, None, Some, Ok, Err, int_lt};
-ghost use Rattle.bundle_definitions.specs.Ranges.{IsInRanges};
+ghost use Rattle.std.specs.Prelude.{map, ◌≡◌, ◌↔◌, [], ◌∷◌, ℕ, pos, List, length, IsTrue, IsFalse, MatchResult, None, Some, Ok, Err, int_lt};
+ghost use Rattle.std.specs.List.{list_all};
+ghost use Rattle.bundle_definitions.specs.Ranges.{IsInRanges, is_stage};
 ghost use Rattle.pool_definitions.specs.Certificate.{Answer, Certifies, Stage, attains, is_capped, panel_weight};
 ghost use Rattle.pool_definitions.specs.Lottery.{LeximinGreatest};
 ghost use Rattle.pool_definitions.specs.Pool.{Pool, is_quota_panel};
 ghost use Rattle.pool_definitions.specs.WorkedExamples.{after_dropout, dropout_lottery, dropout_stages, family, family_lottery, family_stages, four, four_lottery, four_stages, stage};
 ghost use Rattle.row_definitions.specs.Row.{Row};
 ghost use Rattle.search_definitions.specs.Classes.{Classes, IsSearchable, MakesClasses};
-ghost use Rattle.search_definitions.specs.Fronts.{HaveEntries};
+ghost use Rattle.search_definitions.specs.Fronts.{HaveEntries, HaveReach};
 ghost use Rattle.search_definitions.specs.Stages.{WeighAlike};
 ghost use Rattle.search_definitions.specs.WorkedSearches.{either};
-ghost use Rattle.check_definitions.specs.Caps.{alike_at, composition_above, first_above, first_above_cap};
+ghost use Rattle.check_definitions.specs.Caps.{alike_at, classes_at, composition_above, first_above, first_above_cap, stage_row};
 ghost use Rattle.check_definitions.specs.Reasons.{Refusal, Refused, Valid, verdict};
 ghost use Rattle.check_definitions.specs.Steps.{BeginsWithLottery, GoesOnByStages};
 ghost use Rattle.check_definitions.specs.Visits.{above_search, check_answer, first_spent, is_ahead, stage_search};
@@ -26,6 +27,14 @@ ghost use Rattle.check_definitions.specs.WorkedChecks.{all_zero, alone, answer, 
 pub fn alike_at_make_classes()
     ensures makes { (pool : Pool) (stages : List Stage) → MakesClasses pool (alike_at pool stages) }
     ensures weigh { (pool : Pool) (stages : List Stage) → WeighAlike (alike_at pool stages) (length pool.volunteers) stages }
+{}
+
+/// The rows of a stage and of those before it have one entry per class, and a reach below 2^127 where the stages are in the ranges of a
+/// bundle.
+pub fn stage_rows_keep_reach()
+    ensures entries { (pool : Pool) (stages rows : List Stage) → HaveEntries (classes_at pool stages) (map (stage_row pool stages) rows) }
+    ensures reach { (pool : Pool) (stages : List Stage) → IsTrue (list_all (is_stage (length pool.volunteers)) stages) →
+        HaveReach (classes_at pool stages) (map (stage_row pool stages) stages) }
 {}
 
 /// A panel above the cap is found exactly where the stage's cap doesn't hold, and it is a quota panel that attains the earlier caps and
@@ -109,7 +118,7 @@ pub fn counts_refused()
     ensures lower { reasons_that_stand without_b too_early ≡ alone 2 7 (2 ∷ []) }
 {}
 
-/// Stages whose caps refuse: a quota panel that weighs more, which no row lists, and a listed panel that weighs less.
+/// Stages whose caps refuse: a quota panel that weighs more, which the lottery doesn't list, and a listed panel that weighs less.
 pub fn caps_refused()
     ensures passed { reasons_that_stand four low_cap ≡ alone 1 8 (0 ∷ 3 ∷ []) }
     ensures not_reached { reasons_that_stand four high_cap ≡ alone 1 9 (1 ∷ 3 ∷ []) }
