@@ -4,9 +4,8 @@ use Rattle.std.specs.Prelude.{int_le, int_lt}
 use Rattle.std.specs.List.{AllByRecursion}
 use Rattle.std.specs.Option.{option_map}
 use Rattle.std.proofs.lemmas.Bool.{and_from, and_parts, false≢true, ltb-true}
-use Rattle.std.proofs.lemmas.List.{length-map}
 use borrow.Author.Differences.{le-true, lt-true}
-use Rattle.basic_laws.proofs.Each.{each_both, each_everywhere, each_from_list_all, each_map, each_mapped}
+use Rattle.basic_laws.proofs.Each.{each_both, each_from_list_all, each_map}
 use Rattle.basic_laws.proofs.Found.{find-each, find-none, find-passes}
 use Rattle.basic_laws.proofs.Tests.{implied}
 use Rattle.pool_definitions.specs.Certificate as certificate
@@ -15,7 +14,7 @@ use Rattle.pool_definitions.specs.Pool.{Pool, is_quota_panel, panels}
 use Rattle.pool_definitions.proofs.AllPanels.{each_panel, quota_parts}
 use Rattle.row_definitions.specs.Row.{Row}
 use Rattle.search_definitions.specs.Best.{Qualifies}
-use Rattle.search_definitions.specs.Classes.{Classes, MakesClasses, class_by, classes_by, leaders}
+use Rattle.search_definitions.specs.Classes.{Classes, MakesClasses, classes_by, leaders}
 use Rattle.search_definitions.specs.Compositions.{attains, composition_of, compositions, first_panel, weight_in}
 use Rattle.search_definitions.specs.Stages.{WeighAlike, row_of}
 use Rattle.search_definitions.proofs.Best.{price_none_where}

@@ -1,7 +1,7 @@
 -- The rows of stages over the classes of a check: an entry for each class, and a reach that is the stage's.
-use Rattle.std.proofs.Common.{◌≡◌, ℕ, zero, suc, ◌+◌, ◌-◌, ◌*◌, ◌^◌, ◌<◌, Bool, true, eqb, leb, List, [], ◌∷◌, map, length, get_or, pos, refl, sym, ap, ap₂, ◌∙◌, subst, arith}
-use Rattle.std.specs.Prelude.{sum_by, unsigned_abs}
-use Rattle.std.specs.List.{AllByRecursion, list_all, range_with_len}
+use Rattle.std.proofs.Common.{◌≡◌, ℕ, suc, ◌+◌, ◌-◌, ◌*◌, ◌^◌, ◌<◌, Bool, true, eqb, leb, List, [], ◌∷◌, map, length, get_or, pos, refl, sym, ap, ap₂, ◌∙◌, subst, arith}
+use Rattle.std.specs.Prelude.{unsigned_abs}
+use Rattle.std.specs.List.{list_all, range_with_len}
 use Rattle.std.proofs.lemmas.Bool.{and_parts, eqb-true, leb-true}
 use Rattle.std.proofs.lemmas.List.{length-map}
 use Rattle.basic_laws.proofs.Each.{each_both, each_everywhere, each_from_list_all, each_map, each_mapped, each_range}

@@ -1,11 +1,12 @@
 -- Small certificates on which the definitions compute: those that are refused, each for one reason alone.
-use Rattle.std.specs.Prelude.{ℕ, List, [], ◌∷◌, filter, pos, negsuc, Option, Some, is_some}
+use Rattle.std.specs.Prelude.{ℕ, List, [], ◌∷◌, filter, map, pos, negsuc, Option, Some, is_some}
 use Rattle.pool_definitions.specs.declared.Standing.TheVariants.{Gone}
 use Rattle.pool_definitions.specs.Building.{standing_set}
 use Rattle.pool_definitions.specs.Certificate.{Answer, Stage}
 use Rattle.pool_definitions.specs.Lottery.{Lottery, LotteryRow}
 use Rattle.pool_definitions.specs.Pool.{Pool}
 use Rattle.pool_definitions.specs.WorkedExamples.{four, four_lottery, four_stages, row, stage}
+use Rattle.check_definitions.specs.Caps.{classes_at}
 use Rattle.check_definitions.specs.Reasons.{Refusal, Refused, Verdict, reasons}
 
 -- a lottery with its stages
@@ -93,3 +94,13 @@ either_lottery = drawn 2 (row (0 ∷ []) 1 ∷ row (1 ∷ []) 1 ∷ [])
 
 abbrev pub either_stages : List Stage
 either_stages = stage (pos 1) (pos 1 ∷ pos 1 ∷ []) ∷ []
+
+-- ---- where a and c are of one household
+
+-- a and c weigh 2 together, and so do b and d in the second stage
+abbrev pub household_stages : List Stage
+household_stages = stage (pos 1) (pos 1 ∷ pos 0 ∷ pos 1 ∷ pos 0 ∷ []) ∷ stage (pos 1) (pos 0 ∷ pos 1 ∷ pos 0 ∷ pos 1 ∷ []) ∷ []
+
+-- the members of each class of a check at the last of some stages, the last one first
+abbrev pub members_at : Pool → List Stage → List (List ℕ)
+members_at pool stages = map (λ class. class.members) (classes_at pool stages).classes

@@ -21,7 +21,7 @@ ghost use Rattle.check_definitions.specs.Caps.{alike_at, classes_at, composition
 ghost use Rattle.check_definitions.specs.Reasons.{Refusal, Refused, Valid, verdict};
 ghost use Rattle.check_definitions.specs.Steps.{BeginsWithLottery, GoesOnByStages};
 ghost use Rattle.check_definitions.specs.Visits.{above_search, check_answer, first_spent, is_ahead, stage_search};
-ghost use Rattle.check_definitions.specs.WorkedChecks.{all_zero, alone, answer, below_zero, either_lottery, either_stages, high_cap, low_cap, low_cap_and_negative, one_stage, refusal, refused, reasons_that_stand, three_in_all, too_early, twice, two_women, uneven, without_b};
+ghost use Rattle.check_definitions.specs.WorkedChecks.{all_zero, alone, answer, below_zero, either_lottery, either_stages, high_cap, household_stages, low_cap, low_cap_and_negative, members_at, one_stage, refusal, refused, reasons_that_stand, three_in_all, too_early, twice, two_women, uneven, without_b};
 
 /// Volunteers who are alike at a stage make classes, and the stages up to it weigh them alike.
 pub fn alike_at_make_classes()
@@ -147,4 +147,21 @@ pub fn visits_spent()
     ensures ahead { check_answer four below_zero 0 ≡ Ok (refused 1 4 (2 ∷ [])) }
     ensures behind { check_answer four high_cap 0 ≡ Err 1 }
     ensures later { check_answer without_b too_early 1 ≡ Ok (refused 2 7 (2 ∷ [])) }
+{}
+
+/// The classes of a check are by values, standing and the weights of the stages so far, and who shares a household is alone.
+pub fn classes_of_checks()
+    ensures by_values { members_at four (stage (pos 1) (pos 1 ∷ pos 1 ∷ pos 1 ∷ pos 1 ∷ []) ∷ []) ≡ (0 ∷ 1 ∷ []) ∷ (2 ∷ 3 ∷ []) ∷ [] }
+    ensures by_weights { members_at four (stage (pos 1) (pos 1 ∷ pos 1 ∷ pos 0 ∷ pos 1 ∷ []) ∷ []) ≡ (0 ∷ 1 ∷ []) ∷ (2 ∷ []) ∷ (3 ∷ []) ∷ [] }
+    ensures by_earlier_weights { members_at four (stage (pos 0) (pos 0 ∷ pos 0 ∷ pos 0 ∷ pos 0 ∷ []) ∷ stage (pos 1) (pos 1 ∷ pos 0 ∷ pos 0 ∷ pos 0 ∷ []) ∷ [])
+        ≡ (0 ∷ []) ∷ (1 ∷ []) ∷ (2 ∷ 3 ∷ []) ∷ [] }
+    ensures by_standing { members_at without_b (stage (pos 1) (pos 1 ∷ pos 1 ∷ pos 1 ∷ pos 1 ∷ []) ∷ []) ≡ (0 ∷ []) ∷ (1 ∷ []) ∷ (2 ∷ 3 ∷ []) ∷ [] }
+    ensures by_household { members_at family (stage (pos 1) (pos 1 ∷ pos 1 ∷ pos 1 ∷ pos 1 ∷ []) ∷ []) ≡ (0 ∷ []) ∷ (1 ∷ []) ∷ (2 ∷ []) ∷ (3 ∷ []) ∷ [] }
+{}
+
+/// Where a and c are of one household, no panel has both, so the first cap holds; else a with c passes it. The second stage speaks only of
+/// panels that attain the first cap, which b with d does not.
+pub fn households_checked()
+    ensures one_household { verdict family (answer family_lottery household_stages) ≡ Valid }
+    ensures no_household { verdict four (answer family_lottery household_stages) ≡ refused 1 8 (0 ∷ 2 ∷ []) }
 {}
