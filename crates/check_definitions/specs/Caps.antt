@@ -1,4 +1,4 @@
--- How a check finds that a quota panel passes the cap of a stage: by classes of its own.
+-- How a check finds that a quota panel passes the cap of a stage: by classes of its own. Earlier stages stand the latest first.
 use Rattle.std.specs.Prelude.{ℕ, Bool, ◌&&◌, List, ◌∷◌, map, Option, int_lt}
 use Rattle.std.specs.List.{find, list_all}
 use Rattle.std.specs.Option.{option_map}
