@@ -1,6 +1,13 @@
 pub mod Taken
-pub mod TotalsAlone
 pub mod SpreadStops
+pub mod Parts
+pub mod Lengths
+pub mod Marked
+pub mod Rising
+pub mod Starts
+pub mod ArcRows
+pub mod Words128
+pub mod Totals
 pub mod Filters
 pub mod Places
 pub mod MadeClasses

@@ -1,5 +1,5 @@
 -- What spreading answers.
-use Rattle.std.specs.Prelude.{◌≡◌, ℕ, ℤ, Result, Ok, Err, pos}
+use Rattle.std.specs.Prelude.{◌≡◌, ℕ, Result, Ok, Err, pos}
 use Rattle.pool_definitions.specs.Lottery.{Lottery}
 use Rattle.spread_definitions.specs.Spreading.{TotalPass}
 use Rattle.alike.specs.declared.spreading.SpreadStop.{SpreadStop}
@@ -17,6 +17,6 @@ IsSpread (Ok lottery) sought = sought ≡ Ok lottery
 IsSpread (Err stop) sought = IsStop stop sought
 
 -- the common total, or why there is none
-abbrev pub IsTotal : Result ℤ SpreadStop → Result ℕ TotalPass → Type 0
-IsTotal (Ok total) sought = (sum : ℕ) × (sought ≡ Ok sum) × (total ≡ pos sum)
+abbrev pub IsTotal : Result ℕ SpreadStop → Result ℕ TotalPass → Type 0
+IsTotal (Ok total) sought = sought ≡ Ok total
 IsTotal (Err stop) sought = IsStop stop sought

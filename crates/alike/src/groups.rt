@@ -214,4 +214,11 @@ impl Classes {
     {
         let _ = &self.size;
     }
+
+    // Does nothing; its contract tells that the classes part the volunteers.
+    pub(crate) fn part(&self)
+        ensures { PartVolunteers self.now }
+    {
+        let _ = &self.size;
+    }
 }

@@ -3,7 +3,9 @@
 //! `pool_model`, `row_model` and `frac128` stand below.
 #![tactic(auto)]
 
+mod arcs;
 mod composing;
+mod dials;
 mod grouping;
 mod groups;
 mod numbers;

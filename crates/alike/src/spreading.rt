@@ -1,23 +1,24 @@
 //! Compositions with fractions, spread over panels.
 
-ghost use Rattle.std.specs.Prelude.{◌≡◌, ◌*◌, ◌/◌, ◌≤◌, ◌≤ℤ◌, pos, unsigned_abs, map, All, IfOk};
-ghost use Rattle.spread_definitions.specs.Singles.{AreAlone, row_alone};
+ghost use Rattle.std.specs.Prelude.{◌≡◌, ◌*◌, ◌/◌, ◌<◌, ◌≤◌, ℕ, Bool, ◌+◌, ◌++◌, length, map, slice_index_or, All, IfOk, OnOk, SomeIff};
+ghost use Rattle.std.specs.Int.{◌∣◌};
+ghost use Rattle.std.specs.List.{fold, flat_map};
 ghost use Rattle.alike.specs.Spreads.{IsSpread, IsTotal};
+ghost use Rattle.alike.specs.Steps.{IsTotalOf, arc_row};
+ghost use Rattle.frac128.specs.Divisors.{lcm_of};
 ghost use Rattle.pool_definitions.specs.Lottery.{IsLottery};
 ghost use Rattle.pool_definitions.specs.Pool.{Pool};
-ghost use Rattle.search_definitions.specs.Classes.{Classes as ClassesOf, classes_of};
-ghost use Rattle.spread_definitions.specs.Spreading.{AreParts, HasEvenChances, spread, total_from, greatest_total};
+ghost use Rattle.search_definitions.specs.Classes.{MakesClasses, classes_by};
+ghost use Rattle.spread_definitions.specs.Spreading.{AreParts, HasEvenChances, arcs, cuts as cuts_of, dial, greatest_total, rows_of, spread, total_from};
 
-use crate::composing::first_panel;
+use crate::arcs::panel_at;
+use crate::dials::{GREATEST_TOTAL, common_multiple, cuts, partly_taken, places};
 use crate::groups::Classes;
-use frac128::{Frac, lcm};
+use frac128::Frac;
 use pool_model::{Lottery, LotteryRow};
 use row_model::Composition;
 use std::alloc::{AllocError, Global};
 use thiserror::Error;
-
-// The greatest total of a lottery, 10^38.
-const GREATEST_TOTAL: i128 = 100000000000000000000000000000000000000;
 
 /// Why compositions could not be spread.
 #[derive(Debug, Drop, Error)]
@@ -59,62 +60,145 @@ pub fn spread(
 ) -> Result<Lottery, SpreadStop>
     requires { AreParts classes.now parts.now }
     ensures spread { IsSpread result (spread classes.now parts.now) }
-    ensures lottery { (pool : Pool) → classes.now ≡ classes_of pool → IfOk result (λ lottery. IsLottery pool lottery) }
+    ensures lottery { (pool : Pool) (alike : ℕ → ℕ → Bool) → MakesClasses pool alike → classes.now ≡ classes_by alike pool → IfOk result (λ lottery. IsLottery pool lottery) }
     ensures even { IfOk result (λ lottery. HasEvenChances classes.now parts.now lottery) }
 {
     classes.facts();
-    classes.alone();
-    let total = common_total(parts)?;
-    let rows = rows_of(alloc, classes, parts, total)?;
-    Ok(Lottery::new(total, rows))
+    classes.part();
+    let total = common_total(alloc, classes, parts)?;
+    let rows = all_rows(alloc, classes, parts, total)?;
+    Ok(Lottery::new(total as i128, rows))
 }
 
-// The least common multiple of the denominators: each dial has one place, since each class is one volunteer alone.
-fn common_total(parts: &[(Composition, Frac)]) -> Result<i128, SpreadStop>
-    ensures { (all : ClassesOf) → AreAlone 0 all.classes → IsTotal result (total_from all 0 1 parts.now) }
+// The least common multiple of the denominators, each times the length of its composition's dial.
+fn common_total(
+    alloc: Global,
+    classes: &Classes,
+    parts: &[(Composition, Frac)],
+) -> Result<u128, SpreadStop>
+    ensures { IsTotal result (total_from classes.now 0 1 parts.now) }
 {
     let mut total = 1;
-    for (place, (_, fraction)) in parts.iter().enumerate() {
+    for (place, (composition, fraction)) in parts.iter().enumerate() {
+        let sizes = partly_taken(alloc, classes.classes(), composition.counts())?;
         let den = fraction.den();
-        match lcm(total, den, GREATEST_TOTAL) {
+        match next_total(total, den.unsigned_abs(), &sizes) {
             Some(next) => total = next,
-            None => return Err(SpreadStop::TotalPasses { place, total, den }),
+            None => {
+                return Err(SpreadStop::TotalPasses {
+                    place,
+                    total: total as i128,
+                    den,
+                });
+            }
         }
     }
     Ok(total)
 }
 
-// For each composition its one panel, with its fraction of the total.
-fn rows_of(
+// The least common multiple of a total and a denominator times the length of the dial for these sizes, where it is at most 10^38.
+// It is a multiple of the dial's length, and of the product.
+fn next_total(total: u128, den: u128, sizes: &[usize]) -> Option<u128>
+    requires total { (0 < total) × (total ≤ greatest_total) }
+    requires den { 0 < den }
+    requires sizes { All (λ size. 0 < size) sizes.now }
+    ensures { let next = lcm_of total (den * fold lcm_of 1 sizes.now) in SomeIff result (next ≤ greatest_total) next }
+{
+    let places = places(sizes)?;
+    if den > GREATEST_TOTAL / places {
+        return None;
+    }
+    common_multiple(total, den * places)
+}
+
+// The rows of all compositions.
+fn all_rows(
     alloc: Global,
     classes: &Classes,
     parts: &[(Composition, Frac)],
-    total: i128,
+    total: u128,
 ) -> Result<Vec<LotteryRow>, AllocError>
-    requires positive { pos 0 ≤ℤ total }
-    requires within { All (λ part. part.1.num * (unsigned_abs total / part.1.den) ≤ greatest_total) parts.now }
-    ensures { IfOk result (λ rows. rows.items ≡ map (row_alone classes.now (unsigned_abs total)) parts.now) }
+    requires { All (IsTotalOf classes.now total) parts.now }
+    ensures { IfOk result (λ rows. rows.items ≡ flat_map (rows_of classes.now total) parts.now) }
 {
     let mut rows = Vec::new(alloc);
     for (composition, fraction) in parts {
-        rows.push(row_of(alloc, classes, composition, *fraction, total)?)?;
+        push_rows(
+            &mut rows,
+            alloc,
+            classes,
+            composition.counts(),
+            *fraction,
+            total,
+        )?;
     }
     Ok(rows)
 }
 
-// The one panel of a composition, with its fraction of the total.
-fn row_of(
+// Adds the rows of a composition: a panel for each arc of its dial, whose weight is the arc's part of the fraction of the total.
+fn push_rows(
+    rows: &mut Vec<LotteryRow>,
     alloc: Global,
     classes: &Classes,
-    composition: &Composition,
+    counts: &[usize],
     fraction: Frac,
-    total: i128,
-) -> Result<LotteryRow, AllocError>
-    requires positive { pos 0 ≤ℤ total }
-    requires within { fraction.num * (unsigned_abs total / fraction.den) ≤ greatest_total }
-    ensures { IfOk result (λ row. row ≡ row_alone classes.now (unsigned_abs total) (composition.now, fraction)) }
+    total: u128,
+) -> Result<(), AllocError>
+    requires { IsTotalOf classes.now total (counts.now, fraction) }
+    ensures { OnOk result (rows.new.items ≡ rows.old.items ++ rows_of classes.now total (counts.now, fraction)) }
 {
-    let panel = first_panel(alloc, classes, composition)?;
-    let weight = fraction.num() * (total / fraction.den());
-    Ok(LotteryRow::new(panel, weight))
+    let sizes = partly_taken(alloc, classes.classes(), counts)?;
+    let Some(places) = places(&sizes) else {
+        unreachable!();
+    };
+    let weight = place_weight(fraction, total, places);
+    let cuts = cuts(alloc, &sizes, places)?;
+    push_arcs(rows, alloc, classes, counts, &cuts, places, weight)
+}
+
+// What one place of a dial of so many weighs: its part of the fraction of the total.
+fn place_weight(fraction: Frac, total: u128, places: u128) -> u128
+    requires total { (0 < total) × (total ≤ greatest_total) }
+    requires places { 0 < places }
+    requires multiple { fraction.den * places ∣ total }
+    requires share { fraction.num * (total / fraction.den) ≤ total }
+    ensures value { result ≡ fraction.num * (total / (fraction.den * places)) }
+    ensures within { places * result ≤ total }
+{
+    let (num, den) = (fraction.num().unsigned_abs(), fraction.den().unsigned_abs());
+    num * (total / (den * places))
+}
+
+// Adds a row for each arc: its panel, and its length times the weight of one place.
+fn push_arcs(
+    rows: &mut Vec<LotteryRow>,
+    alloc: Global,
+    classes: &Classes,
+    counts: &[usize],
+    cuts: &[u128],
+    places: u128,
+    place_weight: u128,
+) -> Result<(), AllocError>
+    requires cuts { cuts.now ≡ cuts_of classes.now counts.now }
+    requires places { places ≡ dial classes.now counts.now }
+    requires weight { places * place_weight ≤ greatest_total }
+    ensures { OnOk result (rows.new.items ≡ rows.old.items ++ map (arc_row classes.now counts.now place_weight) (arcs classes.now counts.now)) }
+{
+    for (number, at) in cuts.iter().enumerate() {
+        let panel = panel_at(alloc, classes, counts, places, *at)?;
+        let weight = (next_cut(cuts, number, places) - *at) * place_weight;
+        rows.push(LotteryRow::new(panel, weight as i128))?;
+    }
+    Ok(())
+}
+
+// The cut after that of a number, or the dial's end.
+fn next_cut(cuts: &[u128], number: usize, end: u128) -> u128
+    requires { number < length cuts.now }
+    ensures { result ≡ slice_index_or cuts.now (number + 1) end }
+{
+    match cuts.get(number + 1) {
+        Some(next) => *next,
+        None => end,
+    }
 }

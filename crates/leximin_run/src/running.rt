@@ -7,11 +7,10 @@ ghost use Rattle.row_definitions.specs.Steps.{close_stage, open_row};
 ghost use Rattle.row_definitions.specs.Table.{row_at};
 ghost use Rattle.run_definitions.specs.Run.{run_limits};
 
-use alike::Classes;
 use exact_table::{Pass, Table, Var};
-use panel_search::{Row, SearchStop, best};
+use panel_search::{Pricer, SearchStop};
 use run_limits::Limits;
-use std::alloc::{AllocError, Global};
+use std::alloc::AllocError;
 
 // Why a step that is due is not made.
 #[derive(Debug, Clone, Copy)]
@@ -62,28 +61,27 @@ impl From<SearchStop> for Refusal {
     }
 }
 
-// A run between two steps. The rows of the closed stages are kept beside the table, as pricing takes them.
+// A run between two steps, over the classes of its pricer, which keeps the rows of the closed stages.
 #[derive(Drop)]
-pub(crate) struct Run {
-    pub(crate) classes: Classes,
+pub(crate) struct Run<'c> {
     pub(crate) limits: Limits,
     pub(crate) table: Table,
-    pub(crate) closed: Vec<Row>,
+    pub(crate) pricer: Pricer<'c>,
 }
 
-impl Run {
+impl<'c> Run<'c> {
     // The next step. Is one made? If not, everybody is settled.
-    pub(crate) fn advance(&mut self, alloc: Global) -> Result<bool, Refusal>
-        requires { Stands self.old.classes (run_limits self.old.limits) self.old.table self.old.closed.items }
-        ensures advances { Advances self.old.classes (run_limits self.old.limits) self.old.table result self.new.table }
-        ensures stands { OnOk result (Stands self.new.classes (run_limits self.new.limits) self.new.table self.new.closed.items) }
-        ensures classes { self.new.classes ≡ self.old.classes }
+    pub(crate) fn advance(&mut self) -> Result<bool, Refusal>
+        requires { Stands self.old.pricer.classes (run_limits self.old.limits) self.old.table self.old.pricer.closed }
+        ensures advances { Advances self.old.pricer.classes (run_limits self.old.limits) self.old.table result self.new.table }
+        ensures stands { OnOk result (Stands self.new.pricer.classes (run_limits self.new.limits) self.new.table self.new.pricer.closed) }
+        ensures classes { self.new.pricer.classes ≡ self.old.pricer.classes }
         ensures limits { self.new.limits ≡ self.old.limits }
     {
         if self.table.in_stage() {
             match self.table.bland() {
                 Some((row, variable)) => self.pivot(row, variable)?,
-                None => self.price(alloc)?,
+                None => self.price()?,
             }
             Ok(true)
         } else if self.table.some_unsettled() {
@@ -96,12 +94,12 @@ impl Run {
 
     // The chosen pivot.
     fn pivot(&mut self, row: usize, variable: Var) -> Result<(), Refusal>
-        requires stands { Stands self.old.classes (run_limits self.old.limits) self.old.table self.old.closed.items }
+        requires stands { Stands self.old.pricer.classes (run_limits self.old.limits) self.old.table self.old.pricer.closed }
         requires open { self.old.table.in_stage ≡ true }
         requires chosen { choice self.old.table ≡ Some (row, variable) }
-        ensures makes { Makes self.old.classes (run_limits self.old.limits) self.old.table result self.new.table }
-        ensures stands { OnOk result (Stands self.new.classes (run_limits self.new.limits) self.new.table self.new.closed.items) }
-        ensures classes { self.new.classes ≡ self.old.classes }
+        ensures makes { Makes self.old.pricer.classes (run_limits self.old.limits) self.old.table result self.new.table }
+        ensures stands { OnOk result (Stands self.new.pricer.classes (run_limits self.new.limits) self.new.table self.new.pricer.closed) }
+        ensures classes { self.new.pricer.classes ≡ self.old.pricer.classes }
         ensures limits { self.new.limits ≡ self.old.limits }
     {
         if self.limits.pivots() <= self.table.pivots() {
@@ -111,17 +109,17 @@ impl Run {
     }
 
     // No pivot is chosen: the open row is priced, and a column comes or the stage closes.
-    fn price(&mut self, alloc: Global) -> Result<(), Refusal>
-        requires stands { Stands self.old.classes (run_limits self.old.limits) self.old.table self.old.closed.items }
+    fn price(&mut self) -> Result<(), Refusal>
+        requires stands { Stands self.old.pricer.classes (run_limits self.old.limits) self.old.table self.old.pricer.closed }
         requires open { self.old.table.in_stage ≡ true }
         requires done { choice self.old.table ≡ None }
-        ensures makes { Makes self.old.classes (run_limits self.old.limits) self.old.table result self.new.table }
-        ensures stands { OnOk result (Stands self.new.classes (run_limits self.new.limits) self.new.table self.new.closed.items) }
-        ensures classes { self.new.classes ≡ self.old.classes }
+        ensures makes { Makes self.old.pricer.classes (run_limits self.old.limits) self.old.table result self.new.table }
+        ensures stands { OnOk result (Stands self.new.pricer.classes (run_limits self.new.limits) self.new.table self.new.pricer.closed) }
+        ensures classes { self.new.pricer.classes ≡ self.old.pricer.classes }
         ensures limits { self.new.limits ≡ self.old.limits }
     {
         let row = self.table.row(self.table.open_row());
-        let (found, _) = best(alloc, &self.classes, &self.closed, row, self.limits.nodes())?;
+        let (found, _) = self.pricer.best(row, self.limits.nodes())?;
         match found {
             Some(column) => Ok(self.table.add_column(column)?),
             None => Ok(self.close()?),
@@ -130,15 +128,16 @@ impl Run {
 
     // No composition was found: the stage closes, and its row, which was priced, is kept.
     fn close(&mut self) -> Result<(), AllocError>
+        requires stands { Stands self.old.pricer.classes (run_limits self.old.limits) self.old.table self.old.pricer.closed }
         requires open { self.old.table.in_stage ≡ true }
         requires done { choice self.old.table ≡ None }
         ensures table { OnOk result (self.new.table ≡ close_stage self.old.table) }
-        ensures closed { OnOk result (self.new.closed.items ≡ self.old.closed.items ++ row_at self.old.table (open_row self.old.table) ∷ []) }
-        ensures classes { self.new.classes ≡ self.old.classes }
+        ensures closed { OnOk result (self.new.pricer.closed ≡ self.old.pricer.closed ++ row_at self.old.table (open_row self.old.table) ∷ []) }
+        ensures classes { self.new.pricer.classes ≡ self.old.pricer.classes }
         ensures limits { self.new.limits ≡ self.old.limits }
     {
         let row = self.table.row(self.table.open_row());
-        self.closed.push(row.copy()?)?;
+        self.pricer.add_row(row.copy()?)?;
         self.table.close_stage();
         Ok(())
     }

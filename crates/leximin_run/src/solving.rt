@@ -16,7 +16,7 @@ use crate::stops::{At, Solved, Stop};
 use alike::{Classes, Composition, SpreadStop, classes, spread};
 use exact_table::{Table, TableStop};
 use frac128::Frac;
-use panel_search::{SearchStop, first};
+use panel_search::{Pricer, SearchStop, first};
 use pool_model::{Answer, Pool};
 use run_limits::Limits;
 use std::alloc::{AllocError, Global};
@@ -40,7 +40,7 @@ fn run(alloc: Global, pool: &Pool, limits: Limits) -> Result<Solved, Stop>
 {
     let classes = classes(alloc, pool)?;
     match first(alloc, &classes, limits.nodes()) {
-        Ok(Some(composition)) => begin(alloc, classes, limits, composition),
+        Ok(Some(composition)) => begin(alloc, &classes, limits, composition),
         Ok(None) => Ok(Solved::NoPanel),
         Err(SearchStop::Spent) => Err(Stop::NodesSpent(At::Opening)),
         Err(SearchStop::OutOfMemory) => Err(Stop::OutOfMemory),
@@ -50,24 +50,23 @@ fn run(alloc: Global, pool: &Pool, limits: Limits) -> Result<Solved, Stop>
 // The run from the first composition on.
 fn begin(
     alloc: Global,
-    classes: Classes,
+    classes: &Classes,
     limits: Limits,
     composition: Composition,
 ) -> Result<Solved, Stop>
-    requires within { (first_search classes).visits ≤ limits.nodes }
-    requires first { first_composition classes ≡ Some composition }
-    ensures { TellsEnding classes (run_limits limits) result }
+    requires within { (first_search classes.now).visits ≤ limits.nodes }
+    requires first { first_composition classes.now ≡ Some composition }
+    ensures { TellsEnding classes.now (run_limits limits) result }
 {
     classes.facts();
-    let sizes = sizes(alloc, &classes)?;
+    let sizes = sizes(alloc, classes)?;
     match Table::start(alloc, &sizes, composition, limits.bits()) {
         Ok(table) => finish(
             alloc,
             Run {
-                classes,
                 limits,
                 table,
-                closed: Vec::new(alloc),
+                pricer: Pricer::new(alloc, classes),
             },
         ),
         Err(TableStop::Pass(pass)) => Err(Stop::TooWide(At::Opening, pass)),
@@ -87,12 +86,12 @@ fn sizes(alloc: Global, classes: &Classes) -> Result<Vec<usize>, AllocError>
 }
 
 // The run from a table on.
-fn finish(alloc: Global, mut run: Run) -> Result<Solved, Stop>
-    requires { Reaches run.classes (run_limits run.limits) run.table run.closed.items }
-    ensures { TellsEnding run.classes (run_limits run.limits) result }
+fn finish(alloc: Global, mut run: Run<'_>) -> Result<Solved, Stop>
+    requires { Reaches run.pricer.classes (run_limits run.limits) run.table run.pricer.closed }
+    ensures { TellsEnding run.entry.pricer.classes (run_limits run.entry.limits) result }
 {
     loop {
-        match run.advance(alloc) {
+        match run.advance() {
             Ok(true) => {}
             Ok(false) => return answer(alloc, run),
             Err(refusal) => return Err(stop(run, refusal)),
@@ -101,8 +100,8 @@ fn finish(alloc: Global, mut run: Run) -> Result<Solved, Stop>
 }
 
 // Why the run stops where a step is refused.
-fn stop(run: Run, refusal: Refusal) -> Stop
-    ensures { result ≡ stop_of run.table refusal }
+fn stop(run: Run<'_>, refusal: Refusal) -> Stop
+    ensures { result ≡ stop_of run.entry.table refusal }
 {
     let at = At::Table(run.table);
     match refusal {
@@ -114,15 +113,16 @@ fn stop(run: Run, refusal: Refusal) -> Stop
 }
 
 // Everybody is settled: the columns of positive value are spread, and the closed rows certify the lottery.
-fn answer(alloc: Global, run: Run) -> Result<Solved, Stop>
-    requires reached { Reaches run.classes (run_limits run.limits) run.table run.closed.items }
+fn answer(alloc: Global, run: Run<'_>) -> Result<Solved, Stop>
+    requires reached { Reaches run.pricer.classes (run_limits run.limits) run.table run.pricer.closed }
     requires shut { run.table.in_stage ≡ false }
     requires settled { length run.table.sizes ≤ settled_count run.table }
-    ensures { TellsEnding run.classes (run_limits run.limits) result }
+    ensures { TellsEnding run.entry.pricer.classes (run_limits run.entry.limits) result }
 {
     let parts = parts(alloc, &run.table)?;
-    let certificate = certificate(alloc, &run.classes, &run.closed)?;
-    match spread(alloc, &run.classes, &parts) {
+    let classes = run.pricer.classes();
+    let certificate = certificate(alloc, classes, run.pricer.closed())?;
+    match spread(alloc, classes, &parts) {
         Ok(lottery) => Ok(Solved::Found(Answer::new(lottery, certificate))),
         Err(SpreadStop::TotalPasses { place, total, den }) => {
             Err(Stop::TotalPasses(At::Table(run.table), place, total, den))

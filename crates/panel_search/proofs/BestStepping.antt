@@ -21,7 +21,7 @@ use Rattle.panel_search.specs.Weights.{AreNarrow, AreWithin, EachNarrow, Weighs,
 use Rattle.panel_search.specs.declared.searching.BudgetSpent.{BudgetSpent}
 use Rattle.panel_search.specs.declared.pricing.BestSearch.{BestSearch}
 use Rattle.panel_search.specs.declared.tally.Tally.{Tally}
-use Rattle.panel_search.specs.declared.weighing.Weighing.{Weighing}
+use Rattle.panel_search.specs.declared.weighing.Weights.{Weights}
 use Rattle.panel_search.proofs.Tracking.{Stands, comes_next}
 use Rattle.panel_search.proofs.Stepping.{counts_here, placed, front_length}
 use Rattle.panel_search.proofs.WeightLaws.{weighs_front, element_at}
@@ -182,7 +182,7 @@ child_stands all closed row depth count rest before after stands below can live 
       closed_rows = subst (λ f. WeighEach all closed f after.closed.items) (sym child) closed_rows;
     }
 
-each_front : (all : Classes) (rows : List Row) (front : List ℕ) (count : ℕ) (weighings : List Weighing) → WeighEach all rows (front ++ count ∷ []) weighings → WeighEach all rows front weighings
+each_front : (all : Classes) (rows : List Row) (front : List ℕ) (count : ℕ) (weighings : List Weights) → WeighEach all rows (front ++ count ∷ []) weighings → WeighEach all rows front weighings
 each_front all rows front count weighings weighs = record { one_each = weighs.one_each; each = λ i r w e f. weighs_front all r front count w (weighs.each i r w e f) }
 
 -- back at the front that a child went on from

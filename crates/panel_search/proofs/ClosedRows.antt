@@ -9,15 +9,15 @@ use Rattle.row_definitions.specs.Row.{Row}
 use Rattle.search_definitions.specs.Classes.{Classes}
 use Rattle.search_definitions.specs.Fronts.{optimistic}
 use Rattle.panel_search.specs.Weights.{Weighs, WeighEach}
-use Rattle.panel_search.specs.declared.weighing.Weighing.{Weighing}
+use Rattle.panel_search.specs.declared.weighing.Weights.{Weights}
 use Rattle.panel_search.proofs.WeightLaws.{weighs_front}
 
 -- the first rows weigh the child and are attained, the others weigh the front
-pub record WeighedTo (all : Classes) (rows : List Row) (front : List ℕ) (count done : ℕ) (weighings : List Weighing) : Type 0 where
+pub record WeighedTo (all : Classes) (rows : List Row) (front : List ℕ) (count done : ℕ) (weighings : List Weights) : Type 0 where
   pub same : length weighings ≡ length rows
-  pub child : (i : ℕ) (row : Row) (weighing : Weighing) → i < done → slice_get rows i ≡ Some row → slice_get weighings i ≡ Some weighing → Weighs all row (front ++ count ∷ []) weighing
+  pub child : (i : ℕ) (row : Row) (weighing : Weights) → i < done → slice_get rows i ≡ Some row → slice_get weighings i ≡ Some weighing → Weighs all row (front ++ count ∷ []) weighing
   pub attained : (i : ℕ) (row : Row) → i < done → slice_get rows i ≡ Some row → int_le row.b (optimistic all row (front ++ count ∷ [])) ≡ true
-  pub rest : (i : ℕ) (row : Row) (weighing : Weighing) → done ≤ i → slice_get rows i ≡ Some row → slice_get weighings i ≡ Some weighing → Weighs all row front weighing
+  pub rest : (i : ℕ) (row : Row) (weighing : Weights) → done ≤ i → slice_get rows i ≡ Some row → slice_get weighings i ≡ Some weighing → Weighs all row front weighing
 
 get_set_same : {X : Type 0} (xs : List X) (i j : ℕ) (x y : X) → j ≡ i → slice_get (set xs i x) j ≡ Some y → y ≡ x
 get_set_same [] i j x y e h = cc
@@ -37,7 +37,7 @@ same_row : {X : Type 0} (xs : List X) (i j : ℕ) (x y : X) → i ≡ j → slic
 same_row xs i j x y e h k = let l = ap (slice_get xs) e in cc
 
 -- one row more
-pub weighed_next : (all : Classes) (rows : List Row) (front : List ℕ) (count done : ℕ) (weighings : List Weighing) (row : Row) (weighing : Weighing) → WeighedTo all rows front count done weighings → slice_get rows done ≡ Some row →
+pub weighed_next : (all : Classes) (rows : List Row) (front : List ℕ) (count done : ℕ) (weighings : List Weights) (row : Row) (weighing : Weights) → WeighedTo all rows front count done weighings → slice_get rows done ≡ Some row →
     Weighs all row (front ++ count ∷ []) weighing → int_le row.b (optimistic all row (front ++ count ∷ [])) ≡ true → WeighedTo all rows front count (done + 1) (set weighings done weighing)
 weighed_next all rows front count done weighings row weighing to at weighs attains = record {
   same = length-set weighings done weighing ∙ to.same;
@@ -59,14 +59,14 @@ weighed_next all rows front count done weighings row weighing to at weighs attai
     lower : (i : ℕ) → (i ≡ done → ⊥) → i < done + 1 → i < done
     lower i other l = omega arith
 
-    here : (i : ℕ) (r : Row) (w : Weighing) → i ≡ done → slice_get rows i ≡ Some r → slice_get (set weighings done weighing) i ≡ Some w → Weighs all r (front ++ count ∷ []) w
+    here : (i : ℕ) (r : Row) (w : Weights) → i ≡ done → slice_get rows i ≡ Some r → slice_get (set weighings done weighing) i ≡ Some w → Weighs all r (front ++ count ∷ []) w
     here i r w same e f =
         let is : r ≡ row = same_row rows done i row r (sym same) at e in
         let made : w ≡ weighing = get_set_same weighings done i weighing w same f in
         subst (λ q. Weighs all q (front ++ count ∷ []) w) (sym is) (subst (Weighs all row (front ++ count ∷ [])) (sym made) weighs)
 
 -- each row weighs the front still
-pub still_weighed : (all : Classes) (rows : List Row) (front : List ℕ) (count done : ℕ) (weighings : List Weighing) → WeighedTo all rows front count done weighings → WeighEach all rows front weighings
+pub still_weighed : (all : Classes) (rows : List Row) (front : List ℕ) (count done : ℕ) (weighings : List Weights) → WeighedTo all rows front count done weighings → WeighEach all rows front weighings
 still_weighed all rows front count done weighings to = record {
   one_each = to.same;
   each = λ i r w e f.
@@ -77,7 +77,7 @@ still_weighed all rows front count done weighings to = record {
 }
 
 -- also with a row that the child doesn't attain
-pub weighed_at : (all : Classes) (rows : List Row) (front : List ℕ) (count done : ℕ) (weighings : List Weighing) (row : Row) (weighing : Weighing) → WeighEach all rows front weighings → slice_get rows done ≡ Some row →
+pub weighed_at : (all : Classes) (rows : List Row) (front : List ℕ) (count done : ℕ) (weighings : List Weights) (row : Row) (weighing : Weights) → WeighEach all rows front weighings → slice_get rows done ≡ Some row →
     Weighs all row (front ++ count ∷ []) weighing → WeighEach all rows front (set weighings done weighing)
 weighed_at all rows front count done weighings row weighing each at weighs = record {
   one_each = length-set weighings done weighing ∙ each.one_each;
@@ -88,14 +88,14 @@ weighed_at all rows front count done weighings row weighing each at weighs = rec
       ]) refl;
 }
   where
-    here : (i : ℕ) (r : Row) (w : Weighing) → i ≡ done → slice_get rows i ≡ Some r → slice_get (set weighings done weighing) i ≡ Some w → Weighs all r front w
+    here : (i : ℕ) (r : Row) (w : Weights) → i ≡ done → slice_get rows i ≡ Some r → slice_get (set weighings done weighing) i ≡ Some w → Weighs all r front w
     here i r w same e f =
         let is : r ≡ row = same_row rows done i row r (sym same) at e in
         let made : w ≡ weighing = get_set_same weighings done i weighing w same f in
         subst (λ q. Weighs all q front w) (sym is) (subst (Weighs all row front) (sym made) (weighs_front all row front count weighing weighs))
 
 -- all rows weigh the child
-pub all_weighed : (all : Classes) (rows : List Row) (front : List ℕ) (count done : ℕ) (weighings : List Weighing) → WeighedTo all rows front count done weighings → length rows ≤ done → WeighEach all rows (front ++ count ∷ []) weighings
+pub all_weighed : (all : Classes) (rows : List Row) (front : List ℕ) (count done : ℕ) (weighings : List Weights) → WeighedTo all rows front count done weighings → length rows ≤ done → WeighEach all rows (front ++ count ∷ []) weighings
 all_weighed all rows front count done weighings to l = record {
   one_each = to.same;
   each = λ i r w e f. let within = slice_get_within rows i r e in to.child i r w (omega arith) e f;
@@ -108,11 +108,11 @@ each_passes p (x ∷ xs) f = and_from (p x) (list_all p xs) (f 0 x refl) (each_p
 -- ---- rows after one another, for the empty front
 
 -- the first rows have a weighing of the empty front
-pub record WeighedFirst (all : Classes) (rows : List Row) (done : ℕ) (weighings : List Weighing) : Type 0 where
+pub record WeighedFirst (all : Classes) (rows : List Row) (done : ℕ) (weighings : List Weights) : Type 0 where
   pub long : length weighings ≡ done
-  pub each : (i : ℕ) (row : Row) (weighing : Weighing) → slice_get rows i ≡ Some row → slice_get weighings i ≡ Some weighing → Weighs all row [] weighing
+  pub each : (i : ℕ) (row : Row) (weighing : Weights) → slice_get rows i ≡ Some row → slice_get weighings i ≡ Some weighing → Weighs all row [] weighing
 
-get_pushed : {X : Type 0} (xs : List X) (x y : X) (i : ℕ) → slice_get (xs ++ x ∷ []) i ≡ Some y → (i < length xs) × (slice_get xs i ≡ Some y) ⊎ (i ≡ length xs) × (y ≡ x)
+pub get_pushed : {X : Type 0} (xs : List X) (x y : X) (i : ℕ) → slice_get (xs ++ x ∷ []) i ≡ Some y → (i < length xs) × (slice_get xs i ≡ Some y) ⊎ (i ≡ length xs) × (y ≡ x)
 get_pushed [] x y zero e = inr (refl, cc)
 get_pushed [] x y (suc i) e = cc
 get_pushed (z ∷ zs) x y zero e = inl (omega arith, e)
@@ -121,7 +121,7 @@ get_pushed (z ∷ zs) x y (suc i) e = elim (get_pushed zs x y i e) [
   | inr h ↦ inr (omega (arith, h.0), h.1)
 ]
 
-pub first_more : (all : Classes) (rows : List Row) (done : ℕ) (weighings : List Weighing) (row : Row) (weighing : Weighing) → WeighedFirst all rows done weighings → slice_get rows done ≡ Some row → Weighs all row [] weighing →
+pub first_more : (all : Classes) (rows : List Row) (done : ℕ) (weighings : List Weights) (row : Row) (weighing : Weights) → WeighedFirst all rows done weighings → slice_get rows done ≡ Some row → Weighs all row [] weighing →
     WeighedFirst all rows (done + 1) (weighings ++ weighing ∷ [])
 first_more all rows done weighings row weighing to at weighs = record {
   long = omega (arith, to.long, length-append weighings (weighing ∷ []));
@@ -131,10 +131,10 @@ first_more all rows done weighings row weighing to at weighs = record {
   ];
 }
   where
-    last : (i : ℕ) (r : Row) (w : Weighing) → i ≡ done → slice_get rows i ≡ Some r → w ≡ weighing → Weighs all r [] w
+    last : (i : ℕ) (r : Row) (w : Weights) → i ≡ done → slice_get rows i ≡ Some r → w ≡ weighing → Weighs all r [] w
     last i r w same e made =
         let is : r ≡ row = same_row rows done i row r (sym same) at e in
         subst (λ q. Weighs all q [] w) (sym is) (subst (Weighs all row []) (sym made) weighs)
 
-pub first_all : (all : Classes) (rows : List Row) (done : ℕ) (weighings : List Weighing) → WeighedFirst all rows done weighings → done ≡ length rows → WeighEach all rows [] weighings
+pub first_all : (all : Classes) (rows : List Row) (done : ℕ) (weighings : List Weights) → WeighedFirst all rows done weighings → done ≡ length rows → WeighEach all rows [] weighings
 first_all all rows done weighings to e = record { one_each = to.long ∙ e; each = to.each }

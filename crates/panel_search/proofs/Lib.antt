@@ -1,6 +1,8 @@
 pub mod Adding
 pub mod BestStepping
 pub mod ClosedRows
+pub mod Households
+pub mod Kept
 pub mod Liveness
 pub mod Stepping
 pub mod Tracking

@@ -6,12 +6,13 @@ use Rattle.std.proofs.lemmas.Bool.{and_parts, and_from, eqb-true, eq-eqb, false�
 use Rattle.std.proofs.lemmas.Option.{get_or_from_slice_get, slice_get-get_or, slice_get_within}
 use Rattle.search_definitions.specs.declared.Bounds.{Bounds}
 use Rattle.search_definitions.specs.Classes.{Class, Classes, HasPlaces, KeepsLimits}
-use Rattle.search_definitions.specs.Compositions.{taken_of, has_value}
+use Rattle.search_definitions.specs.Compositions.{taken_of, has_value, takes_one_a_household}
 use Rattle.search_definitions.specs.Fronts.{most_given, is_reachable, size_reachable, value_reachable, values_reachable, later_than}
 use Rattle.panel_search.specs.Tallies.{cell, HasBound, reaches, AllReach, OneFails, EachReaches, SomeFails}
 use Rattle.panel_search.specs.Front.{Tracks}
 use Rattle.panel_search.specs.declared.tally.Tally.{Tally}
 use Rattle.panel_search.proofs.Tracking.{Stands, comes_next, few_places, most_more, taken_more}
+use Rattle.panel_search.proofs.Households.{empty_reachable}
 
 -- ---- a test of each element with its place
 
@@ -83,7 +84,8 @@ other_reach all front class count stands c v bound has =
 values_of_child : (all : Classes) (front : List ℕ) (class : Class) (count : ℕ) (tally : Tally) → KeepsLimits all → HasPlaces all.bounds class → Stands all (length front) class → is_reachable all front ≡ true →
     Tracks all front (drop (length front + 1) all.classes) tally → AllReach all.bounds tally.held.items tally.later.items class.values count → values_reachable all (front ++ count ∷ []) ≡ true
 values_of_child all front class count tally limits places stands live tracks reach =
-    let parent = (and_parts (size_reachable all front) (values_reachable all front) live).1 in
+    let both = and_parts (size_reachable all front && values_reachable all front) (takes_one_a_household all.classes front) live in
+    let parent = (and_parts (size_reachable all front) (values_reachable all front) both.0).1 in
     values_from all (front ++ count ∷ []) (λ c v bound below has.
     let within = value_in_cell all limits c v bound below has in
     (elim (has_value c v class) as (λ b. has_value c v class ≡ b → value_reachable all (front ++ count ∷ []) c (v, bound) ≡ true) [
@@ -119,7 +121,7 @@ decided false A B s f g h k = sym (k (g refl))
 pub child_live : (all : Classes) (front : List ℕ) (class : Class) (count : ℕ) (tally : Tally) → KeepsLimits all → HasPlaces all.bounds class → Stands all (length front) class → is_reachable all front ≡ true →
     Tracks all front (drop (length front + 1) all.classes) tally → (leb (tally.taken + count) all.size && leb all.size (tally.taken + count + tally.later_taken)) ≡ true →
     (answer : Bool) → (answer ≡ true → AllReach all.bounds tally.held.items tally.later.items class.values count) → (answer ≡ false → OneFails all.bounds tally.held.items tally.later.items class.values count) →
-    answer ≡ is_reachable all (front ++ count ∷ [])
+    answer ≡ (size_reachable all (front ++ count ∷ []) && values_reachable all (front ++ count ∷ []))
 child_live all front class count tally limits places stands live tracks size answer allowed refused =
     let values = decided answer _ _ (values_reachable all (front ++ count ∷ [])) allowed refused
     (values_of_child all front class count tally limits places stands live tracks) (values_fail all front class count tally limits places stands tracks) in
@@ -128,7 +130,7 @@ child_live all front class count tally limits places stands live tracks size ans
 
 pub child_dead : (all : Classes) (front : List ℕ) (class : Class) (count : ℕ) (tally : Tally) → Stands all (length front) class →
     Tracks all front (drop (length front + 1) all.classes) tally → (leb (tally.taken + count) all.size && leb all.size (tally.taken + count + tally.later_taken)) ≡ false →
-    is_reachable all (front ++ count ∷ []) ≡ false
+    (size_reachable all (front ++ count ∷ []) && values_reachable all (front ++ count ∷ [])) ≡ false
 child_dead all front class count tally stands tracks size =
     ap (λ b. b && values_reachable all (front ++ count ∷ [])) (size_of_child all front class count tally stands tracks ∙ size)
 
@@ -148,7 +150,7 @@ empty_live all tally limits tracks size answer allowed refused =
     let values = decided answer _ _ (values_reachable all []) allowed refused
     (λ reach. values_from all [] (λ c v bound below has. empty_reach all tally tracks c v bound below (value_in_cell all limits c v bound below has) ∙ reach c v bound below has))
     (λ (c, v, bound, below, has, fails). false_from_ne_true (values_reachable all []) (λ yes. false≢true (sym fails ∙ (sym (empty_reach all tally tracks c v bound below (value_in_cell all limits c v bound below has)) ∙ values_at all [] yes c v bound below has)))) in
-    values ∙ sym (ap (λ b. b && values_reachable all []) (size_of_empty all tally tracks ∙ size))
+    values ∙ sym (empty_reachable all ∙ ap (λ b. b && values_reachable all []) (size_of_empty all tally tracks ∙ size))
 
 pub empty_dead : (all : Classes) (tally : Tally) → Tracks all [] all.classes tally → (leb (tally.taken + 0) all.size && leb all.size (tally.taken + 0 + tally.later_taken)) ≡ false → is_reachable all [] ≡ false
-empty_dead all tally tracks size = ap (λ b. b && values_reachable all []) (size_of_empty all tally tracks ∙ size)
+empty_dead all tally tracks size = empty_reachable all ∙ ap (λ b. b && values_reachable all []) (size_of_empty all tally tracks ∙ size)

@@ -1,5 +1,5 @@
 -- A tally follows its front, as a class begins and ends and counts are taken of it.
-use Rattle.std.proofs.Common.{◌≡◌, ℕ, suc, ◌+◌, ◌*◌, ◌≤◌, ◌<◌, Bool, true, false, cond, List, [], ◌∷◌, ◌++◌, length, sum_by, take, drop, get_or, replicate, refl, sym, ap, ◌∙◌, arith, subst}
+use Rattle.std.proofs.Common.{◌≡◌, ℕ, suc, ◌+◌, ◌*◌, ◌≤◌, ◌<◌, Bool, true, false, cond, ◌&&◌, List, [], ◌∷◌, ◌++◌, length, sum_by, take, drop, get_or, replicate, refl, sym, ap, ◌∙◌, arith, subst}
 use Rattle.std.specs.Prelude.{slice_index, slice_index_or}
 use Rattle.std.specs.List.{All, AllByRecursion}
 use Rattle.std.proofs.lemmas.Bool.{eq-eqb, leb-true, and_parts}
@@ -8,12 +8,13 @@ use Rattle.std.proofs.lemmas.List.Elements.{All-get_or}
 use Rattle.std.proofs.lemmas.List.Sums.{get_or-le-sum_by, sum_by-take-drop, sum_by-take-le}
 use Rattle.basic_laws.proofs.Sums.{sum_by-is-total, total}
 use Rattle.search_definitions.specs.declared.Bounds.{Bounds}
-use Rattle.search_definitions.specs.Classes.{Class, Classes, HasPlaces, KeepsLimits}
-use Rattle.search_definitions.specs.Compositions.{taken_of, has_value}
+use Rattle.search_definitions.specs.Classes.{Class, Classes, HasPlaces, KeepsLimits, volunteer_count}
+use Rattle.search_definitions.specs.Compositions.{taken_of, has_value, is_of_household, takes_one_a_household}
 use Rattle.search_definitions.specs.Fronts.{most_given, taken_by, is_reachable, size_reachable, values_reachable}
 use Rattle.search_definitions.proofs.FirstSearch.{Split, taken_split}
 use Rattle.panel_search.specs.Tallies.{cell, HaveCells, CanGive, AreAtMost, HasMore, HaveBounds, AllReach, OneFails, FitCells, EachReaches, SomeFails}
 use Rattle.panel_search.specs.Front.{Gives, Tracks}
+use Rattle.panel_search.specs.Homes.{HasMoreAt}
 use Rattle.panel_search.specs.declared.tally.Tally.{Tally}
 
 -- ---- classes
@@ -81,7 +82,8 @@ taken_within_all p (class ∷ classes) (c ∷ counts) =
 -- a live front takes few
 pub few_taken : (all : Classes) (front : List ℕ) (p : Class → Bool) → KeepsLimits all → is_reachable all front ≡ true → taken_of p all.classes front ≤ 200
 few_taken all front p limits live =
-    let parts = and_parts (size_reachable all front) (values_reachable all front) live in
+    let both = and_parts (size_reachable all front && values_reachable all front) (takes_one_a_household all.classes front) live in
+    let parts = and_parts (size_reachable all front) (values_reachable all front) both.0 in
     let low = leb-true (taken_by all front) all.size (and_parts _ _ parts.0).0 in
     let within = taken_within_all p all.classes front in let size = limits.size.1 in omega arith
 
@@ -112,8 +114,10 @@ taken_more all front class count stands p =
 -- a class begins: these are tallies before and after
 pub begun : (all : Classes) (front : List ℕ) (class : Class) (rest : List Class) (before after : Tally) → HasPlaces all.bounds class → Tracks all front (class ∷ rest) before →
     after.taken ≡ before.taken → after.held.items ≡ before.held.items → after.later_taken + class.most ≡ before.later_taken → HasMore class.values class.most after.later.items before.later.items →
-    Tracks all front rest after
-begun all front class rest before after places tracks e f g more = record {
+    after.homes.items ≡ before.homes.items → Tracks all front rest after
+begun all front class rest before after places tracks e f g more homes = record {
+  homes_cells = ap length homes ∙ tracks.homes_cells;
+  homes = λ h l. ap (λ cells. slice_index cells h) homes ∙ tracks.homes h l;
   taken = e ∙ tracks.taken;
   later_taken = omega (arith, g, tracks.later_taken, most_more (λ class. true) class rest);
   held_cells = ap length f ∙ tracks.held_cells;
@@ -125,8 +129,10 @@ begun all front class rest before after places tracks e f g more = record {
 -- a class ends
 pub ended : (all : Classes) (front : List ℕ) (class : Class) (rest : List Class) (before after : Tally) → HasPlaces all.bounds class → Tracks all front rest before →
     after.taken ≡ before.taken → after.held.items ≡ before.held.items → after.later_taken ≡ before.later_taken + class.most → HasMore class.values class.most before.later.items after.later.items →
-    Tracks all front (class ∷ rest) after
-ended all front class rest before after places tracks e f g more = record {
+    after.homes.items ≡ before.homes.items → Tracks all front (class ∷ rest) after
+ended all front class rest before after places tracks e f g more homes = record {
+  homes_cells = ap length homes ∙ tracks.homes_cells;
+  homes = λ h l. ap (λ cells. slice_index cells h) homes ∙ tracks.homes h l;
   taken = e ∙ tracks.taken;
   later_taken = omega (arith, g, tracks.later_taken, most_more (λ class. true) class rest);
   held_cells = ap length f ∙ tracks.held_cells;
@@ -138,8 +144,10 @@ ended all front class rest before after places tracks e f g more = record {
 -- so many of a class are taken
 pub taken_on : (all : Classes) (front : List ℕ) (class : Class) (count : ℕ) (rest : List Class) (before after : Tally) → HasPlaces all.bounds class → Stands all (length front) class → Tracks all front rest before →
     after.taken ≡ before.taken + count → after.later.items ≡ before.later.items → after.later_taken ≡ before.later_taken → HasMore class.values count before.held.items after.held.items →
-    Tracks all (front ++ count ∷ []) rest after
-taken_on all front class count rest before after places stands tracks e f g more = record {
+    HasMoreAt class.household count before.homes.items after.homes.items → Tracks all (front ++ count ∷ []) rest after
+taken_on all front class count rest before after places stands tracks e f g more homes = record {
+  homes_cells = homes.same ∙ tracks.homes_cells;
+  homes = λ h l. omega (arith, homes.each h (omega (arith, tracks.homes_cells)), tracks.homes h l, taken_more all front class count stands (λ class. is_of_household h class.household));
   taken = omega (arith, e, tracks.taken, taken_more all front class count stands (λ class. true));
   later_taken = g ∙ tracks.later_taken;
   held_cells = more.same ∙ tracks.held_cells;
@@ -151,8 +159,10 @@ taken_on all front class count rest before after places stands tracks e f g more
 -- they are given back
 pub given_back : (all : Classes) (front : List ℕ) (class : Class) (count : ℕ) (rest : List Class) (before after : Tally) → HasPlaces all.bounds class → Stands all (length front) class → Tracks all (front ++ count ∷ []) rest before →
     after.taken + count ≡ before.taken → after.later.items ≡ before.later.items → after.later_taken ≡ before.later_taken → HasMore class.values count after.held.items before.held.items →
-    Tracks all front rest after
-given_back all front class count rest before after places stands tracks e f g more = record {
+    HasMoreAt class.household count after.homes.items before.homes.items → Tracks all front rest after
+given_back all front class count rest before after places stands tracks e f g more homes = record {
+  homes_cells = sym homes.same ∙ tracks.homes_cells;
+  homes = λ h l. omega (arith, homes.each h (omega (arith, homes.same, tracks.homes_cells)), tracks.homes h l, taken_more all front class count stands (λ class. is_of_household h class.household));
   taken = omega (arith, e, tracks.taken, taken_more all front class count stands (λ class. true));
   later_taken = g ∙ tracks.later_taken;
   held_cells = sym more.same ∙ tracks.held_cells;
@@ -193,8 +203,10 @@ zero_cells n categories cells e room = λ c v a b.
 
 -- nothing is taken, and each class comes later
 pub starts : (all : Classes) (cells : List ℕ) (tally : Tally) → tally.taken ≡ 0 → AreAtMost 0 (length all.bounds) tally.held.items → length tally.held.items ≡ 50 * length all.bounds →
-    tally.later.items ≡ cells → Gives all all.classes tally.later_taken cells → Tracks all [] all.classes tally
-starts all cells tally e none room f gives = record {
+    tally.later.items ≡ cells → Gives all all.classes tally.later_taken cells → (n : ℕ) → n ≡ volunteer_count all → tally.homes.items ≡ replicate n 0 → Tracks all [] all.classes tally
+starts all cells tally e none room f gives n count homes = record {
+  homes_cells = ap length homes ∙ length-replicate n 0 ∙ count;
+  homes = λ h l. ap (λ cells. slice_index cells h) homes ∙ get_or-replicate n h 0 0 (omega arith) ∙ sym (taken_none (λ class. is_of_household h class.household) all.classes);
   taken = e ∙ sym (taken_none (λ class. true) all.classes);
   later_taken = gives.in_all;
   held_cells = room;

@@ -1,5 +1,5 @@
 -- What fronts weigh, and how wide it is.
-use Rattle.std.proofs.Common.{◌≡◌, ℕ, zero, suc, ◌+◌, ◌-◌, ◌*◌, ◌^◌, ◌≤◌, ◌<◌, true, false, eqb, leb, List, [], ◌∷◌, ◌++◌, length, take, drop, set, map, get_or, ℤ, pos, ◌+ℤ◌, ◌*ℤ◌, refl, sym, ap, ◌∙◌, arith, mul-le-mul_right, subst, length-append}
+use Rattle.std.proofs.Common.{◌≡◌, ℕ, zero, suc, ◌+◌, ◌-◌, ◌*◌, ◌^◌, ◌≤◌, ◌<◌, true, false, ◌&&◌, eqb, leb, List, [], ◌∷◌, ◌++◌, length, take, drop, set, map, get_or, ℤ, pos, ◌+ℤ◌, ◌*ℤ◌, refl, sym, ap, ◌∙◌, arith, mul-le-mul_right, subst, length-append}
 use Rattle.std.specs.Prelude.{unsigned_abs, slice_index}
 use Rattle.std.specs.List.{AllByRecursion}
 use Rattle.std.proofs.lemmas.Bool.{eqb-true, eqb-false, leb-true, and_parts}
@@ -10,10 +10,10 @@ use Rattle.std.proofs.lemmas.Nat.{mul-add-lt}
 use Rattle.row_definitions.specs.Row.{Row, sum_of_sizes}
 use Rattle.row_definitions.proofs.SumLaws.{abs_sum_le}
 use Rattle.search_definitions.specs.Classes.{Class, Classes, KeepsLimits}
-use Rattle.search_definitions.specs.Compositions.{weight_in}
+use Rattle.search_definitions.specs.Compositions.{takes_one_a_household, weight_in}
 use Rattle.search_definitions.specs.Fronts.{sizes_of, is_reachable, size_reachable, values_reachable, taken_by, units, greatest_sum, optimistic}
 use Rattle.panel_search.specs.Weights.{at, cell_of, AreNarrow, AreWithin, HoldsSums, Weighs}
-use Rattle.panel_search.specs.declared.weighing.Weighing.{Weighing}
+use Rattle.panel_search.specs.declared.weighing.Weights.{Weights}
 use Rattle.panel_search.proofs.UnitSums.{width, greatest_width, units_width, each_of}
 use Rattle.panel_search.proofs.Tracking.{nothing_taken, taken_more}
 
@@ -99,47 +99,44 @@ child_is all row front count lack {before = before} {entry = entry} {weight = we
           ∙ sym (optimistic_child all row front count lack narrow below lack_is);
     }
 
-pub weighs_child : (all : Classes) (row : Row) (front : List ℕ) (count : ℕ) (before after : Weighing) → AreNarrow all row.a → length front < length all.classes → Weighs all row front before →
-    after.weights.items ≡ set before.weights.items (length front + 1) (weight_in row.a front +ℤ pos count *ℤ at row.a (length front)) → after.greatest.items ≡ before.greatest.items →
+pub weighs_child : (all : Classes) (row : Row) (front : List ℕ) (count : ℕ) (before after : Weights) → AreNarrow all row.a → length front < length all.classes → Weighs all row front before →
+    after.by_length.items ≡ set before.by_length.items (length front + 1) (weight_in row.a front +ℤ pos count *ℤ at row.a (length front)) →
     Weighs all row (front ++ count ∷ []) after
-weighs_child all row front count before after narrow below weighs e f = record {
-  room = ap length e ∙ length-set before.weights.items (length front + 1) _ ∙ weighs.room;
-  weights = λ depth l.
-      (elim (eqb depth (length front + 1)) as (λ b. eqb depth (length front + 1) ≡ b → at after.weights.items depth ≡ weight_in row.a (take depth (front ++ count ∷ []))) [
+weighs_child all row front count before after narrow below weighs e = record {
+  room = ap length e ∙ length-set before.by_length.items (length front + 1) _ ∙ weighs.room;
+  each = λ depth l.
+      (elim (eqb depth (length front + 1)) as (λ b. eqb depth (length front + 1) ≡ b → at after.by_length.items depth ≡ weight_in row.a (take depth (front ++ count ∷ []))) [
         | true ↦ λ t. let same = eqb-true depth (length front + 1) t in whole depth same
         | false ↦ λ t. let other = eqb-false depth (length front + 1) t in part depth other (shorter depth other l)
       ]) refl;
-  sums = subst (HoldsSums all row.a (length all.classes + 1)) (sym f) weighs.sums;
 }
   where
     shorter : (depth : ℕ) → (depth ≡ length front + 1 → ⊥) → depth ≤ length (front ++ count ∷ []) → depth ≤ length front
     shorter depth other l = omega (arith, length-append front (count ∷ []))
 
-    part : (depth : ℕ) → (depth ≡ length front + 1 → ⊥) → depth ≤ length front → at after.weights.items depth ≡ weight_in row.a (take depth (front ++ count ∷ []))
+    part : (depth : ℕ) → (depth ≡ length front + 1 → ⊥) → depth ≤ length front → at after.by_length.items depth ≡ weight_in row.a (take depth (front ++ count ∷ []))
     part depth other l =
-        ap (λ xs. at xs depth) e ∙ get_or-set_other before.weights.items (length front + 1) depth _ (pos 0) other ∙ weighs.weights depth l ∙ ap (weight_in row.a) (sym (take-append-le depth front (count ∷ []) l))
+        ap (λ xs. at xs depth) e ∙ get_or-set_other before.by_length.items (length front + 1) depth _ (pos 0) other ∙ weighs.each depth l ∙ ap (weight_in row.a) (sym (take-append-le depth front (count ∷ []) l))
 
-    whole : (depth : ℕ) → depth ≡ length front + 1 → at after.weights.items depth ≡ weight_in row.a (take depth (front ++ count ∷ []))
+    whole : (depth : ℕ) → depth ≡ length front + 1 → at after.by_length.items depth ≡ weight_in row.a (take depth (front ++ count ∷ []))
     whole depth same =
         let size : depth ≡ length (front ++ count ∷ []) = omega (arith, length-append front (count ∷ [])) in
-        ap (λ xs. at xs depth) e ∙ get_or-set_at before.weights.items (length front + 1) depth _ (pos 0) same (omega (arith, weighs.room))
+        ap (λ xs. at xs depth) e ∙ get_or-set_at before.by_length.items (length front + 1) depth _ (pos 0) same (omega (arith, weighs.room))
         ∙ sym (weight_more row.a front count (omega (arith, narrow.one_each)))
         ∙ ap (weight_in row.a) (sym (ap (λ n. take n (front ++ count ∷ [])) size ∙ take_whole (front ++ count ∷ [])))
 
 -- what weighs a child weighs the front that it goes on from
-pub weighs_front : (all : Classes) (row : Row) (front : List ℕ) (count : ℕ) (weighing : Weighing) → Weighs all row (front ++ count ∷ []) weighing → Weighs all row front weighing
+pub weighs_front : (all : Classes) (row : Row) (front : List ℕ) (count : ℕ) (weighing : Weights) → Weighs all row (front ++ count ∷ []) weighing → Weighs all row front weighing
 weighs_front all row front count weighing weighs = record {
   room = weighs.room;
-  weights = λ depth l. weighs.weights depth (omega (arith, length-append front (count ∷ []))) ∙ ap (weight_in row.a) (take-append-le depth front (count ∷ []) l);
-  sums = weighs.sums;
+  each = λ depth l. weighs.each depth (omega (arith, length-append front (count ∷ []))) ∙ ap (weight_in row.a) (take-append-le depth front (count ∷ []) l);
 }
 
 -- the empty front
-pub weighs_none : (all : Classes) (row : Row) (weighing : Weighing) → length weighing.weights.items ≡ length all.classes + 1 → at weighing.weights.items 0 ≡ pos 0 → HoldsSums all row.a (length all.classes + 1) weighing.greatest.items → Weighs all row [] weighing
-weighs_none all row weighing room none sums = record {
+pub weighs_none : (all : Classes) (row : Row) (weighing : Weights) → length weighing.by_length.items ≡ length all.classes + 1 → at weighing.by_length.items 0 ≡ pos 0 → Weighs all row [] weighing
+weighs_none all row weighing room none = record {
   room = room;
-  weights = λ depth l. let e : depth ≡ 0 = omega arith in ap (at weighing.weights.items) e ∙ none ∙ sym (no_weight row.a) ∙ ap (λ n. weight_in row.a (take n [])) (sym e);
-  sums = sums;
+  each = λ depth l. let e : depth ≡ 0 = omega arith in ap (at weighing.by_length.items) e ∙ none ∙ sym (no_weight row.a) ∙ ap (λ n. weight_in row.a (take n [])) (sym e);
 }
 
 taken_of_none : (all : Classes) → taken_by all [] ≡ 0
@@ -158,7 +155,8 @@ optimistic_none all row =
 
 pub taken_few : (all : Classes) (front : List ℕ) → is_reachable all front ≡ true → taken_by all front ≤ all.size
 taken_few all front live =
-    let parts = and_parts (size_reachable all front) (values_reachable all front) live in
+    let both = and_parts (size_reachable all front && values_reachable all front) (takes_one_a_household all.classes front) live in
+    let parts = and_parts (size_reachable all front) (values_reachable all front) both.0 in
     leb-true (taken_by all front) all.size (and_parts (leb (taken_by all front) all.size) _ parts.0).0
 
 pub element_at : {X : Type 0} (xs : List X) (i : ℕ) → i < length xs → (x : X) × (x ≡ get_or xs i x)

@@ -1,6 +1,9 @@
 pub mod Answers
 pub mod Front
+pub mod Homes
+pub mod Pricers
 pub mod Pricing
 pub mod Steps
 pub mod Tallies
+pub mod Terms
 pub mod Weights

@@ -5,7 +5,8 @@ use Rattle.row_definitions.specs.Row.{Row, sum_of_sizes}
 use Rattle.search_definitions.specs.Classes.{Classes}
 use Rattle.search_definitions.specs.Compositions.{weight_in}
 use Rattle.search_definitions.specs.Fronts.{sizes_of, units, falling, sum_of, greatest_sum}
-use Rattle.panel_search.specs.declared.weighing.Weighing.{Weighing}
+use Rattle.panel_search.specs.declared.greatest.Sums.{Sums}
+use Rattle.panel_search.specs.declared.weighing.Weights.{Weights}
 
 -- the number in a place
 abbrev pub at : List ℤ → ℕ → ℤ
@@ -54,16 +55,24 @@ pub record HoldsSums (all : Classes) (entries : List ℤ) (lines : ℕ) (table :
 abbrev pub AreWithin : Classes → List ℕ → Type 0
 AreWithin all counts = (t : ℕ) → t < length counts → slice_index counts t ≤ slice_index (sizes_of all) t
 
--- what a front, and each front that it goes on from, weighs in a row, and the greatest sums in it
-pub record Weighs (all : Classes) (row : Row) (front : List ℕ) (weighing : Weighing) : Type 0 where
-  pub room : length weighing.weights.items ≡ length all.classes + 1
-  pub weights : (depth : ℕ) → depth ≤ length front → at weighing.weights.items depth ≡ weight_in row.a (take depth front)
-  pub sums : HoldsSums all row.a (length all.classes + 1) weighing.greatest.items
+-- the greatest sums in a row
+abbrev pub IsSummed : Classes → Row → Sums → Type 0
+IsSummed all row sums = HoldsSums all row.a (length all.classes + 1) sums.cells.items
+
+-- those in each of the rows
+pub record SumEach (all : Classes) (rows : List Row) (sums : List Sums) : Type 0 where
+  pub one_each : length sums ≡ length rows
+  pub each : (i : ℕ) (row : Row) (here : Sums) → slice_get rows i ≡ Some row → slice_get sums i ≡ Some here → IsSummed all row here
+
+-- what a front, and each front that it goes on from, weighs in a row
+pub record Weighs (all : Classes) (row : Row) (front : List ℕ) (weights : Weights) : Type 0 where
+  pub room : length weights.by_length.items ≡ length all.classes + 1
+  pub each : (depth : ℕ) → depth ≤ length front → at weights.by_length.items depth ≡ weight_in row.a (take depth front)
 
 -- the same in each of the rows
-pub record WeighEach (all : Classes) (rows : List Row) (front : List ℕ) (weighings : List Weighing) : Type 0 where
-  pub one_each : length weighings ≡ length rows
-  pub each : (i : ℕ) (row : Row) (weighing : Weighing) → slice_get rows i ≡ Some row → slice_get weighings i ≡ Some weighing → Weighs all row front weighing
+pub record WeighEach (all : Classes) (rows : List Row) (front : List ℕ) (weights : List Weights) : Type 0 where
+  pub one_each : length weights ≡ length rows
+  pub each : (i : ℕ) (row : Row) (here : Weights) → slice_get rows i ≡ Some row → slice_get weights i ≡ Some here → Weighs all row front here
 
 -- each of the rows is narrow
 abbrev pub EachNarrow : Classes → List Row → Type 0

@@ -11,7 +11,7 @@ use std::test::Fail;
 const GREATEST: i128 = 1_000_000_000;
 
 // Has the row one entry per class, and numbers of at most 1,000,000,000?
-fn is_small(classes: &Classes, row: &Row) -> bool
+pub(crate) fn is_small(classes: &Classes, row: &Row) -> bool
     ensures entries { result ≡ true → HaveEntries classes.now (row.now ∷ []) }
     ensures reach { result ≡ true → HaveReach classes.now (row.now ∷ []) }
 {

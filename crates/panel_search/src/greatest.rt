@@ -1,13 +1,51 @@
-//! The greatest sums of units that classes give in a row, as a table.
+//! The greatest sums of units that classes give in a row, as a table which is made once.
 
-ghost use Rattle.std.specs.Prelude.{◌≡◌, ◌+◌, ◌<◌, ◌≤◌, length, IfOk};
-ghost use Rattle.panel_search.specs.Weights.{AreNarrow, CanAdd, HasUnit, IsGreater, AreGreatest, HoldsSums, units_from};
+ghost use Rattle.std.specs.Prelude.{◌≡◌, ◌+◌, ◌<◌, ◌≤◌, drop, length, IfOk};
+ghost use Rattle.panel_search.specs.Weights.{AreNarrow, CanAdd, HasUnit, IsGreater, AreGreatest, HoldsSums, IsSummed, units_from};
+ghost use Rattle.search_definitions.specs.Fronts.{greatest_sum};
 
 use alike::Classes;
+use row_model::Row;
 use std::alloc::{AllocError, Global};
 
+/// For the classes from each place on, the greatest sums of 0, 1, 2 and more units out of them, up to as many as the size: (classes + 1)
+/// times (size + 1) numbers of 16 bytes, from the last class to the first.
+#[derive(Debug, Drop)]
+pub(crate) struct Sums {
+    cells: Vec<i128>,
+}
+
+impl Sums {
+    // In a row.
+    pub(crate) fn new(alloc: Global, classes: &Classes, row: &Row) -> Result<Sums, AllocError>
+        requires { AreNarrow classes.now row.now.a }
+        ensures { IfOk result (λ sums. IsSummed classes.now row.now sums) }
+    {
+        let cells = greatest_sums(alloc, classes, row.entries())?;
+        Ok(Sums { cells })
+    }
+
+    // The greatest sum of so many units out of the classes from a place on.
+    pub(crate) fn greatest_of(
+        &self,
+        classes: &Classes,
+        row: &Row,
+        place: usize,
+        count: usize,
+    ) -> i128
+        requires place { place ≤ length classes.now.classes }
+        requires count { count ≤ classes.now.size }
+        requires sums { IsSummed classes.now row.now self.now }
+        ensures { result ≡ greatest_sum count (drop place classes.now.classes) (drop place row.now.a) }
+    {
+        classes.facts();
+        let later = classes.classes().len() - place;
+        self.cells[later * (classes.size() + 1) + count]
+    }
+}
+
 // For so many classes at the end, from none on: the greatest sums of units out of them, up to as many units as the size.
-pub(crate) fn greatest_sums(
+fn greatest_sums(
     alloc: Global,
     classes: &Classes,
     entries: &[i128],

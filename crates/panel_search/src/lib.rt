@@ -1,10 +1,15 @@
 //! The searches for the first composition of a pool's classes, and for the best one in a row, under a budget of visits. `alike` stands
-//! below, which makes the classes; `search_definitions` says what a visit is, and what a search finds.
+//! below, which makes the classes; `search_definitions` says what a visit is, and what a search finds. A `Pricer` keeps what each search
+//! for the best composition needs of the rows that compositions are to attain.
 #![tactic(auto)]
 
 #[cfg(test)]
 mod best_tests;
 mod greatest;
+mod homes;
+#[cfg(test)]
+mod household_tests;
+mod pricer;
 mod pricing;
 mod searching;
 mod tallies;
@@ -13,6 +18,6 @@ mod tally;
 mod tests;
 mod weighing;
 
-pub use pricing::best;
+pub use pricer::{Pricer, best};
 pub use row_model::Row;
 pub use searching::{SearchStop, first};

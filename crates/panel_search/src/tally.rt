@@ -1,21 +1,23 @@
-//! What a front takes of everybody and of each value, and the most that the classes after it give.
+//! What a front takes of everybody, of each value and of each household, and the most that the classes after it give.
 
 ghost use Rattle.std.specs.Prelude.{◌≡◌, ◌+◌, ◌-◌, ◌*◌, ◌≤◌, ◌<◌, ◌++◌, ◌^◌, [], ◌∷◌, IfOk, true, nat_le, ◌&&◌, drop, length};
 ghost use Rattle.panel_search.specs.Front.{Gives, Tracks};
 ghost use Rattle.panel_search.specs.Tallies.{AreAtMost};
-ghost use Rattle.search_definitions.specs.Fronts.{is_reachable, taken_by};
+ghost use Rattle.search_definitions.specs.Fronts.{is_reachable, size_reachable, taken_by, values_reachable};
 
+use crate::homes;
 use crate::tallies::{PLACES, add_to, all_within_reach, take_from, values_allow};
 use alike::Classes;
 use std::alloc::{AllocError, Global};
 
-/// How many a front takes, and the most that later classes give: in all, and of each value.
+/// How many a front takes, and the most that later classes give: in all, and of each value; and how many it takes of each household.
 #[derive(Debug, Drop)]
 pub(crate) struct Tally {
     taken: usize,
     held: Vec<usize>,
     later_taken: usize,
     later: Vec<usize>,
+    homes: Vec<usize>,
 }
 
 impl Tally {
@@ -28,11 +30,13 @@ impl Tally {
         let held = vec![in alloc; 0; cells]?;
         let mut later = vec![in alloc; 0; cells]?;
         let later_taken = add_all(&mut later, classes);
+        let homes = vec![in alloc; 0; classes.volunteers()]?;
         Ok(Tally {
             taken: 0,
             held,
             later_taken,
             later,
+            homes,
         })
     }
 
@@ -71,6 +75,7 @@ impl Tally {
         classes.facts();
         let class = &classes.classes()[front.len()];
         add_to(&mut self.held, class.values(), count);
+        homes::add_at(&mut self.homes, class.household(), count);
         self.taken += count;
     }
 
@@ -83,6 +88,7 @@ impl Tally {
         classes.facts();
         let class = &classes.classes()[front.len()];
         take_from(&mut self.held, class.values(), count);
+        homes::take_at(&mut self.homes, class.household(), count);
         self.taken -= count;
     }
 
@@ -93,6 +99,20 @@ impl Tally {
         requires few { count ≤ 1000 }
         requires stands { Tracks classes.now front.now (drop (length front.now + 1) classes.now.classes) self.now }
         ensures { result ≡ is_reachable classes.now (front.now ++ count ∷ []) }
+    {
+        classes.facts();
+        let class = &classes.classes()[front.len()];
+        self.counts_allow(classes, front, count)
+            && homes::has_room(&self.homes, class.household(), count)
+    }
+
+    // Can the size and each value's bounds still be met with so many of the next class?
+    fn counts_allow(&self, classes: &Classes, front: &[usize], count: usize) -> bool
+        requires below { length front.now < length classes.now.classes }
+        requires live { is_reachable classes.now front.now ≡ true }
+        requires few { count ≤ 1000 }
+        requires stands { Tracks classes.now front.now (drop (length front.now + 1) classes.now.classes) self.now }
+        ensures { result ≡ (size_reachable classes.now (front.now ++ count ∷ []) && values_reachable classes.now (front.now ++ count ∷ [])) }
     {
         classes.facts();
         let class = &classes.classes()[front.len()];

@@ -89,13 +89,19 @@ increases-once (x ∷ (y ∷ ys)) r =
 
 -- ---- cuts
 
+-- numbers in rising order, each once
+pub once_increases : (xs : List ℕ) → is_increasing (once_each (rising xs)) ≡ true
+once_increases xs = increases-once (rising xs) (Rises-rising xs)
+
+-- are the same numbers
+pub includes-once_rising : (xs : List ℕ) (z : ℕ) → includes (once_each (rising xs)) z ≡ includes xs z
+includes-once_rising xs z = includes-once z (rising xs) ∙ includes-rising z xs
+
 pub cuts_increase : (all : Classes) (counts : List ℕ) → is_increasing (cuts all counts) ≡ true
-cuts_increase all counts =
-    let xs = 0 ∷ flat_map (marks (dial all counts)) (partly_taken all.classes counts) in increases-once (rising xs) (Rises-rising xs)
+cuts_increase all counts = once_increases (0 ∷ flat_map (marks (dial all counts)) (partly_taken all.classes counts))
 
 pub includes-cuts : (all : Classes) (counts : List ℕ) (z : ℕ) → includes (cuts all counts) z ≡ includes (0 ∷ flat_map (marks (dial all counts)) (partly_taken all.classes counts)) z
-includes-cuts all counts z =
-    let xs = 0 ∷ flat_map (marks (dial all counts)) (partly_taken all.classes counts) in includes-once z (rising xs) ∙ includes-rising z xs
+includes-cuts all counts z = includes-once_rising (0 ∷ flat_map (marks (dial all counts)) (partly_taken all.classes counts)) z
 
 pub each_cut : (P : ℕ → Type 0) (all : Classes) (counts : List ℕ) → AllByRecursion P (0 ∷ flat_map (marks (dial all counts)) (partly_taken all.classes counts)) → AllByRecursion P (cuts all counts)
 each_cut P all counts each =

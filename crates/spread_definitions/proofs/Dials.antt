@@ -104,7 +104,7 @@ pub record Divided (size len : ℕ) : Type 0 where
   pub has : 0 < size
   pub is : step * size ≡ len
 
-divided : (size len : ℕ) → 0 < size → 0 < len → size ∣ len → Divided size len
+pub divided : (size len : ℕ) → 0 < size → 0 < len → size ∣ len → Divided size len
 divided size len has some h =
     let e : len / size * size ≡ len = div-mul_cancel size h in
     record { step = len / size; some = positive (len / size) e; has = has; is = e }

@@ -1,11 +1,10 @@
-use Rattle.std.proofs.Common.{◌≡◌, ◌<ℤ◌, pos, drop, unsigned_abs}
-use Rattle.search_definitions.specs.Classes.{Classes}
-use Rattle.spread_definitions.specs.Spreading.{total_from}
-use Rattle.spread_definitions.specs.Singles.{AreAlone}
+use Rattle.std.proofs.Common.{◌≡◌, ◌<◌, ◌≤◌, drop}
+use Rattle.spread_definitions.specs.Spreading.{greatest_total, total_from}
 use Rattle.alike.proofs.spreading.common_total.Given as goal
 
 abbrev pub invariant-loop-place : goal.invariant-loop-place
 invariant-loop-place l = record {
-  positive : pos 0 <ℤ l.total;
-  so_far : (all : Classes) → AreAlone 0 all.classes → total_from all 0 1 l.parts ≡ total_from all l.place (unsigned_abs l.total) (drop l.place l.parts);
+  some : 0 < l.total;
+  within : l.total ≤ greatest_total;
+  so_far : total_from l.classes 0 1 l.parts ≡ total_from l.classes l.place l.total (drop l.place l.parts);
 }

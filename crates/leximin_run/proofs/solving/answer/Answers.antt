@@ -9,28 +9,29 @@ use Rattle.leximin_run.proofs.solving.answer.Goals as goal
 pub spread-requires : goal.spread-requires
 spread-requires c =
     let run = c.args.run in
-    subst (AreParts run.classes) (sym (c.deref-2.ensures.value ∙ c.in_ok-parts.ensures)) (parts_are run.classes (run_limits run.limits) run.table c.requires.reached.stands.keeps)
+    subst (λ all. AreParts all c.deref.result.now) (sym c.classes-classes.ensures)
+    (subst (AreParts run.pricer.classes) (sym (c.deref.ensures.value ∙ c.in_ok-parts.ensures)) (parts_are run.pricer.classes (run_limits run.limits) run.table c.requires.reached.stands.keeps))
 
 pub returns-in-Ok : goal.returns-in-Ok
 returns-in-Ok c =
     let run = c.args.run in
-    let made = sym (ap (spread run.classes) (c.deref-2.ensures.value ∙ c.in_ok-parts.ensures)) ∙ c.in-Ok.ensures.spread in
-    let found = found_at_end run.classes (run_limits run.limits) run.table run.closed.items c.requires.reached c.requires.shut c.requires.settled c.in-Ok.lottery made in
-    let stages = c.in_ok-certificate.ensures ∙ ap (map (stage_of run.classes)) c.deref.ensures.value in (
+    let made = sym (ap (spread run.pricer.classes) (c.deref.ensures.value ∙ c.in_ok-parts.ensures)) ∙ sym (ap (λ all. spread all c.deref.result.now) c.classes-classes.ensures) ∙ c.in-Ok.ensures.spread in
+    let found = found_at_end run.pricer.classes (run_limits run.limits) run.table run.pricer.closed c.requires.reached c.requires.shut c.requires.settled c.in-Ok.lottery made in
+    let stages = c.in_ok-certificate.ensures ∙ ap (λ all. map (stage_of all) c.closed.result.now) c.classes-classes.ensures ∙ ap (map (stage_of run.pricer.classes)) c.closed.ensures in (
       run.table,
-      subst (λ answer. Ends run.classes (run_limits run.limits) (Found run.table answer)) (sym c.new.ensures)
-          (subst (λ ss. Ends run.classes (run_limits run.limits) (Found run.table (record { lottery = c.in-Ok.lottery; stages = ss }))) (sym stages) found),
+      subst (λ answer. Ends run.pricer.classes (run_limits run.limits) (Found run.table answer)) (sym c.new.ensures)
+          (subst (λ ss. Ends run.pricer.classes (run_limits run.limits) (Found run.table (record { lottery = c.in-Ok.lottery; stages = ss }))) (sym stages) found),
     )
 
 pub returns-in-Err-TotalPasses : goal.returns-in-Err-TotalPasses
 returns-in-Err-TotalPasses c =
     let run = c.args.run in
-    let told = subst (λ stop. IsSpread (Err stop) (spread run.classes c.deref-2.result.now)) c.in-Err-TotalPasses.field-0-is c.in-Err-TotalPasses.ensures.spread in
-    let passes = sym (ap (spread run.classes) (c.deref-2.ensures.value ∙ c.in_ok-parts.ensures)) ∙ told.1 in
+    let told = subst (λ stop. IsSpread (Err stop) (spread c.classes-classes.result.now c.deref.result.now)) c.in-Err-TotalPasses.field-0-is c.in-Err-TotalPasses.ensures.spread in
+    let passes = sym (ap (spread run.pricer.classes) (c.deref.ensures.value ∙ c.in_ok-parts.ensures)) ∙ sym (ap (λ all. spread all c.deref.result.now) c.classes-classes.ensures) ∙ told.1 in
     let place = c.in-Err-TotalPasses.place-is in let total = c.in-Err-TotalPasses.total-is in let den = c.in-Err-TotalPasses.den-is in (
       run.table,
       told.0,
       refl,
       record { place_is = place ∙ told.2; total_is = search rules; den_is = search rules },
-      passed_at_end run.classes (run_limits run.limits) run.table run.closed.items c.requires.reached c.requires.shut c.requires.settled told.0 passes,
+      passed_at_end run.pricer.classes (run_limits run.limits) run.table run.pricer.closed c.requires.reached c.requires.shut c.requires.settled told.0 passes,
     )

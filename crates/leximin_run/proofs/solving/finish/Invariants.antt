@@ -7,8 +7,8 @@ use Rattle.leximin_run.proofs.solving.finish.Given as goal
 -- the run comes to its table, over the same classes under the same limits
 abbrev pub invariant-loop-run : goal.invariant-loop-run
 invariant-loop-run l = record {
-  reaches : Reaches l.run.classes (run_limits l.run.limits) l.run.table l.run.closed.items;
-  classes : l.run.classes ≡ l.initial.run.classes;
+  reaches : Reaches l.run.pricer.classes (run_limits l.run.limits) l.run.table l.run.pricer.closed;
+  classes : l.run.pricer.classes ≡ l.initial.run.pricer.classes;
   limits : l.run.limits ≡ l.initial.run.limits;
 }
 

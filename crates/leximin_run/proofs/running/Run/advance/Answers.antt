@@ -9,12 +9,12 @@ returns-then-some_unsettled-clause-advances c =
     let run = c.args.self.now in
     let shut = sym c.in_stage.ensures ∙ c.if-in_stage.false in
     let some = sym c.some_unsettled.ensures ∙ c.if-some_unsettled.true in
-    subst (λ t. step run.classes (run_limits run.limits) run.table ≡ GoOn t) (sym c.enter_stage.ensures.entered) (enter_due run.classes (run_limits run.limits) run.table shut some)
+    subst (λ t. step run.pricer.classes (run_limits run.limits) run.table ≡ GoOn t) (sym c.enter_stage.ensures.entered) (enter_due run.pricer.classes (run_limits run.limits) run.table shut some)
 
 pub returns-then-some_unsettled-clause-stands : goal.returns-then-some_unsettled-clause-stands
 returns-then-some_unsettled-clause-stands c =
     let run = c.args.self.now in
     let shut = sym c.in_stage.ensures ∙ c.if-in_stage.false in
     let some = sym c.some_unsettled.ensures ∙ c.if-some_unsettled.true in
-    subst (λ t. Stands run.classes (run_limits run.limits) t run.closed.items) (sym c.enter_stage.ensures.entered)
-    (entered_stands run.classes (run_limits run.limits) run.table run.closed.items c.requires shut some)
+    subst (λ t. Stands run.pricer.classes (run_limits run.limits) t run.pricer.closed) (sym c.enter_stage.ensures.entered)
+    (entered_stands run.pricer.classes (run_limits run.limits) run.table run.pricer.closed c.requires shut some)

@@ -21,7 +21,7 @@ made_whole table made r v limit few most counted e = sym (ap (λ n. Ok (record m
 pub returns-then-pivots-clause-makes : goal.returns-then-pivots-clause-makes
 returns-then-pivots-clause-makes c =
     let run = c.args.self.now in (
-      pivot_due run.classes (run_limits run.limits) run.table c.args.row c.args.variable c.requires.open c.requires.chosen true
+      pivot_due run.pricer.classes (run_limits run.limits) run.table c.args.row c.args.variable c.requires.open c.requires.chosen true
           (le-leb run.limits.pivots run.table.pivots (omega (arith, c.if-pivots.true, c.pivots.ensures.value, c.pivots-2.ensures))),
       refl,
     )
@@ -30,7 +30,7 @@ pub returns-clause-makes : goal.returns-clause-makes
 returns-clause-makes c =
     let run = c.args.self.now in
     let few : run.table.pivots < run.limits.pivots = omega (arith, c.if-pivots.false, c.pivots.ensures.value, c.pivots-2.ensures) in
-    pivot_due run.classes (run_limits run.limits) run.table c.args.row c.args.variable c.requires.open c.requires.chosen false (lt-leb run.limits.pivots run.table.pivots few)
+    pivot_due run.pricer.classes (run_limits run.limits) run.table c.args.row c.args.variable c.requires.open c.requires.chosen false (lt-leb run.limits.pivots run.table.pivots few)
     ∙ ap (pivoted run.table) (made_whole run.table c.pivot.new.self c.args.row c.args.variable run.limits.pivots few (omega (arith, c.pivots.ensures.ranges.few_pivots)) c.in_ok-pivot.ensures.counted c.in_ok-pivot.ensures.made)
 
 pub returns-clause-stands : goal.returns-clause-stands
@@ -38,10 +38,10 @@ returns-clause-stands c =
     let run = c.args.self.now in
     let few : run.table.pivots < run.limits.pivots = omega (arith, c.if-pivots.false, c.pivots.ensures.value, c.pivots-2.ensures) in
     let made = made_whole run.table c.pivot.new.self c.args.row c.args.variable run.limits.pivots few (omega (arith, c.pivots.ensures.ranges.few_pivots)) c.in_ok-pivot.ensures.counted c.in_ok-pivot.ensures.made in
-    let due = pivot_due run.classes (run_limits run.limits) run.table c.args.row c.args.variable c.requires.open c.requires.chosen false (lt-leb run.limits.pivots run.table.pivots few)
+    let due = pivot_due run.pricer.classes (run_limits run.limits) run.table c.args.row c.args.variable c.requires.open c.requires.chosen false (lt-leb run.limits.pivots run.table.pivots few)
     ∙ ap (pivoted run.table) made in
     let stands = c.requires.stands in
-    stands_on run.classes (run_limits run.limits) run.table run.closed.items stands c.pivot.new.self due run.closed.items
+    stands_on run.pricer.classes (run_limits run.limits) run.table run.pricer.closed stands c.pivot.new.self due run.pricer.closed
     (stands.closed_are ∙ sym (closed_rows_stay run.table stands.keeps.in_order c.requires.open c.args.row c.args.variable c.requires.chosen c.pivot.new.self made))
 
 pub returns-in_err-pivot-clause-makes : goal.returns-in_err-pivot-clause-makes
@@ -50,7 +50,7 @@ returns-in_err-pivot-clause-makes c =
     let few : run.table.pivots < run.limits.pivots = omega (arith, c.if-pivots.false, c.pivots.ensures.value, c.pivots-2.ensures) in
     let out = err_from_is_err_and c.from_residual.result c.from_residual.ensures.1 in
     rw (out.1, out.2) (
-      pivot_due run.classes (run_limits run.limits) run.table c.args.row c.args.variable c.requires.open c.requires.chosen false (lt-leb run.limits.pivots run.table.pivots few)
+      pivot_due run.pricer.classes (run_limits run.limits) run.table c.args.row c.args.variable c.requires.open c.requires.chosen false (lt-leb run.limits.pivots run.table.pivots few)
           ∙ ap (pivoted run.table) (sym c.in_err-pivot.ensures.made),
       c.in_err-pivot.ensures.kept,
     )

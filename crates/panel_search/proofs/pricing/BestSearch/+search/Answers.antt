@@ -10,33 +10,33 @@ use Rattle.panel_search.proofs.pricing.BestSearch.+search.Goals as goal
 
 pub children-try_child-requires : goal.children-try_child-requires
 children-try_child-requires t c =
-    let all = c.args.classes.now in let class = c.index-classes-depth.result in let depth = c.args.depth in
+    let all = c.args.terms.now.classes.now in let class = c.index-classes-depth.result in let depth = c.args.depth in
     let stands = stands_there all depth _ class c.requires.below c.classes.ensures c.index-classes-depth.is in
     let can : CanTake all depth (c.least.result + c.args.above) = λ other e.
     let same = ap (λ class. class.least) (same_class all depth class other stands e) in omega (arith, c.requires.can_take other e, c.least.ensures, same) in
     let limits = class_limits all depth class c.facts.ensures stands in
-    (search rules, (c.requires.narrow, (c.requires.closed_narrow, (c.requires.few, (c.requires.below, (can, (omega (arith, c.requires.above, c.least.ensures, limits.0, limits.1, limits.2), c.requires.stands)))))))
+    (search rules, (c.requires.terms, (c.requires.few, (c.requires.below, (can, (omega (arith, c.requires.above, c.least.ensures, limits.0, limits.1, limits.2), c.requires.stands))))))
 
 pub children-returns-in_err-try_child : goal.children-returns-in_err-try_child
 children-returns-in_err-try_child t c =
-    let all = c.args.classes.now in let class = c.index-classes-depth.result in let self = c.args.self.now in let depth = c.args.depth in
+    let all = c.args.terms.now.classes.now in let class = c.index-classes-depth.result in let self = c.args.self.now in let depth = c.args.depth in
     let stands = stands_there all depth _ class c.requires.below c.classes.ensures c.index-classes-depth.is in
     let count : c.least.result + c.args.above ≡ class.least + c.args.above = ap (λ n. n + c.args.above) c.least.ensures in
-    moves_err all c.args.closed.now c.args.row.now depth _ _ _ self.nodes _ c.try_child.new.self c.from_residual.ensures.0
-    (omega (arith, c.in_err-try_child.ensures, child_within all c.args.closed.now c.args.row.now depth class (take depth self.counts.items) c.args.above (c.least.result + c.args.above) (told self) stands count))
+    moves_err all c.args.terms.now.closed.now c.args.terms.now.row.now depth _ _ _ self.nodes _ c.try_child.new.self c.from_residual.ensures.0
+    (omega (arith, c.in_err-try_child.ensures, child_within all c.args.terms.now.closed.now c.args.terms.now.row.now depth class (take depth self.counts.items) c.args.above (c.least.result + c.args.above) (told self) stands count))
 
 pub children-returns-then-above-eq0 : goal.children-returns-then-above-eq0
 children-returns-then-above-eq0 t c =
-    let all = c.args.classes.now in let class = c.index-classes-depth.result in let self = c.args.self.now in let depth = c.args.depth in
+    let all = c.args.terms.now.classes.now in let class = c.index-classes-depth.result in let self = c.args.self.now in let depth = c.args.depth in
     let stands = stands_there all depth _ class c.requires.below c.classes.ensures c.index-classes-depth.is in
     let count : c.least.result + c.args.above ≡ class.least + c.args.above = ap (λ n. n + c.args.above) c.least.ensures in
-    let due = children_last all c.args.closed.now c.args.row.now depth class (take depth self.counts.items) c.args.above (c.least.result + c.args.above) (told self) stands count c.if-above-eq0.true in
+    let due = children_last all c.args.terms.now.closed.now c.args.terms.now.row.now depth class (take depth self.counts.items) c.args.above (c.least.result + c.args.above) (told self) stands count c.if-above-eq0.true in
     let steps = c.in_ok-try_child.ensures in
     (steps.0 ∙ sym due, steps.1, steps.2, omega (arith, steps.3, ap (λ now. now.visits) due), steps.4)
 
 pub children-returns : goal.children-returns
 children-returns t c =
-    let all = c.args.classes.now in let class = c.index-classes-depth.result in let self = c.args.self.now in let depth = c.args.depth in let closed = c.args.closed.now in let row = c.args.row.now in
+    let all = c.args.terms.now.classes.now in let class = c.index-classes-depth.result in let self = c.args.self.now in let depth = c.args.depth in let closed = c.args.terms.now.closed.now in let row = c.args.terms.now.row.now in
     let stands = stands_there all depth _ class c.requires.below c.classes.ensures c.index-classes-depth.is in
     let count : c.least.result + c.args.above ≡ class.least + c.args.above = ap (λ n. n + c.args.above) c.least.ensures in
     let next = children_next all closed row depth class (take depth self.counts.items) c.args.above (c.least.result + c.args.above) (told self) stands count c.if-above-eq0.false in
@@ -47,13 +47,13 @@ children-returns t c =
 
 pub enter-returns-in_err-spend : goal.enter-returns-in_err-spend
 enter-returns-in_err-spend t c =
-    let all = c.args.classes.now in let self = c.args.self.now in let depth = c.args.depth in
-    moves_err all c.args.closed.now c.args.row.now depth _ _ _ self.nodes _ c.spend.new.self c.from_residual.ensures.0
-    (omega (arith, c.in_err-spend.ensures.err, enter_more all c.args.closed.now c.args.row.now (drop depth all.classes) (take depth self.counts.items) (told self)))
+    let all = c.args.terms.now.classes.now in let self = c.args.self.now in let depth = c.args.depth in
+    moves_err all c.args.terms.now.closed.now c.args.terms.now.row.now depth _ _ _ self.nodes _ c.spend.new.self c.from_residual.ensures.0
+    (omega (arith, c.in_err-spend.ensures.err, enter_more all c.args.terms.now.closed.now c.args.terms.now.row.now (drop depth all.classes) (take depth self.counts.items) (told self)))
 
 pub enter-children-requires : goal.enter-children-requires
 enter-children-requires t c =
-    let all = c.args.classes.now in let class = c.index-classes-depth.result in let self = c.args.self.now in let depth = c.args.depth in
+    let all = c.args.terms.now.classes.now in let class = c.index-classes-depth.result in let self = c.args.self.now in let depth = c.args.depth in
     let below : depth < length all.classes = omega (arith, c.requires.stands.within, c.if-depth-classes.false, ap length c.classes.ensures) in
     let stands = stands_there all depth _ class below c.classes-2.ensures c.index-classes-depth.is in
     let limits = class_limits all depth class c.facts.ensures stands in
@@ -65,20 +65,17 @@ enter-children-requires t c =
     let counts = ap (λ search. search.counts.items) spent in (
       search rules,
       (
-        c.requires.narrow,
+        c.requires.terms,
         (
-          c.requires.closed_narrow,
+          omega (arith, c.in_ok-spend.ensures.ok, ap (λ search. search.visits) spent, ap (λ search. search.nodes) spent),
           (
-            omega (arith, c.in_ok-spend.ensures.ok, ap (λ search. search.visits) spent, ap (λ search. search.nodes) spent),
+            below,
             (
-              below,
+              can,
               (
-                can,
-                (
-                  omega (arith, c.most.ensures, limits.1, limits.2),
-                  stands_with all c.args.closed.now c.args.row.now depth _ _ self _ c.requires.stands counts (ap (λ search. search.kept.items) spent) (ap (λ search. search.priced) spent) (ap (λ search. search.closed.items) spent)
-                      (from_front_more all depth _ self.counts.items _ (c.deref.ensures.value ∙ counts) c.requires.stands.places c.requires.stands.within c.begin_class.ensures),
-                ),
+                omega (arith, c.most.ensures, limits.1, limits.2),
+                stands_with all c.args.terms.now.closed.now c.args.terms.now.row.now depth _ _ self _ c.requires.stands counts (ap (λ search. search.kept.items) spent) (ap (λ search. search.priced) spent) (ap (λ search. search.closed.items) spent)
+                    (from_front_more all depth _ self.counts.items _ (c.deref.ensures.value ∙ counts) c.requires.stands.places c.requires.stands.within c.begin_class.ensures),
               ),
             ),
           ),
@@ -88,7 +85,7 @@ enter-children-requires t c =
 
 pub enter-returns : goal.enter-returns
 enter-returns t c =
-    let all = c.args.classes.now in let class = c.index-classes-depth.result in let self = c.args.self.now in let depth = c.args.depth in let closed = c.args.closed.now in let row = c.args.row.now in
+    let all = c.args.terms.now.classes.now in let class = c.index-classes-depth.result in let self = c.args.self.now in let depth = c.args.depth in let closed = c.args.terms.now.closed.now in let row = c.args.terms.now.row.now in
     let below : depth < length all.classes = omega (arith, c.requires.stands.within, c.if-depth-classes.false, ap length c.classes.ensures) in
     let stands = stands_there all depth _ class below c.classes-2.ensures c.index-classes-depth.is in
     let above : c.most.result - c.least.result ≡ class.most - class.least = omega (arith, c.most.ensures, c.least.ensures) in
@@ -108,27 +105,24 @@ enter-returns t c =
 
 pub try_child-enter-requires : goal.try_child-enter-requires
 try_child-enter-requires t c =
-    let all = c.args.classes.now in let self = c.args.self.now in let depth = c.args.depth in let count = c.args.count in let mid = c.weights_allow.new.self in
+    let all = c.args.terms.now.classes.now in let self = c.args.self.now in let depth = c.args.depth in let count = c.args.count in let mid = c.weights_allow.new.self in
     let items = ap (λ counts. counts.items) c.weights_allow.ensures.counts in
     let live : is_reachable all (take depth self.counts.items ++ count ∷ []) ≡ true = ap (λ items. is_reachable all (take depth items ++ count ∷ [])) (sym c.deref.ensures.value) ∙ (sym c.allows.ensures ∙ c.if-not-allows.false) in (
       search rules,
       (
-        c.requires.narrow,
+        c.requires.terms,
         (
-          c.requires.closed_narrow,
-          (
-            omega (arith, c.requires.few, ap (λ now. now.visits) c.weights_allow.ensures.told, c.weights_allow.ensures.nodes),
-            child_stands all c.args.closed.now c.args.row.now depth count _ self _ c.requires.stands c.requires.below c.requires.can_take live (ap (λ xs. set xs depth count) items) c.weights_allow.ensures.stands.kept_places
-                (child_tracks all depth count _ self.counts.items _ (c.deref-2.ensures.value ∙ items) c.requires.stands.places c.requires.stands.within c.take.ensures)
-                (c.weights_allow.ensures.priced c.if-not-weights_allow.false) (c.weights_allow.ensures.closed c.if-not-weights_allow.false),
-          ),
+          omega (arith, c.requires.few, ap (λ now. now.visits) c.weights_allow.ensures.told, c.weights_allow.ensures.nodes),
+          child_stands all c.args.terms.now.closed.now c.args.terms.now.row.now depth count _ self _ c.requires.stands c.requires.below c.requires.can_take live (ap (λ xs. set xs depth count) items) c.weights_allow.ensures.stands.kept_places
+              (child_tracks all depth count _ self.counts.items _ (c.deref-2.ensures.value ∙ items) c.requires.stands.places c.requires.stands.within c.take.ensures)
+              (c.weights_allow.ensures.priced c.if-not-weights_allow.false) (c.weights_allow.ensures.closed c.if-not-weights_allow.false),
         ),
       ),
     )
 
 pub try_child-give_back-requires-clause-stands : goal.try_child-give_back-requires-clause-stands
 try_child-give_back-requires-clause-stands t c =
-    let all = c.args.classes.now in let self = c.args.self.now in let depth = c.args.depth in let count = c.args.count in
+    let all = c.args.terms.now.classes.now in let self = c.args.self.now in let depth = c.args.depth in let count = c.args.count in
     let items = ap (λ counts. counts.items) c.weights_allow.ensures.counts in
     let front = take depth self.counts.items in
     let long : length front ≡ depth = front_length depth self.counts.items (length all.classes) c.requires.stands.places c.requires.stands.within in
@@ -141,7 +135,7 @@ try_child-give_back-requires-clause-stands t c =
 
 pub try_child-returns : goal.try_child-returns
 try_child-returns t c =
-    let all = c.args.classes.now in let self = c.args.self.now in let depth = c.args.depth in let count = c.args.count in let closed = c.args.closed.now in let row = c.args.row.now in
+    let all = c.args.terms.now.classes.now in let self = c.args.self.now in let depth = c.args.depth in let count = c.args.count in let closed = c.args.terms.now.closed.now in let row = c.args.terms.now.row.now in
     let items = ap (λ counts. counts.items) c.weights_allow.ensures.counts in
     let front = take depth self.counts.items in let later = drop (depth + 1) all.classes in
     let long : length front ≡ depth = front_length depth self.counts.items (length all.classes) c.requires.stands.places c.requires.stands.within in

@@ -1,72 +1,22 @@
-use Rattle.std.proofs.Common.{◌+◌, ◌&&◌, leb, length, sym, ap, ◌∙◌, arith, true}
-use Rattle.panel_search.proofs.Tracking.{stands_there, places_of_class, cells_of_class, bounds_of_class, bounds_same, cells_same, small_same, few_later, few_held, few_taken, most_small, reach_same, fails_same}
-use Rattle.panel_search.proofs.Liveness.{child_live, child_dead}
+use Rattle.std.proofs.Common.{◌++◌, ◌∷◌, [], ◌&&◌, length, sym, ap, ◌∙◌}
+use Rattle.std.proofs.lemmas.Bool.{and_parts}
+use Rattle.search_definitions.specs.Compositions.{takes_one_a_household}
+use Rattle.search_definitions.specs.Fronts.{size_reachable, values_reachable}
+use Rattle.panel_search.specs.Homes.{has_room}
+use Rattle.panel_search.proofs.Households.{child_households, few_homes, few_same}
+use Rattle.panel_search.proofs.Tracking.{stands_there}
 use Rattle.panel_search.proofs.tally.Tally.allows.Goals as goal
 
-pub size_allows-requires : goal.size_allows-requires
-size_allows-requires c =
-    let all = c.args.classes.now in
-    omega (
-      arith,
-      c.requires.stands.taken,
-      few_taken all c.args.front.now (λ class. true) c.facts.ensures c.requires.live,
-      c.requires.few,
-      c.requires.stands.later_taken,
-      most_small all (length c.args.front.now + 1) (λ class. true) c.facts.ensures,
-    )
+pub has_room-requires-clause-small : goal.has_room-requires-clause-small
+has_room-requires-clause-small c =
+    few_same _ c.args.self.now.homes.items c.deref.ensures.value (few_homes c.args.classes.now c.args.front.now _ c.args.self.now c.facts.ensures c.requires.live c.requires.stands)
 
-pub values_allow-requires-clause-bounds : goal.values_allow-requires-clause-bounds
-values_allow-requires-clause-bounds c =
+pub returns-then-counts_allow : goal.returns-then-counts_allow
+returns-then-counts_allow c =
     let all = c.args.classes.now in let front = c.args.front.now in let class = c.index-classes-front.result in
     let stands = stands_there all (length front) _ class c.requires.below c.classes.ensures c.index-classes-front.is in
-    let places = places_of_class all (length front) class c.facts.ensures stands in
-    bounds_same _ all.bounds _ class.values c.bounds.ensures c.values.ensures (bounds_of_class all class places)
-
-pub values_allow-requires-clause-held : goal.values_allow-requires-clause-held
-values_allow-requires-clause-held c =
-    let all = c.args.classes.now in let front = c.args.front.now in let class = c.index-classes-front.result in
-    let stands = stands_there all (length front) _ class c.requires.below c.classes.ensures c.index-classes-front.is in
-    let places = places_of_class all (length front) class c.facts.ensures stands in
-    cells_same _ class.values _ c.args.self.now.held.items c.values.ensures c.deref.ensures.value (cells_of_class all class _ c.facts.ensures places c.requires.stands.held_cells)
-
-pub values_allow-requires-clause-later : goal.values_allow-requires-clause-later
-values_allow-requires-clause-later c =
-    let all = c.args.classes.now in let front = c.args.front.now in let class = c.index-classes-front.result in
-    let stands = stands_there all (length front) _ class c.requires.below c.classes.ensures c.index-classes-front.is in
-    let places = places_of_class all (length front) class c.facts.ensures stands in
-    cells_same _ class.values _ c.args.self.now.later.items c.values.ensures c.deref-then-size_allows.ensures.value (cells_of_class all class _ c.facts.ensures places c.requires.stands.later_cells)
-
-pub values_allow-requires-clause-small : goal.values_allow-requires-clause-small
-values_allow-requires-clause-small c =
-    let all = c.args.classes.now in let front = c.args.front.now in let class = c.index-classes-front.result in
-    let stands = stands_there all (length front) _ class c.requires.below c.classes.ensures c.index-classes-front.is in
-    let places = places_of_class all (length front) class c.facts.ensures stands in
-    small_same _ _ _ c.args.self.now.held.items (ap length c.values.ensures) c.deref.ensures.value (few_held all front _ (length class.values) c.args.self.now c.facts.ensures places.one_each c.requires.live c.requires.stands)
-
-pub values_allow-requires-clause-small_later : goal.values_allow-requires-clause-small_later
-values_allow-requires-clause-small_later c =
-    let all = c.args.classes.now in let front = c.args.front.now in let class = c.index-classes-front.result in
-    let stands = stands_there all (length front) _ class c.requires.below c.classes.ensures c.index-classes-front.is in
-    let places = places_of_class all (length front) class c.facts.ensures stands in
-    small_same _ _ _ c.args.self.now.later.items (ap length c.values.ensures) c.deref-then-size_allows.ensures.value (few_later all front (length front + 1) (length class.values) c.args.self.now c.facts.ensures places.one_each c.requires.stands)
-
-pub returns-then-size_allows : goal.returns-then-size_allows
-returns-then-size_allows c =
-    let all = c.args.classes.now in let front = c.args.front.now in let class = c.index-classes-front.result in
-    let stands = stands_there all (length front) _ class c.requires.below c.classes.ensures c.index-classes-front.is in
-    let places = places_of_class all (length front) class c.facts.ensures stands in
-    let self = c.args.self.now in
-    child_live all front class c.args.count self c.facts.ensures places stands c.requires.live c.requires.stands
-    (ap (λ n. leb (self.taken + c.args.count) n && leb n (self.taken + c.args.count + self.later_taken)) (sym c.size.ensures) ∙ (sym c.size_allows.ensures ∙ c.if-size_allows.true))
-    c.values_allow.result
-    (λ yes. reach_same _ _ _ _ _ _ _ _ c.args.count c.bounds.ensures c.deref.ensures.value c.deref-then-size_allows.ensures.value c.values.ensures (c.values_allow.ensures.allowed yes))
-    (λ no. fails_same _ _ _ _ _ _ _ _ c.args.count c.bounds.ensures c.deref.ensures.value c.deref-then-size_allows.ensures.value c.values.ensures (c.values_allow.ensures.refused no))
-
-pub returns-else-size_allows : goal.returns-else-size_allows
-returns-else-size_allows c =
-    let all = c.args.classes.now in let front = c.args.front.now in let class = c.index-classes-front.result in
-    let stands = stands_there all (length front) _ class c.requires.below c.classes.ensures c.index-classes-front.is in
-    let places = places_of_class all (length front) class c.facts.ensures stands in
-    let self = c.args.self.now in
-    c.if-size_allows.false ∙ sym (child_dead all front class c.args.count self stands c.requires.stands
-    (ap (λ n. leb (self.taken + c.args.count) n && leb n (self.taken + c.args.count + self.later_taken)) (sym c.size.ensures) ∙ (sym c.size_allows.ensures ∙ c.if-size_allows.false)))
+    let ones = (and_parts (size_reachable all front && values_reachable all front) (takes_one_a_household all.classes front) c.requires.live).1 in
+    let counts = sym c.counts_allow.ensures ∙ c.if-counts_allow.true in
+    c.has_room.ensures ∙ ap (λ homes. has_room homes c.household.result c.args.count) c.deref.ensures.value
+    ∙ child_households all front class c.args.count _ c.args.self.now c.facts.ensures stands c.requires.stands ones c.household.result c.household.ensures
+    ∙ sym (ap (λ b. b && takes_one_a_household all.classes (front ++ c.args.count ∷ [])) counts)

@@ -27,4 +27,4 @@ returns c =
     let tracks = with_next all front class c.args.self.now stands c.requires.stands in
     let more = most_more (λ class. true) class (drop (length front + 1) all.classes) in
     begun all front class (drop (length front + 1) all.classes) c.args.self.now _ places tracks refl refl (omega (arith, c.most-2.ensures, tracks.later_taken, more))
-    (more_same _ _ _ _ _ _ _ _ c.values.ensures c.most.ensures (sym items) c.deref_mut.ensures.value c.take_from.ensures)
+    (more_same _ _ _ _ _ _ _ _ c.values.ensures c.most.ensures (sym items) c.deref_mut.ensures.value c.take_from.ensures) refl

@@ -38,4 +38,4 @@ returns c =
     let places = places_of_class all (length front) class c.facts.ensures stands in
     let items = with_items_is c.args.self.now.later c.add_to.new.cells (c.add_to.ensures.same ∙ ap length c.deref_mut.ensures.value ∙ sym c.args.self.now.later.ok.0) in
     from_next all front class _ stands (ended all front class (drop (length front + 1) all.classes) c.args.self.now _ places c.requires.stands refl refl (ap (λ n. c.args.self.now.later_taken + n) c.most-2.ensures)
-    (more_same _ _ _ _ _ _ _ _ c.values.ensures c.most.ensures c.deref_mut.ensures.value (sym items) c.add_to.ensures))
+    (more_same _ _ _ _ _ _ _ _ c.values.ensures c.most.ensures c.deref_mut.ensures.value (sym items) c.add_to.ensures) refl)

@@ -11,4 +11,5 @@ returns c =
     let later_room : length c.in_ok-later.later.items ≡ 50 * length all.bounds = omega (arith, rows, c.in_ok-later.ensures.len, c.in_ok-later.later.ok.0) in
     let items = with_items_is c.in_ok-later.later c.add_all-later_taken.new.later (c.add_all-later_taken.ensures.room ∙ (sym later_room ∙ sym c.in_ok-later.later.ok.0)) in
     let zero : c.in_ok-held.held.items ≡ replicate (50 * length c.bounds.result.now) 0 = search rules in
-    starts all c.add_all-later_taken.new.later _ refl (zero_cells _ (length all.bounds) _ zero held_room) held_room items c.add_all-later_taken.ensures
+    let homes : c.in_ok-homes.homes.items ≡ replicate c.volunteers.result 0 = search rules in
+    starts all c.add_all-later_taken.new.later _ refl (zero_cells _ (length all.bounds) _ zero held_room) held_room items c.add_all-later_taken.ensures c.volunteers.result c.volunteers.ensures.count homes

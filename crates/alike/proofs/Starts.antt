@@ -1,0 +1,151 @@
+-- Where the windows of classes begin, and whom the classes give.
+use Rattle.std.proofs.Common.{◌≡◌, ◌⊎◌, inl, inr, ℕ, zero, suc, ◌+◌, ◌*◌, ◌/◌, ◌≤◌, ◌<◌, Bool, true, false, ◌&&◌, ◌||◌, ltb, List, [], ◌∷◌, ◌++◌, map, filter, take, drop, length, get_or, slice_get, slice_index_or, replicate, Some, refl, sym, ap, ◌∙◌, ⊎_elim, arith, subst, length-append, length-drop, mul-le-mul_right}
+use Rattle.std.specs.Int.{◌∣◌}
+use Rattle.std.specs.List.{range_with_len, AllByRecursion}
+use Rattle.std.proofs.lemmas.Bool.{and_parts, and_from, cases_lt, lt-ltb, ltb-true, false≢true}
+use Rattle.std.proofs.lemmas.List.{length-take, length-replicate, take-append-drop, take_all}
+use Rattle.std.proofs.lemmas.List.FromFn.{length-map-range_with_len}
+use Rattle.std.proofs.Math.Nat.{div-le_of_le-mul, dvd-mul_left}
+use Rattle.pool_definitions.specs.Lists.{includes}
+use Rattle.search_definitions.specs.Classes.{Class, Classes}
+use Rattle.spread_definitions.specs.Spreading.{dial, is_partly_taken, partly_taken, turned}
+use Rattle.spread_definitions.proofs.Dials.{Divided, divided_dial, each_included, includes-partly}
+use Rattle.spread_definitions.specs.Spreading.{is_given}
+use Rattle.alike.specs.Steps.{AreMarked}
+use Rattle.alike.proofs.Marked.{includes-append}
+use Rattle.alike.proofs.Parts.{given-more, given-whole}
+
+pub some_size : (class : Class) (count : ℕ) → is_partly_taken class count ≡ true → 0 < length class.members
+some_size class count e =
+    let parts = and_parts (ltb 0 count) (ltb count (length class.members)) e in
+    let more = ltb-true count (length class.members) parts.1 in omega arith
+
+pub start_within : (size places at : ℕ) → at < places → at * size / places ≤ size
+start_within size places at below = div-le_of_le-mul places (omega (arith, mul-le-mul_right {m = at} {n = places} size (omega arith)))
+
+-- where all members are taken, or none, any start gives the same
+pub any_start : (class : Class) (count j i : ℕ) → is_partly_taken class count ≡ false → j ≤ length class.members → includes (turned 0 count class.members) i ≡ includes (turned j count class.members) i
+any_start class count j i e within = by (whole_or_none count (length class.members) e)
+  where
+    whole_or_none : (count size : ℕ) → (ltb 0 count && ltb count size) ≡ false → (count ≡ 0) ⊎ (size ≤ count)
+    whole_or_none count size e = ⊎_elim
+        (λ (l : 0 < count). ⊎_elim
+        (λ (m : count < size). absurd (false≢true (sym e ∙ and_from (ltb 0 count) (ltb count size) (lt-ltb 0 count l) (lt-ltb count size m))))
+        (λ (m : size ≤ count). inr m) (cases_lt count size))
+        (λ (l : count ≤ 0). inl (omega arith)) (cases_lt 0 count)
+
+    swap : (a b : Bool) → (a || b) ≡ (b || a)
+    swap true true = refl
+    swap true false = refl
+    swap false true = refl
+    swap false false = refl
+
+    all_of : (j count : ℕ) (xs : List ℕ) → j ≤ length xs → length xs ≤ count → includes (turned j count xs) i ≡ includes xs i
+    all_of j count xs within l =
+        let whole : take count (drop j xs ++ take j xs) ≡ drop j xs ++ take j xs = take_all count (drop j xs ++ take j xs) (omega (arith, length-append (drop j xs) (take j xs), length-drop j xs, length-take j xs)) in
+        ap (λ zs. includes zs i) whole ∙ includes-append (drop j xs) (take j xs) i ∙ swap (includes (drop j xs) i) (includes (take j xs) i)
+        ∙ sym (includes-append (take j xs) (drop j xs) i) ∙ ap (λ zs. includes zs i) (take-append-drop j xs)
+
+    by : (count ≡ 0) ⊎ (length class.members ≤ count) → includes (turned 0 count class.members) i ≡ includes (turned j count class.members) i
+    by (inl none) = rw none refl
+    by (inr all) = all_of 0 count class.members (omega arith) all ∙ sym (all_of j count class.members within all)
+
+-- ---- classes at places of a list
+
+pub each_at : {X : Type 0} (P : X → Type 0) (xs : List X) (k : ℕ) (x : X) → AllByRecursion P xs → k < length xs → x ≡ get_or xs k x → P x
+each_at P [] k x each l e = absurd (omega arith)
+each_at P (y ∷ xs) zero x each l e = subst P (sym e) each.0
+each_at P (y ∷ xs) (suc k) x each l e = each_at P xs k x each.1 (omega arith) e
+
+slice_get-at : {X : Type 0} (xs : List X) (k : ℕ) (x : X) → k < length xs → x ≡ get_or xs k x → slice_get xs k ≡ Some x
+slice_get-at [] k x l e = absurd (omega arith)
+slice_get-at (y ∷ xs) zero x l e = ap Some (sym e)
+slice_get-at (y ∷ xs) (suc k) x l e = slice_get-at xs k x (omega arith) e
+
+get_or-other : (xs : List ℕ) (k d e : ℕ) → k < length xs → get_or xs k d ≡ get_or xs k e
+get_or-other [] k d e l = absurd (omega arith)
+get_or-other (x ∷ xs) zero d e l = refl
+get_or-other (x ∷ xs) (suc k) d e l = get_or-other xs k d e (omega arith)
+
+-- the dial is a multiple of the size of a class that is taken in part
+pub size_divides : (all : Classes) (counts : List ℕ) (k : ℕ) (class : Class) (count : ℕ) → k < length all.classes → k < length counts → class ≡ get_or all.classes k class → count ≡ get_or counts k count →
+    is_partly_taken class count ≡ true → length class.members ∣ dial all counts
+size_divides all counts k class count l m e f taken =
+    let same : count ≡ get_or counts k 0 = f ∙ get_or-other counts k count 0 m in
+    let there = includes-partly all.classes counts k class (slice_get-at all.classes k class l e) m (ap (λ n. is_partly_taken class n) (sym same) ∙ taken) in
+    let d : Divided (length class.members) (dial all counts) = each_included (λ size. Divided size (dial all counts)) (partly_taken all.classes counts) (length class.members) (divided_dial all counts) there in
+    subst (λ n. length class.members ∣ n) d.is (dvd-mul_left (length class.members) d.step)
+
+-- one class more has marked whom it gives
+pub given_more : (len at : ℕ) (classes : List Class) (counts : List ℕ) (k n : ℕ) (class : Class) (count start : ℕ) (before mid after : List Bool) → k < length classes → k < length counts →
+    class ≡ get_or classes k class → count ≡ get_or counts k count → n ≡ suc k →
+    ((i : ℕ) → includes (turned start count class.members) i ≡ includes (turned (at * length class.members / len) count class.members) i) →
+    AreMarked before mid (is_given len at (take k classes) (take k counts)) → AreMarked mid after (includes (turned start count class.members)) →
+    AreMarked before after (is_given len at (take n classes) (take n counts))
+given_more len at classes counts k n class count start before mid after l m e f next same one two = record {
+  long = two.long ∙ one.long;
+  marked = λ i within.
+      let long = one.long in
+      two.marked i (omega arith) ∙ ap (λ b. b || includes (turned start count class.members) i) (one.marked i within)
+      ∙ assoc (slice_index_or before i false) (is_given len at (take k classes) (take k counts) i) (includes (turned start count class.members) i)
+      ∙ ap (λ b. slice_index_or before i false || (is_given len at (take k classes) (take k counts) i || b)) (same i)
+      ∙ ap (λ b. slice_index_or before i false || b) (sym (given-more len at classes counts k class count i l m e f))
+      ∙ ap (λ n. slice_index_or before i false || is_given len at (take n classes) (take n counts) i) (sym next);
+}
+  where
+    assoc : (a b c : Bool) → ((a || b) || c) ≡ (a || (b || c))
+    assoc true b c = refl
+    assoc false b c = refl
+
+-- all classes have
+pub given_all : (len at : ℕ) (classes : List Class) (counts : List ℕ) (k : ℕ) (before after : List Bool) → (length classes ≤ k) ⊎ (length counts ≤ k) →
+    AreMarked before after (is_given len at (take k classes) (take k counts)) → AreMarked before after (is_given len at classes counts)
+given_all len at classes counts k before after l marked = record {
+  long = marked.long;
+  marked = λ i within. marked.marked i within ∙ ap (λ b. slice_index_or before i false || b) (given-whole len at classes counts k i l);
+}
+
+-- ---- lists of truth values
+
+-- a list told by its places
+pub told_by_places : (p : ℕ → Bool) (first : ℕ) (xs : List Bool) → ((i : ℕ) → i < length xs → get_or xs i false ≡ p (first + i)) → xs ≡ map p (range_with_len first (length xs))
+told_by_places p first [] h = refl
+told_by_places p first (x ∷ xs) h =
+    let zero_more : first + 0 ≡ first = omega arith in
+    let here : x ≡ p first = h 0 (omega arith) ∙ ap p zero_more in
+    let rest = told_by_places p (first + 1) xs (λ i l. let e : first + suc i ≡ first + 1 + i = omega arith in h (suc i) (omega arith) ∙ ap p e) in
+    ap (λ b. b ∷ xs) here ∙ ap (λ zs. p first ∷ zs) rest
+
+-- what is marked where nothing was
+pub first_marks : (p : ℕ → Bool) (n : ℕ) (before after : List Bool) → before ≡ replicate n false → AreMarked before after p → after ≡ map p (range_with_len 0 n)
+first_marks p n before after e marked =
+    let none : length before ≡ n = ap (λ (xs : List Bool). length xs) e ∙ length-replicate n false in
+    let long : length after ≡ n = marked.long ∙ none in
+    told_by_places p 0 after (λ i l.
+    let within : i < length before = (let m = marked.long in omega arith) in
+    let zero_more : i ≡ 0 + i = omega arith in
+    marked.marked i within ∙ ap (λ (xs : List Bool). get_or xs i false || p i) e ∙ ap (λ b. b || p i) (unmarked n i) ∙ ap p zero_more)
+    ∙ ap (λ k. map p (range_with_len 0 k)) long
+  where
+    unmarked : (n i : ℕ) → get_or (replicate n false) i false ≡ false
+    unmarked zero i = refl
+    unmarked (suc n) zero = refl
+    unmarked (suc n) (suc i) = unmarked n i
+
+at_place : (p : ℕ → Bool) (first n i : ℕ) → i < n → get_or (map p (range_with_len first n)) i false ≡ p (first + i)
+at_place p first zero i l = absurd (omega arith)
+at_place p first (suc n) zero l = let e : first ≡ first + 0 = omega arith in ap p e
+at_place p first (suc n) (suc i) l = let e : first + 1 + i ≡ first + suc i = omega arith in at_place p (first + 1) n i (omega arith) ∙ ap p e
+
+filter_range_same : (p q : ℕ → Bool) (first n : ℕ) → ((i : ℕ) → i < first + n → p i ≡ q i) → filter p (range_with_len first n) ≡ filter q (range_with_len first n)
+filter_range_same p q first zero e = refl
+filter_range_same p q first (suc n) e = rw (e first (omega arith), filter_range_same p q (first + 1) n (λ i l. e i (omega arith))) refl
+
+-- the numbers that are marked are those that pass
+pub passing_numbers : (p : ℕ → Bool) (n : ℕ) (given : List Bool) (numbers : List ℕ) → given ≡ map p (range_with_len 0 n) → numbers ≡ filter (λ i. slice_index_or given i false) (range_with_len 0 (length given)) →
+    numbers ≡ filter p (range_with_len 0 n)
+passing_numbers p n given numbers e f =
+    let long : length given ≡ n = ap (λ (xs : List Bool). length xs) e ∙ length-map-range_with_len p 0 n in
+    f ∙ ap (λ k. filter (λ i. slice_index_or given i false) (range_with_len 0 k)) long
+    ∙ filter_range_same (λ i. slice_index_or given i false) p 0 n
+    (λ i l. ap (λ (xs : List Bool). get_or xs i false) e ∙ at_place p 0 n i (omega arith) ∙ (let z : 0 + i ≡ i = omega arith in ap p z))

@@ -1,0 +1,30 @@
+use Rattle.std.proofs.Common.{◌≡◌, true, filter, ap, ◌∙◌}
+use Rattle.std.specs.List.{range_with_len}
+use Rattle.pool_definitions.specs.Lists.{is_increasing}
+use Rattle.search_definitions.specs.Classes.{volunteer_count}
+use Rattle.search_definitions.proofs.FirstPanel.{filter_increases}
+use Rattle.spread_definitions.specs.Spreading.{is_given, panel_at, dial}
+use Rattle.alike.proofs.Starts.{passing_numbers}
+use Rattle.alike.proofs.arcs.panel_at.Goals as goal
+
+pub unreachable-requires : goal.unreachable-requires
+unreachable-requires c =
+    let all = c.args.classes.now in let counts = c.args.counts.now in
+    let members : c.in_ok-numbers.field-0.items ≡ panel_at all counts c.args.at =
+    passing_numbers (is_given c.args.places c.args.at all.classes counts) (volunteer_count all) c.deref.result.now c.in_ok-numbers.field-0.items (c.deref.ensures.value ∙ c.in_ok-given.ensures) c.in_ok-numbers.ensures
+    ∙ ap (λ len. filter (is_given len c.args.at all.classes counts) (range_with_len 0 (volunteer_count all))) c.requires.places in
+    let rises : is_increasing c.in_ok-numbers.field-0.items ≡ true = ap is_increasing members ∙ filter_increases (is_given (dial all counts) c.args.at all.classes counts) 0 (volunteer_count all) in
+    let some = rw rises at c.new.ensures in
+    let none = c.in-None.is in
+    cc
+
+pub returns : goal.returns
+returns c =
+    let all = c.args.classes.now in let counts = c.args.counts.now in
+    let members : c.in_ok-numbers.field-0.items ≡ panel_at all counts c.args.at =
+    passing_numbers (is_given c.args.places c.args.at all.classes counts) (volunteer_count all) c.deref.result.now c.in_ok-numbers.field-0.items (c.deref.ensures.value ∙ c.in_ok-given.ensures) c.in_ok-numbers.ensures
+    ∙ ap (λ len. filter (is_given len c.args.at all.classes counts) (range_with_len 0 (volunteer_count all))) c.requires.places in
+    let rises : is_increasing c.in_ok-numbers.field-0.items ≡ true = ap is_increasing members ∙ filter_increases (is_given (dial all counts) c.args.at all.classes counts) 0 (volunteer_count all) in
+    let some = rw rises at c.new.ensures in
+    let is = c.in-Some.is in
+    cc

@@ -1,0 +1,7 @@
+use Rattle.std.proofs.Common.{◌≡◌, ◌∷◌, take}
+use Rattle.std.specs.List.{flat_map}
+use Rattle.spread_definitions.specs.Spreading.{marks}
+use Rattle.alike.proofs.dials.cuts.Given as goal
+
+abbrev pub invariant-loop-size : goal.invariant-loop-size
+invariant-loop-size l = l.cuts.items ≡ 0 ∷ flat_map (marks l.places) (take l.size-index l.sizes)

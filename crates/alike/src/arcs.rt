@@ -1,0 +1,125 @@
+//! The panel of an arc of a dial: each class gives the members of its window, which turns on by one member at each of its marks.
+
+ghost use Rattle.std.specs.Prelude.{◌≡◌, ◌*◌, ◌/◌, ◌<◌, ◌≤◌, ℕ, false, filter, map, length, slice_index_or, All, IfOk, IsTrue};
+ghost use Rattle.std.specs.Int.{◌∣◌};
+ghost use Rattle.std.specs.List.{range_with_len};
+ghost use Rattle.alike.specs.Steps.{AreMarked};
+ghost use Rattle.pool_definitions.specs.Lists.{includes};
+ghost use Rattle.search_definitions.specs.Classes.{PartVolunteers, volunteer_count};
+ghost use Rattle.spread_definitions.specs.Spreading.{dial, is_given, is_partly_taken, panel_at, turned};
+
+use crate::dials::is_partly_taken;
+use crate::groups::{Class, Classes};
+use pool_model::Panel;
+use std::alloc::{AllocError, Global};
+
+/// The panel of the arc that begins at a place of the dial, which has so many places.
+pub(crate) fn panel_at(
+    alloc: Global,
+    classes: &Classes,
+    counts: &[usize],
+    places: u128,
+    at: u128,
+) -> Result<Panel, AllocError>
+    requires places { places ≡ dial classes.now counts.now }
+    requires at { at < places }
+    ensures { IfOk result (λ panel. panel ≡ panel_at classes.now counts.now at) }
+{
+    let given = given(alloc, classes, counts, places, at)?;
+    match Panel::new(numbers(alloc, &given)?) {
+        Some(panel) => Ok(panel),
+        None => unreachable!(),
+    }
+}
+
+// For each volunteer whether a class gives them on this arc.
+fn given(
+    alloc: Global,
+    classes: &Classes,
+    counts: &[usize],
+    places: u128,
+    at: u128,
+) -> Result<Vec<bool>, AllocError>
+    requires places { places ≡ dial classes.now counts.now }
+    requires at { at < places }
+    ensures { IfOk result (λ given. given.items
+        ≡ map (is_given places at classes.now.classes counts.now) (range_with_len 0 (volunteer_count classes.now))) }
+{
+    let mut given = vec![in alloc; false; classes.volunteers()]?;
+    mark_given(&mut given, classes, counts, places, at);
+    Ok(given)
+}
+
+// Marks whom the classes give on this arc.
+fn mark_given(given: &mut [bool], classes: &Classes, counts: &[usize], places: u128, at: u128)
+    requires given { length given.old ≡ volunteer_count classes.now }
+    requires parts { PartVolunteers classes.now }
+    requires places { places ≡ dial classes.now counts.now }
+    requires at { at < places }
+    ensures { AreMarked given.old given.new (is_given places at classes.now.classes counts.now) }
+{
+    for (class, count) in classes.classes().iter().zip(counts) {
+        let start = window_start(class, *count, places, at);
+        mark_window(given, class.members(), start, *count);
+    }
+}
+
+// At which member a class's window begins at a place of the dial. Where all members are taken, or none, any start gives the same.
+fn window_start(class: &Class, count: usize, places: u128, at: u128) -> usize
+    requires places { IsTrue (is_partly_taken class.now count) → length class.now.members ∣ places }
+    requires at { at < places }
+    ensures within { result ≤ length class.now.members }
+    ensures same { (i : ℕ) → includes (turned result count class.now.members) i
+        ≡ includes (turned (at * length class.now.members / places) count class.now.members) i }
+{
+    if is_partly_taken(class, count) {
+        turns(class.size(), places, at)
+    } else {
+        0
+    }
+}
+
+// How often a class's window has turned on at a place of the dial: each time after the same length.
+fn turns(size: usize, places: u128, at: u128) -> usize
+    requires size { (0 < size) × (size ∣ places) }
+    requires at { at < places }
+    ensures value { result ≡ at * size / places }
+    ensures within { result < size }
+{
+    (at / (places / size as u128)) as usize
+}
+
+// Marks so many members from a start on, turning round at the end.
+fn mark_window(given: &mut [bool], members: &[usize], start: usize, count: usize)
+    requires start { start ≤ length members.now }
+    requires members { All (λ i. i < length given.old) members.now }
+    ensures { AreMarked given.old given.new (includes (turned start count members.now)) }
+{
+    let (before, after) = members.split_at(start);
+    let first = count.min(after.len());
+    mark(given, &after[..first]);
+    mark(given, &before[..before.len().min(count - first)]);
+}
+
+// Marks these numbers.
+fn mark(given: &mut [bool], members: &[usize])
+    requires { All (λ i. i < length given.old) members.now }
+    ensures { AreMarked given.old given.new (includes members.now) }
+{
+    for member in members {
+        given[*member] = true;
+    }
+}
+
+// The numbers that are marked, rising.
+fn numbers(alloc: Global, given: &[bool]) -> Result<Vec<usize>, AllocError>
+    ensures { IfOk result (λ numbers. numbers.items ≡ filter (λ i. slice_index_or given.now i false) (range_with_len 0 (length given.now))) }
+{
+    let mut numbers = Vec::new(alloc);
+    for (number, is_given) in given.iter().enumerate() {
+        if *is_given {
+            numbers.push(number)?;
+        }
+    }
+    Ok(numbers)
+}

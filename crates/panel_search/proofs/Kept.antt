@@ -1,0 +1,49 @@
+-- The rows that a pricer keeps, row after row.
+use Rattle.std.proofs.Common.{◌≡◌, ℕ, zero, suc, ◌^◌, ◌<◌, List, [], ◌∷◌, ◌++◌, length, Option, Some, Result, Ok, Err, sym, ◌∙◌, arith, subst, length-append, ⊎_elim}
+use Rattle.std.specs.Prelude.{slice_get, IfOk}
+use Rattle.std.specs.List.{AllByRecursion}
+use Rattle.basic_laws.proofs.Each.{each_append}
+use Rattle.row_definitions.specs.Row.{Row, reach}
+use Rattle.search_definitions.specs.Classes.{Classes}
+use Rattle.search_definitions.specs.Fronts.{HaveEntries, HaveReach, sizes_of}
+use Rattle.search_definitions.specs.Visits.{Pricing}
+use Rattle.panel_search.specs.Answers.{AnswersBest}
+use Rattle.panel_search.specs.Pricers.{AreClosed}
+use Rattle.panel_search.specs.Weights.{IsSummed, SumEach}
+use Rattle.panel_search.specs.declared.greatest.Sums.{Sums}
+use Rattle.panel_search.specs.declared.searching.SearchStop.{SearchStop}
+use Rattle.panel_search.proofs.ClosedRows.{get_pushed}
+
+-- one row more
+pub closed_more : (all : Classes) (rows : List Row) (sums : List Sums) (row : Row) (here : Sums) → AreClosed all rows sums → HaveEntries all (row ∷ []) → HaveReach all (row ∷ []) →
+    IsSummed all row here → AreClosed all (rows ++ row ∷ []) (sums ++ here ∷ [])
+closed_more all rows sums row here kept entries reaches summed = record {
+  entries = each_append (λ row. length row.a ≡ length all.classes) rows (row ∷ []) kept.entries entries;
+  reaches = each_append (λ row. reach (sizes_of all) row < 2 ^ 127) rows (row ∷ []) kept.reaches reaches;
+  summed = record {
+    one_each = omega (arith, length-append sums (here ∷ []), length-append rows (row ∷ []), kept.summed.one_each);
+    each = λ i r s e f.
+        ⊎_elim
+        (λ (h : (i < length rows) × (slice_get rows i ≡ Some r)). ⊎_elim
+        (λ (k : (i < length sums) × (slice_get sums i ≡ Some s)). kept.summed.each i r s h.1 k.1)
+        (λ (k : (i ≡ length sums) × (s ≡ here)). absurd (omega (arith, h.0, k.0, kept.summed.one_each)))
+        (get_pushed sums here s i f))
+        (λ (h : (i ≡ length rows) × (r ≡ row)). ⊎_elim
+        (λ (k : (i < length sums) × (slice_get sums i ≡ Some s)). absurd (omega (arith, h.0, k.0, kept.summed.one_each)))
+        (λ (k : (i ≡ length sums) × (s ≡ here)). subst (λ q. IsSummed all q s) (sym h.1) (subst (IsSummed all row) (sym k.1) summed))
+        (get_pushed sums here s i f))
+        (get_pushed rows row r i e);
+  };
+}
+
+-- a fact about each row of a list, at one of them
+pub row_has : (P : Row → Type 0) (rows : List Row) (i : ℕ) (row : Row) → AllByRecursion P rows → slice_get rows i ≡ Some row → P row
+row_has P [] i row h e = cc
+row_has P (r ∷ rows) zero row h e = let is : r ≡ row = cc in subst P is h.0
+row_has P (r ∷ rows) (suc i) row h e = row_has P rows i row h.1 e
+
+-- what the search kept is the answer
+pub answers_kept : (pricing : Pricing) (nodes : ℕ) (wanted : Option (List ℕ)) (r : Result (Option (List ℕ) × ℕ) SearchStop) → pricing.kept ≡ wanted → AnswersBest pricing nodes r →
+    IfOk r (λ answer. answer.0 ≡ wanted)
+answers_kept pricing nodes wanted (Ok (found, visits)) e told = told.1 ∙ e
+answers_kept pricing nodes wanted (Err stop) e told = tt

@@ -1,0 +1,15 @@
+use Rattle.std.proofs.Common.{◌≡◌, length, sym, ap, ◌∙◌, subst}
+use Rattle.search_definitions.specs.Compositions.{price}
+use Rattle.search_definitions.specs.Visits.{best_search}
+use Rattle.search_definitions.proofs.BestSearch.{search_keeps_price}
+use Rattle.panel_search.proofs.Kept.{answers_kept}
+use Rattle.panel_search.proofs.pricer.Pricer.best.Goals as goal
+
+pub returns-clause-best : goal.returns-clause-best
+returns-clause-best c =
+    let all = c.self.inside.classes.now in let row = c.args.row.now in
+    let entries = subst (λ all. length row.a ≡ length all.classes) (sym (ap (λ p. p.classes) c.self.view_is)) c.requires.entries.0 in
+    answers_kept (best_search all c.deref.result.now row) c.args.nodes _ c.search_best.result
+    (ap (λ closed. (best_search all closed row).kept) c.deref.ensures.value
+    ∙ search_keeps_price all c.self.inside.closed.items row c.facts.ensures.searchable (entries, c.self.invariant.entries)
+    ∙ ap (λ p. price p.classes p.closed row) c.self.view_is) c.search_best.ensures

@@ -1,5 +1,0 @@
-use Rattle.panel_search.proofs.ClosedRows.{WeighedFirst}
-use Rattle.panel_search.proofs.weighing.all_weighings.Given as goal
-
-abbrev pub invariant-loop-row : goal.invariant-loop-row
-invariant-loop-row l = WeighedFirst l.classes l.closed l.row-index l.weighings.items

@@ -1,0 +1,18 @@
+-- The closed rows that a pricer keeps, over classes.
+use Rattle.std.specs.Prelude.{List}
+use Rattle.row_definitions.specs.Row.{Row}
+use Rattle.search_definitions.specs.Classes.{Classes}
+use Rattle.search_definitions.specs.Fronts.{HaveEntries, HaveReach}
+use Rattle.panel_search.specs.Weights.{SumEach}
+use Rattle.panel_search.specs.declared.greatest.Sums.{Sums}
+
+-- the rows that a composition of the classes is to attain
+pub record ClosedRows : Type 0 where
+  pub classes : Classes
+  pub closed : List Row
+
+-- each row has one entry per class and a reach below 2 ^ 127, and the greatest sums are theirs
+pub record AreClosed (all : Classes) (closed : List Row) (sums : List Sums) : Type 0 where
+  pub entries : HaveEntries all closed
+  pub reaches : HaveReach all closed
+  pub summed : SumEach all closed sums

@@ -1,0 +1,10 @@
+-- What a search for the best composition reads.
+use Rattle.panel_search.specs.Weights.{AreNarrow, EachNarrow, IsSummed, SumEach}
+use Rattle.panel_search.specs.declared.pricing.Terms.{Terms}
+
+-- no weight in the rows is too wide, and the sums are theirs
+pub record AreTerms (terms : Terms) : Type 0 where
+  pub narrow : AreNarrow terms.classes.now terms.row.now.a
+  pub closed_narrow : EachNarrow terms.classes.now terms.closed.now
+  pub summed : IsSummed terms.classes.now terms.row.now terms.sums.now
+  pub closed_summed : SumEach terms.classes.now terms.closed.now terms.closed_sums.now

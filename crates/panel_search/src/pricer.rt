@@ -1,0 +1,145 @@
+//! The rows that compositions are to attain, with what each pricing needs of them.
+
+ghost use Rattle.std.specs.Prelude.{◌≡◌, ◌++◌, [], ◌∷◌, IfOk, OnOk, OnErr, take};
+ghost use Rattle.panel_search.specs.Answers.{AnswersBest};
+ghost use Rattle.search_definitions.specs.Compositions.{price};
+ghost use Rattle.search_definitions.specs.Fronts.{HaveEntries, HaveReach};
+ghost use Rattle.search_definitions.specs.Visits.{best_search};
+
+use crate::greatest::Sums;
+use crate::pricing::{Terms, search_best};
+use crate::searching::SearchStop;
+use alike::{Classes, Composition};
+use row_model::Row;
+use std::alloc::{AllocError, Global};
+use std::marker::Model;
+
+/// The closed rows over classes, which compositions are to attain, and for each the greatest sums of units that classes give in it: they
+/// are made once, as the row is added, and each pricing reads them. A row takes 16 bytes times (classes + 1) times (size + 1): 1.3
+/// megabytes at 400 classes and a panel of 200.
+#[derive(Debug, Drop)]
+pub struct Pricer<'c> {
+    classes: &'c Classes,
+    closed: Vec<Row>,
+    sums: Vec<Sums>,
+}
+
+impl<'c> Model for Pricer<'c> {
+    ghost use Rattle.panel_search.specs.Pricers.{ClosedRows};
+
+    ghost Value = { ClosedRows };
+
+    ghost use Rattle.panel_search.specs.Pricers.{AreClosed};
+
+    ghost view = { λ p. record { classes = p.classes.now; closed = p.closed.items } };
+
+    ghost invariant = { λ p. AreClosed p.classes.now p.closed.items p.sums.items };
+}
+
+impl<'c> Pricer<'c> {
+    /// Of no row yet.
+    pub fn new(alloc: Global, classes: &'c Classes) -> Pricer<'c>
+        ensures { result ≡ record { classes = classes.now; closed = [] } }
+    {
+        Pricer {
+            classes,
+            closed: Vec::new(alloc),
+            sums: Vec::new(alloc),
+        }
+    }
+
+    /// The classes that the rows are over.
+    pub fn classes(&self) -> &'c Classes
+        ensures { result.now ≡ self.now.classes }
+    {
+        self.classes
+    }
+
+    /// The rows, as they were added.
+    pub fn closed(&self) -> &[Row]
+        ensures { result.now ≡ self.now.closed }
+    {
+        &self.closed
+    }
+
+    /// A row is added, of one entry per class and a reach below 2^127. Fails where no memory is left, and the rows are then as before.
+    pub fn add_row(&mut self, row: Row) -> Result<(), AllocError>
+        requires entries { HaveEntries self.old.classes (row ∷ []) }
+        requires reach { HaveReach self.old.classes (row ∷ []) }
+        ensures ok { OnOk result (self.new ≡ record self.old { closed = self.old.closed ++ row ∷ [] }) }
+        ensures err { OnErr result (self.new ≡ self.old) }
+    {
+        self.classes.facts();
+        let sums = Sums::new(*self.closed.allocator(), self.classes, &row)?;
+        self.sums.push(sums)?;
+        match self.closed.push(row) {
+            Ok(()) => Ok(()),
+            Err(stop) => {
+                let _ = self.sums.pop();
+                Err(stop.into())
+            }
+        }
+    }
+
+    /// Of the compositions whose weight in each closed row is at least its right side, and whose weight in the row is above its right
+    /// side: the one of greatest weight in the row, of equals the first in order, or None where there is none; with the visits of the
+    /// search, if these are at most `nodes`. The row has one entry per class and a reach below 2^127. All memory is taken before the
+    /// first visit.
+    pub fn best(&self, row: &Row, nodes: u64) -> Result<(Option<Composition>, u64), SearchStop>
+        requires entries { HaveEntries self.now.classes (row.now ∷ []) }
+        requires reach { HaveReach self.now.classes (row.now ∷ []) }
+        ensures answers { AnswersBest (best_search self.now.classes self.now.closed row.now) nodes result }
+        ensures best { IfOk result (λ answer. answer.0 ≡ price self.now.classes self.now.closed row.now) }
+    {
+        let alloc = *self.closed.allocator();
+        self.classes.facts();
+        let sums = Sums::new(alloc, self.classes, row)?;
+        let terms = Terms {
+            classes: self.classes,
+            closed: &self.closed,
+            closed_sums: &self.sums,
+            row,
+            sums: &sums,
+        };
+        search_best(alloc, &terms, nodes)
+    }
+}
+
+/// Of the compositions whose weight in each closed row is at least its right side, and whose weight in the row is above its right
+/// side: the one of greatest weight in the row, of equals the first in order, or None where there is none; with the visits of the
+/// search, if these are at most `nodes`. A `Pricer` keeps what this makes of the closed rows.
+///
+/// Each of the rows has one entry per class and a reach below 2^127, which is its right side and each class's size times its entry, all
+/// without their signs: so no weight passes 128 bits. All memory is taken before the first visit.
+pub fn best(
+    alloc: Global,
+    classes: &Classes,
+    closed: &[Row],
+    row: &Row,
+    nodes: u64,
+) -> Result<(Option<Composition>, u64), SearchStop>
+    requires entries { HaveEntries classes.now (row.now ∷ closed.now) }
+    requires reaches { HaveReach classes.now (row.now ∷ closed.now) }
+    ensures answers { AnswersBest (best_search classes.now closed.now row.now) nodes result }
+    ensures best { IfOk result (λ answer. answer.0 ≡ price classes.now closed.now row.now) }
+{
+    let pricer = pricer_of(alloc, classes, closed)?;
+    pricer.best(row, nodes)
+}
+
+// Of these rows.
+fn pricer_of<'c>(
+    alloc: Global,
+    classes: &'c Classes,
+    closed: &[Row],
+) -> Result<Pricer<'c>, AllocError>
+    requires entries { HaveEntries classes.now closed.now }
+    requires reaches { HaveReach classes.now closed.now }
+    ensures { IfOk result (λ pricer. pricer ≡ record { classes = classes.now; closed = closed.now }) }
+{
+    let mut pricer = Pricer::new(alloc, classes);
+    for row in closed {
+        pricer.add_row(row.copy()?)?;
+    }
+    Ok(pricer)
+}
