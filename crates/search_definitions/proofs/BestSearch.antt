@@ -51,7 +51,7 @@ above_of : (b x y : ℤ) → AtMost x y → int_lt b x ≡ true → int_lt b y �
 above_of b x y h e = sym (true_is_lt b y (omega (arith, lt-true b x e)))
 
 -- a front that goes on to a composition which attains the closed rows and weighs more than the floor is live
-live_from_better : (all : Classes) (closed : List Row) (row : Row) (floor : ℤ) (pre later : List Class) (front counts : List ℕ) → Split all pre later front → Gives later counts → HaveEntries all (row ∷ closed) →
+pub live_from_better : (all : Classes) (closed : List Row) (row : Row) (floor : ℤ) (pre later : List Class) (front counts : List ℕ) → Split all pre later front → Gives later counts → HaveEntries all (row ∷ closed) →
     is_composition all (front ++ counts) ≡ true → attains closed (front ++ counts) ≡ true → int_lt floor (weight_in row.a (front ++ counts)) ≡ true → is_live_above all closed row floor front ≡ true
 live_from_better all closed row floor pre later front counts split gives entries composes attained above =
     let live = live_from_composition all pre later front counts split gives composes in
@@ -66,6 +66,29 @@ live_from_better all closed row floor pre later front counts split gives entries
         and_from (int_le r.b (optimistic all r front)) (list_all (λ r. int_le r.b (optimistic all r front)) closed)
         (at_least_of r.b (weight_in r.a (front ++ counts)) (optimistic all r front) (weight_within_optimistic all pre later front counts r split gives h.0 composes) parts.0)
         (each_closed closed h.1 parts.1)
+
+-- what is known of a front of all classes that is live: it is a composition that attains the closed rows and weighs more than the floor
+pub record Whole (all : Classes) (closed : List Row) (row : Row) (floor : ℤ) (front : List ℕ) : Type 0 where
+  pub composes : is_composition all front ≡ true
+  pub attained : attains closed front ≡ true
+  pub above : int_lt floor (weight_in row.a front) ≡ true
+
+pub whole_from_live : (all : Classes) (closed : List Row) (row : Row) (floor : ℤ) (pre : List Class) (front : List ℕ) → Split all pre [] front → is_live_above all closed row floor front ≡ true → Whole all closed row floor front
+whole_from_live all closed row floor pre front split live =
+    let all_parts = and_parts (is_reachable all front && list_all (λ r. int_le r.b (optimistic all r front)) closed) (int_lt floor (optimistic all row front)) live in
+    let parts = and_parts (is_reachable all front) (list_all (λ r. int_le r.b (optimistic all r front)) closed) all_parts.0 in
+    record {
+      composes = composition_from_live all pre front split parts.0;
+      attained = attained_from closed parts.1;
+      above = rw (optimistic_of_all all pre front row split) at all_parts.1;
+    }
+  where
+    attained_from : (closed : List Row) → list_all (λ r. int_le r.b (optimistic all r front)) closed ≡ true → attains closed front ≡ true
+    attained_from [] e = refl
+    attained_from (r ∷ closed) e =
+        let parts = and_parts (int_le r.b (optimistic all r front)) (list_all (λ r. int_le r.b (optimistic all r front)) closed) e in
+        let whole = optimistic_of_all all pre front r split in
+        and_from (int_le r.b (weight_in r.a front)) (attains closed front) (rw whole at parts.0) (attained_from closed parts.1)
 
 -- ---- keeping the best of a list
 
@@ -103,11 +126,11 @@ keeps_greatest weight floor kept (x ∷ xs) =
 abbrev told : Pricing → Kept
 told now = (now.floor, now.kept)
 
-filter-flat_map : (p : List ℕ → Bool) (L : ℕ → List (List ℕ)) (cs : List ℕ) → flat_map (λ c. filter p (L c)) cs ≡ filter p (flat_map L cs)
+pub filter-flat_map : (p : List ℕ → Bool) (L : ℕ → List (List ℕ)) (cs : List ℕ) → flat_map (λ c. filter p (L c)) cs ≡ filter p (flat_map L cs)
 filter-flat_map p L [] = refl
 filter-flat_map p L (c ∷ cs) = let rest = filter-flat_map p L cs in let a = filter-append p (L c) (flat_map L cs) in rw (a, rest) refl
 
-flat_map-map : (L : List ℕ → List (List ℕ)) (f : ℕ → List ℕ) (cs : List ℕ) → flat_map (λ c. L (f c)) cs ≡ flat_map L (map f cs)
+pub flat_map-map : (L : List ℕ → List (List ℕ)) (f : ℕ → List ℕ) (cs : List ℕ) → flat_map (λ c. L (f c)) cs ≡ flat_map L (map f cs)
 flat_map-map L f [] = refl
 flat_map-map L f (c ∷ cs) = ap (λ rest. L (f c) ++ rest) (flat_map-map L f cs)
 
@@ -144,20 +167,12 @@ none_better all closed row floor pre later front split order entries dead =
 enter_best_keeps : (all : Classes) (closed : List Row) (row : Row) (pre later : List Class) (front : List ℕ) (so_far : Pricing) → Split all pre later front → InOrder later → HaveEntries all (row ∷ closed) →
     is_live_above all closed row so_far.floor front ≡ true → told (enter_best all closed row later front so_far) ≡ fold (keep (weight_in row.a)) (told so_far) (sought all closed front later)
 enter_best_keeps all closed row pre [] front so_far split order entries live =
-    let all_parts = and_parts (is_reachable all front && list_all (λ r. int_le r.b (optimistic all r front)) closed) (int_lt so_far.floor (optimistic all row front)) live in
-    let parts = and_parts (is_reachable all front) (list_all (λ r. int_le r.b (optimistic all r front)) closed) all_parts.0 in
-    let composes = composition_from_live all pre front split parts.0 in
-    let attained = attained_from closed parts.1 in
-    let above = rw (optimistic_of_all all pre front row split) at all_parts.1 in
+    let whole = whole_from_live all closed row so_far.floor pre front split live in
+    let composes = whole.composes in
+    let attained = whole.attained in
+    let above = whole.above in
     let same = append-nil front in
     rw (same, composes, attained, above) refl
-  where
-    attained_from : (closed : List Row) → list_all (λ r. int_le r.b (optimistic all r front)) closed ≡ true → attains closed front ≡ true
-    attained_from [] e = refl
-    attained_from (r ∷ closed) e =
-        let parts = and_parts (int_le r.b (optimistic all r front)) (list_all (λ r. int_le r.b (optimistic all r front)) closed) e in
-        let whole = optimistic_of_all all pre front r split in
-        and_from (int_le r.b (weight_in r.a front)) (attains closed front) (rw whole at parts.0) (attained_from closed parts.1)
 enter_best_keeps all closed row pre (class ∷ later) front so_far split order entries live =
     children_keep (λ c now. enter_best all closed row later (front ++ c ∷ []) now) (λ floor c. is_live_above all closed row floor (front ++ c ∷ [])) (λ c. sought all closed (front ++ c ∷ []) later) (weight_in row.a)
     (λ c now live. enter_best_keeps all closed row (pre ++ class ∷ []) later (front ++ c ∷ []) now (child_splits all pre later class front c split) order.1 entries live)

@@ -202,7 +202,7 @@ unfolding first
 found_first one rest [] ys e f = rw e f
 found_first one rest (x ∷ xs) ys e f = rw e refl
 
-in_turn_finds : (G : List ℕ → List (List ℕ)) (enter : List ℕ → Search) (live : List ℕ → Bool) (children : List (List ℕ)) →
+pub in_turn_finds : (G : List ℕ → List (List ℕ)) (enter : List ℕ → Search) (live : List ℕ → Bool) (children : List (List ℕ)) →
     AllByRecursion (λ child. (live child ≡ true → (enter child).found ≡ first (G child)) × (live child ≡ false → G child ≡ [])) children →
     (one_by_one (map enter (filter live children))).found ≡ first (flat_map G children)
 unfolding first
@@ -238,7 +238,7 @@ completions_of_none all = ap (filter (is_composition all)) (map-id (all_counts a
 pub empty_splits : (all : Classes) → Split all [] all.classes []
 empty_splits all = record { whole = refl; fits = refl }
 
-get_first : (xs : List (List ℕ)) → first xs ≡ slice_get xs 0
+pub get_first : (xs : List (List ℕ)) → first xs ≡ slice_get xs 0
 unfolding first
 get_first [] = refl
 get_first (x ∷ xs) = refl

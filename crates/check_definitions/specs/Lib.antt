@@ -1,0 +1,5 @@
+pub mod Caps
+pub mod Reasons
+pub mod Visits
+pub mod Steps
+pub mod WorkedChecks
