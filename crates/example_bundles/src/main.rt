@@ -10,7 +10,7 @@ use std::alloc::Global;
 use std::{fs, io};
 
 /// The pools that have a bundle beside them.
-const WITH_BUNDLE: &[&str] = &["districts", "dropout", "small"];
+const WITH_BUNDLE: &[&str] = &["districts", "dropout", "family", "small"];
 
 /// The pools that have no quota panel.
 const WITHOUT_PANEL: &[&str] = &["no_panel"];
