@@ -194,3 +194,53 @@ fn said(alloc: Global, bytes: &[u8]) -> (usize, u8) {
         Err(ReadBundle::OutOfMemory) => (0, 255),
     }
 }
+
+/// A row for each: the line and the kind of the fault, a line of the bundle of the four, and what stands there in the place of it and of
+/// those behind it. The fields are parted by `|`.
+const FAULTS: &[u8] =
+    b"1|17|1|\n1|17|1|bundle 1\n1|13|1|/\n1|13|1|bundle/\n1|13|1|bundle 0/\n1|13|1|bundle 3/\n1|13|1|bundle 01/\n1|13|1|bundle 1 /\n1|13|1|bundle 1\r/\n1|13|1|pool 1/\n1|13|1|\xff/\n2|1|1|bundle 2/pool 1/\n2|1|2|pool 2/\n2|1|2|\xff/\n2|1|2|bundle 1/\n11|1|11|end a/\n11|1|11|household a h/\n4|1|1|bundle 2/pool 2/size 1/end/\n3|2|3|size 0/\n3|2|3|size 201/\n3|2|3|\xff/\n5|3|5|category gender/\n7|3|7|category gender/\n6|4|6|value female 1 1/\n7|4|7|value male 1 1/\n5|5|5|value female 2 1/\n7|5|7|value x 0 1000/\n7|6|7|volunteer a x/\n11|6|11|volunteer e x/\n7|7|7|volunteer a/\n11|7|11|volunteer e male male/\n8|8|8|volunteer a male/\n11|8|11|volunteer d male/\n4|9|4|gone a/\n12|9|11|gone d/seated c/\n7|9|1|bundle 2/pool 2/size 1/volunteer a/volunteer b/household b h/household a h/\n4|10|4|category /\n11|10|11|volunteer  male/\n5|10|1|bundle 2/pool 2/size 1/volunteer a/household a /\n4|11|4|category \xff/\n11|11|11|volunteer \xff male/\n2|12|2|pool 1\n11|12|11|end\n12|14|12|/\n12|14|12|end/\n12|14|12|total/\n12|14|12|total /\n12|14|12|total 0/\n12|14|12|total -1/\n12|14|12|total -0/\n12|14|12|total +1/\n12|14|12|total 01/\n12|14|12|total 2 2/\n12|14|12|total 2\r/\n12|14|12|total 2_/\n12|14|12|Total 2/\n12|14|12|total 100000000000000000000000000000000000001/\n12|14|12|total 170141183460469231731687303715884105728/\n5|14|1|bundle 1/pool 1/size 1/end/done/\n12|14|12|panel 1 0 2/\n13|17|13|\n13|17|13|panel 1 0 2\n13|17|12|total 100000000000000000000000000000000000000/\n13|15|13|/\n13|15|13|done/\n13|15|13|total 2/\n13|15|13|stage 1 1 1 0 0/\n13|15|13|stage/\n13|15|13|panel/\n13|15|13|panel 1/\n13|15|13|panel 0 0/\n13|15|13|panel -1 0/\n13|15|13|panel -0 0/\n13|15|13|panel 01 0/\n13|15|13|panel  0/\n13|15|13|panel 1 /\n13|15|13|panel 1 4/\n13|15|13|panel 1 00/\n13|15|13|panel 1 -0/\n13|15|13|panel 1 0 0/\n13|15|13|panel 1 2 1/\n13|15|13|panel 1 0\r/\n13|15|13|panel 1 0 /\n13|15|13|panel 1 \xff/\n13|15|13|panel 100000000000000000000000000000000000001 0/\n14|15|14|panel 1 1 4/\n14|15|14|total 2/\n14|15|14|done/\n15|15|15|done/\n15|15|15|Stage 1 1 1 0 0/\n15|15|15|stage_/\n14|16|14|stage/\n14|16|14|stage 1 1 1 0/\n15|16|15|stage 1 1 1 0 0 0/\n15|16|15|stage -0 0 0 0 0/\n15|16|15|stage 01 0 0 0 0/\n15|16|15|stage  0 0 0 0/\n15|16|15|stage 0 0 0 0 /\n15|16|15|stage 0 0 0 0 0\r/\n15|16|15|stage 0 0 0 0 -/\n15|16|15|stage 0 0 0 0 +1/\n15|16|15|stage 170141183460469231731687303715884105728 0 0 0 0/\n15|16|15|stage -170141183460469231731687303715884105728 0 0 0 0/\n15|16|15|stage 170141183460469231731687303715884105727 0 0 0 -1/\n16|17|15|stage 170141183460469231731687303715884105726 0 0 0 -1/\n16|16|16|/\n16|16|16|panel 1 1 3/\n16|16|16|total 2/\n16|16|16|stage 1 1 1 0/\n16|16|16|\xff/\n17|16|17|done /\n17|16|17|done\r/\n17|16|17|Done/\n17|16|17|end/\n0|0|16|done/\n17|17|17|\n17|17|17|done\n17|17|17|\xff\n18|17|17|done//\n18|17|17|done/x\n18|17|17|done/done/\n18|17|17|done/\xff";
+
+/// The lines of the bundle of the four.
+const LINES: &str =
+    "bundle 1/pool 1/size 2/category gender/value female 1 1/value male 1 1/volunteer a female/volunteer b female/volunteer c male/volunteer d male/end/total 2/panel 1 0 2/panel 1 1 3/stage 1 1 1 0 0/stage 0 -1 -1 1 1/done/";
+
+/// Those of them before a line of a number.
+fn lines_before(alloc: Global, at: usize) -> Result<Vec<u8>, AllocError> {
+    let mut shown = Vec::new(alloc);
+    let mut line = 1;
+    for byte in LINES.as_bytes() {
+        if line < at {
+            shown.push(*byte)?;
+        }
+        if *byte == b'/' {
+            line = usize::saturating_add(line, 1);
+        }
+    }
+    let mut text = Vec::new(alloc);
+    add(&mut text, &shown)?;
+    Ok(text)
+}
+
+fn number_of(field: Option<&[u8]>) -> usize {
+    let field = field.and_then(|field| std::str::from_utf8(field).ok());
+    field.and_then(|field| field.parse().ok()).unwrap_or(0)
+}
+
+/// Each kind at its first and its last place.
+#[test]
+fn tells_first_faults(rt: HostRuntime) -> Result<(), Fail> {
+    for row in FAULTS.split(|byte| *byte == b'\n') {
+        let mut fields = row.split(|byte| *byte == b'|');
+        let (line, kind) = (number_of(fields.next()), number_of(fields.next()));
+        let mut text = lines_before(rt.alloc(), number_of(fields.next()))?;
+        add(&mut text, fields.next().unwrap_or(b""))?;
+        let answer = said(rt.alloc(), &text);
+        assert_eq!(rt;
+            (answer.0, answer.1 as usize),
+            (line, kind),
+            "at {}",
+            row.escape_ascii()
+        );
+    }
+    Ok(())
+}

@@ -38,7 +38,10 @@ fn stage(alloc: Global, numbers: &[usize], row: &Row) -> Result<Stage, AllocErro
 fn weights(alloc: Global, numbers: &[usize], row: &Row) -> Result<Vec<i128>, AllocError>
     ensures { IfOk result (λ weights. weights.items ≡ map (entry row.now) numbers.now) }
 {
-    numbers.iter().map(|class| entry_of(row, *class)).collect(alloc)
+    numbers
+        .iter()
+        .map(|class| entry_of(row, *class))
+        .collect(alloc)
 }
 
 // The entry of a class, or 0 where there is no such class.

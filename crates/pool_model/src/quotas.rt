@@ -97,12 +97,17 @@ fn lies_within(value: &BoundedValue, count: usize) -> bool
 fn keep_households(volunteers: &[Volunteer], members: &[usize]) -> bool
     ensures { result ≡ keeps_households volunteers.now members.now }
 {
-    members.iter().all(|i| number_of_household(volunteers, members, *i) <= 1)
+    members
+        .iter()
+        .all(|i| number_of_household(volunteers, members, *i) <= 1)
 }
 
 // How many members are of a volunteer's household?
 fn number_of_household(volunteers: &[Volunteer], members: &[usize], i: usize) -> usize
     ensures { result ≡ count_by (share volunteers.now i) members.now }
 {
-    members.iter().filter(|j| share_household(volunteers, i, **j)).count()
+    members
+        .iter()
+        .filter(|j| share_household(volunteers, i, **j))
+        .count()
 }
