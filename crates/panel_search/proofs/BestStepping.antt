@@ -1,5 +1,5 @@
 -- The children of a front one after the other, in the search for the best composition.
-use Rattle.std.proofs.Common.{◌≡◌, ℕ, zero, suc, ◌+◌, ◌-◌, ◌≤◌, ◌<◌, true, false, cond, ltb, ◌&&◌, List, [], ◌∷◌, ◌++◌, length, take, drop, set, map, get_or, Some, Result, Ok, Err, refl, sym, ap, ◌∙◌, arith, subst, length-append}
+use Rattle.std.proofs.Common.{◌≡◌, ℕ, zero, suc, ◌+◌, ◌-◌, ◌≤◌, ◌<◌, true, false, cond, ltb, ◌&&◌, List, [], ◌∷◌, ◌++◌, length, take, drop, set, map, get_or, Some, None, Result, Ok, Err, refl, sym, ap, ◌∙◌, arith, subst, length-append}
 use Rattle.std.specs.Prelude.{IsErr, int_le, int_lt, slice_get, slice_index}
 use Rattle.std.specs.List.{list_all}
 use Rattle.std.proofs.lemmas.Bool.{false≢true, and_parts, and_from, ltb-true, ltb-false}
@@ -12,10 +12,10 @@ use Rattle.row_definitions.specs.Row.{Row}
 use Rattle.search_definitions.specs.Classes.{Class, Classes, KeepsLimits}
 use Rattle.search_definitions.specs.Compositions.{counts_of, counts_down}
 use Rattle.search_definitions.specs.Fronts.{is_reachable, is_live_above, optimistic, sizes_of, HaveEntries, HaveReach}
-use Rattle.search_definitions.specs.Visits.{Pricing, enter_best}
+use Rattle.search_definitions.specs.Visits.{Pricing, best_search, enter_best}
 use Rattle.search_definitions.proofs.Limits.{all_from_each}
 use Rattle.panel_search.specs.Front.{Tracks}
-use Rattle.panel_search.specs.Pricing.{StandsAt, Moves, CanTake, child_best, children_best}
+use Rattle.panel_search.specs.Pricing.{BeginsAt, StandsAt, Moves, CanTake, child_best, children_best, search_from}
 use Rattle.panel_search.specs.Steps.{counts_at}
 use Rattle.panel_search.specs.Weights.{AreNarrow, AreWithin, EachNarrow, Weighs, WeighEach}
 use Rattle.panel_search.specs.declared.searching.BudgetSpent.{BudgetSpent}
@@ -51,6 +51,19 @@ enter_more all closed row (class ∷ later) front now =
 
 enter_no_less : (all : Classes) (closed : List Row) (row : Row) (later : List Class) (front : List ℕ) (now : Pricing) → now.visits ≤ (enter_best all closed row later front now).visits
 enter_no_less all closed row later front now = let more = enter_more all closed row later front now in omega arith
+
+-- ---- from the empty front
+
+-- where a search from it makes no visit, the whole search counts one and keeps nothing
+pub none_entered : (all : Classes) (closed : List Row) (row : Row) → (search_from all closed row [] row.b).visits ≡ 0 → best_search all closed row ≡ record { visits = 1; floor = row.b; kept = None }
+none_entered all closed row none =
+    let begun : Pricing = record { visits = 0; floor = row.b; kept = None } in
+    let more = enter_more all closed row all.classes [] begun in
+    (elim (is_live_above all closed row row.b []) as (λ b. (cond b (enter_best all closed row all.classes [] begun) begun).visits ≡ 0 →
+    cond b (enter_best all closed row all.classes [] begun) (record { visits = 1; floor = row.b; kept = None }) ≡ record { visits = 1; floor = row.b; kept = None }) [
+      | true ↦ λ e. absurd (omega (arith, e, more))
+      | false ↦ λ e. refl
+    ]) none
 
 -- ---- the children of a front
 
@@ -135,6 +148,29 @@ stands_with all closed row depth rest rest' before after stands e f g h tracks =
   tally = subst (λ xs. Tracks all (take depth xs) rest' after.tally) (sym e) tracks;
   priced = subst (λ xs. Weighs all row (take depth xs) after.priced) (sym e) (subst (Weighs all row (take depth before.counts.items)) (sym g) stands.priced);
   closed_rows = subst (λ xs. WeighEach all closed (take depth xs) after.closed.items) (sym e) (subst (WeighEach all closed (take depth before.counts.items)) (sym h) stands.closed_rows);
+}
+
+first_of : (front rest : List ℕ) (n : ℕ) → length front ≤ n → take (length front) (take n (front ++ rest)) ≡ front
+first_of [] rest n l = refl
+first_of (c ∷ front) rest zero l = absurd (omega arith)
+first_of (c ∷ front) rest (suc n) l = ap (λ (xs : List ℕ). c ∷ xs) (first_of front rest n (omega arith))
+
+-- a front is written into the first places
+pub written_first : (front given items : List ℕ) (n : ℕ) → given ≡ front → length front ≤ n → take (length front) (take n (given ++ drop (length given) items)) ≡ front
+written_first front given items n e l = subst (λ xs. take (length front) (take n (xs ++ drop (length xs) items)) ≡ front) (sym e) (first_of front (drop (length front) items) n l)
+
+-- a search is set up at a front
+pub begins_at : (all : Classes) (closed : List Row) (row : Row) (front : List ℕ) (search : BestSearch) → length search.counts.items ≡ length all.classes → length search.kept.items ≡ length all.classes → length front ≤ length all.classes →
+    take (length front) search.counts.items ≡ front → AreWithin all front → Tracks all front (drop (length front) all.classes) search.tally → Weighs all row front search.priced → WeighEach all closed front search.closed.items →
+    BeginsAt all closed row (length front) search
+begins_at all closed row front search places kept within e counts tally priced closed_rows = record {
+  places = places;
+  kept_places = kept;
+  within = within;
+  counts = subst (AreWithin all) (sym e) counts;
+  tally = subst (λ f. Tracks all f (drop (length front) all.classes) search.tally) (sym e) tally;
+  priced = subst (λ f. Weighs all row f search.priced) (sym e) priced;
+  closed_rows = subst (λ f. WeighEach all closed f search.closed.items) (sym e) closed_rows;
 }
 
 within_more : (all : Classes) (front : List ℕ) (depth count : ℕ) → length front ≡ depth → depth < length all.classes → CanTake all depth count → AreWithin all front → AreWithin all (front ++ count ∷ [])

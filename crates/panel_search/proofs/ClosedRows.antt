@@ -105,12 +105,21 @@ pub each_passes : {X : Type 0} (p : X → Bool) (xs : List X) → ((i : ℕ) (x 
 each_passes p [] f = refl
 each_passes p (x ∷ xs) f = and_from (p x) (list_all p xs) (f 0 x refl) (each_passes p xs (λ i y e. f (suc i) y e))
 
--- ---- rows after one another, for the empty front
+-- one element more passes
+pub each_next : {X : Type 0} (p : X → Bool) (xs : List X) (k : ℕ) (x : X) → slice_get xs k ≡ Some x → p x ≡ true → ((i : ℕ) (y : X) → i < k → slice_get xs i ≡ Some y → p y ≡ true) →
+    (i : ℕ) (y : X) → i < k + 1 → slice_get xs i ≡ Some y → p y ≡ true
+each_next p xs k x here passes earlier i y l e =
+    (elim (eqb i k) as (λ b. eqb i k ≡ b → p y ≡ true) [
+      | true ↦ λ t. let is : y ≡ x = same_row xs k i x y (sym (eqb-true i k t)) here e in ap p is ∙ passes
+      | false ↦ λ t. let other = eqb-false i k t in earlier i y (omega (arith, l, other)) e
+    ]) refl
 
--- the first rows have a weighing of the empty front
-pub record WeighedFirst (all : Classes) (rows : List Row) (done : ℕ) (weighings : List Weights) : Type 0 where
+-- ---- rows after one another, for a front
+
+-- the first rows have a weighing of the front
+pub record WeighedFirst (all : Classes) (rows : List Row) (front : List ℕ) (done : ℕ) (weighings : List Weights) : Type 0 where
   pub long : length weighings ≡ done
-  pub each : (i : ℕ) (row : Row) (weighing : Weights) → slice_get rows i ≡ Some row → slice_get weighings i ≡ Some weighing → Weighs all row [] weighing
+  pub each : (i : ℕ) (row : Row) (weighing : Weights) → slice_get rows i ≡ Some row → slice_get weighings i ≡ Some weighing → Weighs all row front weighing
 
 pub get_pushed : {X : Type 0} (xs : List X) (x y : X) (i : ℕ) → slice_get (xs ++ x ∷ []) i ≡ Some y → (i < length xs) × (slice_get xs i ≡ Some y) ⊎ (i ≡ length xs) × (y ≡ x)
 get_pushed [] x y zero e = inr (refl, cc)
@@ -121,9 +130,9 @@ get_pushed (z ∷ zs) x y (suc i) e = elim (get_pushed zs x y i e) [
   | inr h ↦ inr (omega (arith, h.0), h.1)
 ]
 
-pub first_more : (all : Classes) (rows : List Row) (done : ℕ) (weighings : List Weights) (row : Row) (weighing : Weights) → WeighedFirst all rows done weighings → slice_get rows done ≡ Some row → Weighs all row [] weighing →
-    WeighedFirst all rows (done + 1) (weighings ++ weighing ∷ [])
-first_more all rows done weighings row weighing to at weighs = record {
+pub first_more : (all : Classes) (rows : List Row) (front : List ℕ) (done : ℕ) (weighings : List Weights) (row : Row) (weighing : Weights) → WeighedFirst all rows front done weighings → slice_get rows done ≡ Some row → Weighs all row front weighing →
+    WeighedFirst all rows front (done + 1) (weighings ++ weighing ∷ [])
+first_more all rows front done weighings row weighing to at weighs = record {
   long = omega (arith, to.long, length-append weighings (weighing ∷ []));
   each = λ i r w e f. elim (get_pushed weighings weighing w i f) [
     | inl h ↦ to.each i r w e h.1
@@ -131,10 +140,10 @@ first_more all rows done weighings row weighing to at weighs = record {
   ];
 }
   where
-    last : (i : ℕ) (r : Row) (w : Weights) → i ≡ done → slice_get rows i ≡ Some r → w ≡ weighing → Weighs all r [] w
+    last : (i : ℕ) (r : Row) (w : Weights) → i ≡ done → slice_get rows i ≡ Some r → w ≡ weighing → Weighs all r front w
     last i r w same e made =
         let is : r ≡ row = same_row rows done i row r (sym same) at e in
-        subst (λ q. Weighs all q [] w) (sym is) (subst (Weighs all row []) (sym made) weighs)
+        subst (λ q. Weighs all q front w) (sym is) (subst (Weighs all row front) (sym made) weighs)
 
-pub first_all : (all : Classes) (rows : List Row) (done : ℕ) (weighings : List Weights) → WeighedFirst all rows done weighings → done ≡ length rows → WeighEach all rows [] weighings
-first_all all rows done weighings to e = record { one_each = to.long ∙ e; each = to.each }
+pub first_all : (all : Classes) (rows : List Row) (front : List ℕ) (done : ℕ) (weighings : List Weights) → WeighedFirst all rows front done weighings → done ≡ length rows → WeighEach all rows front weighings
+first_all all rows front done weighings to e = record { one_each = to.long ∙ e; each = to.each }

@@ -1,33 +1,17 @@
 -- At most one is taken of each household.
-use Rattle.std.proofs.Common.{◌≡◌, ℕ, ◌+◌, Bool, true, false, cond, ◌&&◌, eqb, leb, List, [], ◌∷◌, ◌++◌, length, Option, Some, None, refl, sym, ap, ◌∙◌, arith, subst}
+use Rattle.std.proofs.Common.{◌≡◌, ℕ, ◌+◌, ◌≤◌, Bool, true, false, cond, eqb, leb, List, [], ◌∷◌, ◌++◌, length, Option, Some, None, refl, sym, ap, ◌∙◌, arith, subst}
 use Rattle.std.specs.Prelude.{slice_index}
 use Rattle.std.proofs.lemmas.Bool.{eqb-true, eq-eqb, false≢true, false_from_ne_true}
 use Rattle.std.proofs.lemmas.List.Elements.{All-get_or}
-use Rattle.basic_laws.proofs.Each.{each_everywhere, each_from_list_all, list_all_from_each, list_all_implies}
+use Rattle.basic_laws.proofs.Each.{each_from_list_all, list_all_implies}
 use Rattle.search_definitions.specs.Classes.{Class, Classes, IsKnownHousehold, KeepsLimits, volunteer_count}
 use Rattle.search_definitions.specs.Compositions.{taken_of, is_of_household, takes_one_of, takes_one_a_household}
-use Rattle.search_definitions.specs.Fronts.{is_reachable, size_reachable, values_reachable}
+use Rattle.search_definitions.specs.Fronts.{is_reachable, taken_by}
 use Rattle.search_definitions.proofs.Limits.{all_from_each}
 use Rattle.panel_search.specs.Front.{Tracks}
 use Rattle.panel_search.specs.Homes.{AreFew, CanGiveAt, HasMoreAt, has_room}
 use Rattle.panel_search.specs.declared.tally.Tally.{Tally}
-use Rattle.panel_search.proofs.Tracking.{Stands, few_taken, nothing_taken, taken_more}
-
--- ---- the empty front
-
-none_taken : (whole : List Class) → takes_one_a_household whole [] ≡ true
-none_taken whole = list_all_from_each (λ class. takes_one_of whole [] class.household) whole (each_everywhere (λ class. takes_one_of whole [] class.household ≡ true) (λ class. one (class.household)) whole)
-  where
-    one : (household : Option ℕ) → takes_one_of whole [] household ≡ true
-    one None = refl
-    one (Some h) = ap (λ n. leb n 1) (nothing_taken (λ class. is_of_household h class.household) whole)
-
-both : (b c : Bool) → c ≡ true → (b && c) ≡ b
-both true c e = e
-both false c e = refl
-
-pub empty_reachable : (all : Classes) → is_reachable all [] ≡ (size_reachable all [] && values_reachable all [])
-empty_reachable all = both (size_reachable all [] && values_reachable all []) (takes_one_a_household all.classes []) (none_taken all.classes)
+use Rattle.panel_search.proofs.Tracking.{Stands, few_taken, taken_more, taken_within_all}
 
 -- ---- the household of a class
 
@@ -36,9 +20,21 @@ household_known all i class n limits stands e household same =
     let known = All-get_or (λ (class : Class). IsKnownHousehold (volunteer_count all) class.household) all.classes i class stands.below limits.households in
     subst (λ m. IsKnownHousehold m household) (sym e) (subst (IsKnownHousehold (volunteer_count all)) (sym (same ∙ ap (λ (class : Class). class.household) stands.is)) known)
 
+pub small_homes : (all : Classes) (front : List ℕ) (rest : List Class) (tally : Tally) → taken_by all front ≤ 1000 → Tracks all front rest tally → AreFew tally.homes.items
+small_homes all front rest tally small tracks = λ h l.
+    omega (arith, tracks.homes h (omega (arith, tracks.homes_cells)), taken_within_all (λ class. is_of_household h class.household) all.classes front)
+
 pub few_homes : (all : Classes) (front : List ℕ) (rest : List Class) (tally : Tally) → KeepsLimits all → is_reachable all front ≡ true → Tracks all front rest tally → AreFew tally.homes.items
-few_homes all front rest tally limits live tracks = λ h l.
-    omega (arith, tracks.homes h (omega (arith, tracks.homes_cells)), few_taken all front (λ class. is_of_household h class.household) limits live)
+few_homes all front rest tally limits live tracks = small_homes all front rest tally (omega (arith, few_taken all front (λ class. true) limits live)) tracks
+
+-- the household of a class has no room left exactly where it has two taken
+pub home_alive : (all : Classes) (front : List ℕ) (i : ℕ) (class : Class) (rest : List Class) (tally : Tally) → KeepsLimits all → Stands all i class → Tracks all front rest tally →
+    (household : Option ℕ) → household ≡ class.household → has_room tally.homes.items household 0 ≡ takes_one_of all.classes front household
+home_alive all front i class rest tally limits stands tracks None same = refl
+home_alive all front i class rest tally limits stands tracks (Some h) same =
+    let known = household_known all i class (volunteer_count all) limits stands refl (Some h) same in
+    let taken : slice_index tally.homes.items h + 0 ≡ taken_of (λ class. is_of_household h class.household) all.classes front = omega (arith, tracks.homes h known) in
+    ap (λ n. leb n 1) taken
 
 -- what was taken of a class can be given back
 pub home_gives : (all : Classes) (front : List ℕ) (class : Class) (count : ℕ) (rest : List Class) (tally : Tally) → KeepsLimits all → Stands all (length front) class → Tracks all (front ++ count ∷ []) rest tally →

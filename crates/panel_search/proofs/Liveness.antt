@@ -12,7 +12,6 @@ use Rattle.panel_search.specs.Tallies.{cell, HasBound, reaches, AllReach, OneFai
 use Rattle.panel_search.specs.Front.{Tracks}
 use Rattle.panel_search.specs.declared.tally.Tally.{Tally}
 use Rattle.panel_search.proofs.Tracking.{Stands, comes_next, few_places, most_more, taken_more}
-use Rattle.panel_search.proofs.Households.{empty_reachable}
 
 -- ---- a test of each element with its place
 
@@ -134,23 +133,28 @@ pub child_dead : (all : Classes) (front : List ℕ) (class : Class) (count : ℕ
 child_dead all front class count tally stands tracks size =
     ap (λ b. b && values_reachable all (front ++ count ∷ [])) (size_of_child all front class count tally stands tracks ∙ size)
 
--- ---- the empty front
+-- ---- a front
 
-empty_reach : (all : Classes) (tally : Tally) → Tracks all [] all.classes tally → (c v : ℕ) (bound : Bounds) → c < length all.bounds → v < 50 →
-    value_reachable all [] c (v, bound) ≡ reaches bound tally.held.items tally.later.items 0 c v
-empty_reach all tally tracks c v bound below within =
+front_reach : (all : Classes) (front : List ℕ) (tally : Tally) → Tracks all front (drop (length front) all.classes) tally → (c v : ℕ) (bound : Bounds) → c < length all.bounds → v < 50 →
+    value_reachable all front c (v, bound) ≡ reaches bound tally.held.items tally.later.items 0 c v
+front_reach all front tally tracks c v bound below within =
     reach_equal bound.lower bound.upper _ _ _ _ (omega (arith, tracks.held c v below within)) (sym (tracks.later c v below within))
 
-size_of_empty : (all : Classes) (tally : Tally) → Tracks all [] all.classes tally → size_reachable all [] ≡ (leb (tally.taken + 0) all.size && leb all.size (tally.taken + 0 + tally.later_taken))
-size_of_empty all tally tracks = reach_equal all.size all.size _ _ _ _ (omega (arith, tracks.taken)) (sym tracks.later_taken)
+size_of_front : (all : Classes) (front : List ℕ) (tally : Tally) → Tracks all front (drop (length front) all.classes) tally →
+    size_reachable all front ≡ (leb (tally.taken + 0) all.size && leb all.size (tally.taken + 0 + tally.later_taken))
+size_of_front all front tally tracks = reach_equal all.size all.size _ _ _ _ (omega (arith, tracks.taken)) (sym tracks.later_taken)
 
-pub empty_live : (all : Classes) (tally : Tally) → KeepsLimits all → Tracks all [] all.classes tally → (leb (tally.taken + 0) all.size && leb all.size (tally.taken + 0 + tally.later_taken)) ≡ true →
-    (answer : Bool) → (answer ≡ true → EachReaches all.bounds tally.held.items tally.later.items) → (answer ≡ false → SomeFails all.bounds tally.held.items tally.later.items) → answer ≡ is_reachable all []
-empty_live all tally limits tracks size answer allowed refused =
-    let values = decided answer _ _ (values_reachable all []) allowed refused
-    (λ reach. values_from all [] (λ c v bound below has. empty_reach all tally tracks c v bound below (value_in_cell all limits c v bound below has) ∙ reach c v bound below has))
-    (λ (c, v, bound, below, has, fails). false_from_ne_true (values_reachable all []) (λ yes. false≢true (sym fails ∙ (sym (empty_reach all tally tracks c v bound below (value_in_cell all limits c v bound below has)) ∙ values_at all [] yes c v bound below has)))) in
-    values ∙ sym (empty_reachable all ∙ ap (λ b. b && values_reachable all []) (size_of_empty all tally tracks ∙ size))
+pub front_live : (all : Classes) (front : List ℕ) (tally : Tally) → KeepsLimits all → Tracks all front (drop (length front) all.classes) tally →
+    (leb (tally.taken + 0) all.size && leb all.size (tally.taken + 0 + tally.later_taken)) ≡ true →
+    (answer : Bool) → (answer ≡ true → EachReaches all.bounds tally.held.items tally.later.items) → (answer ≡ false → SomeFails all.bounds tally.held.items tally.later.items) →
+    answer ≡ (size_reachable all front && values_reachable all front)
+front_live all front tally limits tracks size answer allowed refused =
+    let values = decided answer _ _ (values_reachable all front) allowed refused
+    (λ reach. values_from all front (λ c v bound below has. front_reach all front tally tracks c v bound below (value_in_cell all limits c v bound below has) ∙ reach c v bound below has))
+    (λ (c, v, bound, below, has, fails). false_from_ne_true (values_reachable all front)
+    (λ yes. false≢true (sym fails ∙ (sym (front_reach all front tally tracks c v bound below (value_in_cell all limits c v bound below has)) ∙ values_at all front yes c v bound below has)))) in
+    values ∙ sym (ap (λ b. b && values_reachable all front) (size_of_front all front tally tracks ∙ size))
 
-pub empty_dead : (all : Classes) (tally : Tally) → Tracks all [] all.classes tally → (leb (tally.taken + 0) all.size && leb all.size (tally.taken + 0 + tally.later_taken)) ≡ false → is_reachable all [] ≡ false
-empty_dead all tally tracks size = empty_reachable all ∙ ap (λ b. b && values_reachable all []) (size_of_empty all tally tracks ∙ size)
+pub front_dead : (all : Classes) (front : List ℕ) (tally : Tally) → Tracks all front (drop (length front) all.classes) tally →
+    (leb (tally.taken + 0) all.size && leb all.size (tally.taken + 0 + tally.later_taken)) ≡ false → (size_reachable all front && values_reachable all front) ≡ false
+front_dead all front tally tracks size = ap (λ b. b && values_reachable all front) (size_of_front all front tally tracks ∙ size)

@@ -69,7 +69,7 @@ most_of_members p (class ∷ classes) h =
       | false ↦ λ e. omega arith
     ]) more
 
-taken_within_all : (p : Class → Bool) (classes : List Class) (counts : List ℕ) → taken_of p classes counts ≤ taken_of (λ class. true) classes counts
+pub taken_within_all : (p : Class → Bool) (classes : List Class) (counts : List ℕ) → taken_of p classes counts ≤ taken_of (λ class. true) classes counts
 taken_within_all p [] counts = omega arith
 taken_within_all p (class ∷ classes) [] = omega arith
 taken_within_all p (class ∷ classes) (c ∷ counts) =
@@ -218,11 +218,11 @@ starts all cells tally e none room f gives n count homes = record {
 pub few_later : (all : Classes) (front : List ℕ) (i n : ℕ) (tally : Tally) → KeepsLimits all → n ≡ length all.bounds → Tracks all front (drop i all.classes) tally → AreAtMost 1000000 n tally.later.items
 few_later all front i n tally limits e tracks = λ c v a b. omega (arith, tracks.later c v (omega arith) b, most_small all i (has_value c v) limits)
 
-pub few_held : (all : Classes) (front : List ℕ) (rest : List Class) (n : ℕ) (tally : Tally) → KeepsLimits all → n ≡ length all.bounds → is_reachable all front ≡ true → Tracks all front rest tally → AreAtMost 1000000 n tally.held.items
-few_held all front rest n tally limits e live tracks = λ c v a b. omega (arith, tracks.held c v (omega arith) b, few_taken all front (has_value c v) limits live)
+pub small_held : (all : Classes) (front : List ℕ) (rest : List Class) (n : ℕ) (tally : Tally) → n ≡ length all.bounds → taken_by all front ≤ 1000 → Tracks all front rest tally → AreAtMost 1000000 n tally.held.items
+small_held all front rest n tally e small tracks = λ c v a b. omega (arith, tracks.held c v (omega arith) b, taken_within_all (has_value c v) all.classes front)
 
-pub few_empty : (all : Classes) (rest : List Class) (tally : Tally) → Tracks all [] rest tally → AreAtMost 1000000 (length all.bounds) tally.held.items
-few_empty all rest tally tracks = λ c v a b. omega (arith, tracks.held c v a b, taken_none (has_value c v) all.classes)
+pub few_held : (all : Classes) (front : List ℕ) (rest : List Class) (n : ℕ) (tally : Tally) → KeepsLimits all → n ≡ length all.bounds → is_reachable all front ≡ true → Tracks all front rest tally → AreAtMost 1000000 n tally.held.items
+few_held all front rest n tally limits e live tracks = small_held all front rest n tally e (omega (arith, few_taken all front (λ class. true) limits live)) tracks
 
 own_value : (class : Class) (c : ℕ) → has_value c (slice_index class.values c) class ≡ true
 own_value class c = eq-eqb (slice_index class.values c) (slice_index class.values c) refl

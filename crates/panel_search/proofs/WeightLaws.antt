@@ -1,21 +1,22 @@
 -- What fronts weigh, and how wide it is.
-use Rattle.std.proofs.Common.{◌≡◌, ℕ, zero, suc, ◌+◌, ◌-◌, ◌*◌, ◌^◌, ◌≤◌, ◌<◌, true, false, ◌&&◌, eqb, leb, List, [], ◌∷◌, ◌++◌, length, take, drop, set, map, get_or, ℤ, pos, ◌+ℤ◌, ◌*ℤ◌, refl, sym, ap, ◌∙◌, arith, mul-le-mul_right, subst, length-append}
+use Rattle.std.proofs.Common.{◌≡◌, ℕ, zero, suc, ◌+◌, ◌-◌, ◌*◌, ◌^◌, ◌≤◌, ◌<◌, true, false, ◌&&◌, eqb, leb, List, [], ◌∷◌, ◌++◌, length, sum_by, take, drop, set, map, get_or, ℤ, pos, ◌+ℤ◌, ◌*ℤ◌, refl, sym, ap, ◌∙◌, arith, mul-le-mul_right, subst, length-append}
 use Rattle.std.specs.Prelude.{unsigned_abs, slice_index}
 use Rattle.std.specs.List.{AllByRecursion}
 use Rattle.std.proofs.lemmas.Bool.{eqb-true, eqb-false, leb-true, and_parts}
 use Rattle.std.proofs.lemmas.Int.{ints, unsigned_abs-mul}
-use Rattle.std.proofs.lemmas.List.{take-append-le, length-set, get_or-set_other}
+use Rattle.std.proofs.lemmas.List.{take-append-le, length-take-le, length-set, get_or-set_other}
 use Rattle.std.proofs.lemmas.Grind.{get_or-set_at}
 use Rattle.std.proofs.lemmas.Nat.{mul-add-lt}
+use Rattle.basic_laws.proofs.Sums.{sum_by-is-total}
 use Rattle.row_definitions.specs.Row.{Row, sum_of_sizes}
 use Rattle.row_definitions.proofs.SumLaws.{abs_sum_le}
 use Rattle.search_definitions.specs.Classes.{Class, Classes, KeepsLimits}
-use Rattle.search_definitions.specs.Compositions.{takes_one_a_household, weight_in}
+use Rattle.search_definitions.specs.Compositions.{taken_of, takes_one_a_household, weight_in}
 use Rattle.search_definitions.specs.Fronts.{sizes_of, is_reachable, size_reachable, values_reachable, taken_by, units, greatest_sum, optimistic}
 use Rattle.panel_search.specs.Weights.{at, cell_of, AreNarrow, AreWithin, HoldsSums, Weighs}
 use Rattle.panel_search.specs.declared.weighing.Weights.{Weights}
 use Rattle.panel_search.proofs.UnitSums.{width, greatest_width, units_width, each_of}
-use Rattle.panel_search.proofs.Tracking.{nothing_taken, taken_more}
+use Rattle.panel_search.proofs.Tracking.{taken_more}
 
 pub take_whole : (xs : List ℕ) → take (length xs) xs ≡ xs
 take_whole [] = refl
@@ -57,6 +58,33 @@ child_narrow all entries front count n limits narrow below within =
     let front_fits = subst (λ k. unsigned_abs (weight_in entries front) + count * unsigned_abs (at entries (length front)) + width (units (drop k all.classes) (drop k entries)) ≤ sum_of_sizes (sizes_of all) entries) e
     (front_width all.classes entries front count most narrow.one_each below within) in
     omega (arith, front_fits, greatest_width n (units (drop (length front + 1) all.classes) (drop (length front + 1) entries)), narrow.narrow)
+
+front_width_whole : (classes : List Class) (entries : List ℤ) (front : List ℕ) → AllByRecursion (λ class. class.most ≤ length class.members) classes → length entries ≡ length classes → length front ≤ length classes →
+    ((t : ℕ) → t < length front → slice_index front t ≤ slice_index (map (λ class. length class.members) classes) t) →
+    unsigned_abs (weight_in entries front) + width (units (drop (length front) classes) (drop (length front) entries)) ≤ sum_of_sizes (map (λ class. length class.members) classes) entries
+front_width_whole classes [] [] most e l within = omega (arith, units_width classes [] most)
+front_width_whole classes (x ∷ entries) [] most e l within = omega (arith, units_width classes (x ∷ entries) most)
+front_width_whole [] entries (c ∷ front) most e l within = absurd (omega arith)
+front_width_whole (class ∷ classes) [] (c ∷ front) most e l within = absurd (omega arith)
+front_width_whole (class ∷ classes) (x ∷ entries) (c ∷ front) most e l within =
+    let here = mul-le-mul_right (unsigned_abs x) (within 0 (omega arith)) in
+    let rest = front_width_whole classes entries front most.1 (omega arith) (omega arith) (λ t m. within (suc t) (omega arith)) in
+    let sum = abs_sum_le (pos c *ℤ x) (weight_in entries front) (c * unsigned_abs x) (unsigned_abs (weight_in entries front)) (omega (arith, unsigned_abs-mul (pos c) x)) (omega arith) in
+    omega (arith, here, rest, sum)
+
+-- no optimistic weight passes 128 bits
+pub front_narrow : (all : Classes) (entries : List ℤ) (front : List ℕ) (n : ℕ) → KeepsLimits all → AreNarrow all entries → length front ≤ length all.classes → AreWithin all front →
+    unsigned_abs (weight_in entries front +ℤ greatest_sum n (drop (length front) all.classes) (drop (length front) entries)) < 2 ^ 127
+front_narrow all entries front n limits narrow few within =
+    let most = each_of (λ (class : Class). class.most ≤ length class.members) all.classes limits.most in
+    let greatest = greatest_sum n (drop (length front) all.classes) (drop (length front) entries) in
+    omega (
+      arith,
+      front_width_whole all.classes entries front most narrow.one_each few within,
+      greatest_width n (units (drop (length front) all.classes) (drop (length front) entries)),
+      narrow.narrow,
+      abs_sum_le (weight_in entries front) greatest (unsigned_abs (weight_in entries front)) (unsigned_abs greatest) (omega arith) (omega arith),
+    )
 
 -- the cell of a child
 pub cell_within : (all : Classes) (later count : ℕ) (entries table : List ℤ) → HoldsSums all entries (length all.classes + 1) table → later ≤ length all.classes → count ≤ all.size → cell_of all later count < length table
@@ -139,17 +167,51 @@ weighs_none all row weighing room none = record {
   each = λ depth l. let e : depth ≡ 0 = omega arith in ap (at weighing.by_length.items) e ∙ none ∙ sym (no_weight row.a) ∙ ap (λ n. weight_in row.a (take n [])) (sym e);
 }
 
-taken_of_none : (all : Classes) → taken_by all [] ≡ 0
-taken_of_none all = nothing_taken (λ class. true) all.classes
+-- the first counts of a front, and with the next one
+pub front_next : (front : List ℕ) (depth : ℕ) → depth < length front → take (depth + 1) front ≡ take depth front ++ get_or front depth 0 ∷ []
+front_next [] depth l = absurd (omega arith)
+front_next (c ∷ front) zero l = refl
+front_next (c ∷ front) (suc depth) l = let e : suc depth + 1 ≡ suc (depth + 1) = omega arith in rw e (ap (λ (xs : List ℕ). c ∷ xs) (front_next front depth (omega arith)))
 
-pub optimistic_none : (all : Classes) (row : Row) → optimistic all row [] ≡ greatest_sum all.size all.classes row.a
-optimistic_none all row =
-    let size : all.size - taken_by all [] ≡ all.size = omega (arith, taken_of_none all) in
-    ap (λ z. z +ℤ greatest_sum (all.size - taken_by all []) all.classes row.a) (no_weight row.a)
-    ∙ ap (λ n. pos 0 +ℤ greatest_sum n all.classes row.a) size ∙ zero_first (greatest_sum all.size all.classes row.a)
+-- each of the first counts is within its class's size too
+pub within_first : (all : Classes) (front : List ℕ) (depth : ℕ) → AreWithin all front → depth ≤ length front → AreWithin all (take depth front)
+within_first all front depth within few t l =
+    let long = length-take-le depth front few in
+    let here = within t (omega arith) in
+    let same : slice_index (take depth front) t ≡ slice_index front t = same_at front depth t (omega arith) in
+    omega arith
   where
-    zero_first : (z : ℤ) → pos 0 +ℤ z ≡ z
-    zero_first z = omega (arith, ints)
+    same_at : (xs : List ℕ) (n t : ℕ) → t < n → slice_index (take n xs) t ≡ slice_index xs t
+    same_at [] zero t m = absurd (omega arith)
+    same_at [] (suc n) t m = refl
+    same_at (x ∷ xs) zero t m = absurd (omega arith)
+    same_at (x ∷ xs) (suc n) zero m = refl
+    same_at (x ∷ xs) (suc n) (suc t) m = same_at xs n t (omega arith)
+
+-- a front within the classes' sizes takes few
+within_members : (classes : List Class) (counts : List ℕ) → ((t : ℕ) → t < length counts → slice_index counts t ≤ slice_index (map (λ class. length class.members) classes) t) →
+    taken_of (λ class. true) classes counts ≤ sum_by (λ class. length class.members) classes
+within_members [] counts within = omega arith
+within_members (class ∷ classes) [] within = omega arith
+within_members (class ∷ classes) (c ∷ counts) within =
+    let here = within 0 (omega arith) in
+    let rest = within_members classes counts (λ t l. within (suc t) (omega arith)) in
+    let a = sum_by-is-total (λ (class : Class). length class.members) (class ∷ classes) in let b = sum_by-is-total (λ (class : Class). length class.members) classes in
+    omega arith
+
+size_few : (classes : List Class) (t : ℕ) → slice_index (map (λ class. length class.members) classes) t ≤ sum_by (λ class. length class.members) classes
+size_few [] t = omega arith
+size_few (class ∷ classes) zero = let a = sum_by-is-total (λ (class : Class). length class.members) (class ∷ classes) in omega arith
+size_few (class ∷ classes) (suc t) =
+    let rest = size_few classes t in
+    let a = sum_by-is-total (λ (class : Class). length class.members) (class ∷ classes) in let b = sum_by-is-total (λ (class : Class). length class.members) classes in
+    omega arith
+
+pub count_few : (all : Classes) (front : List ℕ) (t : ℕ) → KeepsLimits all → AreWithin all front → t < length front → slice_index front t ≤ 400
+count_few all front t limits within l = omega (arith, within t l, size_few all.classes t, limits.few_members)
+
+pub within_few : (all : Classes) (front : List ℕ) → KeepsLimits all → AreWithin all front → taken_by all front ≤ 400
+within_few all front limits within = let sum = within_members all.classes front within in omega (arith, limits.few_members)
 
 -- ---- live fronts
 

@@ -1,8 +1,8 @@
 -- One step of the search for the best composition.
-use Rattle.std.specs.Prelude.{◌≡◌, ◌≤◌, ◌<◌, ◌+◌, ℕ, if◌then◌else◌, true, List, [], ◌∷◌, ◌++◌, length, take, fold, Result, Ok, Err, Some, None, slice_get}
+use Rattle.std.specs.Prelude.{◌≡◌, ◌≤◌, ◌<◌, ◌+◌, ℕ, if◌then◌else◌, true, List, [], ◌∷◌, ◌++◌, length, take, drop, fold, ℤ, Result, Ok, Err, Some, None, slice_get}
 use Rattle.row_definitions.specs.Row.{Row}
 use Rattle.search_definitions.specs.Classes.{Class, Classes}
-use Rattle.search_definitions.specs.Fronts.{is_reachable, is_live_above}
+use Rattle.search_definitions.specs.Fronts.{is_reachable, is_live_above, later_than}
 use Rattle.search_definitions.specs.Visits.{Pricing, enter_best}
 use Rattle.panel_search.specs.Front.{Tracks}
 use Rattle.panel_search.specs.Weights.{AreWithin, Weighs, WeighEach}
@@ -17,6 +17,16 @@ pub record StandsAt (all : Classes) (closed : List Row) (row : Row) (depth : ℕ
   pub live : is_reachable all (take depth search.counts.items) ≡ true
   pub counts : AreWithin all (take depth search.counts.items)
   pub tally : Tracks all (take depth search.counts.items) rest search.tally
+  pub priced : Weighs all row (take depth search.counts.items) search.priced
+  pub closed_rows : WeighEach all closed (take depth search.counts.items) search.closed.items
+
+-- a search is about to enter a front of the first classes, be it live or not
+pub record BeginsAt (all : Classes) (closed : List Row) (row : Row) (depth : ℕ) (search : BestSearch) : Type 0 where
+  pub places : length search.counts.items ≡ length all.classes
+  pub kept_places : length search.kept.items ≡ length all.classes
+  pub within : depth ≤ length all.classes
+  pub counts : AreWithin all (take depth search.counts.items)
+  pub tally : Tracks all (take depth search.counts.items) (drop depth all.classes) search.tally
   pub priced : Weighs all row (take depth search.counts.items) search.priced
   pub closed_rows : WeighEach all closed (take depth search.counts.items) search.closed.items
 
@@ -35,6 +45,10 @@ CanTakeAbove all depth above = (class : Class) → slice_get all.classes depth �
 -- a child where it is live, else nothing
 abbrev pub child_best : Classes → List Row → Row → List Class → List ℕ → Pricing → Pricing
 child_best all closed row later child now = if is_live_above all closed row now.floor child then enter_best all closed row later child now else now
+
+-- the search below a front with a floor of its own: where the front isn't live above the floor, it makes no visit
+abbrev pub search_from : Classes → List Row → Row → List ℕ → ℤ → Pricing
+search_from all closed row front floor = child_best all closed row (later_than front all.classes) front (record { visits = 0; floor = floor; kept = None })
 
 -- the children of a front, with these counts of the next class, one after the other
 abbrev pub children_best : Classes → List Row → Row → List Class → List ℕ → List ℕ → Pricing → Pricing

@@ -5,6 +5,8 @@
 
 #[cfg(test)]
 mod best_tests;
+#[cfg(test)]
+mod front_tests;
 mod greatest;
 mod homes;
 #[cfg(test)]

@@ -4,18 +4,18 @@ ghost use Rattle.std.specs.Prelude.{◌≡◌, ◌≤◌, ◌<◌, ◌+◌, ◌+
 ghost use Rattle.std.specs.List.{list_all};
 ghost use Rattle.panel_search.specs.Answers.{AnswersBest, AnswersBestWithin};
 ghost use Rattle.panel_search.specs.Front.{Tracks};
-ghost use Rattle.panel_search.specs.Pricing.{StandsAt, Moves, EndsWithin, told, CanTake, CanTakeAbove, child_best, children_best};
+ghost use Rattle.panel_search.specs.Pricing.{BeginsAt, StandsAt, Moves, EndsWithin, told, CanTake, CanTakeAbove, child_best, children_best, search_from};
 ghost use Rattle.panel_search.specs.Steps.{counts_at};
 ghost use Rattle.panel_search.specs.Terms.{AreTerms};
 ghost use Rattle.panel_search.specs.Weights.{AreWithin, Weighs, WeighEach};
 ghost use Rattle.search_definitions.specs.Compositions.{price, weight_in};
-ghost use Rattle.search_definitions.specs.Fronts.{HaveEntries, HaveReach, is_reachable, optimistic};
+ghost use Rattle.search_definitions.specs.Fronts.{HaveEntries, HaveReach, is_live_above, is_reachable, optimistic};
 ghost use Rattle.search_definitions.specs.Visits.{best_search, enter_best};
 
 use crate::greatest::Sums;
 use crate::searching::{BudgetSpent, SearchStop};
 use crate::tally::Tally;
-use crate::weighing::{Weights, all_weights, child_attains, empty_attains, empty_weight};
+use crate::weighing::{Weights, all_weights, child_attains, front_attains};
 use alike::{Classes, Composition};
 use row_model::Row;
 use std::alloc::{AllocError, Global};
@@ -31,7 +31,26 @@ pub(crate) struct Terms<'a> {
     pub(crate) sums: &'a Sums,
 }
 
-// The search from the empty front on, with a floor that begins at the priced row's right side.
+// The search below a front, with a floor of its own: where the front isn't live above the floor, it makes no visit. The front has at
+// most one count for each class, and each is at most the size of its class.
+pub(crate) fn search_from(
+    alloc: Global,
+    terms: &Terms<'_>,
+    front: &[usize],
+    floor: i128,
+    nodes: u64,
+) -> Result<(Option<Composition>, u64), SearchStop>
+    requires terms { AreTerms terms.now }
+    requires within { length front.now ≤ length terms.now.classes.now.classes }
+    requires counts { AreWithin terms.now.classes.now front.now }
+    ensures { AnswersBest (search_from terms.now.classes.now terms.now.closed.now terms.now.row.now front.now floor) nodes result }
+{
+    let search = BestSearch::new(alloc, terms, front, floor, nodes)?;
+    Ok(search.run(terms, front.len())?)
+}
+
+// The search from the empty front on, with a floor that begins at the priced row's right side. The empty front counts one visit even
+// where it isn't live.
 pub(crate) fn search_best(
     alloc: Global,
     terms: &Terms<'_>,
@@ -40,8 +59,26 @@ pub(crate) fn search_best(
     requires { AreTerms terms.now }
     ensures { AnswersBest (best_search terms.now.classes.now terms.now.closed.now terms.now.row.now) nodes result }
 {
-    let search = BestSearch::new(alloc, terms, terms.row.side(), nodes)?;
-    Ok(search.run(terms)?)
+    let (found, visits) = search_from(alloc, terms, &[], terms.row.side(), nodes)?;
+    if visits > 0 {
+        return Ok((found, visits));
+    }
+    if nodes == 0 {
+        return Err(SearchStop::Spent);
+    }
+    Ok((None, 1))
+}
+
+// So many places for counts, the first of them with the front's.
+fn places_after(alloc: Global, front: &[usize], places: usize) -> Result<Vec<usize>, AllocError>
+    requires { length front.now ≤ places }
+    ensures places { IfOk result (λ counts. length counts.items ≡ places) }
+    ensures front { IfOk result (λ counts. take (length front.now) counts.items ≡ front.now) }
+{
+    let mut counts = Vec::with_capacity(alloc, places)?;
+    counts.extend_from_slice(front)?;
+    counts.resize(places, 0)?;
+    Ok(counts)
 }
 
 // Where a search for the best composition stands: the counts of the front's classes, of which there is a place for each class; what
@@ -60,26 +97,27 @@ struct BestSearch {
 }
 
 impl BestSearch {
+    // At a front, of which nothing is entered yet.
     fn new(
         alloc: Global,
         terms: &Terms<'_>,
+        front: &[usize],
         floor: i128,
         nodes: u64,
     ) -> Result<BestSearch, AllocError>
         requires terms { AreTerms terms.now }
-        ensures counts { IfOk result (λ search. length search.counts.items ≡ length terms.now.classes.now.classes) }
-        ensures kept { IfOk result (λ search. length search.kept.items ≡ length terms.now.classes.now.classes) }
+        requires within { length front.now ≤ length terms.now.classes.now.classes }
+        requires counts { AreWithin terms.now.classes.now front.now }
         ensures told { IfOk result (λ search. told search ≡ record { visits = 0; floor = floor; kept = None }) }
         ensures nodes { IfOk result (λ search. search.nodes ≡ nodes) }
-        ensures tally { IfOk result (λ search. Tracks terms.now.classes.now [] terms.now.classes.now.classes search.tally) }
-        ensures priced { IfOk result (λ search. Weighs terms.now.classes.now terms.now.row.now [] search.priced) }
-        ensures closed { IfOk result (λ search. WeighEach terms.now.classes.now terms.now.closed.now [] search.closed.items) }
+        ensures front { IfOk result (λ search. take (length front.now) search.counts.items ≡ front.now) }
+        ensures begins { IfOk result (λ search. BeginsAt terms.now.classes.now terms.now.closed.now terms.now.row.now (length front.now) search) }
     {
         Ok(BestSearch {
-            counts: vec![in alloc; 0; terms.classes.classes().len()]?,
-            tally: Tally::new(alloc, terms.classes)?,
-            priced: Weights::new(alloc, terms.classes, terms.row)?,
-            closed: all_weights(alloc, terms.classes, terms.closed)?,
+            counts: places_after(alloc, front, terms.classes.classes().len())?,
+            tally: Tally::at_front(alloc, terms.classes, front)?,
+            priced: Weights::new(alloc, terms.classes, terms.row, front)?,
+            closed: all_weights(alloc, terms.classes, terms.closed, front)?,
             floor,
             is_found: false,
             kept: vec![in alloc; 0; terms.classes.classes().len()]?,
@@ -89,17 +127,17 @@ impl BestSearch {
     }
 
     // The whole search. It has its memory, so it ends with what it kept, or with its budget spent.
-    fn run(mut self, terms: &Terms<'_>) -> Result<(Option<Composition>, u64), BudgetSpent>
+    fn run(
+        mut self,
+        terms: &Terms<'_>,
+        depth: usize,
+    ) -> Result<(Option<Composition>, u64), BudgetSpent>
         requires terms { AreTerms terms.now }
-        requires places { length self.counts.items ≡ length terms.now.classes.now.classes }
-        requires kept_places { length self.kept.items ≡ length terms.now.classes.now.classes }
-        requires told { told self ≡ record { visits = 0; floor = terms.now.row.now.b; kept = None } }
-        requires tally { Tracks terms.now.classes.now [] terms.now.classes.now.classes self.tally }
-        requires priced { Weighs terms.now.classes.now terms.now.row.now [] self.priced }
-        requires closed { WeighEach terms.now.classes.now terms.now.closed.now [] self.closed.items }
-        ensures { AnswersBestWithin (best_search terms.now.classes.now terms.now.closed.now terms.now.row.now) self.nodes result }
+        requires told { told self ≡ record { visits = 0; floor = self.floor; kept = None } }
+        requires begins { BeginsAt terms.now.classes.now terms.now.closed.now terms.now.row.now depth self }
+        ensures { AnswersBestWithin (search_from terms.now.classes.now terms.now.closed.now terms.now.row.now (take depth self.counts.items) self.floor) self.nodes result }
     {
-        self.from_the_empty_front(terms)?;
+        self.below(terms, depth)?;
         Ok(self.answer())
     }
 
@@ -115,25 +153,44 @@ impl BestSearch {
         }
     }
 
-    // Enters the empty front, where it is live.
-    fn from_the_empty_front(&mut self, terms: &Terms<'_>) -> Result<(), BudgetSpent>
+    // Enters the front of the first `depth` classes, where it is live.
+    fn below(&mut self, terms: &Terms<'_>, depth: usize) -> Result<(), BudgetSpent>
         requires terms { AreTerms terms.now }
-        requires places { length self.old.counts.items ≡ length terms.now.classes.now.classes }
-        requires kept_places { length self.old.kept.items ≡ length terms.now.classes.now.classes }
-        requires told { told self.old ≡ record { visits = 0; floor = terms.now.row.now.b; kept = None } }
-        requires tally { Tracks terms.now.classes.now [] terms.now.classes.now.classes self.old.tally }
-        requires priced { Weighs terms.now.classes.now terms.now.row.now [] self.old.priced }
-        requires closed { WeighEach terms.now.classes.now terms.now.closed.now [] self.old.closed.items }
-        ensures { EndsWithin (best_search terms.now.classes.now terms.now.closed.now terms.now.row.now) self.old.nodes result self.new }
+        requires told { told self.old ≡ record { visits = 0; floor = self.old.floor; kept = None } }
+        requires begins { BeginsAt terms.now.classes.now terms.now.closed.now terms.now.row.now depth self.old }
+        ensures { EndsWithin (search_from terms.now.classes.now terms.now.closed.now terms.now.row.now (take depth self.old.counts.items) self.old.floor) self.old.nodes result self.new }
     {
-        if self.tally.is_alive(terms.classes)
-            && empty_attains(terms.closed_sums, terms.classes, terms.closed)
-            && self.floor < empty_weight(terms.sums, terms.classes, terms.row)
-        {
-            self.enter(terms, 0)
-        } else {
-            self.spend()
+        if self.is_live(terms, depth) {
+            self.enter(terms, depth)?;
         }
+        Ok(())
+    }
+
+    // Is the front of the first `depth` classes live above the floor?
+    fn is_live(&self, terms: &Terms<'_>, depth: usize) -> bool
+        requires terms { AreTerms terms.now }
+        requires begins { BeginsAt terms.now.classes.now terms.now.closed.now terms.now.row.now depth self.now }
+        ensures { result ≡ is_live_above terms.now.classes.now terms.now.closed.now terms.now.row.now self.now.floor (take depth self.now.counts.items) }
+    {
+        let classes = terms.classes;
+        classes.facts();
+        let front = &self.counts[..depth];
+        if !self.tally.is_alive(classes, front) {
+            return false;
+        }
+        let lack = self.tally.lack_here(classes, front);
+        let weight = self
+            .priced
+            .optimistic(terms.sums, classes, terms.row, front, lack);
+        let attains = front_attains(
+            &self.closed,
+            terms.closed_sums,
+            classes,
+            terms.closed,
+            front,
+            lack,
+        );
+        attains && self.floor < weight
     }
 
     // Counts a visit.
@@ -267,6 +324,7 @@ impl BestSearch {
             (take depth self.old.counts.items) self.old.nodes result self.new }
     {
         let classes = terms.classes;
+        classes.facts();
         if !self.tally.allows(classes, &self.counts[..depth], count) {
             return Ok(());
         }

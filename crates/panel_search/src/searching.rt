@@ -105,7 +105,7 @@ impl Search {
         requires tally { Tracks classes.now [] classes.now.classes self.old.tally }
         ensures { Finds (first_search classes.now) self.old.left result self.new }
     {
-        if self.tally.is_alive(classes) {
+        if self.tally.is_alive(classes, &[]) {
             self.enter(classes, 0)
         } else {
             self.spend()?;
@@ -189,6 +189,7 @@ impl Search {
             (child_first classes.now (drop (depth + 1) classes.now.classes) (take depth self.old.counts.items ++ count ∷ []))
             self.old result self.new }
     {
+        classes.facts();
         if !self.tally.allows(classes, &self.counts[..depth], count) {
             return Ok(false);
         }

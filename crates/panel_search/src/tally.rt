@@ -3,6 +3,8 @@
 ghost use Rattle.std.specs.Prelude.{◌≡◌, ◌+◌, ◌-◌, ◌*◌, ◌≤◌, ◌<◌, ◌++◌, ◌^◌, [], ◌∷◌, IfOk, true, nat_le, ◌&&◌, drop, length};
 ghost use Rattle.panel_search.specs.Front.{Gives, Tracks};
 ghost use Rattle.panel_search.specs.Tallies.{AreAtMost};
+ghost use Rattle.panel_search.specs.Weights.{AreWithin};
+ghost use Rattle.search_definitions.specs.Compositions.{takes_one_a_household};
 ghost use Rattle.search_definitions.specs.Fronts.{is_reachable, size_reachable, taken_by, values_reachable};
 
 use crate::homes;
@@ -40,6 +42,26 @@ impl Tally {
         })
     }
 
+    // Of a front: the classes after it come later.
+    pub(crate) fn at_front(
+        alloc: Global,
+        classes: &Classes,
+        front: &[usize],
+    ) -> Result<Tally, AllocError>
+        requires within { length front.now ≤ length classes.now.classes }
+        requires counts { AreWithin classes.now front.now }
+        ensures { IfOk result (λ tally. Tracks classes.now front.now (drop (length front.now) classes.now.classes) tally) }
+    {
+        classes.facts();
+        let mut tally = Tally::new(alloc, classes)?;
+        for depth in 0..front.len() {
+            let before = &front[..depth];
+            tally.begin_class(classes, before);
+            tally.take(classes, before, front[depth]);
+        }
+        Ok(tally)
+    }
+
     // The class after the front no longer comes later.
     pub(crate) fn begin_class(&mut self, classes: &Classes, front: &[usize])
         requires below { length front.now < length classes.now.classes }
@@ -67,7 +89,7 @@ impl Tally {
     // The front goes on with so many of the next class.
     pub(crate) fn take(&mut self, classes: &Classes, front: &[usize], count: usize)
         requires below { length front.now < length classes.now.classes }
-        requires live { is_reachable classes.now front.now ≡ true }
+        requires small { taken_by classes.now front.now ≤ 1000 }
         requires few { count ≤ 1000 }
         requires stands { Tracks classes.now front.now (drop (length front.now + 1) classes.now.classes) self.old }
         ensures { Tracks classes.now (front.now ++ count ∷ []) (drop (length front.now + 1) classes.now.classes) self.new }
@@ -126,14 +148,49 @@ impl Tally {
             )
     }
 
-    // Is the empty front live?
-    pub(crate) fn is_alive(&self, classes: &Classes) -> bool
-        requires { Tracks classes.now [] classes.now.classes self.now }
-        ensures { result ≡ is_reachable classes.now [] }
+    // Is the front live?
+    pub(crate) fn is_alive(&self, classes: &Classes, front: &[usize]) -> bool
+        requires small { taken_by classes.now front.now ≤ 1000 }
+        requires stands { Tracks classes.now front.now (drop (length front.now) classes.now.classes) self.now }
+        ensures { result ≡ is_reachable classes.now front.now }
+    {
+        self.counts_alive(classes, front) && self.homes_alive(classes, front)
+    }
+
+    // Can the size and each value's bounds still be met?
+    fn counts_alive(&self, classes: &Classes, front: &[usize]) -> bool
+        requires small { taken_by classes.now front.now ≤ 1000 }
+        requires stands { Tracks classes.now front.now (drop (length front.now) classes.now.classes) self.now }
+        ensures { result ≡ (size_reachable classes.now front.now && values_reachable classes.now front.now) }
     {
         classes.facts();
         self.size_allows(classes.size(), 0)
             && all_within_reach(classes.bounds(), &self.held, &self.later)
+    }
+
+    // Is at most one taken of each household?
+    fn homes_alive(&self, classes: &Classes, front: &[usize]) -> bool
+        requires small { taken_by classes.now front.now ≤ 1000 }
+        requires stands { Tracks classes.now front.now (drop (length front.now) classes.now.classes) self.now }
+        ensures { result ≡ takes_one_a_household classes.now.classes front.now }
+    {
+        classes.facts();
+        for class in classes.classes() {
+            if !homes::has_room(&self.homes, class.household(), 0) {
+                return false;
+            }
+        }
+        true
+    }
+
+    // How many the size lacks.
+    pub(crate) fn lack_here(&self, classes: &Classes, front: &[usize]) -> usize
+        requires live { is_reachable classes.now front.now ≡ true }
+        requires stands { Tracks classes.now front.now (drop (length front.now) classes.now.classes) self.now }
+        ensures { result ≡ classes.now.size - taken_by classes.now front.now }
+    {
+        classes.facts();
+        classes.size() - self.taken
     }
 
     // How many the size lacks where the front goes on with so many of the next class.

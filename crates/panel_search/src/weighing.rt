@@ -1,6 +1,6 @@
 //! What fronts weigh in rows.
 
-ghost use Rattle.std.specs.Prelude.{◌≡◌, ◌+◌, ◌-◌, ◌*◌, ◌<◌, ◌^◌, ◌++◌, [], ◌∷◌, true, length, pos, ◌+ℤ◌, ◌*ℤ◌, unsigned_abs, int_le, IfOk};
+ghost use Rattle.std.specs.Prelude.{◌≡◌, ◌+◌, ◌-◌, ◌*◌, ◌<◌, ◌≤◌, ◌^◌, ◌++◌, [], ◌∷◌, true, length, pos, ◌+ℤ◌, ◌*ℤ◌, unsigned_abs, int_le, IfOk};
 ghost use Rattle.std.specs.List.{list_all};
 ghost use Rattle.panel_search.specs.Weights.{AreNarrow, AreWithin, EachNarrow, IsSummed, SumEach, Weighs, WeighEach};
 ghost use Rattle.search_definitions.specs.Fronts.{optimistic, taken_by};
@@ -18,8 +18,27 @@ pub(crate) struct Weights {
 }
 
 impl Weights {
+    // Of a front.
+    pub(crate) fn new(
+        alloc: Global,
+        classes: &Classes,
+        row: &Row,
+        front: &[usize],
+    ) -> Result<Weights, AllocError>
+        requires narrow { AreNarrow classes.now row.now.a }
+        requires within { length front.now ≤ length classes.now.classes }
+        requires counts { AreWithin classes.now front.now }
+        ensures { IfOk result (λ weights. Weighs classes.now row.now front.now weights) }
+    {
+        let mut weights = Weights::of_nothing(alloc, classes, row)?;
+        for depth in 0..front.len() {
+            weights.go_on(classes, row, &front[..depth], front[depth]);
+        }
+        Ok(weights)
+    }
+
     // Of the empty front.
-    pub(crate) fn new(alloc: Global, classes: &Classes, row: &Row) -> Result<Weights, AllocError>
+    fn of_nothing(alloc: Global, classes: &Classes, row: &Row) -> Result<Weights, AllocError>
         requires { AreNarrow classes.now row.now.a }
         ensures { IfOk result (λ weights. Weighs classes.now row.now [] weights) }
     {
@@ -35,6 +54,48 @@ impl Weights {
         ensures { result ≡ weight_in row.now.a front.now }
     {
         self.by_length[front.len()]
+    }
+
+    // The optimistic weight of the front, where the size lacks so many.
+    pub(crate) fn optimistic(
+        &self,
+        sums: &Sums,
+        classes: &Classes,
+        row: &Row,
+        front: &[usize],
+        lack: usize,
+    ) -> i128
+        requires narrow { AreNarrow classes.now row.now.a }
+        requires sums { IsSummed classes.now row.now sums.now }
+        requires within { length front.now ≤ length classes.now.classes }
+        requires counts { AreWithin classes.now front.now }
+        requires lack { lack ≡ classes.now.size - taken_by classes.now front.now }
+        requires stands { Weighs classes.now row.now front.now self.now }
+        ensures { result ≡ optimistic classes.now row.now front.now }
+    {
+        classes.facts();
+        let rest = sums.greatest_of(classes, row, front.len(), lack);
+        self.weight(classes, row, front) + rest
+    }
+
+    // The front goes on with so many of the next class: what does it weigh then?
+    fn go_on(&mut self, classes: &Classes, row: &Row, front: &[usize], count: usize) -> i128
+        requires narrow { AreNarrow classes.now row.now.a }
+        requires below { length front.now < length classes.now.classes }
+        requires counts { AreWithin classes.now (front.now ++ count ∷ []) }
+        requires stands { Weighs classes.now row.now front.now self.old }
+        ensures value { result ≡ weight_in row.now.a (front.now ++ count ∷ []) }
+        ensures weighs { Weighs classes.now row.now (front.now ++ count ∷ []) self.new }
+    {
+        classes.facts();
+        let depth = front.len();
+        let weight = with_count(
+            self.weight(classes, row, front),
+            count,
+            row.entries()[depth],
+        );
+        self.by_length[depth + 1] = weight;
+        weight
     }
 
     // The optimistic weight of the front with so many of the next class, where the size lacks so many then.
@@ -57,30 +118,26 @@ impl Weights {
         ensures weighs { Weighs classes.now row.now (front.now ++ count ∷ []) self.new }
     {
         classes.facts();
-        let depth = front.len();
-        let rest = sums.greatest_of(classes, row, depth + 1, lack);
-        let weight = with_count(
-            self.weight(classes, row, front),
-            count,
-            row.entries()[depth],
-        );
-        self.by_length[depth + 1] = weight;
-        weight + rest
+        let rest = sums.greatest_of(classes, row, front.len() + 1, lack);
+        self.go_on(classes, row, front, count) + rest
     }
 }
 
-// Of the empty front, one for each closed row.
+// Of a front, one for each closed row.
 pub(crate) fn all_weights(
     alloc: Global,
     classes: &Classes,
     closed: &[Row],
+    front: &[usize],
 ) -> Result<Vec<Weights>, AllocError>
-    requires { EachNarrow classes.now closed.now }
-    ensures { IfOk result (λ weights. WeighEach classes.now closed.now [] weights.items) }
+    requires narrow { EachNarrow classes.now closed.now }
+    requires within { length front.now ≤ length classes.now.classes }
+    requires counts { AreWithin classes.now front.now }
+    ensures { IfOk result (λ weights. WeighEach classes.now closed.now front.now weights.items) }
 {
     let mut weights = Vec::with_capacity(alloc, closed.len())?;
     for row in closed {
-        weights.push(Weights::new(alloc, classes, row)?)?;
+        weights.push(Weights::new(alloc, classes, row, front)?)?;
     }
     Ok(weights)
 }
@@ -122,22 +179,26 @@ pub(crate) fn child_attains(
     true
 }
 
-// The optimistic weight of the empty front.
-pub(crate) fn empty_weight(sums: &Sums, classes: &Classes, row: &Row) -> i128
-    requires { IsSummed classes.now row.now sums.now }
-    ensures { result ≡ optimistic classes.now row.now [] }
-{
-    sums.greatest_of(classes, row, 0, classes.size())
-}
-
-// Is the optimistic weight of the empty front at least the right side of each closed row?
-pub(crate) fn empty_attains(sums: &[Sums], classes: &Classes, closed: &[Row]) -> bool
-    requires { SumEach classes.now closed.now sums.now }
-    ensures { result ≡ list_all (λ row. int_le row.b (optimistic classes.now row [])) closed.now }
+// Is the optimistic weight of the front at least the right side of each closed row, where the size lacks so many?
+pub(crate) fn front_attains(
+    weights: &[Weights],
+    sums: &[Sums],
+    classes: &Classes,
+    closed: &[Row],
+    front: &[usize],
+    lack: usize,
+) -> bool
+    requires narrow { EachNarrow classes.now closed.now }
+    requires sums { SumEach classes.now closed.now sums.now }
+    requires within { length front.now ≤ length classes.now.classes }
+    requires counts { AreWithin classes.now front.now }
+    requires lack { lack ≡ classes.now.size - taken_by classes.now front.now }
+    requires stands { WeighEach classes.now closed.now front.now weights.now }
+    ensures { result ≡ list_all (λ row. int_le row.b (optimistic classes.now row front.now)) closed.now }
 {
     for r in 0..closed.len() {
         let row = &closed[r];
-        if empty_weight(&sums[r], classes, row) < row.side() {
+        if weights[r].optimistic(&sums[r], classes, row, front, lack) < row.side() {
             return false;
         }
     }

@@ -2,4 +2,4 @@ use Rattle.panel_search.proofs.ClosedRows.{WeighedFirst}
 use Rattle.panel_search.proofs.weighing.all_weights.Given as goal
 
 abbrev pub invariant-loop-row : goal.invariant-loop-row
-invariant-loop-row l = WeighedFirst l.classes l.closed l.row-index l.weights.items
+invariant-loop-row l = WeighedFirst l.classes l.closed l.front l.row-index l.weights.items

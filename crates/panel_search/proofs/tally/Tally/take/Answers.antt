@@ -1,7 +1,7 @@
-use Rattle.std.proofs.Common.{◌+◌, drop, length, refl, sym, ap, ◌∙◌, arith, true}
+use Rattle.std.proofs.Common.{◌+◌, drop, length, refl, sym, ap, ◌∙◌, arith}
 use Rattle.std.proofs.lemmas.List.{with_items_is}
-use Rattle.panel_search.proofs.Households.{few_homes, few_same, home_same}
-use Rattle.panel_search.proofs.Tracking.{stands_there, places_of_class, cells_of_class, cells_same, small_same, more_same, few_held, few_taken, taken_on}
+use Rattle.panel_search.proofs.Households.{small_homes, few_same, home_same}
+use Rattle.panel_search.proofs.Tracking.{stands_there, places_of_class, cells_of_class, cells_same, small_same, more_same, small_held, taken_on}
 use Rattle.panel_search.proofs.tally.Tally.take.Goals as goal
 
 pub add_to-requires-clause-cells : goal.add_to-requires-clause-cells
@@ -16,15 +16,15 @@ add_to-requires-clause-small c =
     let all = c.args.classes.now in let front = c.args.front.now in let class = c.index-classes-front.result in
     let stands = stands_there all (length front) _ class c.requires.below c.classes.ensures c.index-classes-front.is in
     let places = places_of_class all (length front) class c.facts.ensures stands in
-    small_same _ _ _ c.args.self.now.held.items (ap length c.values.ensures) c.deref_mut.ensures.value (few_held all front _ (length class.values) c.args.self.now c.facts.ensures places.one_each c.requires.live c.requires.stands)
+    small_same _ _ _ c.args.self.now.held.items (ap length c.values.ensures) c.deref_mut.ensures.value (small_held all front _ (length class.values) c.args.self.now places.one_each c.requires.small c.requires.stands)
 
 pub add_at-requires-clause-small : goal.add_at-requires-clause-small
 add_at-requires-clause-small c =
-    few_same _ c.args.self.now.homes.items c.deref_mut-2.ensures.value (few_homes c.args.classes.now c.args.front.now _ c.args.self.now c.facts.ensures c.requires.live c.requires.stands)
+    few_same _ c.args.self.now.homes.items c.deref_mut-2.ensures.value (small_homes c.args.classes.now c.args.front.now _ c.args.self.now c.requires.small c.requires.stands)
 
 pub overflow_add-self : goal.overflow_add-self
 overflow_add-self c =
-    omega (arith, c.requires.stands.taken, few_taken c.args.classes.now c.args.front.now (λ class. true) c.facts.ensures c.requires.live, c.requires.few)
+    omega (arith, c.requires.stands.taken, c.requires.small, c.requires.few)
 
 pub returns : goal.returns
 returns c =

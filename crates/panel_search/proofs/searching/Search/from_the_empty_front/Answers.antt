@@ -1,0 +1,6 @@
+use Rattle.std.proofs.Common.{true, arith}
+use Rattle.panel_search.proofs.Tracking.{nothing_taken}
+use Rattle.panel_search.proofs.searching.Search.from_the_empty_front.Goals as goal
+
+pub is_alive-requires-clause-small : goal.is_alive-requires-clause-small
+is_alive-requires-clause-small c = omega (arith, nothing_taken (λ class. true) c.args.classes.now.classes)
