@@ -12,7 +12,11 @@ use Rattle.run_laws.proofs.NoPanels.{none_where_no_panel}
 use Rattle.leximin_run.specs.declared.stops.Solved.{Solved}
 use Rattle.leximin_run.specs.declared.stops.Solved.TheVariants.{Found, NoPanel}
 use Rattle.leximin_run.specs.declared.stops.Stop.{Stop}
-use Rattle.leximin_run.specs.Answers.{IsCertified, KeepsRanges, TellsEnding}
+use Rattle.leximin_run.specs.declared.stops.SolvedSized.{SolvedSized}
+use Rattle.leximin_run.specs.declared.stops.SolvedSized.TheVariants as sized
+use Rattle.run_definitions.specs.Run.{RunLimits}
+use Rattle.search_definitions.specs.Classes.{Classes}
+use Rattle.leximin_run.specs.Answers.{IsCertified, KeepsRanges, TellsEnding, TellsSized, unsized}
 
 pub certified : (pool : Pool) (limits : Limits) → IsPool pool → AreLimits limits → (answer : Result Solved Stop) → TellsEnding (classes_of pool) (run_limits limits) answer → IsCertified pool answer
 certified pool limits is_pool ranges (Ok (Found answer)) told =
@@ -24,3 +28,9 @@ pub keeps_ranges : (pool : Pool) (limits : Limits) → IsPool pool → AreLimits
 keeps_ranges pool limits is_pool ranges (Ok (Found answer)) told = found_in_ranges pool (are_alike pool) (alike_makes pool) (run_limits limits) told.0 answer is_pool ranges told.1
 keeps_ranges pool limits is_pool ranges (Ok NoPanel) told = tt
 keeps_ranges pool limits is_pool ranges (Err stop) told = tt
+
+-- what is told with sizes is told without them
+pub tells_unsized : (all : Classes) (limits : RunLimits) (answer : Result SolvedSized Stop) → TellsSized all limits answer → TellsEnding all limits (unsized answer)
+tells_unsized all limits (Ok (sized.Found answer sizes)) told = (told.0, told.2)
+tells_unsized all limits (Ok sized.NoPanel) told = told
+tells_unsized all limits (Err stop) told = told

@@ -17,7 +17,7 @@ use Rattle.row_definitions.specs.Table.{Table, row_at}
 use Rattle.search_definitions.specs.Classes.{Classes}
 use Rattle.search_definitions.specs.Compositions.{price}
 use Rattle.search_definitions.specs.Fronts.{HaveEntries, HaveReach, sizes_of}
-use Rattle.search_definitions.specs.Visits.{best_search}
+use Rattle.wave_definitions.specs.Waves.{best_in_waves}
 use Rattle.run_definitions.specs.Run.{RunLimits, Next, GoOn, Ended, NodesSpent, PivotsSpent, answered, closed_rows, parts_of, pivoted, priced, pricing_visits, step, step_in_stage}
 use Rattle.spread_definitions.specs.Spreading.{spread}
 use Rattle.run_definitions.specs.Keeps.{IsPriced, KeepsRun}
@@ -103,7 +103,7 @@ asked_so {all = all} {limits = limits} {table = table} stands open_now done same
     record { stands = subst (Stands all limits table) (sym same) stands; open_now = open_now; done = done; row_is = row_is ∙ ap (row_at table) place_is }
 
 -- the visits that a pricing is allowed are those of the search for the best composition
-pub visits_are : (all : Classes) (closed : List Row) (row : Row) → pricing_visits all closed row ≡ (best_search all closed row).visits
+pub visits_are : (all : Classes) (closed : List Row) (row : Row) → pricing_visits all closed row ≡ (best_in_waves all closed row).visits
 unfolding pricing_visits
 visits_are all closed row = refl
 
@@ -120,7 +120,7 @@ module _ (all : Classes) (limits : RunLimits) (table : Table) (closed : List Row
   spent : limits.pricing < pricing_visits all closed row → step all limits table ≡ Ended (NodesSpent (Some table))
   spent l = price_due all limits table asked.open_now asked.done true (lt-ltb limits.pricing (pricing_visits all (closed_rows table) (row_at table (open_row table))) (omega (arith, l, same_visits)))
 
-  pub refused_so : (stop : SearchStop) (nodes : ℕ) → nodes ≡ limits.pricing → AnswersBest (best_search all closed row) nodes (Err stop) → Refuses all limits table (refusal_of stop) table
+  pub refused_so : (stop : SearchStop) (nodes : ℕ) → nodes ≡ limits.pricing → AnswersBest (best_in_waves all closed row) nodes (Err stop) → Refuses all limits table (refusal_of stop) table
   refused_so Spent nodes e answers = (spent (omega (arith, visits_are all closed row, answers, e)), refl)
   refused_so OutOfMemory nodes e answers = tt
 

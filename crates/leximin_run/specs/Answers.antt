@@ -1,5 +1,5 @@
 -- What the run answers.
-use Rattle.std.specs.Prelude.{◌≡◌, [], ℕ, ℤ, pos, Option, Some, None, Result, Ok, Err}
+use Rattle.std.specs.Prelude.{◌≡◌, [], ℕ, ℤ, pos, length, Option, Some, None, Result, Ok, Err}
 use Rattle.bundle_definitions.specs.Ranges.{IsInRanges}
 use Rattle.pool_definitions.specs.Certificate.{Certifies}
 use Rattle.pool_definitions.specs.Lottery.{LeximinGreatest}
@@ -14,6 +14,9 @@ use Rattle.leximin_run.specs.declared.stops.At.{At}
 use Rattle.leximin_run.specs.declared.stops.At.TheVariants.{Opening}
 use Rattle.leximin_run.specs.declared.stops.Solved.{Solved}
 use Rattle.leximin_run.specs.declared.stops.Solved.TheVariants.{Found, NoPanel}
+use Rattle.leximin_run.specs.declared.stops.SolvedSized.{SolvedSized}
+use Rattle.leximin_run.specs.declared.stops.SolvedSized.TheVariants as sized
+use Rattle.run_limits.specs.declared.RunSizes.{RunSizes}
 use Rattle.leximin_run.specs.declared.stops.Stop.{Stop}
 use Rattle.leximin_run.specs.declared.stops.Stop.TheVariants.{TooWide, TotalPasses, PivotsSpent, NodesSpent, OutOfMemory}
 
@@ -57,3 +60,19 @@ stop_of table (Wide pass) = TooWide (At.Table table) pass
 stop_of table NoPivot = PivotsSpent (At.Table table)
 stop_of table NoVisit = NodesSpent (At.Table table)
 stop_of table NoMemory = OutOfMemory
+
+-- the sizes of a table: its classes, its columns, and the pivots that were made
+abbrev pub sizes_in : Table → RunSizes
+sizes_in table = record { classes = length table.sizes; columns = length table.columns; pivots = table.pivots }
+
+-- the answer without the sizes
+abbrev pub unsized : Result SolvedSized Stop → Result Solved Stop
+unsized (Ok (sized.Found answer sizes)) = Ok (Found answer)
+unsized (Ok sized.NoPanel) = Ok NoPanel
+unsized (Err stop) = Err stop
+
+-- the same with the sizes of the run's last table, where a lottery is found
+abbrev pub TellsSized : Classes → RunLimits → Result SolvedSized Stop → Type 0
+TellsSized all limits (Ok (sized.Found answer sizes)) = (last : Table) × (sizes ≡ sizes_in last) × Ends all limits (Ending.Found last answer)
+TellsSized all limits (Ok sized.NoPanel) = TellsEnding all limits (Ok NoPanel)
+TellsSized all limits (Err stop) = TellsEnding all limits (Err stop)

@@ -10,6 +10,6 @@ mod stops;
 #[cfg(test)]
 mod tests;
 
-pub use run_limits::Limits;
-pub use solving::solve;
-pub use stops::{At, Solved, Stop};
+pub use run_limits::{Limits, RunSizes};
+pub use solving::{solve, solve_sized};
+pub use stops::{At, Solved, SolvedSized, Stop};

@@ -1,6 +1,6 @@
 //! The run's steps.
 
-ghost use Rattle.std.specs.Prelude.{◌≡◌, ◌++◌, [], ◌∷◌, true, OnOk, Some, None};
+ghost use Rattle.std.specs.Prelude.{◌≡◌, ◌≤◌, ◌++◌, [], ◌∷◌, true, OnOk, Some, None};
 ghost use Rattle.leximin_run.specs.Advancing.{Advances, Makes, Stands};
 ghost use Rattle.row_definitions.specs.Choice.{choice};
 ghost use Rattle.row_definitions.specs.Steps.{close_stage, open_row};
@@ -8,9 +8,12 @@ ghost use Rattle.row_definitions.specs.Table.{row_at};
 ghost use Rattle.run_definitions.specs.Run.{run_limits};
 
 use exact_table::{Pass, Table, Var};
+use outside::Watch;
 use panel_search::{Pricer, SearchStop};
+use pricing_pool::price_by;
 use run_limits::Limits;
 use std::alloc::AllocError;
+use std::thread::Threads;
 
 // Why a step that is due is not made.
 #[derive(Debug, Clone, Copy)]
@@ -71,8 +74,15 @@ pub(crate) struct Run<'c> {
 
 impl<'c> Run<'c> {
     // The next step. Is one made? If not, everybody is settled.
-    pub(crate) fn advance(&mut self) -> Result<bool, Refusal>
-        requires { Stands self.old.pricer.classes (run_limits self.old.limits) self.old.table self.old.pricer.closed }
+    pub(crate) fn advance<R: Threads + Sync, W: Watch + Sync>(
+        &mut self,
+        rt: &R,
+        workers: u32,
+        watch: &W,
+    ) -> Result<bool, Refusal>
+        requires some_worker { 1 ≤ workers }
+        requires few_workers { workers ≤ 64 }
+        requires stands { Stands self.old.pricer.classes (run_limits self.old.limits) self.old.table self.old.pricer.closed }
         ensures advances { Advances self.old.pricer.classes (run_limits self.old.limits) self.old.table result self.new.table }
         ensures stands { OnOk result (Stands self.new.pricer.classes (run_limits self.new.limits) self.new.table self.new.pricer.closed) }
         ensures classes { self.new.pricer.classes ≡ self.old.pricer.classes }
@@ -81,7 +91,7 @@ impl<'c> Run<'c> {
         if self.table.in_stage() {
             match self.table.bland() {
                 Some((row, variable)) => self.pivot(row, variable)?,
-                None => self.price()?,
+                None => self.price(rt, workers, watch)?,
             }
             Ok(true)
         } else if self.table.some_unsettled() {
@@ -108,8 +118,15 @@ impl<'c> Run<'c> {
         Ok(self.table.pivot(row, variable)?)
     }
 
-    // No pivot is chosen: the open row is priced, and a column comes or the stage closes.
-    fn price(&mut self) -> Result<(), Refusal>
+    // No pivot is chosen: the open row is priced, by so many workers, and a column comes or the stage closes.
+    fn price<R: Threads + Sync, W: Watch + Sync>(
+        &mut self,
+        rt: &R,
+        workers: u32,
+        watch: &W,
+    ) -> Result<(), Refusal>
+        requires some_worker { 1 ≤ workers }
+        requires few_workers { workers ≤ 64 }
         requires stands { Stands self.old.pricer.classes (run_limits self.old.limits) self.old.table self.old.pricer.closed }
         requires open { self.old.table.in_stage ≡ true }
         requires done { choice self.old.table ≡ None }
@@ -119,7 +136,7 @@ impl<'c> Run<'c> {
         ensures limits { self.new.limits ≡ self.old.limits }
     {
         let row = self.table.row(self.table.open_row());
-        let (found, _) = self.pricer.best(row, self.limits.nodes())?;
+        let (found, _) = price_by(rt, workers, watch, &self.pricer, row, self.limits.nodes())?;
         match found {
             Some(column) => Ok(self.table.add_column(column)?),
             None => Ok(self.close()?),

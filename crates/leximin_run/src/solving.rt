@@ -2,7 +2,7 @@
 
 ghost use Rattle.std.specs.Prelude.{◌≡◌, ◌≤◌, ◌<◌, false, Some, IfOk, [], length, slice_index_or};
 ghost use Rattle.leximin_run.specs.Advancing.{Reaches};
-ghost use Rattle.leximin_run.specs.Answers.{IsCertified, KeepsRanges, TellsEnding, stop_of};
+ghost use Rattle.leximin_run.specs.Answers.{IsCertified, KeepsRanges, TellsEnding, TellsSized, sizes_in, stop_of, unsized};
 ghost use Rattle.run_definitions.specs.Run.{parts_of, run_limits};
 ghost use Rattle.row_definitions.specs.InOrder.{settled_count};
 ghost use Rattle.search_definitions.specs.Classes.{classes_of};
@@ -12,62 +12,113 @@ ghost use Rattle.search_definitions.specs.Visits.{first_search};
 
 use crate::certifying::certificate;
 use crate::running::{Refusal, Run};
-use crate::stops::{At, Solved, Stop};
+use crate::stops::{At, Solved, SolvedSized, Stop};
 use alike::{Classes, Composition, SpreadStop, classes, spread};
 use exact_table::{Table, TableStop};
 use frac128::Frac;
+use outside::Watch;
 use panel_search::{Pricer, SearchStop, first};
 use pool_model::{Answer, Pool};
-use run_limits::Limits;
+use run_limits::{Limits, RunSizes};
 use std::alloc::{AllocError, Global};
+use std::thread::Threads;
 
 /// The run over a pool under limits: the lottery with its certificate, or that the pool has no quota panel, or the first step that is
-/// refused, with the table as it stood. A lottery is leximin greatest, and its stages certify it.
-pub fn solve(alloc: Global, pool: &Pool, limits: Limits) -> Result<Solved, Stop>
+/// refused, with the table as it stood. A lottery is leximin greatest, and its stages certify it. The pieces of each pricing are worked by
+/// so many workers, from 1 to 64, and the watch is told as they start; nothing that is answered depends on either.
+pub fn solve<R: Threads + Sync, W: Watch + Sync>(
+    rt: &R,
+    alloc: Global,
+    pool: &Pool,
+    limits: Limits,
+    workers: u32,
+    watch: &W,
+) -> Result<Solved, Stop>
+    requires some_worker { 1 ≤ workers }
+    requires few_workers { workers ≤ 64 }
     ensures run { TellsEnding (classes_of pool.now) (run_limits limits) result }
     ensures certified { IsCertified pool.now result }
     // So a lottery that is found has a bundle.
     ensures ranges { KeepsRanges pool.now result }
 {
+    match solve_sized(rt, alloc, pool, limits, workers, watch) {
+        Ok(SolvedSized::Found(answer, _)) => Ok(Solved::Found(answer)),
+        Ok(SolvedSized::NoPanel) => Ok(Solved::NoPanel),
+        Err(stop) => Err(stop),
+    }
+}
+
+/// The same run, and where it finds a lottery the sizes of its last table.
+pub fn solve_sized<R: Threads + Sync, W: Watch + Sync>(
+    rt: &R,
+    alloc: Global,
+    pool: &Pool,
+    limits: Limits,
+    workers: u32,
+    watch: &W,
+) -> Result<SolvedSized, Stop>
+    requires some_worker { 1 ≤ workers }
+    requires few_workers { workers ≤ 64 }
+    ensures run { TellsSized (classes_of pool.now) (run_limits limits) result }
+    ensures certified { IsCertified pool.now (unsized result) }
+    ensures ranges { KeepsRanges pool.now (unsized result) }
+{
     pool.facts();
     let _ = limits.bits();
-    run(alloc, pool, limits)
+    run(rt, alloc, pool, limits, workers, watch)
 }
 
 // The run.
-fn run(alloc: Global, pool: &Pool, limits: Limits) -> Result<Solved, Stop>
-    ensures { TellsEnding (classes_of pool.now) (run_limits limits) result }
+fn run<R: Threads + Sync, W: Watch + Sync>(
+    rt: &R,
+    alloc: Global,
+    pool: &Pool,
+    limits: Limits,
+    workers: u32,
+    watch: &W,
+) -> Result<SolvedSized, Stop>
+    requires some_worker { 1 ≤ workers }
+    requires few_workers { workers ≤ 64 }
+    ensures { TellsSized (classes_of pool.now) (run_limits limits) result }
 {
     let classes = classes(alloc, pool)?;
     match first(alloc, &classes, limits.nodes()) {
-        Ok(Some(composition)) => begin(alloc, &classes, limits, composition),
-        Ok(None) => Ok(Solved::NoPanel),
+        Ok(Some(composition)) => begin(rt, alloc, &classes, limits, composition, workers, watch),
+        Ok(None) => Ok(SolvedSized::NoPanel),
         Err(SearchStop::Spent) => Err(Stop::NodesSpent(At::Opening)),
         Err(SearchStop::OutOfMemory) => Err(Stop::OutOfMemory),
     }
 }
 
 // The run from the first composition on.
-fn begin(
+fn begin<R: Threads + Sync, W: Watch + Sync>(
+    rt: &R,
     alloc: Global,
     classes: &Classes,
     limits: Limits,
     composition: Composition,
-) -> Result<Solved, Stop>
+    workers: u32,
+    watch: &W,
+) -> Result<SolvedSized, Stop>
     requires within { (first_search classes.now).visits ≤ limits.nodes }
     requires first { first_composition classes.now ≡ Some composition }
-    ensures { TellsEnding classes.now (run_limits limits) result }
+    requires some_worker { 1 ≤ workers }
+    requires few_workers { workers ≤ 64 }
+    ensures { TellsSized classes.now (run_limits limits) result }
 {
     classes.facts();
     let sizes = sizes(alloc, classes)?;
     match Table::start(alloc, &sizes, composition, limits.bits()) {
         Ok(table) => finish(
+            rt,
             alloc,
             Run {
                 limits,
                 table,
                 pricer: Pricer::new(alloc, classes),
             },
+            workers,
+            watch,
         ),
         Err(TableStop::Pass(pass)) => Err(Stop::TooWide(At::Opening, pass)),
         Err(TableStop::OutOfMemory) => Err(Stop::OutOfMemory),
@@ -86,12 +137,20 @@ fn sizes(alloc: Global, classes: &Classes) -> Result<Vec<usize>, AllocError>
 }
 
 // The run from a table on.
-fn finish(alloc: Global, mut run: Run<'_>) -> Result<Solved, Stop>
-    requires { Reaches run.pricer.classes (run_limits run.limits) run.table run.pricer.closed }
-    ensures { TellsEnding run.entry.pricer.classes (run_limits run.entry.limits) result }
+fn finish<R: Threads + Sync, W: Watch + Sync>(
+    rt: &R,
+    alloc: Global,
+    mut run: Run<'_>,
+    workers: u32,
+    watch: &W,
+) -> Result<SolvedSized, Stop>
+    requires some_worker { 1 ≤ workers }
+    requires few_workers { workers ≤ 64 }
+    requires reached { Reaches run.pricer.classes (run_limits run.limits) run.table run.pricer.closed }
+    ensures { TellsSized run.entry.pricer.classes (run_limits run.entry.limits) result }
 {
     loop {
-        match run.advance() {
+        match run.advance(rt, workers, watch) {
             Ok(true) => {}
             Ok(false) => return answer(alloc, run),
             Err(refusal) => return Err(stop(run, refusal)),
@@ -113,21 +172,35 @@ fn stop(run: Run<'_>, refusal: Refusal) -> Stop
 }
 
 // Everybody is settled: the columns of positive value are spread, and the closed rows certify the lottery.
-fn answer(alloc: Global, run: Run<'_>) -> Result<Solved, Stop>
+fn answer(alloc: Global, run: Run<'_>) -> Result<SolvedSized, Stop>
     requires reached { Reaches run.pricer.classes (run_limits run.limits) run.table run.pricer.closed }
     requires shut { run.table.in_stage ≡ false }
     requires settled { length run.table.sizes ≤ settled_count run.table }
-    ensures { TellsEnding run.entry.pricer.classes (run_limits run.entry.limits) result }
+    ensures { TellsSized run.entry.pricer.classes (run_limits run.entry.limits) result }
 {
     let parts = parts(alloc, &run.table)?;
     let classes = run.pricer.classes();
     let certificate = certificate(alloc, classes, run.pricer.closed())?;
     match spread(alloc, classes, &parts) {
-        Ok(lottery) => Ok(Solved::Found(Answer::new(lottery, certificate))),
+        Ok(lottery) => Ok(SolvedSized::Found(
+            Answer::new(lottery, certificate),
+            sizes_of(&run.table),
+        )),
         Err(SpreadStop::TotalPasses { place, total, den }) => {
             Err(Stop::TotalPasses(At::Table(run.table), place, total, den))
         }
         Err(SpreadStop::OutOfMemory) => Err(Stop::OutOfMemory),
+    }
+}
+
+// The classes, columns and pivots of a table.
+fn sizes_of(table: &Table) -> RunSizes
+    ensures { result ≡ sizes_in table.now }
+{
+    RunSizes {
+        classes: table.sizes().len(),
+        columns: table.columns().len(),
+        pivots: table.pivots(),
     }
 }
 

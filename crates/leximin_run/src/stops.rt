@@ -2,6 +2,7 @@
 
 use exact_table::{Pass, Table};
 use pool_model::Answer;
+use run_limits::RunSizes;
 use std::alloc::AllocError;
 
 /// Where a run stood when a step was refused.
@@ -18,6 +19,15 @@ pub enum At {
 pub enum Solved {
     /// A lottery, with its certificate.
     Found(Answer),
+    /// The pool has no quota panel.
+    NoPanel,
+}
+
+/// What a run finds, with the sizes of its last table.
+#[derive(Debug, Drop)]
+pub enum SolvedSized {
+    /// A lottery, with its certificate; and the classes, columns and pivots of the run.
+    Found(Answer, RunSizes),
     /// The pool has no quota panel.
     NoPanel,
 }

@@ -16,8 +16,9 @@ use Rattle.row_definitions.specs.Steps.{enter_stage, close_stage, add_column, op
 use Rattle.search_definitions.specs.Classes.{Classes, class_number, classes_of, volunteer_count}
 use Rattle.search_definitions.specs.Compositions.{first_composition, price}
 use Rattle.search_definitions.specs.Fronts.{sizes_of}
-use Rattle.search_definitions.specs.Visits.{first_search, best_search}
+use Rattle.search_definitions.specs.Visits.{first_search}
 use Rattle.spread_definitions.specs.Spreading.{TotalPass, spread}
+use Rattle.wave_definitions.specs.Waves.{best_in_waves}
 
 -- the width in bits, how many pivots the run may make, and how many visits each of its searches may take
 pub record Limits : Type 0 where
@@ -88,9 +89,9 @@ abbrev pub priced : Table → Option (List ℕ) → Next
 priced table (Some counts) = GoOn (add_column table counts)
 priced table None = GoOn (close_stage table)
 
--- how many visits a pricing takes
+-- how many visits a pricing takes, piece by piece in waves
 unfoldable pub pricing_visits : Classes → List Row → Row → ℕ
-pricing_visits all closed row = (best_search all closed row).visits
+pricing_visits all closed row = (best_in_waves all closed row).visits
 
 -- a stage is open: the chosen pivot is made if it may be; where none is chosen, the open row is priced
 abbrev pub step_in_stage : Classes → RunLimits → Table → Option (ℕ × Var) → Next

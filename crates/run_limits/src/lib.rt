@@ -1,4 +1,5 @@
-//! The limits of a run, and the ranges of their numbers, which the program's words have too. Below stand the definitions of the run.
+//! The limits of a run, by how many workers it prices, and the ranges of their numbers, which the program's words have too; and the sizes
+//! that a run's last table has. Below stand the definitions of the run.
 #![tactic(auto)]
 
 ghost use Rattle.std.specs.Prelude.{◌≡◌, ◌≤◌, ◌&&◌, nat_le, if◌then◌else◌, Some, None};
@@ -17,6 +18,12 @@ pub const MOST_PIVOTS: u64 = 1_000_000_000;
 
 /// The most visits that a search may be allowed.
 pub const MOST_NODES: u64 = 1_000_000_000_000;
+
+/// The fewest workers: one works alone.
+pub const LEAST_WORKERS: u32 = 1;
+
+/// The most workers.
+pub const MOST_WORKERS: u32 = 64;
 
 /// The limits of a run: the width of its numbers, from 1 to 127 bits; how many pivots it may make, at most 1,000,000,000; and how many
 /// visits each of its searches may take, at most 1,000,000,000,000.
@@ -82,4 +89,55 @@ impl Limits {
     {
         self.nodes
     }
+}
+
+/// By how many workers a run prices, from 1 to 64. Nothing that it answers depends on it.
+#[derive(Clone, Copy, Debug)]
+pub struct Workers {
+    number: u32,
+}
+
+impl Model for Workers {
+    ghost use Rattle.std.specs.Prelude.{ℕ, ◌≤◌};
+
+    ghost Value = { ℕ };
+
+    ghost view = { λ w. w.number };
+
+    ghost invariant = { λ w. (1 ≤ w.number) × (w.number ≤ 64) };
+
+    ghost inverse = { λ n. record { number = n } };
+}
+
+impl Workers {
+    /// So many workers, or None exactly where the number is out of its range.
+    pub fn new(number: u32) -> Option<Workers>
+        ensures { result ≡ (if nat_le LEAST_WORKERS number && nat_le number MOST_WORKERS then Some number else None) }
+    {
+        if LEAST_WORKERS <= number && number <= MOST_WORKERS {
+            Some(Workers { number })
+        } else {
+            None
+        }
+    }
+
+    /// How many they are.
+    pub fn number(self) -> u32
+        ensures value { result ≡ self }
+        ensures some { 1 ≤ self }
+        ensures few { self ≤ 64 }
+    {
+        self.number
+    }
+}
+
+/// The sizes of a run's last table: the classes, the columns, and the pivots that were made.
+#[derive(Clone, Copy, Debug)]
+pub struct RunSizes {
+    /// How many classes of alike volunteers the pool has.
+    pub classes: usize,
+    /// How many compositions were found.
+    pub columns: usize,
+    /// How many pivots were made in all.
+    pub pivots: u64,
 }

@@ -19,6 +19,7 @@ returns-in-Ok c =
     let found = found_at_end run.pricer.classes (run_limits run.limits) run.table run.pricer.closed c.requires.reached c.requires.shut c.requires.settled c.in-Ok.lottery made in
     let stages = c.in_ok-certificate.ensures ∙ ap (λ all. map (stage_of all) c.closed.result.now) c.classes-classes.ensures ∙ ap (map (stage_of run.pricer.classes)) c.closed.ensures in (
       run.table,
+      c.sizes_of.ensures,
       subst (λ answer. Ends run.pricer.classes (run_limits run.limits) (Found run.table answer)) (sym c.new.ensures)
           (subst (λ ss. Ends run.pricer.classes (run_limits run.limits) (Found run.table (record { lottery = c.in-Ok.lottery; stages = ss }))) (sym stages) found),
     )

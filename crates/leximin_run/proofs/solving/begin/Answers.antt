@@ -9,29 +9,29 @@ use Rattle.leximin_run.proofs.Beginning.{begun, may_start, wide_at_once}
 use Rattle.leximin_run.proofs.solving.begin.Goals as goal
 
 pub start-requires-clause-sizes : goal.start-requires-clause-sizes
-start-requires-clause-sizes c =
+start-requires-clause-sizes g c =
     let may = may_start c.args.classes.now (run_limits c.args.limits) c.args.composition c.requires.within c.requires.first c.facts.ensures in
     subst (All (λ size. 1 ≤ size)) (sym (c.deref.ensures.value ∙ c.in_ok-sizes.ensures)) may.each
 
 pub start-requires-clause-counts : goal.start-requires-clause-counts
-start-requires-clause-counts c =
+start-requires-clause-counts g c =
     let may = may_start c.args.classes.now (run_limits c.args.limits) c.args.composition c.requires.within c.requires.first c.facts.ensures in
     may.fits.each ∙ ap length (sym (c.deref.ensures.value ∙ c.in_ok-sizes.ensures))
 
 pub start-requires-clause-bounds : goal.start-requires-clause-bounds
-start-requires-clause-bounds c =
+start-requires-clause-bounds g c =
     let may = may_start c.args.classes.now (run_limits c.args.limits) c.args.composition c.requires.within c.requires.first c.facts.ensures in
     λ t l. subst (λ sizes. slice_index c.args.composition t ≤ slice_index sizes t) (sym (c.deref.ensures.value ∙ c.in_ok-sizes.ensures)) (may.fits.bounds t)
 
-pub finish-requires : goal.finish-requires
-finish-requires c =
+pub finish-requires-clause-reached : goal.finish-requires-clause-reached
+finish-requires-clause-reached g c = λ lifetimes outlives.
     let table_is = sym (ap (λ sizes. start sizes c.args.composition c.args.limits.bits) (c.deref.ensures.value ∙ c.in_ok-sizes.ensures))
     ∙ sym (ap (start c.deref.result.now c.args.composition) c.bits.ensures.value) ∙ c.in-Ok.ensures in
     subst (λ p. Reaches p.classes (run_limits c.args.limits) c.in-Ok.table p.closed) (sym c.new.ensures)
     (begun c.args.classes.now (run_limits c.args.limits) c.args.composition c.requires.within c.requires.first c.facts.ensures c.bits.ensures.ranges c.in-Ok.table table_is)
 
 pub returns-in-Err-Pass : goal.returns-in-Err-Pass
-returns-in-Err-Pass c =
+returns-in-Err-Pass g c =
     let passes = subst (λ stop. IsStarted (Err stop) (start c.deref.result.now c.args.composition c.bits.result)) c.in-Err-Pass.field-0-is c.in-Err-Pass.ensures in
     let passed = sym (ap (λ sizes. start sizes c.args.composition c.args.limits.bits) (c.deref.ensures.value ∙ c.in_ok-sizes.ensures))
     ∙ sym (ap (start c.deref.result.now c.args.composition) c.bits.ensures.value) ∙ passes in

@@ -3,12 +3,12 @@ use Rattle.run_definitions.specs.Run.{run_limits}
 use Rattle.run_definitions.specs.Work.{work_left}
 use Rattle.run_definitions.proofs.Work.{step_lessens}
 use Rattle.leximin_run.specs.Advancing.{Advances, Reaches, Stands}
-use Rattle.leximin_run.specs.Answers.{TellsEnding, stop_of}
+use Rattle.leximin_run.specs.Answers.{TellsEnding, TellsSized, stop_of}
 use Rattle.leximin_run.proofs.Ending.{reaches_on, refused_at}
 use Rattle.leximin_run.proofs.solving.finish.Goals as goal
 
 pub loop-run-smaller : goal.loop-run-smaller
-loop-run-smaller c =
+loop-run-smaller g c =
     let run = c.loop-run.run in let after = c.advance.new.self in
     let advanced = subst (λ went. Advances run.pricer.classes (run_limits run.limits) run.table (Ok went) after.table) c.in-Ok-true.field-0-test c.in-Ok-true.ensures.advances in
     let stands = c.loop-run.invariant.reaches.stands in
@@ -16,7 +16,7 @@ loop-run-smaller c =
     (step_lessens run.pricer.classes (run_limits run.limits) run.table stands.limited stands.keeps after.table advanced)
 
 pub loop-run-preserved : goal.loop-run-preserved
-loop-run-preserved c =
+loop-run-preserved g c =
     let run = c.loop-run.run in let after = c.advance.new.self in
     let advanced = subst (λ went. Advances run.pricer.classes (run_limits run.limits) run.table (Ok went) after.table) c.in-Ok-true.field-0-test c.in-Ok-true.ensures.advances in
     let stands = subst (λ all. Stands all (run_limits run.limits) after.table after.pricer.closed) c.in-Ok-true.ensures.classes
@@ -30,9 +30,9 @@ loop-run-preserved c =
     }
 
 pub returns-in-Err : goal.returns-in-Err
-returns-in-Err c =
+returns-in-Err g c =
     let run = c.loop-run.run in let after = c.advance.new.self in
     let told = refused_at run.pricer.classes (run_limits run.limits) run.table run.pricer.closed c.loop-run.invariant.reaches c.in-Err.refusal after.table c.in-Err.ensures.advances in
-    subst (λ stop. TellsEnding c.args.run.pricer.classes (run_limits c.args.run.limits) (Err stop)) (sym c.stop.ensures)
+    subst (λ stop. TellsSized c.args.run.pricer.classes (run_limits c.args.run.limits) (Err stop)) (sym c.stop.ensures)
     (subst (λ all. TellsEnding all (run_limits c.args.run.limits) (Err (stop_of after.table c.in-Err.refusal))) c.loop-run.invariant.classes
     (subst (λ limits. TellsEnding run.pricer.classes (run_limits limits) (Err (stop_of after.table c.in-Err.refusal))) c.loop-run.invariant.limits told))

@@ -6,11 +6,11 @@ use Rattle.leximin_run.proofs.solving.finish.Given as goal
 
 -- the run comes to its table, over the same classes under the same limits
 abbrev pub invariant-loop-run : goal.invariant-loop-run
-invariant-loop-run l = record {
+invariant-loop-run g l = record {
   reaches : Reaches l.run.pricer.classes (run_limits l.run.limits) l.run.table l.run.pricer.closed;
   classes : l.run.pricer.classes ≡ l.initial.run.pricer.classes;
   limits : l.run.limits ≡ l.initial.run.limits;
 }
 
 abbrev pub decreases-loop-run : goal.decreases-loop-run
-decreases-loop-run l = work_left (run_limits l.run.limits) l.run.table
+decreases-loop-run g l = work_left (run_limits l.run.limits) l.run.table

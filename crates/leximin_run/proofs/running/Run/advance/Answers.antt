@@ -5,16 +5,16 @@ use Rattle.leximin_run.proofs.Turns.{enter_due, entered_stands}
 use Rattle.leximin_run.proofs.running.Run.advance.Goals as goal
 
 pub returns-then-some_unsettled-clause-advances : goal.returns-then-some_unsettled-clause-advances
-returns-then-some_unsettled-clause-advances c =
+returns-then-some_unsettled-clause-advances g c =
     let run = c.args.self.now in
     let shut = sym c.in_stage.ensures ∙ c.if-in_stage.false in
     let some = sym c.some_unsettled.ensures ∙ c.if-some_unsettled.true in
     subst (λ t. step run.pricer.classes (run_limits run.limits) run.table ≡ GoOn t) (sym c.enter_stage.ensures.entered) (enter_due run.pricer.classes (run_limits run.limits) run.table shut some)
 
 pub returns-then-some_unsettled-clause-stands : goal.returns-then-some_unsettled-clause-stands
-returns-then-some_unsettled-clause-stands c =
+returns-then-some_unsettled-clause-stands g c =
     let run = c.args.self.now in
     let shut = sym c.in_stage.ensures ∙ c.if-in_stage.false in
     let some = sym c.some_unsettled.ensures ∙ c.if-some_unsettled.true in
     subst (λ t. Stands run.pricer.classes (run_limits run.limits) t run.pricer.closed) (sym c.enter_stage.ensures.entered)
-    (entered_stands run.pricer.classes (run_limits run.limits) run.table run.pricer.closed c.requires shut some)
+    (entered_stands run.pricer.classes (run_limits run.limits) run.table run.pricer.closed c.requires.stands shut some)

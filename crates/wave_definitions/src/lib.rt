@@ -1,0 +1,4 @@
+//! Stub.
+#![tactic(auto)]
+
+ghost use Rattle.std.specs.Prelude.{◌≡◌, List};
