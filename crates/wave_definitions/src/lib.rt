@@ -1,4 +1,0 @@
-//! Stub.
-#![tactic(auto)]
-
-ghost use Rattle.std.specs.Prelude.{◌≡◌, List};
