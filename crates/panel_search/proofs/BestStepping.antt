@@ -15,9 +15,9 @@ use Rattle.search_definitions.specs.Fronts.{is_reachable, is_live_above, optimis
 use Rattle.search_definitions.specs.Visits.{Pricing, best_search, enter_best}
 use Rattle.search_definitions.proofs.Limits.{all_from_each}
 use Rattle.panel_search.specs.Front.{Tracks}
-use Rattle.panel_search.specs.Pricing.{BeginsAt, StandsAt, Moves, CanTake, child_best, children_best, search_from}
+use Rattle.panel_search.specs.Pricing.{BeginsAt, StandsAt, Moves, CanTake, children_best}
 use Rattle.panel_search.specs.Steps.{counts_at}
-use Rattle.panel_search.specs.Weights.{AreNarrow, AreWithin, EachNarrow, Weighs, WeighEach}
+use Rattle.panel_search.specs.Weights.{AreNarrow, EachNarrow, Weighs, WeighEach}
 use Rattle.panel_search.specs.declared.searching.BudgetSpent.{BudgetSpent}
 use Rattle.panel_search.specs.declared.pricing.BestSearch.{BestSearch}
 use Rattle.panel_search.specs.declared.tally.Tally.{Tally}
@@ -25,6 +25,7 @@ use Rattle.panel_search.specs.declared.weighing.Weights.{Weights}
 use Rattle.panel_search.proofs.Tracking.{Stands, comes_next}
 use Rattle.panel_search.proofs.Stepping.{counts_here, placed, front_length}
 use Rattle.panel_search.proofs.WeightLaws.{weighs_front, element_at}
+use Rattle.wave_definitions.specs.Below.{AreWithin, child_best, search_from}
 
 -- ---- visits only grow
 
@@ -173,7 +174,7 @@ begins_at all closed row front search places kept within e counts tally priced c
   closed_rows = subst (λ f. WeighEach all closed f search.closed.items) (sym e) closed_rows;
 }
 
-within_more : (all : Classes) (front : List ℕ) (depth count : ℕ) → length front ≡ depth → depth < length all.classes → CanTake all depth count → AreWithin all front → AreWithin all (front ++ count ∷ [])
+pub within_more : (all : Classes) (front : List ℕ) (depth count : ℕ) → length front ≡ depth → depth < length all.classes → CanTake all depth count → AreWithin all front → AreWithin all (front ++ count ∷ [])
 within_more all front depth count long below can within t l =
     (elim (ltb t (length front)) as (λ b. ltb t (length front) ≡ b → slice_index (front ++ count ∷ []) t ≤ slice_index (sizes_of all) t) [
       | true ↦ λ e. let lt = ltb-true t (length front) e in earlier lt

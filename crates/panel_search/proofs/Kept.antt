@@ -1,13 +1,17 @@
 -- The rows that a pricer keeps, row after row.
-use Rattle.std.proofs.Common.{◌≡◌, ℕ, zero, suc, ◌^◌, ◌<◌, List, [], ◌∷◌, ◌++◌, length, Option, Some, Result, Ok, Err, sym, ◌∙◌, arith, subst, length-append, ⊎_elim}
-use Rattle.std.specs.Prelude.{slice_get, IfOk}
+use Rattle.std.proofs.Common.{◌≡◌, ℕ, zero, suc, ◌^◌, ◌<◌, List, [], ◌∷◌, ◌++◌, length, Option, Some, Result, Ok, Err, sym, ap, ◌∙◌, arith, subst, length-append, ⊎_elim}
+use Rattle.std.specs.Prelude.{slice_get, IfOk, Vec, vec_items}
+use Rattle.std.specs.declared.alloc.Global.{Global}
 use Rattle.std.specs.List.{AllByRecursion}
 use Rattle.basic_laws.proofs.Each.{each_append}
 use Rattle.row_definitions.specs.Row.{Row, reach}
-use Rattle.search_definitions.specs.Classes.{Classes}
+use Rattle.search_definitions.specs.Classes.{Classes, KeepsLimits}
 use Rattle.search_definitions.specs.Fronts.{HaveEntries, HaveReach, sizes_of}
 use Rattle.search_definitions.specs.Visits.{Pricing}
-use Rattle.panel_search.specs.Answers.{AnswersBest}
+use Rattle.wave_definitions.specs.Below.{IsFront}
+use Rattle.wave_definitions.specs.Waves.{pieces}
+use Rattle.wave_definitions.proofs.Pieces.{pieces_within}
+use Rattle.panel_search.specs.Answers.{AnswersBest, AnswersPieces}
 use Rattle.panel_search.specs.Pricers.{AreClosed}
 use Rattle.panel_search.specs.Weights.{IsSummed}
 use Rattle.panel_search.specs.declared.greatest.Sums.{Sums}
@@ -47,3 +51,10 @@ pub answers_kept : (pricing : Pricing) (nodes : ℕ) (wanted : Option (List ℕ)
     IfOk r (λ answer. answer.0 ≡ wanted)
 answers_kept pricing nodes wanted (Ok (found, visits)) e told = told.1 ∙ e
 answers_kept pricing nodes wanted (Err stop) e told = tt
+
+-- the front of each piece is one of the classes
+pub fronts_kept : (all made : Classes) (closed : List Row) (row : Row) (nodes : ℕ) (r : Result (Vec (List ℕ) Global × ℕ) SearchStop) → KeepsLimits all → made ≡ all → AnswersPieces (pieces made closed row) nodes r →
+    IfOk r (λ answer. AllByRecursion (IsFront all) (vec_items answer.0))
+fronts_kept all made closed row nodes (Ok (fronts, visits)) limits e told =
+    subst (AllByRecursion (IsFront all)) (ap (λ made. (pieces made closed row).fronts) (sym e) ∙ sym told.1) (pieces_within all closed row limits)
+fronts_kept all made closed row nodes (Err stop) limits e told = tt

@@ -1,5 +1,6 @@
 pub mod Adding
 pub mod BestStepping
+pub mod Division
 pub mod ClosedRows
 pub mod Households
 pub mod Kept

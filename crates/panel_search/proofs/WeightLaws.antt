@@ -13,10 +13,11 @@ use Rattle.row_definitions.proofs.SumLaws.{abs_sum_le}
 use Rattle.search_definitions.specs.Classes.{Class, Classes, KeepsLimits}
 use Rattle.search_definitions.specs.Compositions.{taken_of, takes_one_a_household, weight_in}
 use Rattle.search_definitions.specs.Fronts.{sizes_of, is_reachable, size_reachable, values_reachable, taken_by, units, greatest_sum, optimistic}
-use Rattle.panel_search.specs.Weights.{at, cell_of, AreNarrow, AreWithin, HoldsSums, Weighs}
+use Rattle.panel_search.specs.Weights.{at, cell_of, AreNarrow, HoldsSums, Weighs}
 use Rattle.panel_search.specs.declared.weighing.Weights.{Weights}
 use Rattle.panel_search.proofs.UnitSums.{width, greatest_width, units_width, each_of}
 use Rattle.panel_search.proofs.Tracking.{taken_more}
+use Rattle.wave_definitions.specs.Below.{AreWithin}
 
 pub take_whole : (xs : List ℕ) → take (length xs) xs ≡ xs
 take_whole [] = refl

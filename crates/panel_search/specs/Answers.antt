@@ -1,6 +1,8 @@
 -- What a search under a budget of visits answers.
-use Rattle.std.specs.Prelude.{◌≡◌, ◌≤◌, ◌<◌, ℕ, List, Option, Result, Ok, Err}
+use Rattle.std.specs.Prelude.{◌≡◌, ◌≤◌, ◌<◌, ℕ, List, Option, Result, Ok, Err, Vec, vec_items}
+use Rattle.std.specs.declared.alloc.Global.{Global}
 use Rattle.search_definitions.specs.Visits.{Search, Pricing}
+use Rattle.wave_definitions.specs.Waves.{Pieces}
 use Rattle.panel_search.specs.declared.searching.BudgetSpent.{BudgetSpent}
 use Rattle.panel_search.specs.declared.searching.SearchStop.{SearchStop}
 use Rattle.panel_search.specs.declared.searching.SearchStop.TheVariants.{Spent, OutOfMemory}
@@ -26,3 +28,9 @@ abbrev pub AnswersBest : Pricing → ℕ → Result (Option (List ℕ) × ℕ) S
 AnswersBest pricing nodes (Ok (found, visits)) = (pricing.visits ≤ nodes) × (found ≡ pricing.kept) × (visits ≡ pricing.visits)
 AnswersBest pricing nodes (Err Spent) = nodes < pricing.visits
 AnswersBest pricing nodes (Err OutOfMemory) = Unit {0}
+
+-- the fronts of pieces and the visits before them, where these stay within the budget, else that the budget is spent
+abbrev pub AnswersPieces : Pieces → ℕ → Result (Vec (List ℕ) Global × ℕ) SearchStop → Type 0
+AnswersPieces parts nodes (Ok (fronts, visits)) = (parts.visits ≤ nodes) × (vec_items fronts ≡ parts.fronts) × (visits ≡ parts.visits)
+AnswersPieces parts nodes (Err Spent) = nodes < parts.visits
+AnswersPieces parts nodes (Err OutOfMemory) = Unit {0}

@@ -1,6 +1,7 @@
 pub mod Answers
 pub mod Front
 pub mod Homes
+pub mod Pieces
 pub mod Pricers
 pub mod Pricing
 pub mod Steps

@@ -1,9 +1,9 @@
--- The closed rows that a pricer keeps, over classes.
-use Rattle.std.specs.Prelude.{List}
+-- The closed rows that a pricer keeps, over classes, and a row that is priced over them.
+use Rattle.std.specs.Prelude.{List, ◌∷◌}
 use Rattle.row_definitions.specs.Row.{Row}
 use Rattle.search_definitions.specs.Classes.{Classes}
 use Rattle.search_definitions.specs.Fronts.{HaveEntries, HaveReach}
-use Rattle.panel_search.specs.Weights.{SumEach}
+use Rattle.panel_search.specs.Weights.{AreNarrow, EachNarrow, IsSummed, SumEach}
 use Rattle.panel_search.specs.declared.greatest.Sums.{Sums}
 
 -- the rows that a composition of the classes is to attain
@@ -16,3 +16,17 @@ pub record AreClosed (all : Classes) (closed : List Row) (sums : List Sums) : Ty
   pub entries : HaveEntries all closed
   pub reaches : HaveReach all closed
   pub summed : SumEach all closed sums
+
+-- a row, and the rows that a composition of the classes is to attain
+pub record Priced : Type 0 where
+  pub classes : Classes
+  pub closed : List Row
+  pub row : Row
+
+-- each row has one entry per class, no weight in the rows is too wide, and the greatest sums are theirs
+pub record ArePriced (all : Classes) (closed : List Row) (row : Row) (closed_sums : List Sums) (sums : Sums) : Type 0 where
+  pub entries : HaveEntries all (row ∷ closed)
+  pub narrow : AreNarrow all row.a
+  pub closed_narrow : EachNarrow all closed
+  pub summed : IsSummed all row sums
+  pub closed_summed : SumEach all closed closed_sums

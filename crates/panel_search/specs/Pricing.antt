@@ -5,9 +5,10 @@ use Rattle.search_definitions.specs.Classes.{Class, Classes}
 use Rattle.search_definitions.specs.Fronts.{is_reachable, is_live_above, later_than}
 use Rattle.search_definitions.specs.Visits.{Pricing, enter_best}
 use Rattle.panel_search.specs.Front.{Tracks}
-use Rattle.panel_search.specs.Weights.{AreWithin, Weighs, WeighEach}
+use Rattle.panel_search.specs.Weights.{Weighs, WeighEach}
 use Rattle.panel_search.specs.declared.searching.BudgetSpent.{BudgetSpent}
 use Rattle.panel_search.specs.declared.pricing.BestSearch.{BestSearch}
+use Rattle.wave_definitions.specs.Below.{AreWithin, child_best}
 
 -- a search stands at a live front of the first classes, where these classes come after it
 pub record StandsAt (all : Classes) (closed : List Row) (row : Row) (depth : ℕ) (rest : List Class) (search : BestSearch) : Type 0 where
@@ -41,14 +42,6 @@ CanTake all depth count = (class : Class) → slice_get all.classes depth ≡ So
 -- so many above the least number of the class in a place can be taken
 abbrev pub CanTakeAbove : Classes → ℕ → ℕ → Type 0
 CanTakeAbove all depth above = (class : Class) → slice_get all.classes depth ≡ Some class → class.least + above ≤ length class.members
-
--- a child where it is live, else nothing
-abbrev pub child_best : Classes → List Row → Row → List Class → List ℕ → Pricing → Pricing
-child_best all closed row later child now = if is_live_above all closed row now.floor child then enter_best all closed row later child now else now
-
--- the search below a front with a floor of its own: where the front isn't live above the floor, it makes no visit
-abbrev pub search_from : Classes → List Row → Row → List ℕ → ℤ → Pricing
-search_from all closed row front floor = child_best all closed row (later_than front all.classes) front (record { visits = 0; floor = floor; kept = None })
 
 -- the children of a front, with these counts of the next class, one after the other
 abbrev pub children_best : Classes → List Row → Row → List Class → List ℕ → List ℕ → Pricing → Pricing

@@ -51,10 +51,6 @@ pub record HoldsSums (all : Classes) (entries : List ℤ) (lines : ℕ) (table :
   pub each : (later place count : ℕ) → later < lines → later + place ≡ length all.classes → count ≤ all.size →
       at table (cell_of all later count) ≡ greatest_sum count (drop place all.classes) (drop place entries)
 
--- each count is at most the size of its class
-abbrev pub AreWithin : Classes → List ℕ → Type 0
-AreWithin all counts = (t : ℕ) → t < length counts → slice_index counts t ≤ slice_index (sizes_of all) t
-
 -- the greatest sums in a row
 abbrev pub IsSummed : Classes → Row → Sums → Type 0
 IsSummed all row sums = HoldsSums all row.a (length all.classes + 1) sums.cells.items

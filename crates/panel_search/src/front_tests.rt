@@ -1,8 +1,8 @@
 //! Searches for the best composition that begin at a front, with a floor of their own, and the visits that they take, as counted by hand.
 
 ghost use Rattle.std.specs.Prelude.{◌≡◌, ◌≤◌, [], ◌∷◌, true, length};
-ghost use Rattle.panel_search.specs.Weights.{AreWithin};
 ghost use Rattle.search_definitions.specs.Fronts.{HaveEntries, HaveReach};
+ghost use Rattle.wave_definitions.specs.Below.{AreWithin};
 
 use crate::best_tests::is_small;
 use crate::greatest::Sums;

@@ -5,12 +5,15 @@
 
 #[cfg(test)]
 mod best_tests;
+mod dividing;
 #[cfg(test)]
 mod front_tests;
+mod fronts;
 mod greatest;
 mod homes;
 #[cfg(test)]
 mod household_tests;
+mod priced;
 mod pricer;
 mod pricing;
 mod searching;
@@ -20,6 +23,8 @@ mod tally;
 mod tests;
 mod weighing;
 
-pub use pricer::{Pricer, best};
+pub use fronts::Front;
+pub use priced::PricedRow;
+pub use pricer::{Pricer, best, best_from, pieces};
 pub use row_model::Row;
 pub use searching::{SearchStop, first};

@@ -1,13 +1,18 @@
 //! The rows that compositions are to attain, with what each pricing needs of them.
 
 ghost use Rattle.std.specs.Prelude.{◌≡◌, ◌++◌, [], ◌∷◌, IfOk, OnOk, OnErr, take};
-ghost use Rattle.panel_search.specs.Answers.{AnswersBest};
+ghost use Rattle.std.specs.List.{AllByRecursion};
+ghost use Rattle.panel_search.specs.Answers.{AnswersBest, AnswersPieces};
 ghost use Rattle.search_definitions.specs.Compositions.{price};
 ghost use Rattle.search_definitions.specs.Fronts.{HaveEntries, HaveReach};
 ghost use Rattle.search_definitions.specs.Visits.{best_search};
+ghost use Rattle.wave_definitions.specs.Below.{IsFront, best_below, search_from};
+ghost use Rattle.wave_definitions.specs.Waves.{pieces};
 
+use crate::fronts::Front;
 use crate::greatest::Sums;
-use crate::pricing::{Terms, search_best};
+use crate::priced::PricedRow;
+use crate::pricing::search_best;
 use crate::searching::SearchStop;
 use alike::{Classes, Composition};
 use row_model::Row;
@@ -93,15 +98,20 @@ impl<'c> Pricer<'c> {
     {
         let alloc = *self.closed.allocator();
         self.classes.facts();
-        let sums = Sums::new(alloc, self.classes, row)?;
-        let terms = Terms {
-            classes: self.classes,
-            closed: &self.closed,
-            closed_sums: &self.sums,
-            row,
-            sums: &sums,
-        };
-        search_best(alloc, &terms, nodes)
+        let priced = self.priced(row)?;
+        search_best(alloc, &priced.terms(), nodes)
+    }
+
+    /// The row as one that is priced over the closed rows, with its greatest sums, which are made once for all searches of the pricing.
+    /// It has one entry per class and a reach below 2^127. Fails where no memory is left.
+    pub fn priced<'p>(&'p self, row: &'p Row) -> Result<PricedRow<'p>, AllocError>
+        requires entries { HaveEntries self.now.classes (row.now ∷ []) }
+        requires reach { HaveReach self.now.classes (row.now ∷ []) }
+        ensures { IfOk result (λ priced. priced ≡ record { classes = self.now.classes; closed = self.now.closed; row = row.now }) }
+    {
+        self.classes.facts();
+        let sums = Sums::new(*self.closed.allocator(), self.classes, row)?;
+        Ok(PricedRow::new(self.classes, &self.closed, &self.sums, row, sums))
     }
 }
 
@@ -125,6 +135,48 @@ pub fn best(
 {
     let pricer = pricer_of(alloc, classes, closed)?;
     pricer.best(row, nodes)
+}
+
+/// The fronts of the pieces of the search in waves for the best composition, in order, with the visits to the fronts before them, if these
+/// are at most `nodes`: `PricedRow::pieces` of the rows. Each of the rows has one entry per class and a reach below 2^127.
+pub fn pieces(
+    alloc: Global,
+    classes: &Classes,
+    closed: &[Row],
+    row: &Row,
+    nodes: u64,
+) -> Result<(Vec<Front>, u64), SearchStop>
+    requires entries { HaveEntries classes.now (row.now ∷ closed.now) }
+    requires reaches { HaveReach classes.now (row.now ∷ closed.now) }
+    ensures answers { AnswersPieces (pieces classes.now closed.now row.now) nodes result }
+    ensures fronts { IfOk result (λ answer. AllByRecursion (IsFront classes.now) answer.0.items) }
+{
+    let pricer = pricer_of(alloc, classes, closed)?;
+    let priced = pricer.priced(row)?;
+    priced.pieces(alloc, nodes)
+}
+
+/// The best composition below a front, with a floor of its own, and the visits of the search, if these are at most `nodes`:
+/// `PricedRow::best_from` of the rows. Each of the rows has one entry per class and a reach below 2^127; the front has at most one count for
+/// each class, and each is at most the size of its class.
+pub fn best_from(
+    alloc: Global,
+    classes: &Classes,
+    closed: &[Row],
+    row: &Row,
+    front: &Front,
+    floor: i128,
+    nodes: u64,
+) -> Result<(Option<Composition>, u64), SearchStop>
+    requires entries { HaveEntries classes.now (row.now ∷ closed.now) }
+    requires reaches { HaveReach classes.now (row.now ∷ closed.now) }
+    requires front { IsFront classes.now front.now }
+    ensures answers { AnswersBest (search_from classes.now closed.now row.now front.now floor) nodes result }
+    ensures best { IfOk result (λ answer. answer.0 ≡ best_below classes.now closed.now row.now front.now floor) }
+{
+    let pricer = pricer_of(alloc, classes, closed)?;
+    let priced = pricer.priced(row)?;
+    priced.best_from(alloc, front, floor, nodes)
 }
 
 // Of these rows.

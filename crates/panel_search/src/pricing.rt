@@ -4,14 +4,17 @@ ghost use Rattle.std.specs.Prelude.{◌≡◌, ◌≤◌, ◌<◌, ◌+◌, ◌+
 ghost use Rattle.std.specs.List.{list_all};
 ghost use Rattle.panel_search.specs.Answers.{AnswersBest, AnswersBestWithin};
 ghost use Rattle.panel_search.specs.Front.{Tracks};
-ghost use Rattle.panel_search.specs.Pricing.{BeginsAt, StandsAt, Moves, EndsWithin, told, CanTake, CanTakeAbove, child_best, children_best, search_from};
+ghost use Rattle.panel_search.specs.Pricing.{BeginsAt, StandsAt, Moves, EndsWithin, told, CanTake, CanTakeAbove, children_best};
+ghost use Rattle.panel_search.specs.Pieces.{live_among};
 ghost use Rattle.panel_search.specs.Steps.{counts_at};
 ghost use Rattle.panel_search.specs.Terms.{AreTerms};
-ghost use Rattle.panel_search.specs.Weights.{AreWithin, Weighs, WeighEach};
+ghost use Rattle.panel_search.specs.Weights.{Weighs, WeighEach};
 ghost use Rattle.search_definitions.specs.Compositions.{price, weight_in};
 ghost use Rattle.search_definitions.specs.Fronts.{HaveEntries, HaveReach, is_live_above, is_reachable, optimistic};
 ghost use Rattle.search_definitions.specs.Visits.{best_search, enter_best};
+ghost use Rattle.wave_definitions.specs.Below.{AreWithin, child_best, search_from};
 
+use crate::fronts::Front;
 use crate::greatest::Sums;
 use crate::searching::{BudgetSpent, SearchStop};
 use crate::tally::Tally;
@@ -84,7 +87,7 @@ fn places_after(alloc: Global, front: &[usize], places: usize) -> Result<Vec<usi
 // Where a search for the best composition stands: the counts of the front's classes, of which there is a place for each class; what
 // the front takes and weighs; the floor, and the composition that was kept last, if there is one; and the visits, at most so many.
 #[derive(Debug, Drop)]
-struct BestSearch {
+pub(crate) struct BestSearch {
     counts: Vec<usize>,
     tally: Tally,
     priced: Weights,
@@ -98,7 +101,7 @@ struct BestSearch {
 
 impl BestSearch {
     // At a front, of which nothing is entered yet.
-    fn new(
+    pub(crate) fn new(
         alloc: Global,
         terms: &Terms<'_>,
         front: &[usize],
@@ -167,7 +170,7 @@ impl BestSearch {
     }
 
     // Is the front of the first `depth` classes live above the floor?
-    fn is_live(&self, terms: &Terms<'_>, depth: usize) -> bool
+    pub(crate) fn is_live(&self, terms: &Terms<'_>, depth: usize) -> bool
         requires terms { AreTerms terms.now }
         requires begins { BeginsAt terms.now.classes.now terms.now.closed.now terms.now.row.now depth self.now }
         ensures { result ≡ is_live_above terms.now.classes.now terms.now.closed.now terms.now.row.now self.now.floor (take depth self.now.counts.items) }
@@ -256,6 +259,95 @@ impl BestSearch {
             < self
                 .priced
                 .child(terms.sums, classes, terms.row, front, count, lack)
+    }
+
+    // The class after a live front is the next whose counts are tried.
+    pub(crate) fn begin(&mut self, terms: &Terms<'_>, front: &Front)
+        requires below { length front.now < length terms.now.classes.now.classes }
+        requires front { take (length front.now) self.old.counts.items ≡ front.now }
+        requires live { is_reachable terms.now.classes.now front.now ≡ true }
+        requires begins { BeginsAt terms.now.classes.now terms.now.closed.now terms.now.row.now (length front.now) self.old }
+        ensures stands { StandsAt terms.now.classes.now terms.now.closed.now terms.now.row.now (length front.now) (drop (length front.now + 1) terms.now.classes.now.classes) self.new }
+        ensures counts { self.new.counts ≡ self.old.counts }
+        ensures floor { self.new.floor ≡ self.old.floor }
+    {
+        self.tally.begin_class(terms.classes, front.counts());
+    }
+
+    // Pushes the live children of a front, with counts of the next class from so many above the least down to it.
+    pub(crate) fn push_children(
+        &mut self,
+        alloc: Global,
+        terms: &Terms<'_>,
+        front: &Front,
+        above: usize,
+        children: &mut Vec<Front>,
+    ) -> Result<(), AllocError>
+        requires terms { AreTerms terms.now }
+        requires below { length front.now < length terms.now.classes.now.classes }
+        requires can_take { CanTakeAbove terms.now.classes.now (length front.now) above }
+        requires above { above ≤ 400 }
+        requires front { take (length front.now) self.old.counts.items ≡ front.now }
+        requires stands { StandsAt terms.now.classes.now terms.now.closed.now terms.now.row.now (length front.now) (drop (length front.now + 1) terms.now.classes.now.classes) self.old }
+        ensures { OnOk result (children.new.items ≡ children.old.items
+            ++ live_among terms.now.classes.now terms.now.closed.now terms.now.row.now self.old.floor front.now (counts_at terms.now.classes.now (length front.now) above)) }
+    {
+        terms.classes.facts();
+        let count = terms.classes.classes()[front.counts().len()].least() + above;
+        self.push_child(alloc, terms, front, count, children)?;
+        if above == 0 {
+            return Ok(());
+        }
+        self.push_children(alloc, terms, front, above - 1, children)
+    }
+
+    // Pushes the child of a front with this count of the next class, where it is live.
+    fn push_child(
+        &mut self,
+        alloc: Global,
+        terms: &Terms<'_>,
+        front: &Front,
+        count: usize,
+        children: &mut Vec<Front>,
+    ) -> Result<(), AllocError>
+        requires terms { AreTerms terms.now }
+        requires below { length front.now < length terms.now.classes.now.classes }
+        requires can_take { CanTake terms.now.classes.now (length front.now) count }
+        requires count { count ≤ 1000 }
+        requires front { take (length front.now) self.old.counts.items ≡ front.now }
+        requires stands { StandsAt terms.now.classes.now terms.now.closed.now terms.now.row.now (length front.now) (drop (length front.now + 1) terms.now.classes.now.classes) self.old }
+        ensures children { OnOk result (children.new.items ≡ children.old.items
+            ++ live_among terms.now.classes.now terms.now.closed.now terms.now.row.now self.old.floor front.now (count ∷ [])) }
+        ensures stands { StandsAt terms.now.classes.now terms.now.closed.now terms.now.row.now (length front.now) (drop (length front.now + 1) terms.now.classes.now.classes) self.new }
+        ensures counts { self.new.counts ≡ self.old.counts }
+        ensures floor { self.new.floor ≡ self.old.floor }
+    {
+        if !self.allows(terms, front.counts().len(), count) {
+            return Ok(());
+        }
+        children.push(front.child(alloc, count)?)?;
+        Ok(())
+    }
+
+    // Is the child with this count of the next class live above the floor?
+    fn allows(&mut self, terms: &Terms<'_>, depth: usize, count: usize) -> bool
+        requires terms { AreTerms terms.now }
+        requires below { depth < length terms.now.classes.now.classes }
+        requires can_take { CanTake terms.now.classes.now depth count }
+        requires count { count ≤ 1000 }
+        requires stands { StandsAt terms.now.classes.now terms.now.closed.now terms.now.row.now depth (drop (depth + 1) terms.now.classes.now.classes) self.old }
+        ensures value { result ≡ is_live_above terms.now.classes.now terms.now.closed.now terms.now.row.now self.old.floor (take depth self.old.counts.items ++ count ∷ []) }
+        ensures stands { StandsAt terms.now.classes.now terms.now.closed.now terms.now.row.now depth (drop (depth + 1) terms.now.classes.now.classes) self.new }
+        ensures counts { self.new.counts ≡ self.old.counts }
+        ensures floor { self.new.floor ≡ self.old.floor }
+    {
+        if !self
+            .tally
+            .allows(terms.classes, &self.counts[..depth], count)
+        {
+            return false;
+        }
+        self.weights_allow(terms, depth, count)
     }
 
     #[cycle(search)]

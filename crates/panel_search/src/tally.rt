@@ -3,9 +3,9 @@
 ghost use Rattle.std.specs.Prelude.{◌≡◌, ◌+◌, ◌-◌, ◌*◌, ◌≤◌, ◌<◌, ◌++◌, ◌^◌, [], ◌∷◌, IfOk, true, nat_le, ◌&&◌, drop, length};
 ghost use Rattle.panel_search.specs.Front.{Gives, Tracks};
 ghost use Rattle.panel_search.specs.Tallies.{AreAtMost};
-ghost use Rattle.panel_search.specs.Weights.{AreWithin};
 ghost use Rattle.search_definitions.specs.Compositions.{takes_one_a_household};
 ghost use Rattle.search_definitions.specs.Fronts.{is_reachable, size_reachable, taken_by, values_reachable};
+ghost use Rattle.wave_definitions.specs.Below.{AreWithin};
 
 use crate::homes;
 use crate::tallies::{PLACES, add_to, all_within_reach, take_from, values_allow};

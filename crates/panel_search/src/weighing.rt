@@ -2,9 +2,10 @@
 
 ghost use Rattle.std.specs.Prelude.{◌≡◌, ◌+◌, ◌-◌, ◌*◌, ◌<◌, ◌≤◌, ◌^◌, ◌++◌, [], ◌∷◌, true, length, pos, ◌+ℤ◌, ◌*ℤ◌, unsigned_abs, int_le, IfOk};
 ghost use Rattle.std.specs.List.{list_all};
-ghost use Rattle.panel_search.specs.Weights.{AreNarrow, AreWithin, EachNarrow, IsSummed, SumEach, Weighs, WeighEach};
+ghost use Rattle.panel_search.specs.Weights.{AreNarrow, EachNarrow, IsSummed, SumEach, Weighs, WeighEach};
 ghost use Rattle.search_definitions.specs.Fronts.{optimistic, taken_by};
 ghost use Rattle.search_definitions.specs.Compositions.{weight_in};
+ghost use Rattle.wave_definitions.specs.Below.{AreWithin};
 
 use crate::greatest::Sums;
 use alike::Classes;

@@ -1,0 +1,270 @@
+-- The pieces of a search, class by class.
+use Rattle.std.proofs.Common.{◌≡◌, ℕ, zero, suc, ◌+◌, ◌-◌, ◌*◌, ◌≤◌, ◌<◌, Bool, true, false, cond, leb, ltb, ◌&&◌, List, [], ◌∷◌, ◌++◌, length, take, drop, filter, fold, map, get_or, refl, sym, ap, ◌∙◌, arith, subst, length-append, append_assoc}
+use Rattle.std.specs.Prelude.{slice_get, int_le, int_lt, ℤ, Some, Result, Ok, Err, Vec}
+use Rattle.std.specs.Result.{IsErrAnd}
+use Rattle.std.specs.declared.alloc.Global.{Global}
+use Rattle.std.specs.List.{AllByRecursion, flat_map, list_all, range_with_len}
+use Rattle.std.proofs.lemmas.Bool.{and_parts, false≢true, false_from_ne_true, leb-true, le-leb, ltb-true, ltb-false}
+use Rattle.std.proofs.lemmas.List.{append-nil, drop_more, drop-take, length-take-le}
+use Rattle.std.proofs.lemmas.List.FromFn.{get_or-range_with_len, length-range_with_len}
+use Rattle.std.proofs.lemmas.List.Sums.{fold-append, position_or_len_is}
+use Rattle.std.proofs.lemmas.Nat.{mul-le}
+use Rattle.std.proofs.lemmas.Option.{slice_get-get_or}
+use Rattle.basic_laws.proofs.Each.{each_append, each_filter}
+use Rattle.row_definitions.specs.Row.{Row}
+use Rattle.search_definitions.specs.Classes.{Class, Classes, KeepsLimits}
+use Rattle.search_definitions.specs.Compositions.{counts_of, counts_down}
+use Rattle.search_definitions.specs.Fronts.{is_live_above, is_reachable, optimistic}
+use Rattle.wave_definitions.specs.Below.{AreWithin}
+use Rattle.wave_definitions.specs.Waves.{Pieces, lists_of, piece_depth, pieces, pieces_below, together}
+use Rattle.wave_definitions.proofs.Pieces.{depth_within}
+use Rattle.panel_search.specs.Answers.{AnswersPieces}
+use Rattle.panel_search.specs.declared.searching.SearchStop.{SearchStop}
+use Rattle.panel_search.specs.declared.searching.SearchStop.TheVariants.{Spent}
+use Rattle.panel_search.specs.Pieces.{IsLiveFront, counts_first, live_among, live_children}
+use Rattle.panel_search.specs.Pricing.{CanTake}
+use Rattle.panel_search.specs.Steps.{counts_at}
+use Rattle.panel_search.proofs.BestStepping.{class_limits, same_class, within_more}
+use Rattle.panel_search.proofs.Stepping.{counts_here}
+use Rattle.panel_search.proofs.Tracking.{Stands, comes_next, stands_there}
+
+-- ---- how many classes
+
+lists_next : (all : Classes) (depth : ℕ) (class : Class) → Stands all depth class → lists_of (take (depth + 1) all.classes) ≡ lists_of (take depth all.classes) * (class.most - class.least + 1)
+lists_next all depth class stands =
+    let more : take (depth + 1) all.classes ≡ take depth all.classes ++ class ∷ [] = taken all.classes depth class stands.below stands.is in
+    ap lists_of more ∙ fold-append (λ lists (class : Class). lists * (class.most - class.least + 1)) 1 (take depth all.classes) (class ∷ [])
+  where
+    taken : (xs : List Class) (n : ℕ) (x : Class) → n < length xs → x ≡ get_or xs n x → take (n + 1) xs ≡ take n xs ++ x ∷ []
+    taken [] n x l e = absurd (omega arith)
+    taken (y ∷ ys) zero x l e = ap (λ (z : Class). z ∷ []) (sym e)
+    taken (y ∷ ys) (suc n) x l e = let same : suc n + 1 ≡ suc (n + 1) = omega arith in rw same (ap (λ (zs : List Class). y ∷ zs) (taken ys n x (omega arith) e))
+
+-- each number of classes so far has fewer lists
+pub few_next : (all : Classes) (depth lists next : ℕ) (class : Class) → KeepsLimits all → Stands all depth class → lists ≡ lists_of (take depth all.classes) → lists < 64 → ((k : ℕ) → k < depth → lists_of (take k all.classes) < 64) →
+    next ≡ lists * (class.most - class.least + 1) →
+    (next ≡ lists_of (take (depth + 1) all.classes)) × (next ≤ 30000) × ((k : ℕ) → k < depth + 1 → lists_of (take k all.classes) < 64)
+few_next all depth lists next class limits stands e few earlier f =
+    let bounds = class_limits all depth class limits stands in
+    let ways : class.most - class.least + 1 ≤ 401 = omega (arith, bounds.0, bounds.1, bounds.2) in (
+      f ∙ ap (λ n. n * (class.most - class.least + 1)) e ∙ sym (lists_next all depth class stands),
+      omega (arith, f, product lists (class.most - class.least + 1) few ways),
+      λ k l. by k l,
+    )
+  where
+    product : (m n : ℕ) → m < 64 → n ≤ 401 → m * n ≤ 30000
+    product m n l k = omega (arith, mul-le m n 63 401 (omega arith) k)
+
+    by : (k : ℕ) → k < depth + 1 → lists_of (take k all.classes) < 64
+    by k l = (elim (ltb k depth) as (λ b. ltb k depth ≡ b → lists_of (take k all.classes) < 64) [
+      | true ↦ λ t. earlier k (ltb-true k depth t)
+      | false ↦ λ t. let same : k ≡ depth = omega (arith, ltb-false k depth t) in omega (arith, ap (λ n. lists_of (take n all.classes)) same, e)
+    ]) refl
+
+pub depth_is : (all : Classes) (depth : ℕ) → depth ≤ length all.classes → ((k : ℕ) → k < depth → lists_of (take k all.classes) < 64) → (depth < length all.classes → 64 ≤ lists_of (take depth all.classes)) → depth ≡ piece_depth all
+depth_is all depth within earlier here =
+    let size = length-range_with_len 0 (length all.classes) in
+    sym (position_or_len_is (λ depth. leb 64 (lists_of (take depth all.classes))) (range_with_len 0 (length all.classes)) depth 0 (omega arith)
+    (λ k l. ap (λ n. leb 64 (lists_of (take n all.classes))) (place k (omega arith)) ∙ not_yet (lists_of (take k all.classes)) (earlier k l))
+    (λ l. ap (λ n. leb 64 (lists_of (take n all.classes))) (place depth (omega arith)) ∙ le-leb 64 (lists_of (take depth all.classes)) (here (omega arith))))
+  where
+    place : (k : ℕ) → k < length all.classes → get_or (range_with_len 0 (length all.classes)) k 0 ≡ k
+    place k l = omega (arith, get_or-range_with_len 0 (length all.classes) k 0 l)
+
+    not_yet : (n : ℕ) → n < 64 → leb 64 n ≡ false
+    not_yet n l = false_from_ne_true (leb 64 n) (λ e. absurd (omega (arith, leb-true 64 n e)))
+
+-- ---- the live children of a front
+
+among_next : (all : Classes) (closed : List Row) (row : Row) (floor : ℤ) (front : List ℕ) (c : ℕ) (counts : List ℕ) →
+    live_among all closed row floor front (c ∷ counts) ≡ live_among all closed row floor front (c ∷ []) ++ live_among all closed row floor front counts
+among_next all closed row floor front c counts =
+    elim (is_live_above all closed row floor (front ++ c ∷ [])) as (λ b. cond b ((front ++ c ∷ []) ∷ live_among all closed row floor front counts) (live_among all closed row floor front counts)
+    ≡ cond b ((front ++ c ∷ []) ∷ []) [] ++ live_among all closed row floor front counts) [
+      | true ↦ refl
+      | false ↦ refl
+    ]
+
+-- the last count
+pub among_last : (all : Classes) (closed : List Row) (row : Row) (floor : ℤ) (front : List ℕ) (class : Class) (above count : ℕ) → Stands all (length front) class → count ≡ class.least + above → above ≡ 0 →
+    live_among all closed row floor front (counts_at all (length front) above) ≡ live_among all closed row floor front (count ∷ [])
+among_last all closed row floor front class above count stands e z =
+    let least : class.least ≡ count = omega arith in
+    ap (live_among all closed row floor front) (counts_here all (length front) class above stands ∙ ap (counts_down class.least) z) ∙ ap (λ n. live_among all closed row floor front (n ∷ [])) least
+
+-- a count with others below it
+pub among_more : (all : Classes) (closed : List Row) (row : Row) (floor : ℤ) (front : List ℕ) (class : Class) (above count : ℕ) → Stands all (length front) class → count ≡ class.least + above → (above ≡ 0 → ⊥) →
+    live_among all closed row floor front (counts_at all (length front) above) ≡ live_among all closed row floor front (count ∷ []) ++ live_among all closed row floor front (counts_at all (length front) (above - 1))
+among_more all closed row floor front class zero count stands e some = absurd (some refl)
+among_more all closed row floor front class (suc more) count stands e some =
+    let less : suc more - 1 ≡ more = omega arith in
+    ap (live_among all closed row floor front) (counts_here all (length front) class (suc more) stands)
+    ∙ among_next all closed row floor front (class.least + suc more) (counts_down class.least more)
+    ∙ ap (λ n. live_among all closed row floor front (n ∷ []) ++ live_among all closed row floor front (counts_down class.least more)) (sym e)
+    ∙ ap (λ counts. live_among all closed row floor front (count ∷ []) ++ live_among all closed row floor front counts) (sym (counts_here all (length front) class more stands) ∙ ap (counts_at all (length front)) (sym less))
+
+-- all counts
+pub among_all : (all : Classes) (closed : List Row) (row : Row) (front : List ℕ) (class : Class) (above : ℕ) → Stands all (length front) class → above ≡ class.most - class.least →
+    live_among all closed row row.b front (counts_at all (length front) above) ≡ live_children all closed row front
+among_all all closed row front class above stands e =
+    ap (live_among all closed row row.b front) (counts_here all (length front) class above stands ∙ ap (counts_down class.least) e ∙ sym (ap counts_first (comes_next all (length front) class stands)))
+
+-- ---- from front to front
+
+abbrev pub firsts : Classes → List Class
+firsts all = take (piece_depth all) all.classes
+
+-- the pieces below fronts of so many classes
+abbrev pub below_each : Classes → List Row → Row → ℕ → List (List ℕ) → Pieces
+below_each all closed row depth fronts = together (map (λ front. pieces_below all closed row (drop depth (firsts all)) front) fronts)
+
+-- the pieces are those below these live fronts of so many classes, and so many fronts came before them
+pub record GoesOn (all : Classes) (closed : List Row) (row : Row) (depth so_far : ℕ) (here : List (List ℕ)) : Type 0 where
+  pub live : AllByRecursion (IsLiveFront all closed row depth) here
+  pub visits : (pieces all closed row).visits ≡ so_far + (below_each all closed row depth here).visits
+  pub fronts : (pieces all closed row).fronts ≡ (below_each all closed row depth here).fronts
+
+pub goes_first : (all : Classes) (closed : List Row) (row : Row) (fronts : List (List ℕ)) → fronts ≡ filter (is_live_above all closed row row.b) ([] ∷ []) → (length fronts ≡ 0 → ⊥) → GoesOn all closed row 0 0 fronts
+goes_first all closed row fronts e some = by (is_live_above all closed row row.b []) refl
+  where
+    by : (b : Bool) → is_live_above all closed row row.b [] ≡ b → GoesOn all closed row 0 0 fronts
+    by false dead = absurd (some (ap length e ∙ ap (λ b. let left : List (List ℕ) = cond b ([] ∷ []) [] in length left) dead))
+    by true live =
+        let only : fronts ≡ [] ∷ [] = e ∙ ap (λ b. cond b ([] ∷ []) []) live in
+        let begun : pieces all closed row ≡ pieces_below all closed row (firsts all) [] = ap (λ b. cond b (pieces_below all closed row (firsts all) []) (record { visits = 1; fronts = [] })) live in
+        subst (GoesOn all closed row 0 0) (sym only) (record {
+          live = (record { long = refl; within = λ t l. absurd (omega arith); live = live }, tt);
+          visits = omega (arith, ap (λ (p : Pieces). p.visits) begun);
+          fronts = ap (λ (p : Pieces). p.fronts) begun ∙ sym (append-nil (pieces_below all closed row (firsts all) []).fronts);
+        })
+
+pub none_begun : (all : Classes) (closed : List Row) (row : Row) (fronts : List (List ℕ)) → fronts ≡ filter (is_live_above all closed row row.b) ([] ∷ []) → length fronts ≡ 0 → (fronts ≡ []) × (pieces all closed row ≡ record { visits = 1; fronts = [] })
+none_begun all closed row fronts e none = by (is_live_above all closed row row.b []) refl
+  where
+    by : (b : Bool) → is_live_above all closed row row.b [] ≡ b → (fronts ≡ []) × (pieces all closed row ≡ record { visits = 1; fronts = [] })
+    by true live = absurd (omega (arith, ap length e, ap (λ b. let left : List (List ℕ) = cond b ([] ∷ []) [] in length left) live))
+    by false dead = (
+      e ∙ ap (λ b. cond b ([] ∷ []) []) dead,
+      ap (λ b. cond b (pieces_below all closed row (firsts all) []) (record { visits = 1; fronts = [] })) dead,
+    )
+
+together-append : {X : Type 0} (below : X → Pieces) (xs ys : List X) →
+    ((together (map below (xs ++ ys))).visits ≡ (together (map below xs)).visits + (together (map below ys)).visits) × ((together (map below (xs ++ ys))).fronts ≡ (together (map below xs)).fronts ++ (together (map below ys)).fronts)
+together-append below [] ys = (omega arith, refl)
+together-append below (x ∷ xs) ys =
+    let rest = together-append below xs ys in
+    (omega (arith, rest.0), ap (λ zs. (below x).fronts ++ zs) rest.1 ∙ sym (append_assoc (below x).fronts (together (map below xs)).fronts (together (map below ys)).fronts))
+
+-- one class more
+enter_each : (all : Classes) (closed : List Row) (row : Row) (class : Class) (later : List Class) (fronts : List (List ℕ)) → AllByRecursion (λ front. counts_first (drop (length front) all.classes) ≡ counts_of class) fronts →
+    ((together (map (λ front. pieces_below all closed row (class ∷ later) front) fronts)).visits ≡ length fronts + (together (map (λ front. pieces_below all closed row later front) (flat_map (live_children all closed row) fronts))).visits)
+    × ((together (map (λ front. pieces_below all closed row (class ∷ later) front) fronts)).fronts ≡ (together (map (λ front. pieces_below all closed row later front) (flat_map (live_children all closed row) fronts))).fronts)
+enter_each all closed row class later [] h = (omega arith, refl)
+enter_each all closed row class later (front ∷ fronts) h =
+    let below : List ℕ → Pieces = λ front. pieces_below all closed row later front in
+    let rest = enter_each all closed row class later fronts h.1 in
+    let split = together-append below (live_children all closed row front) (flat_map (live_children all closed row) fronts) in
+    let same : live_among all closed row row.b front (counts_of class) ≡ live_children all closed row front = ap (live_among all closed row row.b front) (sym h.0) in (
+      omega (arith, rest.0, split.0, ap (λ children. (together (map below children)).visits) same),
+      ap (λ children. (together (map below children)).fronts ++ (together (map (λ front. pieces_below all closed row (class ∷ later) front) fronts)).fronts) same
+          ∙ ap (λ zs. (together (map below (live_children all closed row front))).fronts ++ zs) rest.1 ∙ sym split.1,
+    )
+
+-- the classes of pieces from a place on
+pub firsts_from : (all : Classes) (depth : ℕ) (class : Class) → Stands all depth class → depth < piece_depth all → drop depth (firsts all) ≡ class ∷ drop (depth + 1) (firsts all)
+firsts_from all depth class stands below =
+    let size = length-take-le (piece_depth all) all.classes (depth_within all) in
+    drop_more (firsts all) depth class (omega arith) ∙ ap (λ (c : Class). c ∷ drop (depth + 1) (firsts all)) (first_same (piece_depth all) all.classes depth class below ∙ sym stands.is)
+  where
+    first_same : (n : ℕ) (xs : List Class) (i : ℕ) (d : Class) → i < n → get_or (take n xs) i d ≡ get_or xs i d
+    first_same zero xs i d l = absurd (omega arith)
+    first_same (suc n) [] i d l = refl
+    first_same (suc n) (x ∷ xs) zero d l = refl
+    first_same (suc n) (x ∷ xs) (suc i) d l = first_same n xs i d (omega arith)
+
+children_live : (all : Classes) (closed : List Row) (row : Row) (depth : ℕ) (class : Class) (front : List ℕ) → KeepsLimits all → Stands all depth class → IsLiveFront all closed row depth front →
+    AllByRecursion (IsLiveFront all closed row (depth + 1)) (live_among all closed row row.b front (counts_of class))
+children_live all closed row depth class front limits stands here =
+    let bounds = class_limits all depth class limits stands in
+    each_filter (IsLiveFront all closed row (depth + 1)) (is_live_above all closed row row.b) (map (λ c. front ++ c ∷ []) (counts_of class))
+    (counted class.least (class.most - class.least) (omega (arith, bounds.0, bounds.1)))
+  where
+    child : (c : ℕ) → c ≤ length class.members → is_live_above all closed row row.b (front ++ c ∷ []) ≡ true → IsLiveFront all closed row (depth + 1) (front ++ c ∷ [])
+    child c l live = record {
+      long = omega (arith, length-append front (c ∷ []), here.long);
+      within = within_more all front depth c here.long stands.below (λ other e. let same = same_class all depth class other stands e in omega (arith, l, ap (λ (class : Class). length class.members) same)) here.within;
+      live = live;
+    }
+
+    counted : (least more : ℕ) → least + more ≤ length class.members →
+        AllByRecursion (λ child. is_live_above all closed row row.b child ≡ true → IsLiveFront all closed row (depth + 1) child) (map (λ c. front ++ c ∷ []) (counts_down least more))
+    counted least zero l = (λ live. child least (omega arith) live, tt)
+    counted least (suc more) l = (λ live. child (least + suc more) (omega arith) live, counted least more (omega arith))
+
+pub goes_next : (all : Classes) (closed : List Row) (row : Row) (depth visits more : ℕ) (class : Class) (fronts next : List (List ℕ)) → KeepsLimits all → Stands all depth class → depth < piece_depth all → GoesOn all closed row depth visits fronts →
+    next ≡ flat_map (live_children all closed row) fronts → more ≡ visits + length fronts → GoesOn all closed row (depth + 1) more next
+goes_next all closed row depth visits more class fronts next limits stands below goes e f =
+    let from = firsts_from all depth class stands below in
+    let later = drop (depth + 1) (firsts all) in
+    let counts : AllByRecursion (λ front. counts_first (drop (length front) all.classes) ≡ counts_of class) fronts = each_count fronts goes.live in
+    let step = enter_each all closed row class later fronts counts in
+    let here = ap (λ classes. together (map (λ front. pieces_below all closed row classes front) fronts)) from in
+    subst (GoesOn all closed row (depth + 1) more) (sym e) (record {
+      live = each_child fronts goes.live counts;
+      visits = omega (arith, goes.visits, ap (λ (p : Pieces). p.visits) here, step.0);
+      fronts = goes.fronts ∙ ap (λ (p : Pieces). p.fronts) here ∙ step.1;
+    })
+  where
+    each_count : (fronts : List (List ℕ)) → AllByRecursion (IsLiveFront all closed row depth) fronts → AllByRecursion (λ front. counts_first (drop (length front) all.classes) ≡ counts_of class) fronts
+    each_count [] h = tt
+    each_count (front ∷ fronts) h = (ap (λ n. counts_first (drop n all.classes)) h.0.long ∙ ap counts_first (comes_next all depth class stands), each_count fronts h.1)
+
+    each_child : (fronts : List (List ℕ)) → AllByRecursion (IsLiveFront all closed row depth) fronts → AllByRecursion (λ front. counts_first (drop (length front) all.classes) ≡ counts_of class) fronts →
+        AllByRecursion (IsLiveFront all closed row (depth + 1)) (flat_map (live_children all closed row) fronts)
+    each_child [] h k = tt
+    each_child (front ∷ fronts) h k =
+        each_append (IsLiveFront all closed row (depth + 1)) (live_children all closed row front) (flat_map (live_children all closed row) fronts)
+        (subst (λ counts. AllByRecursion (IsLiveFront all closed row (depth + 1)) (live_among all closed row row.b front counts)) (sym k.0) (children_live all closed row depth class front limits stands h.0))
+        (each_child fronts h.1 k.1)
+
+-- more fronts are entered than may be
+pub goes_too_far : (all : Classes) (closed : List Row) (row : Row) (depth visits nodes : ℕ) (class : Class) (fronts : List (List ℕ)) → Stands all depth class → depth < piece_depth all → GoesOn all closed row depth visits fronts →
+    nodes < visits + length fronts → nodes < (pieces all closed row).visits
+goes_too_far all closed row depth visits nodes class fronts stands below goes l =
+    let from = firsts_from all depth class stands below in
+    let counts : AllByRecursion (λ front. counts_first (drop (length front) all.classes) ≡ counts_of class) fronts = each_count fronts goes.live in
+    let step = enter_each all closed row class (drop (depth + 1) (firsts all)) fronts counts in
+    let here = ap (λ classes. together (map (λ front. pieces_below all closed row classes front) fronts)) from in
+    omega (arith, l, goes.visits, ap (λ (p : Pieces). p.visits) here, step.0)
+  where
+    each_count : (fronts : List (List ℕ)) → AllByRecursion (IsLiveFront all closed row depth) fronts → AllByRecursion (λ front. counts_first (drop (length front) all.classes) ≡ counts_of class) fronts
+    each_count [] h = tt
+    each_count (front ∷ fronts) h = (ap (λ n. counts_first (drop n all.classes)) h.0.long ∙ ap counts_first (comes_next all depth class stands), each_count fronts h.1)
+
+-- with all classes of a piece's front
+pub goes_last : (all : Classes) (closed : List Row) (row : Row) (depth visits : ℕ) (fronts : List (List ℕ)) → depth ≡ piece_depth all → GoesOn all closed row depth visits fronts → ((pieces all closed row).visits ≡ visits) × ((pieces all closed row).fronts ≡ fronts)
+goes_last all closed row depth visits fronts e goes =
+    let none : drop depth (firsts all) ≡ [] = ap (λ n. drop n (firsts all)) (e ∙ sym (length-take-le (piece_depth all) all.classes (depth_within all))) ∙ dropped (firsts all) in
+    let here = ap (λ classes. together (map (λ front. pieces_below all closed row classes front) fronts)) none in
+    let only = each_only fronts in
+    (omega (arith, goes.visits, ap (λ (p : Pieces). p.visits) here, only.0), goes.fronts ∙ ap (λ (p : Pieces). p.fronts) here ∙ only.1)
+  where
+    dropped : (xs : List Class) → drop (length xs) xs ≡ []
+    dropped [] = refl
+    dropped (x ∷ xs) = dropped xs
+
+    each_only : (fronts : List (List ℕ)) → ((together (map (λ front. pieces_below all closed row [] front) fronts)).visits ≡ 0) × ((together (map (λ front. pieces_below all closed row [] front) fronts)).fronts ≡ fronts)
+    each_only [] = (refl, refl)
+    each_only (front ∷ fronts) = let rest = each_only fronts in (omega (arith, rest.0), ap (λ zs. front ∷ zs) rest.1)
+
+-- ---- in the words of the code
+
+-- the class after a front
+pub stands_after : (all : Classes) (front items : List ℕ) (classes : List Class) (class : Class) → length front < length all.classes → items ≡ front → classes ≡ all.classes → class ≡ get_or classes (length items) class → Stands all (length front) class
+stands_after all front items classes class below e f is =
+    stands_there all (length front) classes class below f (is ∙ ap (λ xs. get_or classes (length xs) class) e)
+
+-- the budget is spent
+pub pieces_spent : (parts : Pieces) (nodes : ℕ) (result : Result (Vec (List ℕ) Global × ℕ) SearchStop) → IsErrAnd result (λ e. e ≡ Spent) → nodes < parts.visits → AnswersPieces parts nodes result
+pieces_spent parts nodes (Ok answer) h l = absurd h
+pieces_spent parts nodes (Err stop) h l = subst (λ stop. AnswersPieces parts nodes (Err stop)) (sym h) l

@@ -1,0 +1,26 @@
+-- The pieces of a search, as they are made class by class.
+use Rattle.std.specs.Prelude.{◌≡◌, ℕ, ◌<◌, true, List, [], ◌∷◌, ◌++◌, drop, filter, length, map, ℤ}
+use Rattle.row_definitions.specs.Row.{Row}
+use Rattle.search_definitions.specs.Classes.{Class, Classes}
+use Rattle.search_definitions.specs.Compositions.{counts_of}
+use Rattle.search_definitions.specs.Fronts.{is_live_above}
+use Rattle.wave_definitions.specs.Below.{AreWithin}
+
+-- a live front of so many first classes, with the floor at the row's right side
+pub record IsLiveFront (all : Classes) (closed : List Row) (row : Row) (depth : ℕ) (front : List ℕ) : Type 0 where
+  pub long : length front ≡ depth
+  pub within : AreWithin all front
+  pub live : is_live_above all closed row row.b front ≡ true
+
+-- the children of a front that are live above a floor, with these counts of the next class
+abbrev pub live_among : Classes → List Row → Row → ℤ → List ℕ → List ℕ → List (List ℕ)
+live_among all closed row floor front counts = filter (is_live_above all closed row floor) (map (λ c. front ++ c ∷ []) counts)
+
+-- the counts that the first of these classes may have
+abbrev pub counts_first : List Class → List ℕ
+counts_first [] = []
+counts_first (class ∷ later) = counts_of class
+
+-- the live children of a front, with the floor at the row's right side
+abbrev pub live_children : Classes → List Row → Row → List ℕ → List (List ℕ)
+live_children all closed row front = live_among all closed row row.b front (counts_first (drop (length front) all.classes))

@@ -1,0 +1,124 @@
+//! A row that is priced over closed rows, with all that the searches of its pricing read.
+
+ghost use Rattle.std.specs.Prelude.{◌≡◌, IfOk};
+ghost use Rattle.std.specs.List.{AllByRecursion};
+ghost use Rattle.panel_search.specs.Answers.{AnswersBest, AnswersPieces};
+ghost use Rattle.panel_search.specs.Pricers.{ArePriced};
+ghost use Rattle.panel_search.specs.Terms.{AreTerms};
+ghost use Rattle.wave_definitions.specs.Below.{IsFront, best_below, search_from};
+ghost use Rattle.wave_definitions.specs.Waves.{pieces};
+
+use crate::dividing::pieces;
+use crate::fronts::Front;
+use crate::greatest::Sums;
+use crate::pricing::{Terms, search_from};
+use crate::searching::SearchStop;
+use alike::{Classes, Composition};
+use row_model::Row;
+use std::alloc::Global;
+use std::marker::Model;
+
+/// A row that is priced over closed rows, with the greatest sums of units that classes give in each of them. The searches of a pricing
+/// change none of it, so they may read it side by side.
+#[derive(Debug, Drop)]
+pub struct PricedRow<'p> {
+    classes: &'p Classes,
+    closed: &'p [Row],
+    closed_sums: &'p [Sums],
+    row: &'p Row,
+    sums: Sums,
+}
+
+impl<'p> Model for PricedRow<'p> {
+    ghost use Rattle.panel_search.specs.Pricers.{Priced};
+
+    ghost Value = { Priced };
+
+    ghost use Rattle.panel_search.specs.Pricers.{ArePriced};
+
+    ghost view = { λ p. record { classes = p.classes.now; closed = p.closed.now; row = p.row.now } };
+
+    ghost invariant = { λ p. ArePriced p.classes.now p.closed.now p.row.now p.closed_sums.now p.sums };
+}
+
+impl<'p> PricedRow<'p> {
+    // Of a row with its sums, over closed rows with theirs.
+    pub(crate) fn new(
+        classes: &'p Classes,
+        closed: &'p [Row],
+        closed_sums: &'p [Sums],
+        row: &'p Row,
+        sums: Sums,
+    ) -> PricedRow<'p>
+        requires { ArePriced classes.now closed.now row.now closed_sums.now sums }
+        ensures { result ≡ record { classes = classes.now; closed = closed.now; row = row.now } }
+    {
+        PricedRow {
+            classes,
+            closed,
+            closed_sums,
+            row,
+            sums,
+        }
+    }
+
+    /// The classes that the rows are over.
+    pub fn classes(&self) -> &'p Classes
+        ensures { result.now ≡ self.now.classes }
+    {
+        self.classes
+    }
+
+    /// The row that is priced.
+    pub fn row(&self) -> &'p Row
+        ensures { result.now ≡ self.now.row }
+    {
+        self.row
+    }
+
+    // What the searches read.
+    pub(crate) fn terms(&self) -> Terms<'_>
+        ensures terms { AreTerms result }
+        ensures classes { result.classes.now ≡ self.now.classes }
+        ensures closed { result.closed.now ≡ self.now.closed }
+        ensures row { result.row.now ≡ self.now.row }
+    {
+        Terms {
+            classes: self.classes,
+            closed: self.closed,
+            closed_sums: self.closed_sums,
+            row: self.row,
+            sums: &self.sums,
+        }
+    }
+
+    /// The fronts of the pieces of the pricing's search in waves, in order, with the visits to the fronts before them, if these are at
+    /// most `nodes`. Where the empty front isn't live there is no piece, and one visit. Each front has at most one count for each class,
+    /// and each count is at most the size of its class.
+    pub fn pieces(&self, alloc: Global, nodes: u64) -> Result<(Vec<Front>, u64), SearchStop>
+        ensures answers { AnswersPieces (pieces self.now.classes self.now.closed self.now.row) nodes result }
+        ensures fronts { IfOk result (λ answer. AllByRecursion (IsFront self.now.classes) answer.0.items) }
+    {
+        self.classes.facts();
+        pieces(alloc, &self.terms(), nodes)
+    }
+
+    /// Of the compositions that begin with a front and whose weight in each closed row is at least its right side: the one of greatest
+    /// weight in the row above a floor, of equals the first in order, or None exactly where none weighs more than the floor; with the
+    /// visits of the search, if these are at most `nodes`. Where the front isn't live above the floor there is no visit. The front has
+    /// at most one count for each class, and each is at most the size of its class. All memory is taken before the first visit.
+    pub fn best_from(
+        &self,
+        alloc: Global,
+        front: &Front,
+        floor: i128,
+        nodes: u64,
+    ) -> Result<(Option<Composition>, u64), SearchStop>
+        requires { IsFront self.now.classes front.now }
+        ensures answers { AnswersBest (search_from self.now.classes self.now.closed self.now.row front.now floor) nodes result }
+        ensures best { IfOk result (λ answer. answer.0 ≡ best_below self.now.classes self.now.closed self.now.row front.now floor) }
+    {
+        self.classes.facts();
+        search_from(alloc, &self.terms(), front.counts(), floor, nodes)
+    }
+}

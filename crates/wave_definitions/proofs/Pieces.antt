@@ -1,0 +1,214 @@
+-- The compositions below the pieces are those that are sought, and what pieces are.
+use Rattle.std.proofs.Common.{◌≡◌, ℕ, zero, suc, ◌+◌, ◌-◌, ◌≤◌, ◌<◌, Bool, true, false, cond, List, [], ◌∷◌, ◌++◌, map, length, filter, take, drop, fold, ℤ, Some, refl, sym, ap, ◌∙◌, arith, subst, length-append, append_assoc}
+use Rattle.std.specs.Prelude.{int_lt, nat_le, not, slice_index}
+use Rattle.std.specs.List.{flat_map, All, AllByRecursion, position_or_len, range_with_len}
+use Rattle.std.proofs.lemmas.Grind.{flat_map-append}
+use Rattle.std.proofs.lemmas.List.{append-nil, length-take-le}
+use Rattle.std.proofs.lemmas.List.FromFn.{length-range_with_len}
+use Rattle.std.proofs.lemmas.List.Sums.{fold-append, prefix_len-le-length}
+use borrow.Author.Differences.{lt-true, lt-false}
+use Rattle.basic_laws.proofs.Each.{each_map, each_append, each_both, each_left}
+use Rattle.row_definitions.specs.Row.{Row}
+use Rattle.search_definitions.specs.Classes.{Class, Classes, KeepsLimits}
+use Rattle.search_definitions.specs.Compositions.{counts_of, counts_down, weight_in}
+use Rattle.search_definitions.specs.Fronts.{HaveEntries, is_live_above}
+use Rattle.search_definitions.proofs.FirstSearch.{InOrder, Split, child_splits}
+use Rattle.search_definitions.proofs.BestSearch.{Kept, keep}
+use Rattle.wave_definitions.specs.Below.{IsFront}
+use Rattle.wave_definitions.specs.Waves.{Pieces, lists_of, piece_depth, together, pieces_below, pieces}
+use Rattle.wave_definitions.proofs.Below.{keep_none, sought, none_better, sought_by_child, halves}
+
+-- ---- a floor that has risen
+
+-- the floor is not below another one
+abbrev pub IsAtLeast : ℤ → ℤ → Type 0
+IsAtLeast floor base = int_lt floor base ≡ false
+
+pub floor_rises : (weight : List ℕ → ℤ) (base : ℤ) (kept : Kept) (xs : List (List ℕ)) → IsAtLeast kept.0 base → IsAtLeast (fold (keep weight) kept xs).0 base
+floor_rises weight base kept [] h = h
+floor_rises weight base kept (x ∷ xs) h =
+    (elim (int_lt kept.0 (weight x)) as (λ b. int_lt kept.0 (weight x) ≡ b → IsAtLeast (fold (keep weight) (cond b (weight x, Some x) kept) xs).0 base) [
+      | true ↦ λ above. floor_rises weight base (weight x, Some x) xs (higher kept.0 (weight x) base h above)
+      | false ↦ λ e. floor_rises weight base kept xs h
+    ]) refl
+  where
+    higher : (floor more base : ℤ) → IsAtLeast floor base → int_lt floor more ≡ true → IsAtLeast more base
+    higher floor more base h above = by (int_lt more base) refl
+      where
+        by : (b : Bool) → int_lt more base ≡ b → b ≡ false
+        by false e = refl
+        by true e = absurd (omega (arith, lt-false floor base h, lt-true floor more above, lt-true more base e))
+
+pub not_above : (floor base x : ℤ) → IsAtLeast floor base → int_lt base x ≡ false → int_lt floor x ≡ false
+not_above floor base x h e = by (int_lt floor x) refl
+  where
+    by : (b : Bool) → int_lt floor x ≡ b → b ≡ false
+    by false f = refl
+    by true f = absurd (omega (arith, lt-false floor base h, lt-false base x e, lt-true floor x f))
+
+-- ---- the compositions below the pieces
+
+module _ (all : Classes) (closed : List Row) (row : Row) (later : List Class) where
+  -- the compositions below fronts
+  abbrev below_each : List (List ℕ) → List (List ℕ)
+  below_each fronts = flat_map (λ front. sought all closed front later) fronts
+
+  abbrev keeping : Kept → List (List ℕ) → Kept
+  keeping kept xs = fold (keep (weight_in row.a)) kept xs
+
+  children_pieces : (firsts : List Class) (front : List ℕ) →
+      ((c : ℕ) (kept : Kept) → IsAtLeast kept.0 row.b → is_live_above all closed row row.b (front ++ c ∷ []) ≡ true →
+      keeping kept (below_each (pieces_below all closed row firsts (front ++ c ∷ [])).fronts) ≡ keeping kept (sought all closed (front ++ c ∷ []) (firsts ++ later))) →
+      ((c : ℕ) → is_live_above all closed row row.b (front ++ c ∷ []) ≡ false → AllByRecursion (λ counts. int_lt row.b (weight_in row.a counts) ≡ false) (sought all closed (front ++ c ∷ []) (firsts ++ later))) →
+      (cs : List ℕ) (kept : Kept) → IsAtLeast kept.0 row.b →
+      keeping kept (below_each (together (map (λ child. pieces_below all closed row firsts child) (filter (is_live_above all closed row row.b) (map (λ c. front ++ c ∷ []) cs)))).fronts)
+      ≡ keeping kept (flat_map (λ c. sought all closed (front ++ c ∷ []) (firsts ++ later)) cs)
+  children_pieces firsts front lives dies [] kept h = refl
+  children_pieces firsts front lives dies (c ∷ cs) kept h =
+      let child = front ++ c ∷ [] in
+      let others = filter (is_live_above all closed row row.b) (map (λ c. front ++ c ∷ []) cs) in
+      let rest = (together (map (λ child. pieces_below all closed row firsts child) others)).fronts in
+      let here = (pieces_below all closed row firsts child).fronts in
+      let L = sought all closed child (firsts ++ later) in
+      let M = flat_map (λ c. sought all closed (front ++ c ∷ []) (firsts ++ later)) cs in
+      (elim (is_live_above all closed row row.b child) as (λ b. is_live_above all closed row row.b child ≡ b →
+      keeping kept (below_each (together (map (λ child. pieces_below all closed row firsts child) (cond b (child ∷ others) others))).fronts) ≡ keeping kept (L ++ M)) [
+        | true ↦ λ live. ap (keeping kept) (flat_map-append (λ front. sought all closed front later) here rest)
+            ∙ fold-append (keep (weight_in row.a)) kept (below_each here) (below_each rest)
+            ∙ ap (λ kept. keeping kept (below_each rest)) (lives c kept h live)
+            ∙ children_pieces firsts front lives dies cs (keeping kept L) (floor_rises (weight_in row.a) row.b kept L h)
+            ∙ sym (fold-append (keep (weight_in row.a)) kept L M)
+        | false ↦ λ dead. children_pieces firsts front lives dies cs kept h
+            ∙ ap (λ kept. keeping kept M) (sym (keep_none (weight_in row.a) kept.0 kept.1 L
+            (each_map (λ counts. int_lt row.b (weight_in row.a counts) ≡ false) (λ counts. int_lt kept.0 (weight_in row.a counts) ≡ false) (λ counts e. not_above kept.0 row.b (weight_in row.a counts) h e) L (dies c dead))))
+            ∙ sym (fold-append (keep (weight_in row.a)) kept L M)
+      ]) refl
+
+  -- from a floor that is at least the row's right side, the pieces below a front keep what the front's compositions keep
+  pub pieces_keep : (pre firsts : List Class) (front : List ℕ) (kept : Kept) → Split all pre (firsts ++ later) front → InOrder (firsts ++ later) → HaveEntries all (row ∷ closed) → IsAtLeast kept.0 row.b →
+      keeping kept (below_each (pieces_below all closed row firsts front).fronts) ≡ keeping kept (sought all closed front (firsts ++ later))
+  pieces_keep pre [] front kept split order entries h = ap (keeping kept) (append-nil (sought all closed front later))
+  pieces_keep pre (class ∷ firsts) front kept split order entries h =
+      children_pieces firsts front
+      (λ c kept h live. pieces_keep (pre ++ class ∷ []) firsts (front ++ c ∷ []) kept (child_splits all pre (firsts ++ later) class front c split) order.1 entries h)
+      (λ c dead. none_better all closed row row.b (pre ++ class ∷ []) (firsts ++ later) (front ++ c ∷ []) (child_splits all pre (firsts ++ later) class front c split) order.1 entries dead)
+      (counts_of class) kept h
+      ∙ ap (keeping kept) (sought_by_child all closed front class (firsts ++ later))
+
+-- ---- what pieces are
+
+each_together : (P : List ℕ → Type 0) (parts : List Pieces) → AllByRecursion (λ part. AllByRecursion P part.fronts) parts → AllByRecursion P (together parts).fronts
+each_together P [] h = tt
+each_together P (part ∷ parts) h = each_append P part.fronts (together parts).fronts h.0 (each_together P parts h.1)
+
+-- what holds of each child of a front below which it holds of each piece
+each_child : (P : List ℕ → Type 0) (live : List ℕ → Bool) (below : List ℕ → Pieces) (children : List (List ℕ)) → AllByRecursion (λ child. AllByRecursion P (below child).fronts) children →
+    AllByRecursion P (together (map below (filter live children))).fronts
+each_child P live below [] h = tt
+each_child P live below (child ∷ children) h =
+    elim (live child) as (λ b. AllByRecursion P (together (map below (cond b (child ∷ filter live children) (filter live children)))).fronts) [
+      | true ↦ each_append P (below child).fronts (together (map below (filter live children))).fronts h.0 (each_child P live below children h.1)
+      | false ↦ each_child P live below children h.1
+    ]
+
+each_made : {X : Type 0} (P : List ℕ → Type 0) (f : X → List ℕ) (xs : List X) → AllByRecursion (λ x. P (f x)) xs → AllByRecursion P (map f xs)
+each_made P f [] h = tt
+each_made P f (x ∷ xs) h = (h.0, each_made P f xs h.1)
+
+everywhere : {X : Type 0} (P : X → Type 0) → ((x : X) → P x) → (xs : List X) → AllByRecursion P xs
+everywhere P h [] = tt
+everywhere P h (x ∷ xs) = (h x, everywhere P h xs)
+
+pub lengths : (all : Classes) (closed : List Row) (row : Row) (firsts : List Class) (front : List ℕ) →
+    AllByRecursion (λ piece. length piece ≡ length front + length firsts) (pieces_below all closed row firsts front).fronts
+lengths all closed row [] front = (omega arith, tt)
+lengths all closed row (class ∷ firsts) front =
+    each_child (λ piece. length piece ≡ length front + suc (length firsts)) (is_live_above all closed row row.b) (λ child. pieces_below all closed row firsts child) (map (λ c. front ++ c ∷ []) (counts_of class))
+    (each_made (λ child. AllByRecursion (λ piece. length piece ≡ length front + suc (length firsts)) (pieces_below all closed row firsts child).fronts) (λ c. front ++ c ∷ []) (counts_of class)
+    (everywhere (λ c. AllByRecursion (λ piece. length piece ≡ length front + suc (length firsts)) (pieces_below all closed row firsts (front ++ c ∷ [])).fronts)
+    (λ c. each_map (λ piece. length piece ≡ length (front ++ c ∷ []) + length firsts) (λ piece. length piece ≡ length front + suc (length firsts))
+    (λ piece e. omega (arith, e, length-append front (c ∷ []))) (pieces_below all closed row firsts (front ++ c ∷ [])).fronts (lengths all closed row firsts (front ++ c ∷ [])))
+    (counts_of class)))
+
+position_within : {X : Type 0} (p : X → Bool) (xs : List X) → position_or_len p xs ≤ length xs
+position_within p xs = prefix_len-le-length (λ x. not (p x)) xs
+
+pub depth_within : (all : Classes) → piece_depth all ≤ length all.classes
+depth_within all = omega (arith, position_within (λ depth. nat_le 64 (lists_of (take depth all.classes))) (range_with_len 0 (length all.classes)), length-range_with_len 0 (length all.classes))
+
+pub piece_lengths : (all : Classes) (closed : List Row) (row : Row) → AllByRecursion (λ front. length front ≡ piece_depth all) (pieces all closed row).fronts
+piece_lengths all closed row =
+    elim (is_live_above all closed row row.b []) as (λ b. AllByRecursion (λ front. length front ≡ piece_depth all) (cond b (pieces_below all closed row (take (piece_depth all) all.classes) []) (record { visits = 1; fronts = [] })).fronts) [
+      | true ↦ each_map (λ piece. length piece ≡ 0 + length (take (piece_depth all) all.classes)) (λ piece. length piece ≡ piece_depth all)
+          (λ piece e. omega (arith, e, length-take-le (piece_depth all) all.classes (depth_within all)))
+          (pieces_below all closed row (take (piece_depth all) all.classes) []).fronts (lengths all closed row (take (piece_depth all) all.classes) [])
+      | false ↦ tt
+    ]
+
+-- ---- counts within the classes' sizes
+
+-- each count is at most the size of its class, class by class
+abbrev Fit : List Class → List ℕ → Type 0
+Fit [] [] = Unit {0}
+Fit [] (c ∷ counts) = ⊥
+Fit (class ∷ classes) [] = Unit {0}
+Fit (class ∷ classes) (c ∷ counts) = (c ≤ length class.members) × Fit classes counts
+
+fit_none : (classes : List Class) → Fit classes []
+fit_none [] = tt
+fit_none (class ∷ classes) = tt
+
+fit_more : (pre later : List Class) (class : Class) (front : List ℕ) (c : ℕ) → Fit (pre ++ class ∷ later) front → length front ≡ length pre → c ≤ length class.members → Fit (pre ++ class ∷ later) (front ++ c ∷ [])
+fit_more [] later class [] c fit e l = (l, fit_none later)
+fit_more [] later class (b ∷ front) c fit e l = absurd (omega arith)
+fit_more (one ∷ pre) later class [] c fit e l = absurd (omega arith)
+fit_more (one ∷ pre) later class (b ∷ front) c fit e l = (fit.0, fit_more pre later class front c fit.1 (omega arith) l)
+
+fit_at : (classes : List Class) (counts : List ℕ) (t : ℕ) → Fit classes counts → t < length counts → slice_index counts t ≤ slice_index (map (λ class. length class.members) classes) t
+fit_at classes [] t fit l = absurd (omega arith)
+fit_at [] (c ∷ counts) t fit l = absurd fit
+fit_at (class ∷ classes) (c ∷ counts) zero fit l = fit.0
+fit_at (class ∷ classes) (c ∷ counts) (suc t) fit l = fit_at classes counts t fit.1 (omega arith)
+
+fit_few : (classes : List Class) (counts : List ℕ) → Fit classes counts → length counts ≤ length classes
+fit_few [] [] fit = omega arith
+fit_few [] (c ∷ counts) fit = absurd fit
+fit_few (class ∷ classes) [] fit = omega arith
+fit_few (class ∷ classes) (c ∷ counts) fit = omega (arith, fit_few classes counts fit.1)
+
+-- a class has no less than its least, and no more than all members are taken
+abbrev InSize : Class → Type 0
+InSize class = (class.least ≤ class.most) × (class.most ≤ length class.members)
+
+each_of : {X : Type 0} (P : X → Type 0) (xs : List X) → All P xs → AllByRecursion P xs
+each_of P [] h = tt
+each_of P (x ∷ xs) h = (h 0 x (omega arith), each_of P xs (λ k d l. h (suc k) d (omega arith)))
+
+counts_fit : (least more most : ℕ) → least + more ≤ most → AllByRecursion (λ c. c ≤ most) (counts_down least more)
+counts_fit least zero most l = (omega arith, tt)
+counts_fit least (suc more) most l = (omega arith, counts_fit least more most (omega arith))
+
+pieces_fit : (all : Classes) (closed : List Row) (row : Row) (pre firsts later : List Class) (front : List ℕ) → all.classes ≡ pre ++ (firsts ++ later) → length front ≡ length pre → AllByRecursion InSize firsts → Fit all.classes front →
+    AllByRecursion (Fit all.classes) (pieces_below all closed row firsts front).fronts
+pieces_fit all closed row pre [] later front whole long sizes fit = (fit, tt)
+pieces_fit all closed row pre (class ∷ firsts) later front whole long sizes fit =
+    let next : all.classes ≡ (pre ++ class ∷ []) ++ (firsts ++ later) = whole ∙ sym (append_assoc pre (class ∷ []) (firsts ++ later)) in
+    each_child (Fit all.classes) (is_live_above all closed row row.b) (λ child. pieces_below all closed row firsts child) (map (λ c. front ++ c ∷ []) (counts_of class))
+    (each_made (λ child. AllByRecursion (Fit all.classes) (pieces_below all closed row firsts child).fronts) (λ c. front ++ c ∷ []) (counts_of class)
+    (each_map (λ c. c ≤ class.most) (λ c. AllByRecursion (Fit all.classes) (pieces_below all closed row firsts (front ++ c ∷ [])).fronts)
+    (λ c l. pieces_fit all closed row (pre ++ class ∷ []) firsts later (front ++ c ∷ []) next (omega (arith, long, length-append front (c ∷ []), length-append pre (class ∷ []))) sizes.1
+    (subst (λ classes. Fit classes (front ++ c ∷ [])) (sym whole) (fit_more pre (firsts ++ later) class front c (subst (λ classes. Fit classes front) whole fit) long (omega (arith, l, sizes.0.1)))))
+    (counts_of class) (counts_fit class.least (class.most - class.least) class.most (omega (arith, sizes.0.0)))))
+
+pub pieces_within : (all : Classes) (closed : List Row) (row : Row) → KeepsLimits all → AllByRecursion (IsFront all) (pieces all closed row).fronts
+pieces_within all closed row limits =
+    let firsts = take (piece_depth all) all.classes in
+    let sizes : AllByRecursion InSize all.classes = each_both (λ (class : Class). class.least ≤ class.most) (λ (class : Class). class.most ≤ length class.members) all.classes limits.searchable.in_order
+    (each_of (λ (class : Class). class.most ≤ length class.members) all.classes limits.most) in
+    elim (is_live_above all closed row row.b []) as (λ b. AllByRecursion (IsFront all) (cond b (pieces_below all closed row firsts []) (record { visits = 1; fronts = [] })).fronts) [
+      | true ↦ each_map (Fit all.classes) (IsFront all) (λ front fit. record { few = fit_few all.classes front fit; within = λ t l. fit_at all.classes front t fit l })
+          (pieces_below all closed row firsts []).fronts
+          (pieces_fit all closed row [] firsts (drop (piece_depth all) all.classes) [] (halves (piece_depth all) all.classes) refl
+          (each_left InSize firsts (drop (piece_depth all) all.classes) (subst (AllByRecursion InSize) (halves (piece_depth all) all.classes) sizes)) (fit_none all.classes))
+      | false ↦ tt
+    ]
