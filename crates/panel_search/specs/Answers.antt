@@ -1,5 +1,5 @@
 -- What a search under a budget of visits answers.
-use Rattle.std.specs.Prelude.{◌≡◌, ◌≤◌, ◌<◌, ℕ, List, Option, Result, Ok, Err, Vec, vec_items}
+use Rattle.std.specs.Prelude.{◌≡◌, ◌≤◌, ◌<◌, ℕ, ℤ, List, Option, Some, None, Result, Ok, Err, Vec, vec_items}
 use Rattle.std.specs.declared.alloc.Global.{Global}
 use Rattle.search_definitions.specs.Visits.{Search, Pricing}
 use Rattle.wave_definitions.specs.Waves.{Pieces}
@@ -34,3 +34,19 @@ abbrev pub AnswersPieces : Pieces → ℕ → Result (Vec (List ℕ) Global × �
 AnswersPieces parts nodes (Ok (fronts, visits)) = (parts.visits ≤ nodes) × (vec_items fronts ≡ parts.fronts) × (visits ≡ parts.visits)
 AnswersPieces parts nodes (Err Spent) = nodes < parts.visits
 AnswersPieces parts nodes (Err OutOfMemory) = Unit {0}
+
+-- what a search kept, with its floor at the end, which is the weight of what it kept
+abbrev pub IsKept : Pricing → Option (List ℕ × ℤ) → Type 0
+IsKept pricing None = pricing.kept ≡ None
+IsKept pricing (Some (counts, weight)) = (pricing.kept ≡ Some counts) × (weight ≡ pricing.floor)
+
+-- what a search that has its memory kept, with its weight, and its visits, where these stay within the budget, else that the budget is spent
+abbrev pub AnswersWeighedWithin : Pricing → ℕ → Result (Option (List ℕ × ℤ) × ℕ) BudgetSpent → Type 0
+AnswersWeighedWithin pricing nodes (Ok (found, visits)) = (pricing.visits ≤ nodes) × IsKept pricing found × (visits ≡ pricing.visits)
+AnswersWeighedWithin pricing nodes (Err spent) = nodes < pricing.visits
+
+-- the same; want of memory may come at any time
+abbrev pub AnswersWeighed : Pricing → ℕ → Result (Option (List ℕ × ℤ) × ℕ) SearchStop → Type 0
+AnswersWeighed pricing nodes (Ok (found, visits)) = (pricing.visits ≤ nodes) × IsKept pricing found × (visits ≡ pricing.visits)
+AnswersWeighed pricing nodes (Err Spent) = nodes < pricing.visits
+AnswersWeighed pricing nodes (Err OutOfMemory) = Unit {0}

@@ -25,6 +25,6 @@ mod weighing;
 
 pub use fronts::Front;
 pub use priced::PricedRow;
-pub use pricer::{Pricer, best, best_from, pieces};
+pub use pricer::{Pricer, best, best_from, pieces, pricer_of};
 pub use row_model::Row;
 pub use searching::{SearchStop, first};

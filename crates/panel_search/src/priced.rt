@@ -2,7 +2,7 @@
 
 ghost use Rattle.std.specs.Prelude.{◌≡◌, IfOk};
 ghost use Rattle.std.specs.List.{AllByRecursion};
-ghost use Rattle.panel_search.specs.Answers.{AnswersBest, AnswersPieces};
+ghost use Rattle.panel_search.specs.Answers.{AnswersBest, AnswersPieces, AnswersWeighed};
 ghost use Rattle.panel_search.specs.Pricers.{ArePriced};
 ghost use Rattle.panel_search.specs.Terms.{AreTerms};
 ghost use Rattle.wave_definitions.specs.Below.{IsFront, best_below, search_from};
@@ -11,7 +11,7 @@ ghost use Rattle.wave_definitions.specs.Waves.{pieces};
 use crate::dividing::pieces;
 use crate::fronts::Front;
 use crate::greatest::Sums;
-use crate::pricing::{Terms, search_from};
+use crate::pricing::{Terms, search_from, search_weighed};
 use crate::searching::SearchStop;
 use alike::{Classes, Composition};
 use row_model::Row;
@@ -120,5 +120,20 @@ impl<'p> PricedRow<'p> {
     {
         self.classes.facts();
         search_from(alloc, &self.terms(), front.counts(), floor, nodes)
+    }
+
+    /// The same with the weight of what is found in the row.
+    pub fn weighed_from(
+        &self,
+        alloc: Global,
+        front: &Front,
+        floor: i128,
+        nodes: u64,
+    ) -> Result<(Option<(Composition, i128)>, u64), SearchStop>
+        requires { IsFront self.now.classes front.now }
+        ensures { AnswersWeighed (search_from self.now.classes self.now.closed self.now.row front.now floor) nodes result }
+    {
+        self.classes.facts();
+        search_weighed(alloc, &self.terms(), front.counts(), floor, nodes)
     }
 }

@@ -179,8 +179,8 @@ pub fn best_from(
     priced.best_from(alloc, front, floor, nodes)
 }
 
-// Of these rows.
-fn pricer_of<'c>(
+/// A pricer of these rows, each of one entry per class and a reach below 2^127.
+pub fn pricer_of<'c>(
     alloc: Global,
     classes: &'c Classes,
     closed: &[Row],

@@ -2,7 +2,7 @@
 
 ghost use Rattle.std.specs.Prelude.{◌≡◌, ◌≤◌, ◌<◌, ◌+◌, ◌++◌, [], ◌∷◌, true, false, ◌&&◌, length, take, drop, int_le, int_lt, Some, None, if◌then◌else◌, IfOk, OnOk, OnErr};
 ghost use Rattle.std.specs.List.{list_all};
-ghost use Rattle.panel_search.specs.Answers.{AnswersBest, AnswersBestWithin};
+ghost use Rattle.panel_search.specs.Answers.{AnswersBest, AnswersBestWithin, AnswersWeighed, AnswersWeighedWithin};
 ghost use Rattle.panel_search.specs.Front.{Tracks};
 ghost use Rattle.panel_search.specs.Pricing.{BeginsAt, StandsAt, Moves, EndsWithin, told, CanTake, CanTakeAbove, children_best};
 ghost use Rattle.panel_search.specs.Pieces.{live_among};
@@ -50,6 +50,23 @@ pub(crate) fn search_from(
 {
     let search = BestSearch::new(alloc, terms, front, floor, nodes)?;
     Ok(search.run(terms, front.len())?)
+}
+
+// The same with the weight of what it finds.
+pub(crate) fn search_weighed(
+    alloc: Global,
+    terms: &Terms<'_>,
+    front: &[usize],
+    floor: i128,
+    nodes: u64,
+) -> Result<(Option<(Composition, i128)>, u64), SearchStop>
+    requires terms { AreTerms terms.now }
+    requires within { length front.now ≤ length terms.now.classes.now.classes }
+    requires counts { AreWithin terms.now.classes.now front.now }
+    ensures { AnswersWeighed (search_from terms.now.classes.now terms.now.closed.now terms.now.row.now front.now floor) nodes result }
+{
+    let search = BestSearch::new(alloc, terms, front, floor, nodes)?;
+    Ok(search.run_weighed(terms, front.len())?)
 }
 
 // The search from the empty front on, with a floor that begins at the priced row's right side. The empty front counts one visit even
@@ -142,6 +159,23 @@ impl BestSearch {
     {
         self.below(terms, depth)?;
         Ok(self.answer())
+    }
+
+    // The same with the weight of what it kept, which is the floor then.
+    fn run_weighed(
+        mut self,
+        terms: &Terms<'_>,
+        depth: usize,
+    ) -> Result<(Option<(Composition, i128)>, u64), BudgetSpent>
+        requires terms { AreTerms terms.now }
+        requires told { told self ≡ record { visits = 0; floor = self.floor; kept = None } }
+        requires begins { BeginsAt terms.now.classes.now terms.now.closed.now terms.now.row.now depth self }
+        ensures { AnswersWeighedWithin (search_from terms.now.classes.now terms.now.closed.now terms.now.row.now (take depth self.counts.items) self.floor) self.nodes result }
+    {
+        self.below(terms, depth)?;
+        let floor = self.floor;
+        let (found, visits) = self.answer();
+        Ok((found.map(|composition| (composition, floor)), visits))
     }
 
     // What was kept, and the visits.

@@ -1,0 +1,37 @@
+-- The floor of a search is the weight of what it kept.
+use Rattle.std.proofs.Common.{◌≡◌, ℕ, ◌+◌, Bool, true, false, cond, List, [], ◌∷◌, ◌++◌, fold, ℤ, Option, Some, None, refl, ap}
+use Rattle.row_definitions.specs.Row.{Row}
+use Rattle.search_definitions.specs.Classes.{Class, Classes}
+use Rattle.search_definitions.specs.Compositions.{counts_of, weight_in}
+use Rattle.search_definitions.specs.Fronts.{is_live_above, later_than}
+use Rattle.search_definitions.specs.Visits.{Pricing, enter_best}
+use Rattle.wave_definitions.specs.Below.{search_from}
+
+-- what holds at first and is kept by each step holds at the end
+fold_keeps : {A X : Type 0} (P : A → Type 0) (f : A → X → A) → ((a : A) (x : X) → P a → P (f a x)) → (xs : List X) (a : A) → P a → P (fold f a xs)
+fold_keeps P f step [] a p = p
+fold_keeps P f step (x ∷ xs) a p = fold_keeps P f step xs (f a x) (step a x p)
+
+-- the floor is the weight of what was kept last
+abbrev pub IsWeighed : Row → Pricing → Type 0
+IsWeighed row now = (counts : List ℕ) → now.kept ≡ Some counts → now.floor ≡ weight_in row.a counts
+
+enter_weighed : (all : Classes) (closed : List Row) (row : Row) (later : List Class) (front : List ℕ) (now : Pricing) → IsWeighed row now → IsWeighed row (enter_best all closed row later front now)
+enter_weighed all closed row [] front now weighed = λ counts e. let same : front ≡ counts = cc in ap (weight_in row.a) same
+enter_weighed all closed row (class ∷ later) front now weighed =
+    fold_keeps (IsWeighed row) (λ now c. cond (is_live_above all closed row now.floor (front ++ c ∷ [])) (enter_best all closed row later (front ++ c ∷ []) now) now)
+    (λ now c good.
+    (elim (is_live_above all closed row now.floor (front ++ c ∷ [])) as (λ b. IsWeighed row (cond b (enter_best all closed row later (front ++ c ∷ []) now) now)) [
+      | true ↦ enter_weighed all closed row later (front ++ c ∷ []) now good
+      | false ↦ good
+    ]))
+    (counts_of class) (record now { visits = now.visits + 1 }) weighed
+
+pub search_weighed : (all : Classes) (closed : List Row) (row : Row) (front : List ℕ) (floor : ℤ) → IsWeighed row (search_from all closed row front floor)
+search_weighed all closed row front floor =
+    let begun : Pricing = record { visits = 0; floor = floor; kept = None } in
+    let nothing : IsWeighed row begun = λ counts e. absurd cc in
+    (elim (is_live_above all closed row floor front) as (λ b. IsWeighed row (cond b (enter_best all closed row (later_than front all.classes) front begun) begun)) [
+      | true ↦ enter_weighed all closed row (later_than front all.classes) front begun nothing
+      | false ↦ nothing
+    ])

@@ -1,0 +1,26 @@
+-- What the searches of a wave's pieces answer, worker by worker.
+use Rattle.std.specs.Prelude.{◌≡◌, ℕ, ◌+◌, ◌*◌, ◌<◌, ◌≤◌, List, [], length, slice_get, slice_index_or, Vec, vec_items, ℤ, Option, Some, Result}
+use Rattle.std.specs.declared.alloc.Global.{Global}
+use Rattle.search_definitions.specs.Visits.{Pricing}
+use Rattle.wave_definitions.specs.Below.{search_from}
+use Rattle.panel_search.specs.Answers.{AnswersWeighed}
+use Rattle.panel_search.specs.Pricers.{Priced}
+use Rattle.panel_search.specs.declared.searching.SearchStop.{SearchStop}
+
+-- what the search of a piece answers: what it kept with its weight, and its visits
+abbrev pub Outcome : Type 0
+Outcome = Result (Option (List ℕ × ℤ) × ℕ) SearchStop
+
+-- the search of the piece in a place of a wave
+abbrev pub search_at : Priced → List (List ℕ) → ℤ → ℕ → Pricing
+search_at priced fronts floor place = search_from priced.classes priced.closed priced.row (slice_index_or fronts place []) floor
+
+-- one worker's answers, of so many workers: those of the pieces in the places of one number modulo that of the workers, up to so many places
+pub record AreOf (search : ℕ → Pricing) (nodes workers worker places : ℕ) (outcomes : List Outcome) : Type 0 where
+  pub each : (i : ℕ) (outcome : Outcome) → slice_get outcomes i ≡ Some outcome → AnswersWeighed (search (worker + i * workers)) nodes outcome
+  pub all : places ≤ worker + length outcomes * workers
+
+-- the answers of each of so many workers, from one on
+pub record AreOfAll (search : ℕ → Pricing) (nodes workers from count places : ℕ) (all : List (Vec Outcome Global)) : Type 0 where
+  pub one_each : length all ≡ count
+  pub each : (j : ℕ) (outcomes : Vec Outcome Global) → slice_get all j ≡ Some outcomes → AreOf search nodes workers (from + j) places (vec_items outcomes)

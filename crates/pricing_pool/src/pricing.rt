@@ -1,0 +1,140 @@
+//! A whole pricing.
+
+ghost use Rattle.std.specs.Prelude.{◌≡◌, ◌≤◌, ◌<◌, ◌*◌, [], ◌∷◌, length, take, drop, fold, IfOk};
+ghost use Rattle.std.specs.List.{AllByRecursion};
+ghost use Rattle.panel_search.specs.Answers.{AnswersBest};
+ghost use Rattle.pricing_pool.specs.SoFar.{GoesOn, told};
+ghost use Rattle.search_definitions.specs.Compositions.{price};
+ghost use Rattle.search_definitions.specs.Fronts.{HaveEntries, HaveReach};
+ghost use Rattle.wave_definitions.specs.Below.{IsFront};
+ghost use Rattle.wave_definitions.specs.Waves.{best_in_waves, wave as wave_of, waves};
+
+use crate::waves::SoFar;
+use crate::workers::Wave;
+use alike::{Classes, Composition};
+use outside::Watch;
+use panel_search::{Front, PricedRow, Pricer, Row, SearchStop, pricer_of};
+use std::alloc::Global;
+use std::thread::Threads;
+
+/// How many pieces a wave has, but for the last one.
+const WAVE: usize = 16;
+
+/// Of the compositions whose weight in each closed row is at least its right side, and whose weight in the row is above its right side:
+/// the one of greatest weight in the row, of equals the first in order, or None where there is none; with the visits of the search in
+/// waves, if these are at most `nodes`. Its pieces are searched by so many workers, from 1 to 64, on threads, and the watch is told the
+/// number of each as it starts. Neither changes what is answered.
+///
+/// Each of the rows has one entry per class and a reach below 2^127, which is its right side and each class's size times its entry, all
+/// without their signs. `Spent` comes exactly where the visits exceed `nodes`; want of memory may come at any time.
+pub fn best_by<R: Threads + Sync, W: Watch + Sync>(
+    rt: &R,
+    alloc: Global,
+    workers: u32,
+    watch: &W,
+    classes: &Classes,
+    closed: &[Row],
+    row: &Row,
+    nodes: u64,
+) -> Result<(Option<Composition>, u64), SearchStop>
+    requires some_worker { 1 ≤ workers }
+    requires few_workers { workers ≤ 64 }
+    requires entries { HaveEntries classes.now (row.now ∷ closed.now) }
+    requires reaches { HaveReach classes.now (row.now ∷ closed.now) }
+    ensures answers { AnswersBest (best_in_waves classes.now closed.now row.now) nodes result }
+    ensures best { IfOk result (λ answer. answer.0 ≡ price classes.now closed.now row.now) }
+{
+    let pricer = pricer_of(alloc, classes, closed)?;
+    price_by(rt, alloc, workers, watch, &pricer, row, nodes)
+}
+
+/// The same over the closed rows that a pricer keeps.
+pub fn price_by<R: Threads + Sync, W: Watch + Sync>(
+    rt: &R,
+    alloc: Global,
+    workers: u32,
+    watch: &W,
+    pricer: &Pricer<'_>,
+    row: &Row,
+    nodes: u64,
+) -> Result<(Option<Composition>, u64), SearchStop>
+    requires some_worker { 1 ≤ workers }
+    requires few_workers { workers ≤ 64 }
+    requires entries { HaveEntries pricer.now.classes (row.now ∷ []) }
+    requires reach { HaveReach pricer.now.classes (row.now ∷ []) }
+    ensures answers { AnswersBest (best_in_waves pricer.now.classes pricer.now.closed row.now) nodes result }
+    ensures best { IfOk result (λ answer. answer.0 ≡ price pricer.now.classes pricer.now.closed row.now) }
+{
+    let priced = pricer.priced(row)?;
+    let (fronts, visits) = priced.pieces(alloc, nodes)?;
+    let mut so_far = SoFar {
+        visits,
+        floor: row.side(),
+        kept: None,
+    };
+    take_waves(
+        rt,
+        alloc,
+        watch,
+        &priced,
+        &fronts,
+        workers as usize,
+        nodes,
+        &mut so_far,
+    )?;
+    Ok((so_far.kept, so_far.visits))
+}
+
+/// The pieces of these fronts are searched, wave after wave.
+fn take_waves<R: Threads + Sync, W: Watch + Sync>(
+    rt: &R,
+    alloc: Global,
+    watch: &W,
+    priced: &PricedRow<'_>,
+    fronts: &[Front],
+    workers: usize,
+    nodes: u64,
+    so_far: &mut SoFar,
+) -> Result<(), SearchStop>
+    requires some_worker { 1 ≤ workers }
+    requires few_workers { workers ≤ 64 }
+    requires fronts { AllByRecursion (IsFront priced.now.classes) fronts.now }
+    requires within { so_far.old.visits ≤ nodes }
+    ensures { GoesOn (fold (wave_of priced.now.classes priced.now.closed priced.now.row) (told so_far.old) (waves fronts.now)) nodes result (told so_far.new) }
+{
+    for number in 0..fronts.len().div_ceil(WAVE) {
+        take_wave_of(rt, alloc, watch, priced, fronts, number, workers, nodes, so_far)?;
+    }
+    Ok(())
+}
+
+/// The wave of a number is searched.
+fn take_wave_of<R: Threads + Sync, W: Watch + Sync>(
+    rt: &R,
+    alloc: Global,
+    watch: &W,
+    priced: &PricedRow<'_>,
+    fronts: &[Front],
+    number: usize,
+    workers: usize,
+    nodes: u64,
+    so_far: &mut SoFar,
+) -> Result<(), SearchStop>
+    requires some_worker { 1 ≤ workers }
+    requires few_workers { workers ≤ 64 }
+    requires there { 16 * number < length fronts.now }
+    requires fronts { AllByRecursion (IsFront priced.now.classes) fronts.now }
+    requires within { so_far.old.visits ≤ nodes }
+    ensures { GoesOn (wave_of priced.now.classes priced.now.closed priced.now.row (told so_far.old) (take 16 (drop (16 * number) fronts.now))) nodes result (told so_far.new) }
+{
+    let start = WAVE * number;
+    let later = &fronts[start..];
+    let wave = Wave {
+        priced,
+        fronts: &later[..later.len().min(WAVE)],
+        first: start as u64,
+        floor: so_far.floor,
+        nodes: nodes - so_far.visits,
+    };
+    so_far.take_wave(rt, alloc, watch, &wave, workers.min(wave.fronts.len()), nodes)
+}

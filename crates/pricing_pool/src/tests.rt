@@ -1,0 +1,1 @@
+//! Pricings of small pools.

@@ -1,0 +1,103 @@
+//! What waves come to, one after the other.
+
+ghost use Rattle.std.specs.Prelude.{◌≡◌, ◌≤◌, ◌-◌, length, Err, OnOk, OnErr};
+ghost use Rattle.std.specs.List.{AllByRecursion};
+ghost use Rattle.pricing_pool.specs.Outcomes.{AreOfAll, search_at};
+ghost use Rattle.pricing_pool.specs.SoFar.{CameTo, GoesOn, heavier, told};
+ghost use Rattle.panel_search.specs.declared.searching.SearchStop.TheVariants.{OutOfMemory};
+ghost use Rattle.wave_definitions.specs.Below.{IsFront};
+ghost use Rattle.wave_definitions.specs.Waves.{wave};
+
+use crate::workers::{Outcome, Wave, work_side_by_side};
+use alike::Composition;
+use outside::Watch;
+use panel_search::SearchStop;
+use std::alloc::Global;
+use std::thread::Threads;
+
+/// What the waves so far come to: the visits, and the greatest weight with the composition that was kept last, if there is one.
+#[derive(Debug, Drop)]
+pub(crate) struct SoFar {
+    pub(crate) visits: u64,
+    pub(crate) floor: i128,
+    pub(crate) kept: Option<Composition>,
+}
+
+impl SoFar {
+    /// A wave is searched by so many workers, and what its pieces come to is taken in their order, where all visits are at most `nodes`.
+    pub(crate) fn take_wave<R: Threads + Sync, W: Watch + Sync>(
+        &mut self,
+        rt: &R,
+        alloc: Global,
+        watch: &W,
+        wave: &Wave<'_>,
+        workers: usize,
+        nodes: u64,
+    ) -> Result<(), SearchStop>
+        requires some_worker { 1 ≤ workers }
+        requires few_workers { workers ≤ 64 }
+        requires short { length wave.now.fronts.now ≤ 16 }
+        requires fronts { AllByRecursion (IsFront wave.now.priced.now.classes) wave.now.fronts.now }
+        requires within { self.old.visits ≤ nodes }
+        requires floor { wave.now.floor ≡ self.old.floor }
+        requires budget { wave.now.nodes ≡ nodes - self.old.visits }
+        ensures { GoesOn (wave wave.now.priced.now.classes wave.now.priced.now.closed wave.now.priced.now.row (told self.old) wave.now.fronts.now) nodes result (told self.new) }
+    {
+        let outcomes = work_side_by_side(rt, alloc, watch, wave, workers, 0, workers)?;
+        self.take_outcomes(&outcomes, wave, workers, nodes)
+    }
+
+    /// The outcomes of a wave are taken, in the order of its pieces.
+    fn take_outcomes(
+        &mut self,
+        outcomes: &[Vec<Outcome>],
+        wave: &Wave<'_>,
+        workers: usize,
+        nodes: u64,
+    ) -> Result<(), SearchStop>
+        requires some_worker { 1 ≤ workers }
+        requires few_workers { workers ≤ 64 }
+        requires within { self.old.visits ≤ nodes }
+        requires floor { wave.now.floor ≡ self.old.floor }
+        requires budget { wave.now.nodes ≡ nodes - self.old.visits }
+        requires outcomes { AreOfAll (search_at wave.now.priced.now wave.now.fronts.now wave.now.floor) wave.now.nodes workers 0 workers (length wave.now.fronts.now) outcomes.now }
+        ensures { GoesOn (wave wave.now.priced.now.classes wave.now.priced.now.closed wave.now.priced.now.row (told self.old) wave.now.fronts.now) nodes result (told self.new) }
+    {
+        for place in 0..wave.fronts.len() {
+            self.take(&outcomes[place % workers][place / workers], nodes)?;
+        }
+        Ok(())
+    }
+
+    /// What a piece comes to is taken.
+    fn take(&mut self, outcome: &Outcome, nodes: u64) -> Result<(), SearchStop>
+        requires { self.old.visits ≤ nodes }
+        ensures { CameTo outcome.now nodes result (told self.old) (told self.new) }
+    {
+        match outcome {
+            Ok((found, visits)) => {
+                if nodes - self.visits < *visits {
+                    return Err(SearchStop::Spent);
+                }
+                self.visits += *visits;
+                self.keep_heavier(found)
+            }
+            Err(SearchStop::Spent) => Err(SearchStop::Spent),
+            Err(SearchStop::OutOfMemory) => Err(SearchStop::OutOfMemory),
+        }
+    }
+
+    /// A composition that was found is kept, where it weighs more than what was kept so far.
+    fn keep_heavier(&mut self, found: &Option<(Composition, i128)>) -> Result<(), SearchStop>
+        ensures ok { OnOk result (told self.new ≡ heavier found.now (told self.old)) }
+        ensures err { OnErr result (result ≡ Err OutOfMemory) }
+    {
+        if let Some((composition, weight)) = found
+            && self.floor < *weight
+        {
+            self.kept = Some(composition.copy()?);
+            self.floor = *weight;
+        }
+        Ok(())
+    }
+}
