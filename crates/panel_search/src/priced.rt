@@ -1,6 +1,8 @@
 //! A row that is priced over closed rows, with all that the searches of its pricing read.
 
-ghost use Rattle.std.specs.Prelude.{◌≡◌, IfOk};
+ghost use Rattle.std.specs.Prelude.{◌≡◌, ◌∷◌, IfOk};
+ghost use Rattle.search_definitions.specs.Classes.{IsSearchable};
+ghost use Rattle.search_definitions.specs.Fronts.{HaveEntries};
 ghost use Rattle.std.specs.List.{AllByRecursion};
 ghost use Rattle.panel_search.specs.Answers.{AnswersBest, AnswersPieces, AnswersWeighed};
 ghost use Rattle.panel_search.specs.Pricers.{ArePriced};
@@ -74,6 +76,14 @@ impl<'p> PricedRow<'p> {
         ensures { result.now ≡ self.now.row }
     {
         self.row
+    }
+
+    /// Does nothing; its contract tells what is kept: the classes can be searched, and each row has one entry per class.
+    pub fn facts(&self)
+        ensures searchable { IsSearchable self.now.classes }
+        ensures entries { HaveEntries self.now.classes (self.now.row ∷ self.now.closed) }
+    {
+        self.classes.facts();
     }
 
     // What the searches read.

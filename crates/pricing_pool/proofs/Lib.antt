@@ -1,2 +1,5 @@
 mod Kept
 mod Taking
+mod Waving
+mod Answered
+mod Ended

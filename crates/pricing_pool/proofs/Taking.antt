@@ -26,9 +26,11 @@ module _ (all : Classes) (closed : List Row) (row : Row) (front : List ℕ) (flo
 
   pub taken_ok : (outcome : Outcome) → AnswersWeighed piece budget outcome → CameTo outcome nodes (Ok tt) before after → (after ≡ take_piece row before piece) × (after.visits ≤ nodes)
   taken_ok (Ok (found, visits)) answers came =
-      let same : visits ≡ piece.visits = answers.2 in
-      (came.0 ∙ ap (λ v. heavier found (record before { visits = before.visits + v })) same
-      ∙ heavier_kept row piece found (record before { visits = before.visits + piece.visits }) (search_weighed all closed row front floor) answers.1, came.1)
+      let same : visits ≡ piece.visits = answers.2 in (
+        came.0 ∙ ap (λ v. heavier found (record before { visits = before.visits + v })) same
+            ∙ heavier_kept row piece found (record before { visits = before.visits + piece.visits }) (search_weighed all closed row front floor) answers.1,
+        came.1,
+      )
   taken_ok (Err Spent) answers came = absurd came
   taken_ok (Err OutOfMemory) answers came = absurd came
 
@@ -39,7 +41,7 @@ module _ (all : Classes) (closed : List Row) (row : Row) (front : List ℕ) (flo
   taken_spent (Err OutOfMemory) start e l m answers came = absurd came
 
 -- a piece adds its visits
-piece_visits : (row : Row) (now piece : Pricing) → (take_piece row now piece).visits ≡ now.visits + piece.visits
+pub piece_visits : (row : Row) (now piece : Pricing) → (take_piece row now piece).visits ≡ now.visits + piece.visits
 piece_visits row now piece = by piece.kept
   where
     by : (kept : Option (List ℕ)) → (keep_heavier row (record now { visits = now.visits + piece.visits }) kept).visits ≡ now.visits + piece.visits

@@ -1,8 +1,10 @@
 -- What the searches of a wave's pieces answer, worker by worker.
-use Rattle.std.specs.Prelude.{◌≡◌, ℕ, ◌+◌, ◌*◌, ◌<◌, ◌≤◌, List, [], length, slice_get, slice_index_or, Vec, vec_items, ℤ, Option, Some, Result}
+use Rattle.std.specs.Prelude.{◌≡◌, ℕ, ◌+◌, ◌*◌, ◌/◌, ◌%◌, ◌<◌, ◌≤◌, List, [], length, slice_get, slice_index_or, Vec, vec_items, ℤ, Option, Some, Result}
 use Rattle.std.specs.declared.alloc.Global.{Global}
 use Rattle.search_definitions.specs.Visits.{Pricing}
-use Rattle.wave_definitions.specs.Below.{search_from}
+use Rattle.std.specs.List.{AllByRecursion}
+use Rattle.search_definitions.specs.Classes.{Classes}
+use Rattle.wave_definitions.specs.Below.{IsFront, search_from}
 use Rattle.panel_search.specs.Answers.{AnswersWeighed}
 use Rattle.panel_search.specs.Pricers.{Priced}
 use Rattle.panel_search.specs.declared.searching.SearchStop.{SearchStop}
@@ -24,3 +26,20 @@ pub record AreOf (search : ℕ → Pricing) (nodes workers worker places : ℕ) 
 pub record AreOfAll (search : ℕ → Pricing) (nodes workers from count places : ℕ) (all : List (Vec Outcome Global)) : Type 0 where
   pub one_each : length all ≡ count
   pub each : (j : ℕ) (outcomes : Vec Outcome Global) → slice_get all j ≡ Some outcomes → AreOf search nodes workers (from + j) places (vec_items outcomes)
+
+-- so many of all workers, from one on, may work at these fronts
+pub record MayWork (all : Classes) (fronts : List (List ℕ)) (workers from count : ℕ) : Type 0 where
+  pub some : 1 ≤ count
+  pub within : from + count ≤ workers
+  pub few : workers ≤ 64
+  pub short : length fronts ≤ 16
+  pub each : AllByRecursion (IsFront all) fronts
+
+-- the piece in a place has an answer, of so many workers
+abbrev pub HasAnswer : List (Vec Outcome Global) → ℕ → ℕ → Type 0
+HasAnswer all workers place = (place % workers < length all)
+    × ((outcomes : Vec Outcome Global) → slice_get all (place % workers) ≡ Some outcomes → place / workers < length (vec_items outcomes))
+
+-- and this one is it
+abbrev pub IsAnswer : List (Vec Outcome Global) → ℕ → ℕ → Outcome → Type 0
+IsAnswer all workers place outcome = (outcomes : Vec Outcome Global) × (slice_get all (place % workers) ≡ Some outcomes) × (slice_get (vec_items outcomes) (place / workers) ≡ Some outcome)

@@ -103,7 +103,9 @@ fn take_waves<R: Threads + Sync, W: Watch + Sync>(
     ensures { GoesOn (fold (wave_of priced.now.classes priced.now.closed priced.now.row) (told so_far.old) (waves fronts.now)) nodes result (told so_far.new) }
 {
     for number in 0..fronts.len().div_ceil(WAVE) {
-        take_wave_of(rt, alloc, watch, priced, fronts, number, workers, nodes, so_far)?;
+        take_wave_of(
+            rt, alloc, watch, priced, fronts, number, workers, nodes, so_far,
+        )?;
     }
     Ok(())
 }
@@ -136,5 +138,12 @@ fn take_wave_of<R: Threads + Sync, W: Watch + Sync>(
         floor: so_far.floor,
         nodes: nodes - so_far.visits,
     };
-    so_far.take_wave(rt, alloc, watch, &wave, workers.min(wave.fronts.len()), nodes)
+    so_far.take_wave(
+        rt,
+        alloc,
+        watch,
+        &wave,
+        workers.min(wave.fronts.len()),
+        nodes,
+    )
 }

@@ -2,11 +2,11 @@
 
 ghost use Rattle.std.specs.Prelude.{◌≡◌, ◌≤◌, ◌-◌, length, Err, OnOk, OnErr};
 ghost use Rattle.std.specs.List.{AllByRecursion};
-ghost use Rattle.pricing_pool.specs.Outcomes.{AreOfAll, search_at};
+ghost use Rattle.pricing_pool.specs.Outcomes.{AreOfAll, HasAnswer, IsAnswer, search_at};
 ghost use Rattle.pricing_pool.specs.SoFar.{CameTo, GoesOn, heavier, told};
 ghost use Rattle.panel_search.specs.declared.searching.SearchStop.TheVariants.{OutOfMemory};
 ghost use Rattle.wave_definitions.specs.Below.{IsFront};
-ghost use Rattle.wave_definitions.specs.Waves.{wave};
+ghost use Rattle.wave_definitions.specs.Waves.{wave as wave_of};
 
 use crate::workers::{Outcome, Wave, work_side_by_side};
 use alike::Composition;
@@ -41,7 +41,7 @@ impl SoFar {
         requires within { self.old.visits ≤ nodes }
         requires floor { wave.now.floor ≡ self.old.floor }
         requires budget { wave.now.nodes ≡ nodes - self.old.visits }
-        ensures { GoesOn (wave wave.now.priced.now.classes wave.now.priced.now.closed wave.now.priced.now.row (told self.old) wave.now.fronts.now) nodes result (told self.new) }
+        ensures { GoesOn (wave_of wave.now.priced.now.classes wave.now.priced.now.closed wave.now.priced.now.row (told self.old) wave.now.fronts.now) nodes result (told self.new) }
     {
         let outcomes = work_side_by_side(rt, alloc, watch, wave, workers, 0, workers)?;
         self.take_outcomes(&outcomes, wave, workers, nodes)
@@ -61,10 +61,10 @@ impl SoFar {
         requires floor { wave.now.floor ≡ self.old.floor }
         requires budget { wave.now.nodes ≡ nodes - self.old.visits }
         requires outcomes { AreOfAll (search_at wave.now.priced.now wave.now.fronts.now wave.now.floor) wave.now.nodes workers 0 workers (length wave.now.fronts.now) outcomes.now }
-        ensures { GoesOn (wave wave.now.priced.now.classes wave.now.priced.now.closed wave.now.priced.now.row (told self.old) wave.now.fronts.now) nodes result (told self.new) }
+        ensures { GoesOn (wave_of wave.now.priced.now.classes wave.now.priced.now.closed wave.now.priced.now.row (told self.old) wave.now.fronts.now) nodes result (told self.new) }
     {
         for place in 0..wave.fronts.len() {
-            self.take(&outcomes[place % workers][place / workers], nodes)?;
+            self.take(outcome_of(outcomes, workers, place), nodes)?;
         }
         Ok(())
     }
@@ -100,4 +100,13 @@ impl SoFar {
         }
         Ok(())
     }
+}
+
+/// The outcome of the piece in a place, of so many workers.
+fn outcome_of<'o>(outcomes: &'o [Vec<Outcome>], workers: usize, place: usize) -> &'o Outcome
+    requires some { 1 ≤ workers }
+    requires all { HasAnswer outcomes.now workers place }
+    ensures { IsAnswer outcomes.now workers place result.now }
+{
+    &outcomes[place % workers][place / workers]
 }

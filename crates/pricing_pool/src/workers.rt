@@ -1,10 +1,8 @@
 //! The workers of a wave. Worker j of w searches the pieces whose place in the wave is j modulo w, one after the other.
 
-ghost use Rattle.std.specs.Prelude.{◌≡◌, ◌≤◌, ◌<◌, ◌+◌, ◌*◌, ◌^◌, length, IfOk};
-ghost use Rattle.std.specs.List.{AllByRecursion};
+ghost use Rattle.std.specs.Prelude.{length, IfOk};
 ghost use Rattle.std.specs.Thread.{IsSync};
-ghost use Rattle.pricing_pool.specs.Outcomes.{AreOf, AreOfAll, search_at};
-ghost use Rattle.wave_definitions.specs.Below.{IsFront};
+ghost use Rattle.pricing_pool.specs.Outcomes.{AreOf, AreOfAll, MayWork, search_at};
 
 use alike::Composition;
 use outside::Watch;
@@ -33,11 +31,7 @@ fn work<W: Watch>(
     workers: usize,
     worker: usize,
 ) -> Result<Vec<Outcome>, AllocError>
-    requires some { 1 ≤ workers }
-    requires one { worker < workers }
-    requires few { workers ≤ 64 }
-    requires short { length wave.now.fronts.now ≤ 16 }
-    requires fronts { AllByRecursion (IsFront wave.now.priced.now.classes) wave.now.fronts.now }
+    requires { MayWork wave.now.priced.now.classes wave.now.fronts.now workers worker 1 }
     ensures { IfOk result (λ outcomes. AreOf (search_at wave.now.priced.now wave.now.fronts.now wave.now.floor) wave.now.nodes workers worker (length wave.now.fronts.now) outcomes.items) }
 {
     let mut outcomes = Vec::new(alloc);
@@ -64,11 +58,7 @@ pub(crate) fn work_side_by_side<R: Threads + Sync, W: Watch + Sync>(
     from: usize,
     count: usize,
 ) -> Result<Vec<Vec<Outcome>>, AllocError>
-    requires some { 1 ≤ count }
-    requires within { from + count ≤ workers }
-    requires few { workers ≤ 64 }
-    requires short { length wave.now.fronts.now ≤ 16 }
-    requires fronts { AllByRecursion (IsFront wave.now.priced.now.classes) wave.now.fronts.now }
+    requires { MayWork wave.now.priced.now.classes wave.now.fronts.now workers from count }
     ensures { IfOk result (λ all. AreOfAll (search_at wave.now.priced.now wave.now.fronts.now wave.now.floor) wave.now.nodes workers from count (length wave.now.fronts.now) all.items) }
 {
     if count == 1 {
@@ -82,26 +72,15 @@ pub(crate) fn work_side_by_side<R: Threads + Sync, W: Watch + Sync>(
     let (left, right) = join(
         rt,
         || -> Result<Vec<Vec<Outcome>>, AllocError>
-            requires { IsSync R.row × IsSync W.row }
+            requires { IsSync R.row × IsSync W.row × MayWork wave.now.priced.now.classes wave.now.fronts.now workers from half }
             ensures { IfOk result (λ all. AreOfAll (search_at wave.entry.now.priced.now wave.entry.now.fronts.now wave.entry.now.floor) wave.entry.now.nodes workers from half (length wave.entry.now.fronts.now) all.items) }
         { work_side_by_side(rt, alloc, watch, wave, workers, from, half) },
         || -> Result<Vec<Vec<Outcome>>, AllocError>
-            requires { IsSync R.row × IsSync W.row }
+            requires { IsSync R.row × IsSync W.row × MayWork wave.now.priced.now.classes wave.now.fronts.now workers middle others }
             ensures { IfOk result (λ all. AreOfAll (search_at wave.entry.now.priced.now wave.entry.now.fronts.now wave.entry.now.floor) wave.entry.now.nodes workers middle others (length wave.entry.now.fronts.now) all.items) }
         { work_side_by_side(rt, alloc, watch, wave, workers, middle, others) },
     );
-    both(left?, right?)
-}
-
-/// The one list behind the other.
-fn both(
-    mut all: Vec<Vec<Outcome>>,
-    later: Vec<Vec<Outcome>>,
-) -> Result<Vec<Vec<Outcome>>, AllocError>
-    ensures { IfOk result (λ both. both.items ≡ all.entry.items ++ later.entry.items) }
-{
-    for outcomes in later {
-        all.push(outcomes)?;
-    }
+    let mut all = left?;
+    all.extend(right?)?;
     Ok(all)
 }

@@ -1,0 +1,72 @@
+-- The answers of workers, piece by piece.
+use Rattle.std.proofs.Common.{◌≡◌, ℕ, zero, suc, ◌+◌, ◌*◌, ◌/◌, ◌%◌, ◌<◌, ◌≤◌, Bool, true, false, ltb, ltb-true, List, [], ◌∷◌, ◌++◌, length, get_or, Option, Some, Result, refl, sym, ap, ◌∙◌, subst, arith, mul-le-mul_right}
+use Rattle.std.specs.Prelude.{slice_get, slice_index_or, Vec, vec_items}
+use Rattle.std.specs.declared.alloc.Global.{Global}
+use Rattle.std.proofs.Math.Nat.{mod-add-div', mod-lt}
+use Rattle.std.proofs.lemmas.Bool.{ltb-false}
+use Rattle.search_definitions.specs.Visits.{Pricing}
+use Rattle.panel_search.specs.Answers.{AnswersWeighed}
+use Rattle.pricing_pool.specs.Outcomes.{AreOf, AreOfAll, HasAnswer, IsAnswer, Outcome}
+
+-- what stands in a place of a list is had there
+pub had : {X : Type 0} (xs : List X) (i : ℕ) (d x : X) → i < length xs → x ≡ get_or xs i d → slice_get xs i ≡ Some x
+had [] i d x l e = absurd (omega arith)
+had (y ∷ ys) zero d x l e = ap Some (sym e)
+had (y ∷ ys) (suc i) d x l e = had ys i d x (omega arith) e
+
+-- and whatever is given for what isn't there
+pub same_at : {X : Type 0} (xs : List X) (i : ℕ) (d e : X) → i < length xs → get_or xs i d ≡ get_or xs i e
+same_at [] i d e l = absurd (omega arith)
+same_at (x ∷ xs) zero d e l = refl
+same_at (x ∷ xs) (suc i) d e l = same_at xs i d e (omega arith)
+
+-- what is had of each in a list and of one more
+pub each_pushed : {X : Type 0} (P : ℕ → X → Type 0) (xs : List X) (x : X) → ((i : ℕ) (y : X) → slice_get xs i ≡ Some y → P i y) → P (length xs) x →
+    (i : ℕ) (y : X) → slice_get (xs ++ x ∷ []) i ≡ Some y → P i y
+each_pushed P [] x old new zero y e = let same : x ≡ y = cc in subst (P 0) same new
+each_pushed P [] x old new (suc i) y e = absurd cc
+each_pushed P (z ∷ xs) x old new zero y e = old 0 y e
+each_pushed P (z ∷ xs) x old new (suc i) y e = each_pushed (λ j. P (suc j)) xs x (λ j w. old (suc j) w) new i y e
+
+-- and of each in two lists
+each_of_both : {X : Type 0} (P : ℕ → X → Type 0) (xs ys : List X) → ((i : ℕ) (x : X) → slice_get xs i ≡ Some x → P i x) → ((i : ℕ) (y : X) → slice_get ys i ≡ Some y → P (length xs + i) y) →
+    (i : ℕ) (z : X) → slice_get (xs ++ ys) i ≡ Some z → P i z
+each_of_both P [] ys first second i z e = let same : 0 + i ≡ i = omega arith in subst (λ j. P j z) same (second i z e)
+each_of_both P (x ∷ xs) ys first second zero z e = first 0 z e
+each_of_both P (x ∷ xs) ys first second (suc i) z e =
+    each_of_both (λ j. P (suc j)) xs ys (λ j w. first (suc j) w) (λ j w h. let same : length (x ∷ xs) + j ≡ suc (length xs + j) = omega arith in subst (λ k. P k w) same (second j w h)) i z e
+
+module _ (search : ℕ → Pricing) (nodes workers places : ℕ) where
+  -- the answers of some workers and of those after them
+  pub of_both : (from half others count : ℕ) (xs ys : List (Vec Outcome Global)) → AreOfAll search nodes workers from half places xs → AreOfAll search nodes workers (from + half) others places ys → count ≡ half + others →
+      length (xs ++ ys) ≡ length xs + length ys → AreOfAll search nodes workers from count places (xs ++ ys)
+  of_both from half others count xs ys first second e lengths = record {
+    one_each = omega (arith, lengths, first.one_each, second.one_each, e);
+    each = each_of_both (λ j outcomes. AreOf search nodes workers (from + j) places (vec_items outcomes)) xs ys first.each
+        (λ j outcomes h. let same : from + half + j ≡ from + (length xs + j) = omega (arith, first.one_each) in
+        subst (λ k. AreOf search nodes workers k places (vec_items outcomes)) same (second.each j outcomes h));
+  }
+
+  module _ (all : List (Vec Outcome Global)) (are : AreOfAll search nodes workers 0 workers places all) (some : 1 ≤ workers) where
+    worker_there : (place : ℕ) → place % workers < length all
+    worker_there place = omega (arith, are.one_each, mod-lt place {workers} some)
+
+    -- each place has an answer
+    pub has_answer : (place : ℕ) → place < places → HasAnswer all workers place
+    has_answer place l = (
+      worker_there place,
+      λ outcomes e.
+      let of = are.each (place % workers) outcomes e in
+      let within : places ≤ place % workers + length (vec_items outcomes) * workers = omega (arith, of.all) in
+      (elim (ltb (place / workers) (length (vec_items outcomes))) as (λ b. ltb (place / workers) (length (vec_items outcomes)) ≡ b → place / workers < length (vec_items outcomes)) [
+        | true ↦ λ t. ltb-true (place / workers) (length (vec_items outcomes)) t
+        | false ↦ λ f. absurd (omega (arith, within, l, mod-add-div' place workers, mul-le-mul_right workers (ltb-false (place / workers) (length (vec_items outcomes)) f)))
+      ]) refl,
+    )
+
+    -- which is that of its piece
+    pub answers_piece : (place : ℕ) (outcome : Outcome) → IsAnswer all workers place outcome → AnswersWeighed (search place) nodes outcome
+    answers_piece place outcome answer =
+        let of = are.each (place % workers) answer.0 answer.1 in
+        let same : 0 + place % workers + place / workers * workers ≡ place = omega (arith, mod-add-div' place workers) in
+        subst (λ p. AnswersWeighed (search p) nodes outcome) same (of.each (place / workers) outcome answer.2)

@@ -1,0 +1,12 @@
+use Rattle.std.proofs.Common.{◌≡◌, ◌≤◌}
+use Rattle.pricing_pool.specs.SoFar.{told}
+use Rattle.pricing_pool.proofs.Ended.{before}
+use Rattle.pricing_pool.proofs.waves.SoFar.take_outcomes.Given as goal
+
+-- the pieces so far were taken
+abbrev pub invariant-loop-place : goal.invariant-loop-place
+invariant-loop-place l = record {
+  taken : told l.self ≡ before l.wave.priced.now.classes l.wave.priced.now.closed l.wave.priced.now.row (told l.fn.self) l.wave.fronts.now l.nodes l.wave.nodes l.place;
+  within : l.self.visits ≤ l.nodes;
+  more : l.fn.self.visits ≤ l.self.visits;
+}
