@@ -1,5 +1,5 @@
 -- The children of a front one after the other, in the search for the best composition.
-use Rattle.std.proofs.Common.{◌≡◌, ℕ, zero, suc, ◌+◌, ◌-◌, ◌≤◌, ◌<◌, true, false, cond, ltb, ◌&&◌, List, [], ◌∷◌, ◌++◌, length, take, drop, set, map, get_or, Some, None, Result, Ok, Err, refl, sym, ap, ◌∙◌, arith, subst, length-append}
+use Rattle.std.proofs.Common.{◌≡◌, ℕ, zero, suc, ◌+◌, ◌-◌, ◌≤◌, ◌<◌, true, false, cond, ltb, ◌&&◌, List, [], ◌∷◌, ◌++◌, length, take, drop, set, filter, map, get_or, Some, None, Result, Ok, Err, refl, sym, ap, ◌∙◌, arith, subst, length-append}
 use Rattle.std.specs.Prelude.{IsErr, int_le, int_lt, slice_get, slice_index}
 use Rattle.std.specs.List.{list_all}
 use Rattle.std.proofs.lemmas.Bool.{false≢true, and_parts, and_from, ltb-true, ltb-false}
@@ -16,14 +16,15 @@ use Rattle.search_definitions.specs.Visits.{Pricing, best_search, enter_best}
 use Rattle.search_definitions.proofs.Limits.{all_from_each}
 use Rattle.panel_search.specs.Front.{Tracks}
 use Rattle.panel_search.specs.Pricing.{BeginsAt, StandsAt, Moves, CanTake, children_best}
-use Rattle.panel_search.specs.Steps.{counts_at}
+use Rattle.panel_search.specs.Steps.{counts_below}
 use Rattle.panel_search.specs.Weights.{AreNarrow, EachNarrow, Weighs, WeighEach}
 use Rattle.panel_search.specs.declared.searching.BudgetSpent.{BudgetSpent}
 use Rattle.panel_search.specs.declared.pricing.BestSearch.{BestSearch}
 use Rattle.panel_search.specs.declared.tally.Tally.{Tally}
 use Rattle.panel_search.specs.declared.weighing.Weights.{Weights}
 use Rattle.panel_search.proofs.Tracking.{Stands, comes_next}
-use Rattle.panel_search.proofs.Stepping.{counts_here, placed, front_length}
+use Rattle.panel_search.proofs.Ranges.{LiveBetween, below_next, below_none, live_counts}
+use Rattle.panel_search.proofs.Stepping.{placed, front_length}
 use Rattle.panel_search.proofs.WeightLaws.{weighs_front, element_at}
 use Rattle.wave_definitions.specs.Below.{AreWithin, child_best, search_from}
 
@@ -71,41 +72,46 @@ none_entered all closed row none =
 abbrev pub child_at : Classes → List Row → Row → ℕ → List ℕ → ℕ → Pricing → Pricing
 child_at all closed row depth front count now = child_best all closed row (drop (depth + 1) all.classes) (front ++ count ∷ []) now
 
-abbrev pub children_at : Classes → List Row → Row → ℕ → List ℕ → ℕ → Pricing → Pricing
-children_at all closed row depth front above now = children_best all closed row (drop (depth + 1) all.classes) front (counts_at all depth above) now
+abbrev pub children_within : Classes → List Row → Row → ℕ → List ℕ → ℕ → ℕ → Pricing → Pricing
+children_within all closed row depth front low end now = children_best all closed row (drop (depth + 1) all.classes) front (counts_below low end) now
 
--- the last count
-pub children_last : (all : Classes) (closed : List Row) (row : Row) (depth : ℕ) (class : Class) (front : List ℕ) (above count : ℕ) (now : Pricing) → Stands all depth class → count ≡ class.least + above → above ≡ 0 →
-    children_at all closed row depth front above now ≡ child_at all closed row depth front count now
-children_last all closed row depth class front above count now stands e z =
-    let least : class.least ≡ count = omega arith in
-    ap (λ counts. children_best all closed row (drop (depth + 1) all.classes) front counts now) (counts_here all depth class above stands ∙ ap (counts_down class.least) z)
-    ∙ ap (λ n. child_at all closed row depth front n now) least
+-- no count is left
+pub children_none : (all : Classes) (closed : List Row) (row : Row) (depth : ℕ) (front : List ℕ) (low end : ℕ) (now : Pricing) → end ≤ low → children_within all closed row depth front low end now ≡ now
+children_none all closed row depth front low end now l = ap (λ counts. children_best all closed row (drop (depth + 1) all.classes) front counts now) (below_none low end l)
 
--- a count with others below it
-pub children_next : (all : Classes) (closed : List Row) (row : Row) (depth : ℕ) (class : Class) (front : List ℕ) (above count : ℕ) (now : Pricing) → Stands all depth class → count ≡ class.least + above → (above ≡ 0 → ⊥) →
-    children_at all closed row depth front above now ≡ children_at all closed row depth front (above - 1) (child_at all closed row depth front count now)
-children_next all closed row depth class front zero count now stands e some = absurd (some refl)
-children_next all closed row depth class front (suc more) count now stands e some =
-    let less : suc more - 1 ≡ more = omega arith in
-    ap (λ counts. children_best all closed row (drop (depth + 1) all.classes) front counts now) (counts_here all depth class (suc more) stands)
-    ∙ ap (λ n. children_best all closed row (drop (depth + 1) all.classes) front (counts_down class.least more) (child_at all closed row depth front n now)) (sym e)
-    ∙ ap (λ counts. children_best all closed row (drop (depth + 1) all.classes) front counts (child_at all closed row depth front count now))
-    (sym (counts_here all depth class more stands) ∙ ap (counts_at all depth) (sym less))
+-- the greatest count, and those below it
+pub children_next : (all : Classes) (closed : List Row) (row : Row) (depth : ℕ) (front : List ℕ) (low end : ℕ) (now : Pricing) → low < end →
+    children_within all closed row depth front low end now ≡ children_within all closed row depth front low (end - 1) (child_at all closed row depth front (end - 1) now)
+children_next all closed row depth front low end now l = ap (λ counts. children_best all closed row (drop (depth + 1) all.classes) front counts now) (below_next low end l)
 
-pub child_within : (all : Classes) (closed : List Row) (row : Row) (depth : ℕ) (class : Class) (front : List ℕ) (above count : ℕ) (now : Pricing) → Stands all depth class → count ≡ class.least + above →
-    (child_at all closed row depth front count now).visits ≤ (children_at all closed row depth front above now).visits
-child_within all closed row depth class front zero count now stands e = let same = children_last all closed row depth class front zero count now stands e refl in rw same (omega arith)
-child_within all closed row depth class front (suc more) count now stands e =
-    let same = children_next all closed row depth class front (suc more) count now stands e (λ z. absurd (omega arith)) in
-    rw same (children_more all closed row (drop (depth + 1) all.classes) front (counts_at all depth (suc more - 1)) (child_at all closed row depth front count now) (enter_no_less all closed row (drop (depth + 1) all.classes)))
+pub child_within : (all : Classes) (closed : List Row) (row : Row) (depth : ℕ) (front : List ℕ) (low end : ℕ) (now : Pricing) → low < end →
+    (child_at all closed row depth front (end - 1) now).visits ≤ (children_within all closed row depth front low end now).visits
+child_within all closed row depth front low end now l =
+    let same = children_next all closed row depth front low end now l in
+    rw same (children_more all closed row (drop (depth + 1) all.classes) front (counts_below low (end - 1)) (child_at all closed row depth front (end - 1) now) (enter_no_less all closed row (drop (depth + 1) all.classes)))
+
+-- children out of reach change nothing
+passed_over : (all : Classes) (closed : List Row) (row : Row) (later : List Class) (front counts : List ℕ) (now : Pricing) →
+    children_best all closed row later front counts now ≡ children_best all closed row later front (filter (λ c. is_reachable all (front ++ c ∷ [])) counts) now
+passed_over all closed row later front [] now = refl
+passed_over all closed row later front (c ∷ counts) now =
+    let child = front ++ c ∷ [] in
+    let others = filter (λ c. is_reachable all (front ++ c ∷ [])) counts in
+    let weighs = list_all (λ r. int_le r.b (optimistic all r child)) closed in
+    let above = int_lt now.floor (optimistic all row child) in
+    (elim (is_reachable all child) as (λ b. is_reachable all child ≡ b → children_best all closed row later front counts (child_best all closed row later child now) ≡ children_best all closed row later front (cond b (c ∷ others) others) now) [
+      | true ↦ λ e. passed_over all closed row later front counts (child_best all closed row later child now)
+      | false ↦ λ e. ap (λ b. children_best all closed row later front counts (cond (b && weighs && above) (enter_best all closed row later child now) now)) e
+          ∙ passed_over all closed row later front counts now
+    ]) refl
 
 -- a front with classes after it
-pub enter_children : (all : Classes) (closed : List Row) (row : Row) (depth : ℕ) (class : Class) (front : List ℕ) (above : ℕ) (now : Pricing) → Stands all depth class → above ≡ class.most - class.least →
-    enter_best all closed row (drop depth all.classes) front now ≡ children_at all closed row depth front above (record now { visits = now.visits + 1 })
-enter_children all closed row depth class front above now stands e =
+pub enter_children : (all : Classes) (closed : List Row) (row : Row) (depth : ℕ) (class : Class) (front : List ℕ) (low end : ℕ) (now : Pricing) → Stands all depth class → class.least ≤ class.most → LiveBetween all front class low end →
+    enter_best all closed row (drop depth all.classes) front now ≡ children_within all closed row depth front low end (record now { visits = now.visits + 1 })
+enter_children all closed row depth class front low end now stands order live =
     ap (λ later. enter_best all closed row later front now) (comes_next all depth class stands)
-    ∙ ap (λ counts. children_best all closed row (drop (depth + 1) all.classes) front counts (record now { visits = now.visits + 1 })) (sym (counts_here all depth class above stands ∙ ap (counts_down class.least) e))
+    ∙ passed_over all closed row (drop (depth + 1) all.classes) front (counts_of class) (record now { visits = now.visits + 1 })
+    ∙ ap (λ counts. children_best all closed row (drop (depth + 1) all.classes) front counts (record now { visits = now.visits + 1 })) (live_counts all front class low end order live.inside live.outside)
 
 -- ---- in the words of the code
 

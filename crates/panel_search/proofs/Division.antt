@@ -23,9 +23,9 @@ use Rattle.panel_search.specs.declared.searching.SearchStop.{SearchStop}
 use Rattle.panel_search.specs.declared.searching.SearchStop.TheVariants.{Spent}
 use Rattle.panel_search.specs.Pieces.{IsLiveFront, counts_first, live_among, live_children}
 use Rattle.panel_search.specs.Pricing.{CanTake}
-use Rattle.panel_search.specs.Steps.{counts_at}
+use Rattle.panel_search.specs.Steps.{counts_below}
 use Rattle.panel_search.proofs.BestStepping.{class_limits, same_class, within_more}
-use Rattle.panel_search.proofs.Stepping.{counts_here}
+use Rattle.panel_search.proofs.Ranges.{LiveBetween, below_next, below_none, live_counts}
 use Rattle.panel_search.proofs.Tracking.{Stands, comes_next, stands_there}
 
 -- ---- how many classes
@@ -85,29 +85,37 @@ among_next all closed row floor front c counts =
       | false ↦ refl
     ]
 
--- the last count
-pub among_last : (all : Classes) (closed : List Row) (row : Row) (floor : ℤ) (front : List ℕ) (class : Class) (above count : ℕ) → Stands all (length front) class → count ≡ class.least + above → above ≡ 0 →
-    live_among all closed row floor front (counts_at all (length front) above) ≡ live_among all closed row floor front (count ∷ [])
-among_last all closed row floor front class above count stands e z =
-    let least : class.least ≡ count = omega arith in
-    ap (live_among all closed row floor front) (counts_here all (length front) class above stands ∙ ap (counts_down class.least) z) ∙ ap (λ n. live_among all closed row floor front (n ∷ [])) least
+-- no count is left
+pub among_none : (all : Classes) (closed : List Row) (row : Row) (floor : ℤ) (front : List ℕ) (low end : ℕ) → end ≤ low → live_among all closed row floor front (counts_below low end) ≡ []
+among_none all closed row floor front low end l = ap (live_among all closed row floor front) (below_none low end l)
 
--- a count with others below it
-pub among_more : (all : Classes) (closed : List Row) (row : Row) (floor : ℤ) (front : List ℕ) (class : Class) (above count : ℕ) → Stands all (length front) class → count ≡ class.least + above → (above ≡ 0 → ⊥) →
-    live_among all closed row floor front (counts_at all (length front) above) ≡ live_among all closed row floor front (count ∷ []) ++ live_among all closed row floor front (counts_at all (length front) (above - 1))
-among_more all closed row floor front class zero count stands e some = absurd (some refl)
-among_more all closed row floor front class (suc more) count stands e some =
-    let less : suc more - 1 ≡ more = omega arith in
-    ap (live_among all closed row floor front) (counts_here all (length front) class (suc more) stands)
-    ∙ among_next all closed row floor front (class.least + suc more) (counts_down class.least more)
-    ∙ ap (λ n. live_among all closed row floor front (n ∷ []) ++ live_among all closed row floor front (counts_down class.least more)) (sym e)
-    ∙ ap (λ counts. live_among all closed row floor front (count ∷ []) ++ live_among all closed row floor front counts) (sym (counts_here all (length front) class more stands) ∙ ap (counts_at all (length front)) (sym less))
+-- the greatest count, and those below it
+pub among_more : (all : Classes) (closed : List Row) (row : Row) (floor : ℤ) (front : List ℕ) (low end : ℕ) → low < end →
+    live_among all closed row floor front (counts_below low end) ≡ live_among all closed row floor front ((end - 1) ∷ []) ++ live_among all closed row floor front (counts_below low (end - 1))
+among_more all closed row floor front low end l = ap (live_among all closed row floor front) (below_next low end l) ∙ among_next all closed row floor front (end - 1) (counts_below low (end - 1))
+
+-- children out of reach aren't live
+passed_over : (all : Classes) (closed : List Row) (row : Row) (floor : ℤ) (front counts : List ℕ) →
+    live_among all closed row floor front counts ≡ live_among all closed row floor front (filter (λ c. is_reachable all (front ++ c ∷ [])) counts)
+passed_over all closed row floor front [] = refl
+passed_over all closed row floor front (c ∷ counts) =
+    let child = front ++ c ∷ [] in
+    let rest = passed_over all closed row floor front counts in
+    let left = live_among all closed row floor front counts in
+    let others = filter (λ c. is_reachable all (front ++ c ∷ [])) counts in
+    let weighs = list_all (λ r. int_le r.b (optimistic all r child)) closed in
+    let above = int_lt floor (optimistic all row child) in
+    (elim (is_reachable all child) as (λ b. is_reachable all child ≡ b → cond (is_live_above all closed row floor child) (child ∷ left) left ≡ live_among all closed row floor front (cond b (c ∷ others) others)) [
+      | true ↦ λ e. ap (λ children. cond (is_live_above all closed row floor child) (child ∷ children) children) rest
+      | false ↦ λ e. ap (λ b. cond (b && weighs && above) (child ∷ left) left) e ∙ rest
+    ]) refl
 
 -- all counts
-pub among_all : (all : Classes) (closed : List Row) (row : Row) (front : List ℕ) (class : Class) (above : ℕ) → Stands all (length front) class → above ≡ class.most - class.least →
-    live_among all closed row row.b front (counts_at all (length front) above) ≡ live_children all closed row front
-among_all all closed row front class above stands e =
-    ap (live_among all closed row row.b front) (counts_here all (length front) class above stands ∙ ap (counts_down class.least) e ∙ sym (ap counts_first (comes_next all (length front) class stands)))
+pub among_all : (all : Classes) (closed : List Row) (row : Row) (front : List ℕ) (class : Class) (low end : ℕ) → Stands all (length front) class → class.least ≤ class.most → LiveBetween all front class low end →
+    live_among all closed row row.b front (counts_below low end) ≡ live_children all closed row front
+among_all all closed row front class low end stands order live =
+    ap (live_among all closed row row.b front) (sym (live_counts all front class low end order live.inside live.outside))
+    ∙ sym (ap (live_among all closed row row.b front) (ap counts_first (comes_next all (length front) class stands)) ∙ passed_over all closed row row.b front (counts_of class))
 
 -- ---- from front to front
 

@@ -5,6 +5,7 @@ pub mod ClosedRows
 pub mod Households
 pub mod Kept
 pub mod Liveness
+pub mod Ranges
 pub mod Stepping
 pub mod Tracking
 pub mod UnitSums

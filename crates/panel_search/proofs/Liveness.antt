@@ -8,7 +8,7 @@ use Rattle.search_definitions.specs.declared.Bounds.{Bounds}
 use Rattle.search_definitions.specs.Classes.{Class, Classes, HasPlaces, KeepsLimits}
 use Rattle.search_definitions.specs.Compositions.{taken_of, has_value, takes_one_a_household}
 use Rattle.search_definitions.specs.Fronts.{most_given, is_reachable, size_reachable, value_reachable, values_reachable, later_than}
-use Rattle.panel_search.specs.Tallies.{cell, HasBound, reaches, AllReach, OneFails, EachReaches, SomeFails}
+use Rattle.panel_search.specs.Tallies.{cell, HasBound, reaches, AllReach, EachReaches, SomeFails}
 use Rattle.panel_search.specs.Front.{Tracks}
 use Rattle.panel_search.specs.declared.tally.Tally.{Tally}
 use Rattle.panel_search.proofs.Tracking.{Stands, comes_next, few_places, most_more, taken_more}
@@ -80,7 +80,7 @@ other_reach all front class count stands c v bound has =
     let later = ap (most_given (has_value c v)) (later_of_child all front count) in
     reach_equal bound.lower bound.upper _ _ _ _ (omega (arith, taken)) (omega (arith, next, later))
 
-values_of_child : (all : Classes) (front : List ℕ) (class : Class) (count : ℕ) (tally : Tally) → KeepsLimits all → HasPlaces all.bounds class → Stands all (length front) class → is_reachable all front ≡ true →
+pub values_of_child : (all : Classes) (front : List ℕ) (class : Class) (count : ℕ) (tally : Tally) → KeepsLimits all → HasPlaces all.bounds class → Stands all (length front) class → is_reachable all front ≡ true →
     Tracks all front (drop (length front + 1) all.classes) tally → AllReach all.bounds tally.held.items tally.later.items class.values count → values_reachable all (front ++ count ∷ []) ≡ true
 values_of_child all front class count tally limits places stands live tracks reach =
     let both = and_parts (size_reachable all front && values_reachable all front) (takes_one_a_household all.classes front) live in
@@ -94,18 +94,17 @@ values_of_child all front class count tally limits places stands live tracks rea
       | false ↦ λ other. other_reach all front class count stands c v bound other ∙ values_at all front parent c v bound below has
     ]) refl)
 
-values_fail : (all : Classes) (front : List ℕ) (class : Class) (count : ℕ) (tally : Tally) → KeepsLimits all → HasPlaces all.bounds class → Stands all (length front) class →
-    Tracks all front (drop (length front + 1) all.classes) tally → OneFails all.bounds tally.held.items tally.later.items class.values count → values_reachable all (front ++ count ∷ []) ≡ false
-values_fail all front class count tally limits places stands tracks (c, bound, below, has, fails) =
+pub reach_of_child : (all : Classes) (front : List ℕ) (class : Class) (count : ℕ) (tally : Tally) → KeepsLimits all → HasPlaces all.bounds class → Stands all (length front) class →
+    Tracks all front (drop (length front + 1) all.classes) tally → values_reachable all (front ++ count ∷ []) ≡ true → AllReach all.bounds tally.held.items tally.later.items class.values count
+reach_of_child all front class count tally limits places stands tracks all_reach = λ c bound below has.
     let v = slice_index class.values c in
     let lt : c < length all.bounds = omega (arith, places.one_each) in
-    false_from_ne_true (values_reachable all (front ++ count ∷ [])) (λ yes. false≢true (sym fails ∙ (sym (own_reach all front class count tally stands tracks c v bound lt (value_in_cell all limits c v bound lt has) (own class c))
-    ∙ values_at all (front ++ count ∷ []) yes c v bound lt has)))
+    sym (own_reach all front class count tally stands tracks c v bound lt (value_in_cell all limits c v bound lt has) (own class c)) ∙ values_at all (front ++ count ∷ []) all_reach c v bound lt has
   where
     own : (class : Class) (c : ℕ) → has_value c (slice_index class.values c) class ≡ true
     own class c = eq-eqb (slice_index class.values c) (slice_index class.values c) refl
 
-size_of_child : (all : Classes) (front : List ℕ) (class : Class) (count : ℕ) (tally : Tally) → Stands all (length front) class → Tracks all front (drop (length front + 1) all.classes) tally →
+pub size_of_child : (all : Classes) (front : List ℕ) (class : Class) (count : ℕ) (tally : Tally) → Stands all (length front) class → Tracks all front (drop (length front + 1) all.classes) tally →
     size_reachable all (front ++ count ∷ []) ≡ (leb (tally.taken + count) all.size && leb all.size (tally.taken + count + tally.later_taken))
 size_of_child all front class count tally stands tracks =
     let taken = taken_more all front class count stands (λ class. true) in
@@ -116,23 +115,6 @@ decided : (b : Bool) (A B : Type 0) (s : Bool) → (b ≡ true → A) → (b ≡
 decided true A B s f g h k = sym (h (f refl))
 decided false A B s f g h k = sym (k (g refl))
 
--- a child whose size can be reached is live where its class's values can be
-pub child_live : (all : Classes) (front : List ℕ) (class : Class) (count : ℕ) (tally : Tally) → KeepsLimits all → HasPlaces all.bounds class → Stands all (length front) class → is_reachable all front ≡ true →
-    Tracks all front (drop (length front + 1) all.classes) tally → (leb (tally.taken + count) all.size && leb all.size (tally.taken + count + tally.later_taken)) ≡ true →
-    (answer : Bool) → (answer ≡ true → AllReach all.bounds tally.held.items tally.later.items class.values count) → (answer ≡ false → OneFails all.bounds tally.held.items tally.later.items class.values count) →
-    answer ≡ (size_reachable all (front ++ count ∷ []) && values_reachable all (front ++ count ∷ []))
-child_live all front class count tally limits places stands live tracks size answer allowed refused =
-    let values = decided answer _ _ (values_reachable all (front ++ count ∷ [])) allowed refused
-    (values_of_child all front class count tally limits places stands live tracks) (values_fail all front class count tally limits places stands tracks) in
-    let reach = size_of_child all front class count tally stands tracks ∙ size in
-    values ∙ sym (ap (λ b. b && values_reachable all (front ++ count ∷ [])) reach)
-
-pub child_dead : (all : Classes) (front : List ℕ) (class : Class) (count : ℕ) (tally : Tally) → Stands all (length front) class →
-    Tracks all front (drop (length front + 1) all.classes) tally → (leb (tally.taken + count) all.size && leb all.size (tally.taken + count + tally.later_taken)) ≡ false →
-    (size_reachable all (front ++ count ∷ []) && values_reachable all (front ++ count ∷ [])) ≡ false
-child_dead all front class count tally stands tracks size =
-    ap (λ b. b && values_reachable all (front ++ count ∷ [])) (size_of_child all front class count tally stands tracks ∙ size)
-
 -- ---- a front
 
 front_reach : (all : Classes) (front : List ℕ) (tally : Tally) → Tracks all front (drop (length front) all.classes) tally → (c v : ℕ) (bound : Bounds) → c < length all.bounds → v < 50 →
@@ -141,11 +123,11 @@ front_reach all front tally tracks c v bound below within =
     reach_equal bound.lower bound.upper _ _ _ _ (omega (arith, tracks.held c v below within)) (sym (tracks.later c v below within))
 
 size_of_front : (all : Classes) (front : List ℕ) (tally : Tally) → Tracks all front (drop (length front) all.classes) tally →
-    size_reachable all front ≡ (leb (tally.taken + 0) all.size && leb all.size (tally.taken + 0 + tally.later_taken))
+    size_reachable all front ≡ (leb tally.taken all.size && leb all.size (tally.taken + tally.later_taken))
 size_of_front all front tally tracks = reach_equal all.size all.size _ _ _ _ (omega (arith, tracks.taken)) (sym tracks.later_taken)
 
 pub front_live : (all : Classes) (front : List ℕ) (tally : Tally) → KeepsLimits all → Tracks all front (drop (length front) all.classes) tally →
-    (leb (tally.taken + 0) all.size && leb all.size (tally.taken + 0 + tally.later_taken)) ≡ true →
+    (leb tally.taken all.size && leb all.size (tally.taken + tally.later_taken)) ≡ true →
     (answer : Bool) → (answer ≡ true → EachReaches all.bounds tally.held.items tally.later.items) → (answer ≡ false → SomeFails all.bounds tally.held.items tally.later.items) →
     answer ≡ (size_reachable all front && values_reachable all front)
 front_live all front tally limits tracks size answer allowed refused =
@@ -156,5 +138,5 @@ front_live all front tally limits tracks size answer allowed refused =
     values ∙ sym (ap (λ b. b && values_reachable all front) (size_of_front all front tally tracks ∙ size))
 
 pub front_dead : (all : Classes) (front : List ℕ) (tally : Tally) → Tracks all front (drop (length front) all.classes) tally →
-    (leb (tally.taken + 0) all.size && leb all.size (tally.taken + 0 + tally.later_taken)) ≡ false → (size_reachable all front && values_reachable all front) ≡ false
+    (leb tally.taken all.size && leb all.size (tally.taken + tally.later_taken)) ≡ false → (size_reachable all front && values_reachable all front) ≡ false
 front_dead all front tally tracks size = ap (λ b. b && values_reachable all front) (size_of_front all front tally tracks ∙ size)

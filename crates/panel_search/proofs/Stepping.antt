@@ -5,14 +5,15 @@ use Rattle.std.proofs.lemmas.List.{length-take-le, take-append-drop, take-append
 use Rattle.std.proofs.Math.Seq.{take-length}
 use Rattle.std.proofs.lemmas.Bool.{false≢true}
 use Rattle.search_definitions.specs.Classes.{Class, Classes}
-use Rattle.search_definitions.specs.Compositions.{counts_down}
+use Rattle.search_definitions.specs.Compositions.{counts_of}
 use Rattle.search_definitions.specs.Fronts.{is_reachable}
 use Rattle.search_definitions.specs.Visits.{Search as Due, one_by_one, enter_first}
 use Rattle.panel_search.specs.Front.{Tracks}
 use Rattle.panel_search.specs.declared.tally.Tally.{Tally}
-use Rattle.panel_search.specs.Steps.{StandsAt, Steps, StepsFrom, child_first, children_first, counts_among, counts_at}
+use Rattle.panel_search.specs.Steps.{StandsAt, Steps, StepsFrom, child_first, children_first, counts_below}
 use Rattle.panel_search.specs.declared.searching.BudgetSpent.{BudgetSpent}
 use Rattle.panel_search.specs.declared.searching.Search.{Search}
+use Rattle.panel_search.proofs.Ranges.{LiveBetween, below_next, below_none, live_counts}
 use Rattle.panel_search.proofs.Tracking.{Stands, comes_next}
 
 -- one search, and where it finds nothing another
@@ -32,30 +33,22 @@ children_more all later front c counts =
       | false ↦ after_nothing (children_first all later front counts)
     ]
 
-pub counts_here : (all : Classes) (depth : ℕ) (class : Class) (above : ℕ) → Stands all depth class → counts_at all depth above ≡ counts_down class.least above
-counts_here all depth class above stands = ap (λ classes. counts_among classes above) (comes_next all depth class stands)
-
--- the last count
-children_last : (all : Classes) (depth : ℕ) (class : Class) (front : List ℕ) (above : ℕ) → Stands all depth class → above ≡ 0 →
-    children_first all (drop (depth + 1) all.classes) front (counts_at all depth above)
-    ≡ then_next (child_first all (drop (depth + 1) all.classes) (front ++ (class.least + above) ∷ [])) (record { visits = 0; found = None })
-children_last all depth class front above stands e =
-    let least : class.least + above ≡ class.least = omega arith in
-    ap (children_first all (drop (depth + 1) all.classes) front) (counts_here all depth class above stands ∙ ap (counts_down class.least) e)
-    ∙ (children_more all (drop (depth + 1) all.classes) front class.least []
-    ∙ ap (λ n. then_next (child_first all (drop (depth + 1) all.classes) (front ++ n ∷ [])) (record { visits = 0; found = None })) (sym least))
-
--- a count with others below it
-children_next : (all : Classes) (depth : ℕ) (class : Class) (front : List ℕ) (above : ℕ) → Stands all depth class → (above ≡ 0 → ⊥) →
-    children_first all (drop (depth + 1) all.classes) front (counts_at all depth above)
-    ≡ then_next (child_first all (drop (depth + 1) all.classes) (front ++ (class.least + above) ∷ [])) (children_first all (drop (depth + 1) all.classes) front (counts_at all depth (above - 1)))
-children_next all depth class front zero stands some = absurd (some refl)
-children_next all depth class front (suc more) stands some =
-    let less : suc more - 1 ≡ more = omega arith in
-    ap (children_first all (drop (depth + 1) all.classes) front) (counts_here all depth class (suc more) stands)
-    ∙ (children_more all (drop (depth + 1) all.classes) front (class.least + suc more) (counts_down class.least more)
-    ∙ ap (λ counts. then_next (child_first all (drop (depth + 1) all.classes) (front ++ (class.least + suc more) ∷ [])) (children_first all (drop (depth + 1) all.classes) front counts))
-    (sym (counts_here all depth class more stands) ∙ ap (counts_at all depth) (sym less)))
+-- children out of reach change nothing
+passed_over : (all : Classes) (later : List Class) (front counts : List ℕ) → children_first all later front counts ≡ children_first all later front (filter (λ c. is_reachable all (front ++ c ∷ [])) counts)
+passed_over all later front counts = ap (λ children. one_by_one (map (λ child. enter_first all later child) children)) (kept counts)
+  where
+    kept : (counts : List ℕ) → filter (is_reachable all) (map (λ c. front ++ c ∷ []) counts) ≡ filter (is_reachable all) (map (λ c. front ++ c ∷ []) (filter (λ c. is_reachable all (front ++ c ∷ [])) counts))
+    kept [] = refl
+    kept (c ∷ counts) =
+        let child = front ++ c ∷ [] in
+        let rest = kept counts in
+        let left = filter (is_reachable all) (map (λ c. front ++ c ∷ []) counts) in
+        let others = filter (λ c. is_reachable all (front ++ c ∷ [])) counts in
+        let right = filter (is_reachable all) (map (λ c. front ++ c ∷ []) others) in
+        (elim (is_reachable all child) as (λ b. is_reachable all child ≡ b → cond (is_reachable all child) (child ∷ left) left ≡ filter (is_reachable all) (map (λ c. front ++ c ∷ []) (cond b (c ∷ others) others))) [
+          | true ↦ λ e. ap (λ children. cond (is_reachable all child) (child ∷ children) children) rest
+          | false ↦ λ e. ap (λ b. cond b (child ∷ left) left) e ∙ rest
+        ]) refl
 
 -- ---- steps
 
@@ -103,51 +96,40 @@ steps_false all depth later due left front false after steps e = steps
 abbrev pub child_at : Classes → ℕ → List ℕ → ℕ → Due
 child_at all depth front count = child_first all (drop (depth + 1) all.classes) (front ++ count ∷ [])
 
-abbrev pub children_at : Classes → ℕ → List ℕ → ℕ → Due
-children_at all depth front above = children_first all (drop (depth + 1) all.classes) front (counts_at all depth above)
+abbrev pub children_within : Classes → ℕ → List ℕ → ℕ → ℕ → Due
+children_within all depth front low end = children_first all (drop (depth + 1) all.classes) front (counts_below low end)
 
-children_split : (all : Classes) (depth : ℕ) (class : Class) (front : List ℕ) (above count : ℕ) → Stands all depth class → count ≡ class.least + above →
-    (rest : Due) × (children_at all depth front above ≡ then_next (child_at all depth front count) rest)
-children_split all depth class front zero count stands e =
-    (record { visits = 0; found = None }, rw e (children_last all depth class front zero stands refl))
-children_split all depth class front (suc more) count stands e =
-    (children_at all depth front (suc more - 1), rw e (children_next all depth class front (suc more) stands (λ z. absurd (omega arith))))
+-- no count is left
+pub children_none : (all : Classes) (depth : ℕ) (front : List ℕ) (low end : ℕ) → end ≤ low → children_within all depth front low end ≡ record { visits = 0; found = None }
+children_none all depth front low end l = ap (children_first all (drop (depth + 1) all.classes) front) (below_none low end l)
 
-pub first_spent : (all : Classes) (depth : ℕ) (class : Class) (front : List ℕ) (above count left : ℕ) → Stands all depth class → count ≡ class.least + above →
-    left < (child_at all depth front count).visits → left < (children_at all depth front above).visits
-first_spent all depth class front above count left stands e lt =
-    let split = children_split all depth class front above count stands e in
-    let least = at_least_one (child_at all depth front count) split.0 in
-    let due = split.1 in rw due (omega arith)
+-- the greatest count, and those below it
+children_next : (all : Classes) (depth : ℕ) (front : List ℕ) (low end : ℕ) → low < end → children_within all depth front low end ≡ then_next (child_at all depth front (end - 1)) (children_within all depth front low (end - 1))
+children_next all depth front low end l =
+    ap (children_first all (drop (depth + 1) all.classes) front) (below_next low end l) ∙ children_more all (drop (depth + 1) all.classes) front (end - 1) (counts_below low (end - 1))
 
-pub first_found : (all : Classes) (depth : ℕ) (class : Class) (front : List ℕ) (above count left after : ℕ) (found : List ℕ) → Stands all depth class → count ≡ class.least + above →
-    left ≡ after + (child_at all depth front count).visits → (child_at all depth front count).found ≡ Some found →
-    (left ≡ after + (children_at all depth front above).visits) × ((children_at all depth front above).found ≡ Some found)
-first_found all depth class front above count left after found stands e f g =
-    let split = children_split all depth class front above count stands e in
-    let due = split.1 ∙ found_at_once (child_at all depth front count) split.0 found g in
+pub first_spent : (all : Classes) (depth : ℕ) (front : List ℕ) (low end left : ℕ) → low < end → left < (child_at all depth front (end - 1)).visits → left < (children_within all depth front low end).visits
+first_spent all depth front low end left l lt =
+    let least = at_least_one (child_at all depth front (end - 1)) (children_within all depth front low (end - 1)) in
+    let due = children_next all depth front low end l in rw due (omega arith)
+
+pub first_found : (all : Classes) (depth : ℕ) (front : List ℕ) (low end left after : ℕ) (found : List ℕ) → low < end →
+    left ≡ after + (child_at all depth front (end - 1)).visits → (child_at all depth front (end - 1)).found ≡ Some found →
+    (left ≡ after + (children_within all depth front low end).visits) × ((children_within all depth front low end).found ≡ Some found)
+first_found all depth front low end left after found l f g =
+    let due = children_next all depth front low end l ∙ found_at_once (child_at all depth front (end - 1)) (children_within all depth front low (end - 1)) found g in
     rw due (f, g)
 
-pub last_none : (all : Classes) (depth : ℕ) (class : Class) (front : List ℕ) (above count left after : ℕ) → Stands all depth class → count ≡ class.least + above → above ≡ 0 →
-    left ≡ after + (child_at all depth front count).visits → (child_at all depth front count).found ≡ None →
-    (left ≡ after + (children_at all depth front above).visits) × ((children_at all depth front above).found ≡ None)
-last_none all depth class front above count left after stands e z f g =
-    let due = children_last all depth class front above stands z ∙ (ap (λ n. then_next (child_at all depth front n) (record { visits = 0; found = None })) (sym e)
-    ∙ found_later (child_at all depth front count) (record { visits = 0; found = None }) g) in
-    rw due (omega arith, refl)
-
-pub next_steps : (all : Classes) (depth : ℕ) (class : Class) (above count : ℕ) (before mid : Search) (result : Result Bool BudgetSpent) (after : Search) → Stands all depth class → count ≡ class.least + above → (above ≡ 0 → ⊥) →
-    before.left ≡ mid.left + (child_at all depth (take depth before.counts.items) count).visits → (child_at all depth (take depth before.counts.items) count).found ≡ None →
+pub next_steps : (all : Classes) (depth low end : ℕ) (before mid : Search) (result : Result Bool BudgetSpent) (after : Search) → low < end →
+    before.left ≡ mid.left + (child_at all depth (take depth before.counts.items) (end - 1)).visits → (child_at all depth (take depth before.counts.items) (end - 1)).found ≡ None →
     take depth mid.counts.items ≡ take depth before.counts.items →
-    Steps all depth (drop (depth + 1) all.classes) (children_at all depth (take depth mid.counts.items) (above - 1)) mid result after →
-    Steps all depth (drop (depth + 1) all.classes) (children_at all depth (take depth before.counts.items) above) before result after
-next_steps all depth class above count before mid result after stands e some left none same steps =
+    Steps all depth (drop (depth + 1) all.classes) (children_within all depth (take depth mid.counts.items) low (end - 1)) mid result after →
+    Steps all depth (drop (depth + 1) all.classes) (children_within all depth (take depth before.counts.items) low end) before result after
+next_steps all depth low end before mid result after l left none same steps =
     let front = take depth before.counts.items in
-    let steps' = subst (λ f. Steps all depth (drop (depth + 1) all.classes) (children_at all depth f (above - 1)) mid result after) same steps in
-    let due : children_at all depth front above ≡ then_next (child_at all depth front count) (children_at all depth front (above - 1)) =
-    children_next all depth class front above stands some ∙ ap (λ n. then_next (child_at all depth front n) (children_at all depth front (above - 1))) (sym e) in
-    subst (λ d. Steps all depth (drop (depth + 1) all.classes) d before result after) (sym due)
-    (both all depth (drop (depth + 1) all.classes) (child_at all depth front count) (children_at all depth front (above - 1)) before mid result after left none same steps')
+    let steps' = subst (λ f. Steps all depth (drop (depth + 1) all.classes) (children_within all depth f low (end - 1)) mid result after) same steps in
+    subst (λ d. Steps all depth (drop (depth + 1) all.classes) d before result after) (sym (children_next all depth front low end l))
+    (both all depth (drop (depth + 1) all.classes) (child_at all depth front (end - 1)) (children_within all depth front low (end - 1)) before mid result after left none same steps')
 
 -- ---- entering
 
@@ -155,13 +137,13 @@ pub enter_visits : (all : Classes) (later : List Class) (front : List ℕ) → 0
 enter_visits all [] front = omega arith
 enter_visits all (class ∷ later) front = omega arith
 
-pub enter_due : (all : Classes) (depth : ℕ) (class : Class) (front front' : List ℕ) (above : ℕ) → Stands all depth class → above ≡ class.most - class.least → front' ≡ front →
-    enter_first all (drop depth all.classes) front ≡ record { visits = 1 + (children_at all depth front' above).visits; found = (children_at all depth front' above).found }
-enter_due all depth class front front' above stands e f =
-    let here = counts_here all depth class above stands ∙ ap (counts_down class.least) e in
-    ap (λ later. enter_first all later front) (comes_next all depth class stands)
-    ∙ ap (λ counts. let due : Due = record { visits = 1 + (children_first all (drop (depth + 1) all.classes) front counts).visits; found = (children_first all (drop (depth + 1) all.classes) front counts).found } in due) (sym here)
-    ∙ ap (λ f. let due : Due = record { visits = 1 + (children_at all depth f above).visits; found = (children_at all depth f above).found } in due) (sym f)
+pub enter_due : (all : Classes) (depth : ℕ) (class : Class) (front front' : List ℕ) (low end : ℕ) → Stands all depth class → class.least ≤ class.most → front' ≡ front → LiveBetween all front' class low end →
+    enter_first all (drop depth all.classes) front ≡ record { visits = 1 + (children_within all depth front' low end).visits; found = (children_within all depth front' low end).found }
+enter_due all depth class front front' low end stands order e live =
+    ap (enter_first all (drop depth all.classes)) (sym e)
+    ∙ ap (λ later. enter_first all later front') (comes_next all depth class stands)
+    ∙ ap (λ (below : Due). let due : Due = record { visits = 1 + below.visits; found = below.found } in due)
+    (passed_over all (drop (depth + 1) all.classes) front' (counts_of class) ∙ ap (children_first all (drop (depth + 1) all.classes) front') (live_counts all front' class low end order live.inside live.outside))
 
 -- the front of a search, and how long it is
 pub front_length : (depth : ℕ) (counts : List ℕ) (n : ℕ) → length counts ≡ n → depth ≤ n → length (take depth counts) ≡ depth

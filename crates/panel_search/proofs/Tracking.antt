@@ -12,7 +12,7 @@ use Rattle.search_definitions.specs.Classes.{Class, Classes, HasPlaces, KeepsLim
 use Rattle.search_definitions.specs.Compositions.{taken_of, has_value, is_of_household, takes_one_a_household}
 use Rattle.search_definitions.specs.Fronts.{most_given, taken_by, is_reachable, size_reachable, values_reachable}
 use Rattle.search_definitions.proofs.FirstSearch.{Split, taken_split}
-use Rattle.panel_search.specs.Tallies.{cell, HaveCells, CanGive, AreAtMost, HasMore, HaveBounds, AllReach, OneFails, FitCells, EachReaches, SomeFails}
+use Rattle.panel_search.specs.Tallies.{cell, HaveCells, CanGive, AreAtMost, HasMore, HaveBounds, AllReach, FitCells, EachReaches, SomeFails}
 use Rattle.panel_search.specs.Front.{Gives, Tracks}
 use Rattle.panel_search.specs.Homes.{HasMoreAt}
 use Rattle.panel_search.specs.declared.tally.Tally.{Tally}
@@ -275,11 +275,6 @@ pub reach_same : (bounds bounds' : List (List Bounds)) (held held' later later' 
     AllReach bounds held later values count → AllReach bounds' held' later' values' count
 reach_same bounds bounds' held held' later later' values values' count e f g h reach =
     subst (λ x. AllReach x held' later' values' count) e (subst (λ x. AllReach bounds x later' values' count) f (subst (λ x. AllReach bounds held x values' count) g (subst (λ x. AllReach bounds held later x count) h reach)))
-
-pub fails_same : (bounds bounds' : List (List Bounds)) (held held' later later' values values' : List ℕ) (count : ℕ) → bounds ≡ bounds' → held ≡ held' → later ≡ later' → values ≡ values' →
-    OneFails bounds held later values count → OneFails bounds' held' later' values' count
-fails_same bounds bounds' held held' later later' values values' count e f g h fails =
-    subst (λ x. OneFails x held' later' values' count) e (subst (λ x. OneFails bounds x later' values' count) f (subst (λ x. OneFails bounds held x values' count) g (subst (λ x. OneFails bounds held later x count) h fails)))
 
 pub each_same : (bounds bounds' : List (List Bounds)) (held held' later later' : List ℕ) → bounds ≡ bounds' → held ≡ held' → later ≡ later' → EachReaches bounds held later → EachReaches bounds' held' later'
 each_same bounds bounds' held held' later later' e f g reach =

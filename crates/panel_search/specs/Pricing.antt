@@ -39,9 +39,9 @@ told search = record { visits = search.visits; floor = search.floor; kept = if s
 abbrev pub CanTake : Classes → ℕ → ℕ → Type 0
 CanTake all depth count = (class : Class) → slice_get all.classes depth ≡ Some class → count ≤ length class.members
 
--- so many above the least number of the class in a place can be taken
-abbrev pub CanTakeAbove : Classes → ℕ → ℕ → Type 0
-CanTakeAbove all depth above = (class : Class) → slice_get all.classes depth ≡ Some class → class.least + above ≤ length class.members
+-- each count from one number on and below another can be taken of the class in a place
+abbrev pub CanTakeWithin : Classes → ℕ → ℕ → ℕ → Type 0
+CanTakeWithin all depth low end = (count : ℕ) → low ≤ count → count < end → CanTake all depth count
 
 -- the children of a front, with these counts of the next class, one after the other
 abbrev pub children_best : Classes → List Row → Row → List Class → List ℕ → List ℕ → Pricing → Pricing

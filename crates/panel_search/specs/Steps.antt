@@ -1,7 +1,6 @@
 -- One step of a search under a budget.
-use Rattle.std.specs.Prelude.{◌≡◌, ◌≤◌, ◌<◌, ◌+◌, ℕ, if◌then◌else◌, Bool, true, false, List, [], ◌∷◌, ◌++◌, length, take, drop, filter, map, Result, Ok, Err, Some, None}
+use Rattle.std.specs.Prelude.{◌≡◌, ◌≤◌, ◌<◌, ◌+◌, ℕ, zero, suc, nat_le, if◌then◌else◌, Bool, true, false, List, [], ◌∷◌, ◌++◌, length, take, drop, filter, map, Result, Ok, Err, Some, None}
 use Rattle.search_definitions.specs.Classes.{Class, Classes}
-use Rattle.search_definitions.specs.Compositions.{counts_down}
 use Rattle.search_definitions.specs.Fronts.{is_reachable}
 use Rattle.search_definitions.specs.Visits.{Search as Due, one_by_one, enter_first}
 use Rattle.panel_search.specs.Front.{Tracks}
@@ -23,13 +22,14 @@ child_first all later child = if is_reachable all child then enter_first all lat
 abbrev pub children_first : Classes → List Class → List ℕ → List ℕ → Due
 children_first all later front counts = one_by_one (map (λ child. enter_first all later child) (filter (is_reachable all) (map (λ c. front ++ c ∷ []) counts)))
 
-abbrev pub counts_among : List Class → ℕ → List ℕ
-counts_among [] above = []
-counts_among (class ∷ later) above = counts_down class.least above
+-- the counts from one number on and below another, the greatest first
+abbrev pub counts_below : ℕ → ℕ → List ℕ
+counts_below low zero = []
+counts_below low (suc n) = if nat_le low n then n ∷ counts_below low n else []
 
--- the counts of the class in a place, from so many above the least down to it
-abbrev pub counts_at : Classes → ℕ → ℕ → List ℕ
-counts_at all depth above = counts_among (drop depth all.classes) above
+-- with each count from one number on and below another the front is live
+abbrev pub LiveWithin : Classes → List ℕ → ℕ → ℕ → Type 0
+LiveWithin all front low end = (count : ℕ) → low ≤ count → count < end → is_reachable all (front ++ count ∷ []) ≡ true
 
 -- a step from a front, with so many visits left: it finds what is due and takes the visits that are due, or it finds that they are
 -- more than are left; without a find it stands where it stood

@@ -50,10 +50,9 @@ abbrev pub AllReach : List (List Bounds) → List ℕ → List ℕ → List ℕ 
 AllReach bounds held later values count =
     (c : ℕ) (bound : Bounds) → c < length values → HasBound bounds c (slice_index values c) bound → IsTrue (reaches bound held later count c (slice_index values c))
 
--- one of them isn't
-abbrev pub OneFails : List (List Bounds) → List ℕ → List ℕ → List ℕ → ℕ → Type 0
-OneFails bounds held later values count =
-    (c : ℕ) × (bound : Bounds) × (c < length values) × HasBound bounds c (slice_index values c) bound × (reaches bound held later count c (slice_index values c) ≡ false)
+-- the upper bounds are small
+abbrev pub AreSmallBounds : List (List Bounds) → Type 0
+AreSmallBounds bounds = (c v : ℕ) (bound : Bounds) → c < length bounds → HasBound bounds c v bound → bound.upper ≤ 999
 
 -- each category has at most 50 values, and its cells
 pub record FitCells (bounds : List (List Bounds)) (cells : List ℕ) : Type 0 where

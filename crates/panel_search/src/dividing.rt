@@ -109,10 +109,7 @@ fn push_children(
     requires live { IsLiveFront terms.now.classes.now terms.now.closed.now terms.now.row.now (length front.now) front.now }
     ensures { OnOk result (next.new.items ≡ next.old.items ++ live_children terms.now.classes.now terms.now.closed.now terms.now.row.now front.now) }
 {
-    let classes = terms.classes;
-    classes.facts();
-    let class = &classes.classes()[front.counts().len()];
     let mut search = BestSearch::new(alloc, terms, front.counts(), terms.row.side(), 0)?;
-    search.begin(terms, front);
-    search.push_children(alloc, terms, front, class.most() - class.least(), next)
+    let (low, end) = search.begin(terms, front);
+    search.push_children(alloc, terms, front, low, end, next)
 }

@@ -1,16 +1,13 @@
-//! Searches for the best composition that begin at a front, with a floor of their own, and the visits that they take, as counted by hand.
+//! Searches for the best composition that begin at a front, with a floor of their own, and the pieces into which a search is divided,
+//! with the visits that they take, as counted by hand.
 
-ghost use Rattle.std.specs.Prelude.{◌≡◌, ◌≤◌, [], ◌∷◌, true, length};
-ghost use Rattle.search_definitions.specs.Fronts.{HaveEntries, HaveReach};
+ghost use Rattle.std.specs.Prelude.{◌≡◌, ◌≤◌, true, length};
 ghost use Rattle.wave_definitions.specs.Below.{AreWithin};
 
 use crate::best_tests::is_small;
-use crate::greatest::Sums;
-use crate::pricing::{Terms, search_from};
 use crate::tests::{SMALL, built};
-use crate::{Row, SearchStop};
-use alike::{Classes, Composition, classes};
-use std::alloc::Global;
+use crate::{Front, Row, SearchStop, best_from, pieces};
+use alike::{Classes, classes};
 use std::test::Fail;
 
 /// A front, a floor, and what the search below it finds.
@@ -74,45 +71,24 @@ const WORKED: &[Below<'static>] = &[
     },
 ];
 
+// The fronts of the pieces of the search with the right side 0.
+const PIECES: &[&[usize]] = &[&[1, 0, 1, 0], &[0, 1, 1, 0], &[0, 0, 1, 1]];
+
 // Has the front at most one count for each class, each at most the size of its class?
-fn fits(classes: &Classes, front: &[usize]) -> bool
+fn fits(classes: &Classes, front: &Front) -> bool
     ensures few { result ≡ true → length front.now ≤ length classes.now.classes }
     ensures counts { result ≡ true → AreWithin classes.now front.now }
 {
-    if classes.classes().len() < front.len() {
+    let counts = front.counts();
+    if classes.classes().len() < counts.len() {
         return false;
     }
-    for place in 0..front.len() {
-        if classes.classes()[place].size() < front[place] {
+    for place in 0..counts.len() {
+        if classes.classes()[place].size() < counts[place] {
             return false;
         }
     }
     true
-}
-
-// What the search below a front finds, where no row is closed.
-fn found_below(
-    alloc: Global,
-    classes: &Classes,
-    row: &Row,
-    front: &[usize],
-    floor: i128,
-    nodes: u64,
-) -> Result<(Option<Composition>, u64), SearchStop>
-    requires entries { HaveEntries classes.now (row.now ∷ []) }
-    requires reach { HaveReach classes.now (row.now ∷ []) }
-    requires few { length front.now ≤ length classes.now.classes }
-    requires counts { AreWithin classes.now front.now }
-{
-    let sums = Sums::new(alloc, classes, row)?;
-    let terms = Terms {
-        classes,
-        closed: &[],
-        closed_sums: &[],
-        row,
-        sums: &sums,
-    };
-    search_from(alloc, &terms, front, floor, nodes)
 }
 
 #[test]
@@ -124,26 +100,22 @@ fn searches_begin_at_fronts(rt: HostRuntime) -> Result<(), Fail> {
             let all = classes(alloc, &built(alloc, given)?)?;
             assert!(rt; is_small(&all, &row));
             for below in WORKED {
-                assert!(rt; fits(&all, below.front), "{:?}", below.front);
-                let (found, visits) = found_below(
+                let front = Front::new(Vec::from_slice(alloc, below.front)?);
+                assert!(rt; fits(&all, &front), "{:?}", below.front);
+                let (found, visits) = best_from(
                     alloc,
                     &all,
+                    &[],
                     &row,
-                    below.front,
+                    &front,
                     below.floor,
                     below.visits,
                 )?;
                 let counts = found.as_ref().map(|composition| composition.counts());
                 assert_eq!(rt; counts, below.found, "{:?}", below.front);
                 assert_eq!(rt; visits, below.visits, "{:?}", below.front);
-                let short = found_below(
-                    alloc,
-                    &all,
-                    &row,
-                    below.front,
-                    below.floor,
-                    below.visits.saturating_sub(1),
-                );
+                let less = below.visits.saturating_sub(1);
+                let short = best_from(alloc, &all, &[], &row, &front, below.floor, less);
                 assert_eq!(rt;
                     matches!(short, Err(SearchStop::Spent)),
                     below.visits > 0,
@@ -151,6 +123,27 @@ fn searches_begin_at_fronts(rt: HostRuntime) -> Result<(), Fail> {
                     below.front
                 );
             }
+        }
+    }
+    Ok(())
+}
+
+#[test]
+fn a_search_is_divided(rt: HostRuntime) -> Result<(), Fail> {
+    let alloc = rt.alloc();
+    let row = Row::new(0, vec![in alloc; 0, 0, 1, 0]?);
+    for given in SMALL {
+        if given.name == "each has another value" {
+            let all = classes(alloc, &built(alloc, given)?)?;
+            assert!(rt; is_small(&all, &row));
+            let (fronts, visits) = pieces(alloc, &all, &[], &row, 9)?;
+            assert_eq!(rt; visits, 9);
+            assert_eq!(rt; fronts.len(), PIECES.len());
+            for (front, counts) in fronts.iter().zip(PIECES) {
+                assert_eq!(rt; front.counts(), *counts);
+            }
+            let short = pieces(alloc, &all, &[], &row, 8);
+            assert!(rt; matches!(short, Err(SearchStop::Spent)));
         }
     }
     Ok(())

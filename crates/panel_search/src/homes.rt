@@ -1,6 +1,6 @@
 //! Numbers for the households: how many are taken of each, and whether so many more may be.
 
-ghost use Rattle.std.specs.Prelude.{◌≡◌, ◌≤◌, length};
+ghost use Rattle.std.specs.Prelude.{◌≡◌, ◌≤◌, ◌<◌, ℕ, true, length};
 ghost use Rattle.search_definitions.specs.Classes.{IsKnownHousehold};
 ghost use Rattle.panel_search.specs.Homes.{AreFew, HasMoreAt, CanGiveAt, has_room};
 
@@ -27,15 +27,27 @@ pub(crate) fn take_at(homes: &mut [usize], household: Option<usize>, count: usiz
     }
 }
 
-// With so many more, is at most one taken of the household, if there is one?
-pub(crate) fn has_room(homes: &[usize], household: Option<usize>, count: usize) -> bool
+// Is at most one taken of the household, if there is one?
+pub(crate) fn has_one(homes: &[usize], household: Option<usize>) -> bool
     requires known { IsKnownHousehold (length homes.now) household }
     requires small { AreFew homes.now }
-    requires count { count ≤ 1000 }
-    ensures { result ≡ has_room homes.now household count }
+    ensures { result ≡ has_room homes.now household 0 }
 {
     match household {
         None => true,
-        Some(number) => homes[number] + count <= 1,
+        Some(number) => homes[number] <= 1,
+    }
+}
+
+// Of the counts below a number, those with which at most one is taken of the household, if there is one: they are below the result.
+pub(crate) fn room(homes: &[usize], household: Option<usize>, until: usize) -> usize
+    requires { IsKnownHousehold (length homes.now) household }
+    ensures inside { (count : ℕ) → count < result → (count < until) × (has_room homes.now household count ≡ true) }
+    ensures until { result ≤ until }
+    ensures outside { (count : ℕ) → count < until → has_room homes.now household count ≡ true → count < result }
+{
+    match household {
+        None => until,
+        Some(number) => until.min(2usize.saturating_sub(homes[number])),
     }
 }

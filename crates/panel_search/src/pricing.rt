@@ -4,9 +4,9 @@ ghost use Rattle.std.specs.Prelude.{◌≡◌, ◌≤◌, ◌<◌, ◌+◌, ◌+
 ghost use Rattle.std.specs.List.{list_all};
 ghost use Rattle.panel_search.specs.Answers.{AnswersBest, AnswersBestWithin, AnswersWeighed, AnswersWeighedWithin};
 ghost use Rattle.panel_search.specs.Front.{Tracks};
-ghost use Rattle.panel_search.specs.Pricing.{BeginsAt, StandsAt, Moves, EndsWithin, told, CanTake, CanTakeAbove, children_best};
-ghost use Rattle.panel_search.specs.Pieces.{live_among};
-ghost use Rattle.panel_search.specs.Steps.{counts_at};
+ghost use Rattle.panel_search.specs.Pricing.{BeginsAt, StandsAt, Moves, EndsWithin, told, CanTake, CanTakeWithin, children_best};
+ghost use Rattle.panel_search.specs.Pieces.{live_among, live_children};
+ghost use Rattle.panel_search.specs.Steps.{counts_below, LiveWithin};
 ghost use Rattle.panel_search.specs.Terms.{AreTerms};
 ghost use Rattle.panel_search.specs.Weights.{Weighs, WeighEach};
 ghost use Rattle.search_definitions.specs.Compositions.{price, weight_in};
@@ -295,47 +295,58 @@ impl BestSearch {
                 .child(terms.sums, classes, terms.row, front, count, lack)
     }
 
-    // The class after a live front is the next whose counts are tried.
-    pub(crate) fn begin(&mut self, terms: &Terms<'_>, front: &Front)
+    // The class after a live front is the next whose counts are tried: those with which size, values and households are in reach go from
+    // the first result on and below the second.
+    pub(crate) fn begin(&mut self, terms: &Terms<'_>, front: &Front) -> (usize, usize)
         requires below { length front.now < length terms.now.classes.now.classes }
         requires front { take (length front.now) self.old.counts.items ≡ front.now }
         requires live { is_reachable terms.now.classes.now front.now ≡ true }
         requires begins { BeginsAt terms.now.classes.now terms.now.closed.now terms.now.row.now (length front.now) self.old }
+        ensures end { result.1 ≤ 401 }
+        ensures can_take { CanTakeWithin terms.now.classes.now (length front.now) result.0 result.1 }
+        ensures live { LiveWithin terms.now.classes.now front.now result.0 result.1 }
+        ensures all { live_among terms.now.classes.now terms.now.closed.now terms.now.row.now terms.now.row.now.b front.now (counts_below result.0 result.1)
+            ≡ live_children terms.now.classes.now terms.now.closed.now terms.now.row.now front.now }
         ensures stands { StandsAt terms.now.classes.now terms.now.closed.now terms.now.row.now (length front.now) (drop (length front.now + 1) terms.now.classes.now.classes) self.new }
         ensures counts { self.new.counts ≡ self.old.counts }
         ensures floor { self.new.floor ≡ self.old.floor }
     {
-        self.tally.begin_class(terms.classes, front.counts());
+        let classes = terms.classes;
+        classes.facts();
+        let class = &classes.classes()[front.counts().len()];
+        self.tally.begin_class(classes, front.counts());
+        self.tally
+            .range(classes, front.counts(), class.least(), class.most() + 1)
     }
 
-    // Pushes the live children of a front, with counts of the next class from so many above the least down to it.
+    // Pushes the live children of a front, with counts of the next class from one number on and below another, the greatest first. Size,
+    // values and households are in reach with each of them.
     pub(crate) fn push_children(
         &mut self,
         alloc: Global,
         terms: &Terms<'_>,
         front: &Front,
-        above: usize,
+        low: usize,
+        end: usize,
         children: &mut Vec<Front>,
     ) -> Result<(), AllocError>
         requires terms { AreTerms terms.now }
         requires below { length front.now < length terms.now.classes.now.classes }
-        requires can_take { CanTakeAbove terms.now.classes.now (length front.now) above }
-        requires above { above ≤ 400 }
+        requires can_take { CanTakeWithin terms.now.classes.now (length front.now) low end }
+        requires live { LiveWithin terms.now.classes.now front.now low end }
         requires front { take (length front.now) self.old.counts.items ≡ front.now }
         requires stands { StandsAt terms.now.classes.now terms.now.closed.now terms.now.row.now (length front.now) (drop (length front.now + 1) terms.now.classes.now.classes) self.old }
         ensures { OnOk result (children.new.items ≡ children.old.items
-            ++ live_among terms.now.classes.now terms.now.closed.now terms.now.row.now self.old.floor front.now (counts_at terms.now.classes.now (length front.now) above)) }
+            ++ live_among terms.now.classes.now terms.now.closed.now terms.now.row.now self.old.floor front.now (counts_below low end)) }
     {
-        terms.classes.facts();
-        let count = terms.classes.classes()[front.counts().len()].least() + above;
-        self.push_child(alloc, terms, front, count, children)?;
-        if above == 0 {
+        if end <= low {
             return Ok(());
         }
-        self.push_children(alloc, terms, front, above - 1, children)
+        self.push_child(alloc, terms, front, end - 1, children)?;
+        self.push_children(alloc, terms, front, low, end - 1, children)
     }
 
-    // Pushes the child of a front with this count of the next class, where it is live.
+    // Pushes the child of a front with this count of the next class, where it is live. Its size, values and households are in reach.
     fn push_child(
         &mut self,
         alloc: Global,
@@ -347,7 +358,7 @@ impl BestSearch {
         requires terms { AreTerms terms.now }
         requires below { length front.now < length terms.now.classes.now.classes }
         requires can_take { CanTake terms.now.classes.now (length front.now) count }
-        requires count { count ≤ 1000 }
+        requires live { is_reachable terms.now.classes.now (front.now ++ count ∷ []) ≡ true }
         requires front { take (length front.now) self.old.counts.items ≡ front.now }
         requires stands { StandsAt terms.now.classes.now terms.now.closed.now terms.now.row.now (length front.now) (drop (length front.now + 1) terms.now.classes.now.classes) self.old }
         ensures children { OnOk result (children.new.items ≡ children.old.items
@@ -356,32 +367,11 @@ impl BestSearch {
         ensures counts { self.new.counts ≡ self.old.counts }
         ensures floor { self.new.floor ≡ self.old.floor }
     {
-        if !self.allows(terms, front.counts().len(), count) {
+        if !self.weights_allow(terms, front.counts().len(), count) {
             return Ok(());
         }
         children.push(front.child(alloc, count)?)?;
         Ok(())
-    }
-
-    // Is the child with this count of the next class live above the floor?
-    fn allows(&mut self, terms: &Terms<'_>, depth: usize, count: usize) -> bool
-        requires terms { AreTerms terms.now }
-        requires below { depth < length terms.now.classes.now.classes }
-        requires can_take { CanTake terms.now.classes.now depth count }
-        requires count { count ≤ 1000 }
-        requires stands { StandsAt terms.now.classes.now terms.now.closed.now terms.now.row.now depth (drop (depth + 1) terms.now.classes.now.classes) self.old }
-        ensures value { result ≡ is_live_above terms.now.classes.now terms.now.closed.now terms.now.row.now self.old.floor (take depth self.old.counts.items ++ count ∷ []) }
-        ensures stands { StandsAt terms.now.classes.now terms.now.closed.now terms.now.row.now depth (drop (depth + 1) terms.now.classes.now.classes) self.new }
-        ensures counts { self.new.counts ≡ self.old.counts }
-        ensures floor { self.new.floor ≡ self.old.floor }
-    {
-        if !self
-            .tally
-            .allows(terms.classes, &self.counts[..depth], count)
-        {
-            return false;
-        }
-        self.weights_allow(terms, depth, count)
     }
 
     #[cycle(search)]
@@ -403,36 +393,45 @@ impl BestSearch {
         classes.facts();
         let class = &classes.classes()[depth];
         self.tally.begin_class(classes, &self.counts[..depth]);
-        self.children(terms, depth, class.most() - class.least())?;
+        let front = &self.counts[..depth];
+        let (low, end) = self
+            .tally
+            .range(classes, front, class.least(), class.most() + 1);
+        self.children(terms, depth, low, end)?;
         self.tally.end_class(classes, &self.counts[..depth]);
         Ok(())
     }
 
     #[cycle(search)]
-    // Tries the children of the front, with counts of the next class from so many above the least down to it.
-    fn children(&mut self, terms: &Terms<'_>, depth: usize, above: usize) -> Result<(), BudgetSpent>
+    // Tries the children of the front, with counts of the next class from one number on and below another, the greatest first. Size,
+    // values and households are in reach with each of them.
+    fn children(
+        &mut self,
+        terms: &Terms<'_>,
+        depth: usize,
+        low: usize,
+        end: usize,
+    ) -> Result<(), BudgetSpent>
         requires terms { AreTerms terms.now }
         requires few { self.old.visits ≤ self.old.nodes }
         requires below { depth < length terms.now.classes.now.classes }
-        requires can_take { CanTakeAbove terms.now.classes.now depth above }
-        requires above { above ≤ 400 }
+        requires can_take { CanTakeWithin terms.now.classes.now depth low end }
+        requires end { end ≤ 401 }
+        requires live { LiveWithin terms.now.classes.now (take depth self.old.counts.items) low end }
         requires stands { StandsAt terms.now.classes.now terms.now.closed.now terms.now.row.now depth (drop (depth + 1) terms.now.classes.now.classes) self.old }
         ensures { Moves terms.now.classes.now terms.now.closed.now terms.now.row.now depth (drop (depth + 1) terms.now.classes.now.classes)
-            (children_best terms.now.classes.now terms.now.closed.now terms.now.row.now (drop (depth + 1) terms.now.classes.now.classes) (take depth self.old.counts.items) (counts_at terms.now.classes.now depth above) (told self.old))
+            (children_best terms.now.classes.now terms.now.closed.now terms.now.row.now (drop (depth + 1) terms.now.classes.now.classes) (take depth self.old.counts.items) (counts_below low end) (told self.old))
             (take depth self.old.counts.items) self.old.nodes result self.new }
     {
-        let classes = terms.classes;
-        classes.facts();
-        let count = classes.classes()[depth].least() + above;
-        self.try_child(terms, depth, count)?;
-        if above == 0 {
+        if end <= low {
             return Ok(());
         }
-        self.children(terms, depth, above - 1)
+        self.try_child(terms, depth, end - 1)?;
+        self.children(terms, depth, low, end - 1)
     }
 
     #[cycle(search)]
-    // Enters the child with this count of the next class, where it is live.
+    // Enters the child with this count of the next class, where it is live. Its size, values and households are in reach.
     fn try_child(
         &mut self,
         terms: &Terms<'_>,
@@ -443,7 +442,8 @@ impl BestSearch {
         requires few { self.old.visits ≤ self.old.nodes }
         requires below { depth < length terms.now.classes.now.classes }
         requires can_take { CanTake terms.now.classes.now depth count }
-        requires count { count ≤ 1000 }
+        requires count { count ≤ 400 }
+        requires live { is_reachable terms.now.classes.now (take depth self.old.counts.items ++ count ∷ []) ≡ true }
         requires stands { StandsAt terms.now.classes.now terms.now.closed.now terms.now.row.now depth (drop (depth + 1) terms.now.classes.now.classes) self.old }
         ensures { Moves terms.now.classes.now terms.now.closed.now terms.now.row.now depth (drop (depth + 1) terms.now.classes.now.classes)
             (child_best terms.now.classes.now terms.now.closed.now terms.now.row.now (drop (depth + 1) terms.now.classes.now.classes) (take depth self.old.counts.items ++ count ∷ []) (told self.old))
@@ -451,9 +451,6 @@ impl BestSearch {
     {
         let classes = terms.classes;
         classes.facts();
-        if !self.tally.allows(classes, &self.counts[..depth], count) {
-            return Ok(());
-        }
         if !self.weights_allow(terms, depth, count) {
             return Ok(());
         }

@@ -1,10 +1,11 @@
 //! The search for the first composition, front by front: classes in their order, of each the greatest count first.
 
-ghost use Rattle.std.specs.Prelude.{◌≡◌, ◌≤◌, ◌<◌, ◌+◌, [], ◌∷◌, ◌++◌, length, take, drop, IfOk, OnOk, OnErr};
+ghost use Rattle.std.specs.Prelude.{◌≡◌, true, ◌≤◌, ◌<◌, ◌+◌, [], ◌∷◌, ◌++◌, length, take, drop, IfOk, OnOk, OnErr};
 ghost use Rattle.panel_search.specs.Answers.{Answers, AnswersWithin};
 ghost use Rattle.search_definitions.specs.Compositions.{first_composition};
 ghost use Rattle.panel_search.specs.Front.{Tracks};
-ghost use Rattle.panel_search.specs.Steps.{StandsAt, Steps, Finds, child_first, children_first, counts_at};
+ghost use Rattle.panel_search.specs.Steps.{StandsAt, Steps, Finds, child_first, children_first, counts_below, LiveWithin};
+ghost use Rattle.search_definitions.specs.Fronts.{is_reachable};
 ghost use Rattle.search_definitions.specs.Visits.{enter_first, first_search};
 
 use crate::tally::Tally;
@@ -141,7 +142,11 @@ impl Search {
         classes.facts();
         let class = &classes.classes()[depth];
         self.tally.begin_class(classes, &self.counts[..depth]);
-        if self.children(classes, depth, class.most() - class.least())? {
+        let front = &self.counts[..depth];
+        let (low, end) = self
+            .tally
+            .range(classes, front, class.least(), class.most() + 1);
+        if self.children(classes, depth, low, end)? {
             return Ok(true);
         }
         self.tally.end_class(classes, &self.counts[..depth]);
@@ -149,33 +154,33 @@ impl Search {
     }
 
     #[cycle(search)]
-    // Tries the children of the front, with counts of the next class from so many above the least down to it.
+    // Tries the live children of the front, with counts of the next class from one number on and below another, the greatest first.
     fn children(
         &mut self,
         classes: &Classes,
         depth: usize,
-        above: usize,
+        low: usize,
+        end: usize,
     ) -> Result<bool, BudgetSpent>
         requires below { depth < length classes.now.classes }
-        requires few { above ≤ 400 }
+        requires few { end ≤ 401 }
+        requires live { LiveWithin classes.now (take depth self.old.counts.items) low end }
         requires stands { StandsAt classes.now depth (drop (depth + 1) classes.now.classes) self.old }
         ensures { Steps classes.now depth (drop (depth + 1) classes.now.classes)
-            (children_first classes.now (drop (depth + 1) classes.now.classes) (take depth self.old.counts.items) (counts_at classes.now depth above))
+            (children_first classes.now (drop (depth + 1) classes.now.classes) (take depth self.old.counts.items) (counts_below low end))
             self.old result self.new }
     {
-        classes.facts();
-        let count = classes.classes()[depth].least() + above;
-        if self.try_child(classes, depth, count)? {
-            return Ok(true);
-        }
-        if above == 0 {
+        if end <= low {
             return Ok(false);
         }
-        self.children(classes, depth, above - 1)
+        if self.try_child(classes, depth, end - 1)? {
+            return Ok(true);
+        }
+        self.children(classes, depth, low, end - 1)
     }
 
     #[cycle(search)]
-    // Enters the child with this count of the next class, where it is live.
+    // Enters the live child with this count of the next class.
     fn try_child(
         &mut self,
         classes: &Classes,
@@ -183,16 +188,14 @@ impl Search {
         count: usize,
     ) -> Result<bool, BudgetSpent>
         requires below { depth < length classes.now.classes }
-        requires few { count ≤ 1000 }
+        requires few { count ≤ 400 }
+        requires live { is_reachable classes.now (take depth self.old.counts.items ++ count ∷ []) ≡ true }
         requires stands { StandsAt classes.now depth (drop (depth + 1) classes.now.classes) self.old }
         ensures { Steps classes.now depth (drop (depth + 1) classes.now.classes)
             (child_first classes.now (drop (depth + 1) classes.now.classes) (take depth self.old.counts.items ++ count ∷ []))
             self.old result self.new }
     {
         classes.facts();
-        if !self.tally.allows(classes, &self.counts[..depth], count) {
-            return Ok(false);
-        }
         self.tally.take(classes, &self.counts[..depth], count);
         self.counts[depth] = count;
         if self.enter(classes, depth + 1)? {

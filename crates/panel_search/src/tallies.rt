@@ -1,7 +1,7 @@
 //! Numbers for the values of the categories, 50 places for each category, and what they allow.
 
-ghost use Rattle.std.specs.Prelude.{◌≡◌, true, false, ◌≤◌, ◌<◌, ◌+◌, ◌^◌, length};
-ghost use Rattle.panel_search.specs.Tallies.{HaveCells, CanGive, AreAtMost, HasMore, HaveBounds, AllReach, OneFails, FitCells, EachReaches, SomeFails, within_reach};
+ghost use Rattle.std.specs.Prelude.{◌≡◌, ℕ, true, false, ◌≤◌, ◌<◌, ◌+◌, ◌^◌, [], length, slice_index_or};
+ghost use Rattle.panel_search.specs.Tallies.{HaveCells, CanGive, AreAtMost, HasMore, HaveBounds, AllReach, AreSmallBounds, FitCells, HasBound, EachReaches, SomeFails, within_reach};
 
 use alike::{Bounds, ValueBounds};
 
@@ -31,31 +31,66 @@ pub(crate) fn take_from(cells: &mut [usize], values: &[usize], count: usize)
     }
 }
 
-// With so many more of these values: is each value's number at most its upper bound, and can it still reach its lower one?
-pub(crate) fn values_allow(
+// Of the counts from one number on and below another, those with which each of these values has a number that is at most its upper bound and
+// can still reach its lower one.
+pub(crate) fn values_range(
     bounds: &[ValueBounds],
     held: &[usize],
     later: &[usize],
     values: &[usize],
-    count: usize,
-) -> bool
+    from: usize,
+    until: usize,
+) -> (usize, usize)
     requires bounds { HaveBounds bounds.now values.now }
+    requires small_bounds { AreSmallBounds bounds.now }
     requires held { HaveCells values.now held.now }
     requires later { HaveCells values.now later.now }
     requires small { AreAtMost 1000000 (length values.now) held.now }
     requires small_later { AreAtMost 1000000 (length values.now) later.now }
-    requires count { count ≤ 1000000 }
-    ensures allowed { result ≡ true → AllReach bounds.now held.now later.now values.now count }
-    ensures refused { result ≡ false → OneFails bounds.now held.now later.now values.now count }
+    ensures inside { (count : ℕ) → result.0 ≤ count → count < result.1 → (from ≤ count) × (count < until) × AllReach bounds.now held.now later.now values.now count }
+    ensures until { result.1 ≤ until }
+    ensures outside { (count : ℕ) → from ≤ count → count < until → AllReach bounds.now held.now later.now values.now count → (result.0 ≤ count) × (count < result.1) }
 {
+    let mut low = from;
+    let mut end = until;
     for (category, value) in values.iter().enumerate() {
         let place = PLACES * category + value;
-        let bound = bounds[category].as_slice()[*value];
-        if !is_within_reach(bound, held[place] + count, later[place]) {
-            return false;
-        }
+        let bound = bound_at(bounds, category, *value);
+        let range = counts_within_reach(bound, held[place], later[place], low, end);
+        low = range.0;
+        end = range.1;
     }
-    true
+    (low, end)
+}
+
+// The bounds of a category's value.
+fn bound_at(bounds: &[ValueBounds], category: usize, value: usize) -> Bounds
+    requires category { category < length bounds.now }
+    requires value { value < length (slice_index_or bounds.now category []) }
+    ensures { HasBound bounds.now category value result }
+{
+    bounds[category].as_slice()[value]
+}
+
+// Of the counts from one number on and below another, those that a number can grow by so that it is at most the upper bound, and with so
+// many more at least the lower one.
+fn counts_within_reach(
+    bound: Bounds,
+    number: usize,
+    more: usize,
+    from: usize,
+    until: usize,
+) -> (usize, usize)
+    requires small { bound.upper ≤ 999 }
+    requires number { number + more < 2 ^ 64 }
+    ensures inside { (count : ℕ) → result.0 ≤ count → count < result.1 → (from ≤ count) × (count < until) × (within_reach bound (number + count) more ≡ true) }
+    ensures until { result.1 ≤ until }
+    ensures outside { (count : ℕ) → from ≤ count → count < until → within_reach bound (number + count) more ≡ true → (result.0 ≤ count) × (count < result.1) }
+{
+    (
+        from.max(bound.lower.saturating_sub(number + more)),
+        until.min((bound.upper + 1).saturating_sub(number)),
+    )
 }
 
 // Is each value's number at most its upper bound, and can it still reach its lower one?

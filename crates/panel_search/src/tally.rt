@@ -1,6 +1,6 @@
 //! What a front takes of everybody, of each value and of each household, and the most that the classes after it give.
 
-ghost use Rattle.std.specs.Prelude.{◌≡◌, ◌+◌, ◌-◌, ◌*◌, ◌≤◌, ◌<◌, ◌++◌, ◌^◌, [], ◌∷◌, IfOk, true, nat_le, ◌&&◌, drop, length};
+ghost use Rattle.std.specs.Prelude.{◌≡◌, ℕ, ◌+◌, ◌-◌, ◌*◌, ◌≤◌, ◌<◌, ◌++◌, ◌^◌, [], ◌∷◌, IfOk, true, nat_le, ◌&&◌, drop, length};
 ghost use Rattle.panel_search.specs.Front.{Gives, Tracks};
 ghost use Rattle.panel_search.specs.Tallies.{AreAtMost};
 ghost use Rattle.search_definitions.specs.Compositions.{takes_one_a_household};
@@ -8,7 +8,7 @@ ghost use Rattle.search_definitions.specs.Fronts.{is_reachable, size_reachable, 
 ghost use Rattle.wave_definitions.specs.Below.{AreWithin};
 
 use crate::homes;
-use crate::tallies::{PLACES, add_to, all_within_reach, take_from, values_allow};
+use crate::tallies::{PLACES, add_to, all_within_reach, take_from, values_range};
 use alike::Classes;
 use std::alloc::{AllocError, Global};
 
@@ -114,38 +114,35 @@ impl Tally {
         self.taken -= count;
     }
 
-    // Is the front live with so many of the next class?
-    pub(crate) fn allows(&self, classes: &Classes, front: &[usize], count: usize) -> bool
+    // Of the counts of the next class from one number on and below another, those with which the front is live: they are those from the
+    // first result on and below the second.
+    pub(crate) fn range(
+        &self,
+        classes: &Classes,
+        front: &[usize],
+        from: usize,
+        until: usize,
+    ) -> (usize, usize)
         requires below { length front.now < length classes.now.classes }
         requires live { is_reachable classes.now front.now ≡ true }
-        requires few { count ≤ 1000 }
         requires stands { Tracks classes.now front.now (drop (length front.now + 1) classes.now.classes) self.now }
-        ensures { result ≡ is_reachable classes.now (front.now ++ count ∷ []) }
+        ensures inside { (count : ℕ) → result.0 ≤ count → count < result.1 → (from ≤ count) × (count < until) × (is_reachable classes.now (front.now ++ count ∷ []) ≡ true) }
+        ensures until { result.1 ≤ until }
+        ensures outside { (count : ℕ) → from ≤ count → count < until → is_reachable classes.now (front.now ++ count ∷ []) ≡ true → (result.0 ≤ count) × (count < result.1) }
     {
         classes.facts();
         let class = &classes.classes()[front.len()];
-        self.counts_allow(classes, front, count)
-            && homes::has_room(&self.homes, class.household(), count)
-    }
-
-    // Can the size and each value's bounds still be met with so many of the next class?
-    fn counts_allow(&self, classes: &Classes, front: &[usize], count: usize) -> bool
-        requires below { length front.now < length classes.now.classes }
-        requires live { is_reachable classes.now front.now ≡ true }
-        requires few { count ≤ 1000 }
-        requires stands { Tracks classes.now front.now (drop (length front.now + 1) classes.now.classes) self.now }
-        ensures { result ≡ (size_reachable classes.now (front.now ++ count ∷ []) && values_reachable classes.now (front.now ++ count ∷ [])) }
-    {
-        classes.facts();
-        let class = &classes.classes()[front.len()];
-        self.size_allows(classes.size(), count)
-            && values_allow(
-                classes.bounds(),
-                &self.held,
-                &self.later,
-                class.values(),
-                count,
-            )
+        let size = classes.size();
+        let low = from.max(size.saturating_sub(self.taken + self.later_taken));
+        let end = until.min((size + 1).saturating_sub(self.taken));
+        values_range(
+            classes.bounds(),
+            &self.held,
+            &self.later,
+            class.values(),
+            low,
+            homes::room(&self.homes, class.household(), end),
+        )
     }
 
     // Is the front live?
@@ -164,7 +161,7 @@ impl Tally {
         ensures { result ≡ (size_reachable classes.now front.now && values_reachable classes.now front.now) }
     {
         classes.facts();
-        self.size_allows(classes.size(), 0)
+        self.size_allows(classes.size())
             && all_within_reach(classes.bounds(), &self.held, &self.later)
     }
 
@@ -176,7 +173,7 @@ impl Tally {
     {
         classes.facts();
         for class in classes.classes() {
-            if !homes::has_room(&self.homes, class.household(), 0) {
+            if !homes::has_one(&self.homes, class.household()) {
                 return false;
             }
         }
@@ -204,13 +201,12 @@ impl Tally {
         classes.size() - (self.taken + count)
     }
 
-    // With so many more: is at most the size taken, and can it be reached?
-    fn size_allows(&self, size: usize, count: usize) -> bool
-        requires { self.now.taken + count + self.now.later_taken < 2 ^ 64 }
-        ensures { result ≡ (nat_le (self.now.taken + count) size && nat_le size (self.now.taken + count + self.now.later_taken)) }
+    // Is at most the size taken, and can it be reached?
+    fn size_allows(&self, size: usize) -> bool
+        requires { self.now.taken + self.now.later_taken < 2 ^ 64 }
+        ensures { result ≡ (nat_le self.now.taken size && nat_le size (self.now.taken + self.now.later_taken)) }
     {
-        let taken = self.taken + count;
-        taken <= size && size <= taken + self.later_taken
+        self.taken <= size && size <= self.taken + self.later_taken
     }
 }
 

@@ -4,4 +4,4 @@ use Rattle.search_definitions.specs.Fronts.{sizes_of}
 use Rattle.panel_search.proofs.front_tests.fits.Given as goal
 
 abbrev pub invariant-loop-place : goal.invariant-loop-place
-invariant-loop-place l = (t : ℕ) → t < l.place → slice_index l.front t ≤ slice_index (sizes_of l.classes) t
+invariant-loop-place l = (t : ℕ) → t < l.place → slice_index l.counts t ≤ slice_index (sizes_of l.classes) t

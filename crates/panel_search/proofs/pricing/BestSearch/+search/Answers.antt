@@ -2,47 +2,33 @@ use Rattle.std.proofs.Common.{rules, ◌≡◌, ◌+◌, ◌-◌, ◌<◌, [], �
 use Rattle.search_definitions.specs.Fronts.{is_reachable}
 use Rattle.search_definitions.specs.Visits.{enter_best}
 use Rattle.panel_search.specs.Front.{Tracks}
-use Rattle.panel_search.specs.Pricing.{told, CanTake, CanTakeAbove}
+use Rattle.panel_search.specs.Pricing.{told, CanTakeWithin}
+use Rattle.panel_search.specs.Steps.{LiveWithin}
 use Rattle.panel_search.proofs.Tracking.{stands_there}
 use Rattle.panel_search.proofs.Stepping.{front_length, from_front, from_front_more, placed, front_of, at_child}
-use Rattle.panel_search.proofs.BestStepping.{moves_err, moves_same, children_at, child_within, children_last, children_next, enter_more, enter_children, same_class, class_limits, stands_with, child_stands, parent_stands, child_due, child_tracks}
+use Rattle.panel_search.proofs.Ranges.{between}
+use Rattle.panel_search.proofs.BestStepping.{moves_err, moves_same, children_within, child_within, children_none, children_next, enter_more, enter_children, same_class, class_limits, stands_with, child_stands, parent_stands, child_due, child_tracks}
 use Rattle.panel_search.proofs.pricing.BestSearch.+search.Goals as goal
 
-pub children-try_child-requires : goal.children-try_child-requires
-children-try_child-requires t c =
-    let all = c.args.terms.now.classes.now in let class = c.index-classes-depth.result in let depth = c.args.depth in
-    let stands = stands_there all depth _ class c.requires.below c.classes.ensures c.index-classes-depth.is in
-    let can : CanTake all depth (c.least.result + c.args.above) = λ other e.
-    let same = ap (λ class. class.least) (same_class all depth class other stands e) in omega (arith, c.requires.can_take other e, c.least.ensures, same) in
-    let limits = class_limits all depth class c.facts.ensures stands in
-    (search rules, (c.requires.terms, (c.requires.few, (c.requires.below, (can, (omega (arith, c.requires.above, c.least.ensures, limits.0, limits.1, limits.2), c.requires.stands))))))
+pub children-returns-then-end-low : goal.children-returns-then-end-low
+children-returns-then-end-low t c =
+    let all = c.args.terms.now.classes.now in let self = c.args.self.now in let depth = c.args.depth in
+    let due = children_none all c.args.terms.now.closed.now c.args.terms.now.row.now depth (take depth self.counts.items) c.args.low c.args.end (told self) (omega (arith, c.if-end-low.true)) in
+    (sym due, refl, refl, omega (arith, ap (λ now. now.visits) due, c.requires.few), c.requires.stands)
 
 pub children-returns-in_err-try_child : goal.children-returns-in_err-try_child
 children-returns-in_err-try_child t c =
-    let all = c.args.terms.now.classes.now in let class = c.index-classes-depth.result in let self = c.args.self.now in let depth = c.args.depth in
-    let stands = stands_there all depth _ class c.requires.below c.classes.ensures c.index-classes-depth.is in
-    let count : c.least.result + c.args.above ≡ class.least + c.args.above = ap (λ n. n + c.args.above) c.least.ensures in
+    let all = c.args.terms.now.classes.now in let self = c.args.self.now in let depth = c.args.depth in
     moves_err all c.args.terms.now.closed.now c.args.terms.now.row.now depth _ _ _ self.nodes _ c.try_child.new.self c.from_residual.ensures.0
-    (omega (arith, c.in_err-try_child.ensures, child_within all c.args.terms.now.closed.now c.args.terms.now.row.now depth class (take depth self.counts.items) c.args.above (c.least.result + c.args.above) (told self) stands count))
-
-pub children-returns-then-above-eq0 : goal.children-returns-then-above-eq0
-children-returns-then-above-eq0 t c =
-    let all = c.args.terms.now.classes.now in let class = c.index-classes-depth.result in let self = c.args.self.now in let depth = c.args.depth in
-    let stands = stands_there all depth _ class c.requires.below c.classes.ensures c.index-classes-depth.is in
-    let count : c.least.result + c.args.above ≡ class.least + c.args.above = ap (λ n. n + c.args.above) c.least.ensures in
-    let due = children_last all c.args.terms.now.closed.now c.args.terms.now.row.now depth class (take depth self.counts.items) c.args.above (c.least.result + c.args.above) (told self) stands count c.if-above-eq0.true in
-    let steps = c.in_ok-try_child.ensures in
-    (steps.0 ∙ sym due, steps.1, steps.2, omega (arith, steps.3, ap (λ now. now.visits) due), steps.4)
+    (omega (arith, c.in_err-try_child.ensures, child_within all c.args.terms.now.closed.now c.args.terms.now.row.now depth (take depth self.counts.items) c.args.low c.args.end (told self) (omega (arith, c.if-end-low.false))))
 
 pub children-returns : goal.children-returns
 children-returns t c =
-    let all = c.args.terms.now.classes.now in let class = c.index-classes-depth.result in let self = c.args.self.now in let depth = c.args.depth in let closed = c.args.terms.now.closed.now in let row = c.args.terms.now.row.now in
-    let stands = stands_there all depth _ class c.requires.below c.classes.ensures c.index-classes-depth.is in
-    let count : c.least.result + c.args.above ≡ class.least + c.args.above = ap (λ n. n + c.args.above) c.least.ensures in
-    let next = children_next all closed row depth class (take depth self.counts.items) c.args.above (c.least.result + c.args.above) (told self) stands count c.if-above-eq0.false in
+    let all = c.args.terms.now.classes.now in let self = c.args.self.now in let depth = c.args.depth in let closed = c.args.terms.now.closed.now in let row = c.args.terms.now.row.now in let low = c.args.low in
+    let next = children_next all closed row depth (take depth self.counts.items) low c.args.end (told self) (omega (arith, c.if-end-low.false)) in
     let steps = c.in_ok-try_child.ensures in
     moves_same all closed row depth _ _ _ _ _ _ _ c.children.result c.children.new.self
-    (ap (λ front. children_at all closed row depth front (c.args.above - 1) (told c.try_child.new.self)) steps.1 ∙ ap (children_at all closed row depth (take depth self.counts.items) (c.args.above - 1)) steps.0 ∙ sym next)
+    (ap (λ front. children_within all closed row depth front low (c.args.end - 1) (told c.try_child.new.self)) steps.1 ∙ ap (children_within all closed row depth (take depth self.counts.items) low (c.args.end - 1)) steps.0 ∙ sym next)
     steps.1 steps.2 c.children.ensures
 
 pub enter-returns-in_err-spend : goal.enter-returns-in_err-spend
@@ -53,14 +39,15 @@ enter-returns-in_err-spend t c =
 
 pub enter-children-requires : goal.enter-children-requires
 enter-children-requires t c =
-    let all = c.args.terms.now.classes.now in let class = c.index-classes-depth.result in let self = c.args.self.now in let depth = c.args.depth in
+    let all = c.args.terms.now.classes.now in let class = c.index-classes-depth.result in let self = c.args.self.now in let depth = c.args.depth in let items = c.spend.new.self.counts.items in
     let below : depth < length all.classes = omega (arith, c.requires.stands.within, c.if-depth-classes.false, ap length c.classes.ensures) in
     let stands = stands_there all depth _ class below c.classes-2.ensures c.index-classes-depth.is in
     let limits = class_limits all depth class c.facts.ensures stands in
-    let can : CanTakeAbove all depth (c.most.result - c.least.result) = λ other e.
-    let same = same_class all depth class other stands e in
-    let least = ap (λ class. class.least) same in let members = ap (λ class. length class.members) same in
-    omega (arith, c.most.ensures, c.least.ensures, limits.0, limits.1, least, members) in
+    let can : CanTakeWithin all depth c.range-low.result.0 c.range-low.result.1 = λ count l m other e.
+    let members = ap (λ class. length class.members) (same_class all depth class other stands e) in
+    omega (arith, (c.range-low.ensures.inside count l m).1, c.most.ensures, limits.1, members) in
+    let live : LiveWithin all (take depth items) c.range-low.result.0 c.range-low.result.1 = λ count l m.
+    ap (λ items. is_reachable all (take depth items ++ count ∷ [])) (sym c.deref-2.ensures.value) ∙ (c.range-low.ensures.inside count l m).2 in
     let spent = c.in_ok-spend.ensures.visits in
     let counts = ap (λ search. search.counts.items) spent in (
       search rules,
@@ -73,9 +60,12 @@ enter-children-requires t c =
             (
               can,
               (
-                omega (arith, c.most.ensures, limits.1, limits.2),
-                stands_with all c.args.terms.now.closed.now c.args.terms.now.row.now depth _ _ self _ c.requires.stands counts (ap (λ search. search.kept.items) spent) (ap (λ search. search.priced) spent) (ap (λ search. search.closed.items) spent)
-                    (from_front_more all depth _ self.counts.items _ (c.deref.ensures.value ∙ counts) c.requires.stands.places c.requires.stands.within c.begin_class.ensures),
+                omega (arith, c.range-low.ensures.until, c.most.ensures, limits.1, limits.2),
+                (
+                  live,
+                  stands_with all c.args.terms.now.closed.now c.args.terms.now.row.now depth _ _ self _ c.requires.stands counts (ap (λ search. search.kept.items) spent) (ap (λ search. search.priced) spent) (ap (λ search. search.closed.items) spent)
+                      (from_front_more all depth _ self.counts.items _ (c.deref.ensures.value ∙ counts) c.requires.stands.places c.requires.stands.within c.begin_class.ensures),
+                ),
               ),
             ),
           ),
@@ -83,38 +73,53 @@ enter-children-requires t c =
       ),
     )
 
+pub enter-returns-in_err-children : goal.enter-returns-in_err-children
+enter-returns-in_err-children t c =
+    let all = c.args.terms.now.classes.now in let class = c.index-classes-depth.result in let self = c.args.self.now in let depth = c.args.depth in let closed = c.args.terms.now.closed.now in let row = c.args.terms.now.row.now in
+    let low = c.range-low.result.0 in let end = c.range-low.result.1 in let front = take depth self.counts.items in
+    let below : depth < length all.classes = omega (arith, c.requires.stands.within, c.if-depth-classes.false, ap length c.classes.ensures) in
+    let stands = stands_there all depth _ class below c.classes-2.ensures c.index-classes-depth.is in
+    let limits = class_limits all depth class c.facts.ensures stands in
+    let spent = c.in_ok-spend.ensures.visits in
+    let counts : take depth c.spend.new.self.counts.items ≡ front = ap (λ search. take depth search.counts.items) spent in
+    let live = between all front (take depth c.deref-2.result.now) class c.least.result c.most.result low end (ap (take depth) c.deref-2.ensures.value ∙ counts) c.least.ensures c.most.ensures c.range-low.ensures.inside c.range-low.ensures.outside in
+    let due = enter_children all closed row depth class front low end (told self) stands limits.0 live in
+    let here = ap (λ front. children_within all closed row depth front low end (told c.spend.new.self)) counts ∙ ap (λ search. children_within all closed row depth front low end (told search)) spent ∙ sym due in
+    moves_err all closed row depth _ _ _ self.nodes _ c.children.new.self c.from_residual-in_err-children.ensures.0
+    (omega (arith, c.in_err-children.ensures, ap (λ now. now.visits) here, ap (λ search. search.nodes) spent))
+
 pub enter-returns : goal.enter-returns
 enter-returns t c =
     let all = c.args.terms.now.classes.now in let class = c.index-classes-depth.result in let self = c.args.self.now in let depth = c.args.depth in let closed = c.args.terms.now.closed.now in let row = c.args.terms.now.row.now in
+    let low = c.range-low.result.0 in let end = c.range-low.result.1 in let front = take depth self.counts.items in
     let below : depth < length all.classes = omega (arith, c.requires.stands.within, c.if-depth-classes.false, ap length c.classes.ensures) in
     let stands = stands_there all depth _ class below c.classes-2.ensures c.index-classes-depth.is in
-    let above : c.most.result - c.least.result ≡ class.most - class.least = omega (arith, c.most.ensures, c.least.ensures) in
+    let limits = class_limits all depth class c.facts.ensures stands in
     let spent = c.in_ok-spend.ensures.visits in
-    let counts : take depth c.spend.new.self.counts.items ≡ take depth self.counts.items = ap (λ search. take depth search.counts.items) spent in
-    let due = enter_children all closed row depth class (take depth self.counts.items) (c.most.result - c.least.result) (told self) stands above in
+    let counts : take depth c.spend.new.self.counts.items ≡ front = ap (λ search. take depth search.counts.items) spent in
+    let live = between all front (take depth c.deref-2.result.now) class c.least.result c.most.result low end (ap (take depth) c.deref-2.ensures.value ∙ counts) c.least.ensures c.most.ensures c.range-low.ensures.inside c.range-low.ensures.outside in
+    let due = enter_children all closed row depth class front low end (told self) stands limits.0 live in
     let steps = c.in_ok-children.ensures in
-    let here = ap (λ front. children_at all closed row depth front (c.most.result - c.least.result) (told c.spend.new.self)) counts
-    ∙ ap (λ search. children_at all closed row depth (take depth self.counts.items) (c.most.result - c.least.result) (told search)) spent ∙ sym due in (
+    let here = ap (λ front. children_within all closed row depth front low end (told c.spend.new.self)) counts ∙ ap (λ search. children_within all closed row depth front low end (told search)) spent ∙ sym due in (
       steps.0 ∙ here,
       steps.1 ∙ counts,
       steps.2 ∙ ap (λ search. search.nodes) spent,
       omega (arith, steps.3, ap (λ now. now.visits) here, ap (λ search. search.nodes) spent),
       stands_with all closed row depth _ _ c.children.new.self _ steps.4 refl refl refl refl
-          (from_front all depth _ c.children.new.self.counts.items _ c.deref-2.ensures.value steps.4.places steps.4.within c.end_class.ensures),
+          (from_front all depth _ c.children.new.self.counts.items _ c.deref-3.ensures.value steps.4.places steps.4.within c.end_class.ensures),
     )
 
 pub try_child-enter-requires : goal.try_child-enter-requires
 try_child-enter-requires t c =
     let all = c.args.terms.now.classes.now in let self = c.args.self.now in let depth = c.args.depth in let count = c.args.count in let mid = c.weights_allow.new.self in
-    let items = ap (λ counts. counts.items) c.weights_allow.ensures.counts in
-    let live : is_reachable all (take depth self.counts.items ++ count ∷ []) ≡ true = ap (λ items. is_reachable all (take depth items ++ count ∷ [])) (sym c.deref.ensures.value) ∙ (sym c.allows.ensures ∙ c.if-not-allows.false) in (
+    let items = ap (λ counts. counts.items) c.weights_allow.ensures.counts in (
       search rules,
       (
         c.requires.terms,
         (
           omega (arith, c.requires.few, ap (λ now. now.visits) c.weights_allow.ensures.told, c.weights_allow.ensures.nodes),
-          child_stands all c.args.terms.now.closed.now c.args.terms.now.row.now depth count _ self _ c.requires.stands c.requires.below c.requires.can_take live (ap (λ xs. set xs depth count) items) c.weights_allow.ensures.stands.kept_places
-              (child_tracks all depth count _ self.counts.items _ (c.deref-2.ensures.value ∙ items) c.requires.stands.places c.requires.stands.within c.take.ensures)
+          child_stands all c.args.terms.now.closed.now c.args.terms.now.row.now depth count _ self _ c.requires.stands c.requires.below c.requires.can_take c.requires.live (ap (λ xs. set xs depth count) items) c.weights_allow.ensures.stands.kept_places
+              (child_tracks all depth count _ self.counts.items _ (c.deref.ensures.value ∙ items) c.requires.stands.places c.requires.stands.within c.take.ensures)
               (c.weights_allow.ensures.priced c.if-not-weights_allow.false) (c.weights_allow.ensures.closed c.if-not-weights_allow.false),
         ),
       ),
@@ -130,7 +135,7 @@ try_child-give_back-requires-clause-stands t c =
     ap (λ xs. take (depth + 1) (set xs depth count)) items ∙ placed depth count self.counts.items (omega (arith, c.requires.below, c.requires.stands.places)) in
     let steps = c.in_ok-enter.ensures in
     let same : take depth c.enter.new.self.counts.items ≡ front = front_of depth c.enter.new.self.counts.items front count long (steps.1 ∙ child) in
-    at_child all depth _ front count c.enter.new.self.tally long (ap (take depth) c.deref-3.ensures.value ∙ same)
+    at_child all depth _ front count c.enter.new.self.tally long (ap (take depth) c.deref-2.ensures.value ∙ same)
     (subst (λ f. Tracks all f (drop (depth + 1) all.classes) c.enter.new.self.tally) (steps.1 ∙ child) steps.4.tally)
 
 pub try_child-returns : goal.try_child-returns
@@ -143,13 +148,12 @@ try_child-returns t c =
     ap (λ xs. take (depth + 1) (set xs depth count)) items ∙ placed depth count self.counts.items (omega (arith, c.requires.below, c.requires.stands.places)) in
     let steps = c.in_ok-enter.ensures in
     let same : take depth c.enter.new.self.counts.items ≡ front = front_of depth c.enter.new.self.counts.items front count long (steps.1 ∙ child) in
-    let live : is_reachable all (front ++ count ∷ []) ≡ true = ap (λ items. is_reachable all (take depth items ++ count ∷ [])) (sym c.deref.ensures.value) ∙ (sym c.allows.ensures ∙ c.if-not-allows.false) in
-    let due = child_due all closed row later (front ++ count ∷ []) (told self) live (sym c.weights_allow.ensures.value ∙ c.if-not-weights_allow.false) in
+    let due = child_due all closed row later (front ++ count ∷ []) (told self) c.requires.live (sym c.weights_allow.ensures.value ∙ c.if-not-weights_allow.false) in
     let here = ap (λ f. enter_best all closed row later f (told c.weights_allow.new.self)) child ∙ ap (enter_best all closed row later (front ++ count ∷ [])) c.weights_allow.ensures.told ∙ sym due in (
       steps.0 ∙ here,
       same,
       steps.2 ∙ c.weights_allow.ensures.nodes,
       omega (arith, steps.3, ap (λ now. now.visits) here, c.weights_allow.ensures.nodes),
       parent_stands all closed row depth count later self c.enter.new.self _ c.requires.stands steps.4 (steps.1 ∙ child) same refl refl refl refl
-          (from_front_more all depth _ c.enter.new.self.counts.items _ c.deref-3.ensures.value steps.4.places c.requires.stands.within c.give_back.ensures),
+          (from_front_more all depth _ c.enter.new.self.counts.items _ c.deref-2.ensures.value steps.4.places c.requires.stands.within c.give_back.ensures),
     )

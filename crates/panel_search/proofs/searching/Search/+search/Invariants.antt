@@ -5,7 +5,7 @@ abbrev pub decreases-enter : goal.decreases-enter
 decreases-enter l = 1000 * (length l.classes.now.classes - l.depth) + 500
 
 abbrev pub decreases-children : goal.decreases-children
-decreases-children l = 1000 * (length l.classes.now.classes - l.depth) + l.above + 1
+decreases-children l = 1000 * (length l.classes.now.classes - l.depth) + l.end + 1
 
 abbrev pub decreases-try_child : goal.decreases-try_child
 decreases-try_child l = 1000 * (length l.classes.now.classes - l.depth)

@@ -30,7 +30,7 @@ pub returns-then-size_allows : goal.returns-then-size_allows
 returns-then-size_allows c =
     let all = c.args.classes.now in let self = c.args.self.now in
     front_live all c.args.front.now self c.facts.ensures c.requires.stands
-    (ap (λ n. leb (self.taken + 0) n && leb n (self.taken + 0 + self.later_taken)) (sym c.size.ensures) ∙ (sym c.size_allows.ensures ∙ c.if-size_allows.true))
+    (ap (λ n. leb self.taken n && leb n (self.taken + self.later_taken)) (sym c.size.ensures) ∙ (sym c.size_allows.ensures ∙ c.if-size_allows.true))
     c.all_within_reach.result
     (λ yes. each_same _ _ _ _ _ _ c.bounds.ensures c.deref.ensures.value c.deref-then-size_allows.ensures.value (c.all_within_reach.ensures.all yes))
     (λ no. some_same _ _ _ _ _ _ c.bounds.ensures c.deref.ensures.value c.deref-then-size_allows.ensures.value (c.all_within_reach.ensures.some no))
@@ -39,4 +39,4 @@ pub returns-else-size_allows : goal.returns-else-size_allows
 returns-else-size_allows c =
     let self = c.args.self.now in
     c.if-size_allows.false ∙ sym (front_dead c.args.classes.now c.args.front.now self c.requires.stands
-    (ap (λ n. leb (self.taken + 0) n && leb n (self.taken + 0 + self.later_taken)) (sym c.size.ensures) ∙ (sym c.size_allows.ensures ∙ c.if-size_allows.false)))
+    (ap (λ n. leb self.taken n && leb n (self.taken + self.later_taken)) (sym c.size.ensures) ∙ (sym c.size_allows.ensures ∙ c.if-size_allows.false)))

@@ -8,8 +8,8 @@ use Rattle.panel_search.proofs.Households.{small_homes, few_same, home_alive}
 use Rattle.panel_search.proofs.Tracking.{stands_there}
 use Rattle.panel_search.proofs.tally.Tally.homes_alive.Goals as goal
 
-pub has_room-requires-clause-small : goal.has_room-requires-clause-small
-has_room-requires-clause-small c =
+pub has_one-requires-clause-small : goal.has_one-requires-clause-small
+has_one-requires-clause-small c =
     few_same _ c.args.self.now.homes.items c.deref.ensures.value (small_homes c.args.classes.now c.args.front.now _ c.args.self.now c.requires.small c.requires.stands)
 
 pub loop-class-preserved : goal.loop-class-preserved
@@ -18,7 +18,7 @@ loop-class-preserved c =
     let below : k < length all.classes = omega (arith, c.loop-class-test.true, c.loop-class.auto.class-index-end, ap length c.classes-class-items.ensures) in
     let stands = stands_there all k _ class below c.classes-class-items.ensures c.class-item.is in
     let passes = ap (takes_one_of all.classes front) (sym c.household.ensures) ∙ sym (home_alive all front k class _ c.args.self.now c.facts.ensures stands c.requires.stands household c.household.ensures)
-    ∙ ap (λ homes. has_room homes household 0) (sym c.deref.ensures.value) ∙ sym c.has_room.ensures ∙ c.if-not-has_room.false in
+    ∙ ap (λ homes. has_room homes household 0) (sym c.deref.ensures.value) ∙ sym c.has_one.ensures ∙ c.if-not-has_one.false in
     each_next (λ (class : Class). takes_one_of all.classes front class.household) all.classes k class (slice_get-get_or all.classes k class below ∙ ap Some (sym stands.is)) passes c.loop-class.invariant
 
 pub returns : goal.returns
