@@ -1,12 +1,14 @@
 -- The answers of workers, piece by piece.
-use Rattle.std.proofs.Common.{◌≡◌, ℕ, zero, suc, ◌+◌, ◌*◌, ◌/◌, ◌%◌, ◌<◌, ◌≤◌, Bool, true, false, ltb, ltb-true, List, [], ◌∷◌, ◌++◌, length, get_or, Option, Some, Result, refl, sym, ap, ◌∙◌, subst, arith, mul-le-mul_right}
-use Rattle.std.specs.Prelude.{slice_get, slice_index_or, Vec, vec_items}
+use Rattle.std.proofs.Common.{◌≡◌, ℕ, zero, suc, ◌+◌, ◌*◌, ◌/◌, ◌%◌, ◌<◌, ◌≤◌, Bool, true, false, ltb, ltb-true, List, [], ◌∷◌, ◌++◌, length, take, get_or, Option, Some, Result, refl, sym, ap, ◌∙◌, subst, arith, mul-le-mul_right}
+use Rattle.std.specs.Prelude.{slice_get, slice_index_or, Vec, vec_items, IfOk, Ok, Err}
+use Rattle.std.specs.declared.alloc.AllocError.{AllocError}
+use Rattle.std.proofs.lemmas.List.{length-append}
 use Rattle.std.specs.declared.alloc.Global.{Global}
 use Rattle.std.proofs.Math.Nat.{mod-add-div', mod-lt}
 use Rattle.std.proofs.lemmas.Bool.{ltb-false}
 use Rattle.search_definitions.specs.Visits.{Pricing}
 use Rattle.panel_search.specs.Answers.{AnswersWeighed}
-use Rattle.pricing_pool.specs.Outcomes.{AreOf, AreOfAll, HasAnswer, IsAnswer, Outcome}
+use Rattle.pricing_pool.specs.Outcomes.{AreOf, AreOfAll, AreTogether, HasAnswer, IsAnswer, Outcome}
 
 -- what stands in a place of a list is had there
 pub had : {X : Type 0} (xs : List X) (i : ℕ) (d x : X) → i < length xs → x ≡ get_or xs i d → slice_get xs i ≡ Some x
@@ -49,19 +51,19 @@ module _ (search : ℕ → Pricing) (nodes workers places : ℕ) where
 
   module _ (all : List (Vec Outcome Global)) (are : AreOfAll search nodes workers 0 workers places all) (some : 1 ≤ workers) where
     worker_there : (place : ℕ) → place % workers < length all
-    worker_there place = omega (arith, are.one_each, mod-lt place {workers} some)
+    worker_there place = omega (arith, are.one_each, mod-lt place {m = workers} some)
 
     -- each place has an answer
     pub has_answer : (place : ℕ) → place < places → HasAnswer all workers place
     has_answer place l = (
       worker_there place,
       λ outcomes e.
-      let of = are.each (place % workers) outcomes e in
-      let within : places ≤ place % workers + length (vec_items outcomes) * workers = omega (arith, of.all) in
-      (elim (ltb (place / workers) (length (vec_items outcomes))) as (λ b. ltb (place / workers) (length (vec_items outcomes)) ≡ b → place / workers < length (vec_items outcomes)) [
-        | true ↦ λ t. ltb-true (place / workers) (length (vec_items outcomes)) t
-        | false ↦ λ f. absurd (omega (arith, within, l, mod-add-div' place workers, mul-le-mul_right workers (ltb-false (place / workers) (length (vec_items outcomes)) f)))
-      ]) refl,
+          let of = are.each (place % workers) outcomes e in
+          let within : places ≤ place % workers + length (vec_items outcomes) * workers = omega (arith, of.all) in
+          (elim (ltb (place / workers) (length (vec_items outcomes))) as (λ b. ltb (place / workers) (length (vec_items outcomes)) ≡ b → place / workers < length (vec_items outcomes)) [
+            | true ↦ λ t. ltb-true (place / workers) (length (vec_items outcomes)) t
+            | false ↦ λ f. absurd (omega (arith, within, l, mod-add-div' place workers, mul-le-mul_right workers (ltb-false (place / workers) (length (vec_items outcomes)) f)))
+          ]) refl,
     )
 
     -- which is that of its piece
@@ -70,3 +72,25 @@ module _ (search : ℕ → Pricing) (nodes workers places : ℕ) where
         let of = are.each (place % workers) answer.0 answer.1 in
         let same : 0 + place % workers + place / workers * workers ≡ place = omega (arith, mod-add-div' place workers) in
         subst (λ p. AnswersWeighed (search p) nodes outcome) same (of.each (place / workers) outcome answer.2)
+
+-- the whole of a list that is no longer than that
+pub take_all : {X : Type 0} (xs : List X) (n : ℕ) → length xs ≤ n → take n xs ≡ xs
+take_all [] zero l = refl
+take_all [] (suc n) l = refl
+take_all (x ∷ xs) zero l = absurd (omega arith)
+take_all {X} (x ∷ xs) (suc n) l = ap (λ (rest : List X). x ∷ rest) (take_all xs n (omega arith))
+
+-- the place of a worker's next piece
+pub next_place : (workers worker place many more : ℕ) → place ≡ worker + many * workers → more ≡ many + 1 → place + workers ≡ worker + more * workers
+next_place workers worker place many more e f = omega (arith, e, ap (λ n. n * workers) f)
+
+-- the answers of some workers and of those after them, where both are there
+pub both_are : (search : ℕ → Pricing) (nodes workers places from half others count : ℕ) (left right result : Result (Vec (Vec Outcome Global) Global) AllocError) → count ≡ half + others →
+    IfOk result (λ all. AreTogether left right (vec_items all)) → IfOk left (λ all. AreOfAll search nodes workers from half places (vec_items all)) →
+    IfOk right (λ all. AreOfAll search nodes workers (from + half) others places (vec_items all)) → IfOk result (λ all. AreOfAll search nodes workers from count places (vec_items all))
+both_are search nodes workers places from half others count left right (Err stop) e together first second = tt
+both_are search nodes workers places from half others count (Ok xs) (Ok ys) (Ok all) e together first second =
+    subst (λ items. AreOfAll search nodes workers from count places items) (sym together)
+    (of_both search nodes workers places from half others count (vec_items xs) (vec_items ys) first second e (length-append (vec_items xs) (vec_items ys)))
+both_are search nodes workers places from half others count (Ok xs) (Err stop) (Ok all) e together first second = absurd together
+both_are search nodes workers places from half others count (Err stop) right (Ok all) e together first second = absurd together

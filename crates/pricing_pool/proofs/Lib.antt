@@ -3,3 +3,4 @@ mod Taking
 mod Waving
 mod Answered
 mod Ended
+mod Whole

@@ -1,10 +1,9 @@
 -- What the searches of a wave's pieces answer, worker by worker.
-use Rattle.std.specs.Prelude.{◌≡◌, ℕ, ◌+◌, ◌*◌, ◌/◌, ◌%◌, ◌<◌, ◌≤◌, List, [], length, slice_get, slice_index_or, Vec, vec_items, ℤ, Option, Some, Result}
+use Rattle.std.specs.Prelude.{◌≡◌, ℕ, ◌+◌, ◌*◌, ◌/◌, ◌%◌, ◌<◌, ◌≤◌, List, [], length, slice_get, slice_index_or, ◌++◌, Vec, vec_items, ℤ, Option, Some, Result, Ok, Err}
 use Rattle.std.specs.declared.alloc.Global.{Global}
+use Rattle.std.specs.declared.alloc.AllocError.{AllocError}
 use Rattle.search_definitions.specs.Visits.{Pricing}
-use Rattle.std.specs.List.{AllByRecursion}
-use Rattle.search_definitions.specs.Classes.{Classes}
-use Rattle.wave_definitions.specs.Below.{IsFront, search_from}
+use Rattle.wave_definitions.specs.Below.{search_from}
 use Rattle.panel_search.specs.Answers.{AnswersWeighed}
 use Rattle.panel_search.specs.Pricers.{Priced}
 use Rattle.panel_search.specs.declared.searching.SearchStop.{SearchStop}
@@ -27,13 +26,12 @@ pub record AreOfAll (search : ℕ → Pricing) (nodes workers from count places 
   pub one_each : length all ≡ count
   pub each : (j : ℕ) (outcomes : Vec Outcome Global) → slice_get all j ≡ Some outcomes → AreOf search nodes workers (from + j) places (vec_items outcomes)
 
--- so many of all workers, from one on, may work at these fronts
-pub record MayWork (all : Classes) (fronts : List (List ℕ)) (workers from count : ℕ) : Type 0 where
-  pub some : 1 ≤ count
-  pub within : from + count ≤ workers
-  pub few : workers ≤ 64
-  pub short : length fronts ≤ 16
-  pub each : AllByRecursion (IsFront all) fronts
+-- the fronts of a wave, over a row that is priced; the floor, and how many visits each piece may make
+pub record Wave : Type 0 where
+  pub priced : Priced
+  pub fronts : List (List ℕ)
+  pub floor : ℤ
+  pub nodes : ℕ
 
 -- the piece in a place has an answer, of so many workers
 abbrev pub HasAnswer : List (Vec Outcome Global) → ℕ → ℕ → Type 0
@@ -43,3 +41,9 @@ HasAnswer all workers place = (place % workers < length all)
 -- and this one is it
 abbrev pub IsAnswer : List (Vec Outcome Global) → ℕ → ℕ → Outcome → Type 0
 IsAnswer all workers place outcome = (outcomes : Vec Outcome Global) × (slice_get all (place % workers) ≡ Some outcomes) × (slice_get (vec_items outcomes) (place / workers) ≡ Some outcome)
+
+-- the one list of answers behind the other, where both are there
+abbrev pub AreTogether : Result (Vec (Vec Outcome Global) Global) AllocError → Result (Vec (Vec Outcome Global) Global) AllocError → List (Vec Outcome Global) → Type 0
+AreTogether (Ok first) (Ok second) all = all ≡ vec_items first ++ vec_items second
+AreTogether (Ok first) (Err stop) all = ⊥
+AreTogether (Err stop) second all = ⊥

@@ -6,6 +6,7 @@
 mod pricing;
 #[cfg(test)]
 mod tests;
+mod wave;
 mod waves;
 mod workers;
 

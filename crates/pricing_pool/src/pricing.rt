@@ -9,8 +9,8 @@ ghost use Rattle.search_definitions.specs.Fronts.{HaveEntries, HaveReach};
 ghost use Rattle.wave_definitions.specs.Below.{IsFront};
 ghost use Rattle.wave_definitions.specs.Waves.{best_in_waves, wave as wave_of, waves};
 
+use crate::wave::Wave;
 use crate::waves::SoFar;
-use crate::workers::Wave;
 use alike::{Classes, Composition};
 use outside::Watch;
 use panel_search::{Front, PricedRow, Pricer, Row, SearchStop, pricer_of};
@@ -66,19 +66,37 @@ pub fn price_by<R: Threads + Sync, W: Watch + Sync>(
     ensures best { IfOk result (λ answer. answer.0 ≡ price pricer.now.classes pricer.now.closed row.now) }
 {
     let priced = pricer.priced(row)?;
+    search_waves(rt, alloc, workers as usize, watch, &priced, nodes)
+}
+
+/// The search in waves for a row that is priced.
+fn search_waves<R: Threads + Sync, W: Watch + Sync>(
+    rt: &R,
+    alloc: Global,
+    workers: usize,
+    watch: &W,
+    priced: &PricedRow<'_>,
+    nodes: u64,
+) -> Result<(Option<Composition>, u64), SearchStop>
+    requires some_worker { 1 ≤ workers }
+    requires few_workers { workers ≤ 64 }
+    ensures answers { AnswersBest (best_in_waves priced.now.classes priced.now.closed priced.now.row) nodes result }
+    ensures best { IfOk result (λ answer. answer.0 ≡ price priced.now.classes priced.now.closed priced.now.row) }
+{
+    priced.facts();
     let (fronts, visits) = priced.pieces(alloc, nodes)?;
     let mut so_far = SoFar {
         visits,
-        floor: row.side(),
+        floor: priced.row().side(),
         kept: None,
     };
     take_waves(
         rt,
         alloc,
         watch,
-        &priced,
+        priced,
         &fronts,
-        workers as usize,
+        workers,
         nodes,
         &mut so_far,
     )?;
@@ -130,20 +148,23 @@ fn take_wave_of<R: Threads + Sync, W: Watch + Sync>(
     ensures { GoesOn (wave_of priced.now.classes priced.now.closed priced.now.row (told so_far.old) (take 16 (drop (16 * number) fronts.now))) nodes result (told so_far.new) }
 {
     let start = WAVE * number;
+    let part = part_from(fronts, start);
+    let budget = nodes - so_far.visits;
+    let wave = Wave::new(priced, part, start as u64, so_far.floor, budget);
+    so_far.take_wave(rt, alloc, watch, &wave, workers.min(part.len()), nodes)
+}
+
+/// The fronts of the wave that begins in a place.
+fn part_from(fronts: &[Front], start: usize) -> &[Front]
+    requires { start < length fronts.now }
+    ensures part { result.now ≡ take 16 (drop start fronts.now) }
+    ensures some { 1 ≤ length result.now }
+    ensures short { length result.now ≤ 16 }
+{
     let later = &fronts[start..];
-    let wave = Wave {
-        priced,
-        fronts: &later[..later.len().min(WAVE)],
-        first: start as u64,
-        floor: so_far.floor,
-        nodes: nodes - so_far.visits,
-    };
-    so_far.take_wave(
-        rt,
-        alloc,
-        watch,
-        &wave,
-        workers.min(wave.fronts.len()),
-        nodes,
-    )
+    if WAVE < later.len() {
+        &later[..WAVE]
+    } else {
+        later
+    }
 }

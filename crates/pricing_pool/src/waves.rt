@@ -8,7 +8,8 @@ ghost use Rattle.panel_search.specs.declared.searching.SearchStop.TheVariants.{O
 ghost use Rattle.wave_definitions.specs.Below.{IsFront};
 ghost use Rattle.wave_definitions.specs.Waves.{wave as wave_of};
 
-use crate::workers::{Outcome, Wave, work_side_by_side};
+use crate::wave::Wave;
+use crate::workers::{Outcome, Pieces, work_side_by_side};
 use alike::Composition;
 use outside::Watch;
 use panel_search::SearchStop;
@@ -36,12 +37,10 @@ impl SoFar {
     ) -> Result<(), SearchStop>
         requires some_worker { 1 ≤ workers }
         requires few_workers { workers ≤ 64 }
-        requires short { length wave.now.fronts.now ≤ 16 }
-        requires fronts { AllByRecursion (IsFront wave.now.priced.now.classes) wave.now.fronts.now }
         requires within { self.old.visits ≤ nodes }
         requires floor { wave.now.floor ≡ self.old.floor }
         requires budget { wave.now.nodes ≡ nodes - self.old.visits }
-        ensures { GoesOn (wave_of wave.now.priced.now.classes wave.now.priced.now.closed wave.now.priced.now.row (told self.old) wave.now.fronts.now) nodes result (told self.new) }
+        ensures { GoesOn (wave_of wave.now.priced.classes wave.now.priced.closed wave.now.priced.row (told self.old) wave.now.fronts) nodes result (told self.new) }
     {
         let outcomes = work_side_by_side(rt, alloc, watch, wave, workers, 0, workers)?;
         self.take_outcomes(&outcomes, wave, workers, nodes)
@@ -60,10 +59,10 @@ impl SoFar {
         requires within { self.old.visits ≤ nodes }
         requires floor { wave.now.floor ≡ self.old.floor }
         requires budget { wave.now.nodes ≡ nodes - self.old.visits }
-        requires outcomes { AreOfAll (search_at wave.now.priced.now wave.now.fronts.now wave.now.floor) wave.now.nodes workers 0 workers (length wave.now.fronts.now) outcomes.now }
-        ensures { GoesOn (wave_of wave.now.priced.now.classes wave.now.priced.now.closed wave.now.priced.now.row (told self.old) wave.now.fronts.now) nodes result (told self.new) }
+        requires outcomes { AreOfAll (search_at wave.now.priced wave.now.fronts wave.now.floor) wave.now.nodes workers 0 workers (length wave.now.fronts) outcomes.now }
+        ensures { GoesOn (wave_of wave.now.priced.classes wave.now.priced.closed wave.now.priced.row (told self.old) wave.now.fronts) nodes result (told self.new) }
     {
-        for place in 0..wave.fronts.len() {
+        for place in 0..wave.count() {
             self.take(outcome_of(outcomes, workers, place), nodes)?;
         }
         Ok(())

@@ -1,69 +1,85 @@
 //! The workers of a wave. Worker j of w searches the pieces whose place in the wave is j modulo w, one after the other.
 
-ghost use Rattle.std.specs.Prelude.{length, IfOk};
+ghost use Rattle.std.specs.Prelude.{ℕ, ◌≡◌, ◌≤◌, ◌<◌, ◌+◌, IfOk};
 ghost use Rattle.std.specs.Thread.{IsSync};
-ghost use Rattle.pricing_pool.specs.Outcomes.{AreOf, AreOfAll, MayWork, search_at};
+ghost use Rattle.panel_search.specs.Answers.{AnswersWeighed};
+ghost use Rattle.pricing_pool.specs.Outcomes.{AreOf, AreOfAll, AreTogether};
+ghost use Rattle.search_definitions.specs.Visits.{Pricing};
 
 use alike::Composition;
 use outside::Watch;
-use panel_search::{Front, PricedRow, SearchStop};
+use panel_search::SearchStop;
 use std::alloc::{AllocError, Global};
 use std::thread::{Threads, join};
 
 /// What the search of a piece answers: the best composition below its front with its weight, and the visits.
 pub(crate) type Outcome = Result<(Option<(Composition, i128)>, u64), SearchStop>;
 
-/// A wave: the fronts of its pieces, with the number of the first; the floor, and how many visits each piece may make.
-#[derive(Debug, Drop)]
-pub(crate) struct Wave<'a> {
-    pub(crate) priced: &'a PricedRow<'a>,
-    pub(crate) fronts: &'a [Front],
-    pub(crate) first: u64,
-    pub(crate) floor: i128,
-    pub(crate) nodes: u64,
+/// The pieces of a wave, which may be searched side by side.
+pub(crate) trait Pieces {
+    /// The search of the piece in a place.
+    ghost search: { Self → ℕ → Pricing };
+
+    /// How many visits each may make.
+    ghost budget: { Self → ℕ };
+
+    /// How many they are.
+    ghost places: { Self → ℕ };
+
+    fn count(&self) -> usize
+        ensures value { result ≡ places self.now }
+        ensures few { result ≤ 16 };
+
+    /// The number of the piece in a place, among all of the pricing.
+    fn number(&self, place: usize) -> u64;
+
+    fn searched(&self, alloc: Global, place: usize) -> Outcome
+        requires { place < places self.now }
+        ensures { AnswersWeighed (search self.now place) (budget self.now) result };
 }
 
 /// What the pieces of one worker come to, of so many workers.
-fn work<W: Watch>(
+fn work<P: Pieces, W: Watch>(
     alloc: Global,
     watch: &W,
-    wave: &Wave<'_>,
+    pieces: &P,
     workers: usize,
     worker: usize,
 ) -> Result<Vec<Outcome>, AllocError>
-    requires { MayWork wave.now.priced.now.classes wave.now.fronts.now workers worker 1 }
-    ensures { IfOk result (λ outcomes. AreOf (search_at wave.now.priced.now wave.now.fronts.now wave.now.floor) wave.now.nodes workers worker (length wave.now.fronts.now) outcomes.items) }
+    requires some { 1 ≤ workers }
+    requires few { workers ≤ 64 }
+    requires one { worker ≤ 64 }
+    ensures { IfOk result (λ outcomes. AreOf (P.search pieces.now) (P.budget pieces.now) workers worker (P.places pieces.now) outcomes.items) }
 {
     let mut outcomes = Vec::new(alloc);
+    let count = pieces.count();
     let mut place = worker;
-    while place < wave.fronts.len() {
-        watch.piece(wave.first.saturating_add(place as u64));
-        let front = &wave.fronts[place];
-        let outcome = wave
-            .priced
-            .weighed_from(alloc, front, wave.floor, wave.nodes);
-        outcomes.push(outcome)?;
+    while place < count {
+        watch.piece(pieces.number(place));
+        outcomes.push(pieces.searched(alloc, place))?;
         place += workers;
     }
     Ok(outcomes)
 }
 
 /// What each of `count` workers from one on comes to, of so many workers, side by side on threads.
-pub(crate) fn work_side_by_side<R: Threads + Sync, W: Watch + Sync>(
+pub(crate) fn work_side_by_side<R: Threads + Sync, P: Pieces + Sync, W: Watch + Sync>(
     rt: &R,
     alloc: Global,
     watch: &W,
-    wave: &Wave<'_>,
+    pieces: &P,
     workers: usize,
     from: usize,
     count: usize,
 ) -> Result<Vec<Vec<Outcome>>, AllocError>
-    requires { MayWork wave.now.priced.now.classes wave.now.fronts.now workers from count }
-    ensures { IfOk result (λ all. AreOfAll (search_at wave.now.priced.now wave.now.fronts.now wave.now.floor) wave.now.nodes workers from count (length wave.now.fronts.now) all.items) }
+    requires some { 1 ≤ count }
+    requires within { from + count ≤ workers }
+    requires few { workers ≤ 64 }
+    ensures { IfOk result (λ all. AreOfAll (P.search pieces.now) (P.budget pieces.now) workers from count (P.places pieces.now) all.items) }
 {
     if count == 1 {
         let mut one = Vec::new(alloc);
-        one.push(work(alloc, watch, wave, workers, from)?)?;
+        one.push(work(alloc, watch, pieces, workers, from)?)?;
         return Ok(one);
     }
     let half = count / 2;
@@ -72,15 +88,25 @@ pub(crate) fn work_side_by_side<R: Threads + Sync, W: Watch + Sync>(
     let (left, right) = join(
         rt,
         || -> Result<Vec<Vec<Outcome>>, AllocError>
-            requires { IsSync R.row × IsSync W.row × MayWork wave.now.priced.now.classes wave.now.fronts.now workers from half }
-            ensures { IfOk result (λ all. AreOfAll (search_at wave.entry.now.priced.now wave.entry.now.fronts.now wave.entry.now.floor) wave.entry.now.nodes workers from half (length wave.entry.now.fronts.now) all.items) }
-        { work_side_by_side(rt, alloc, watch, wave, workers, from, half) },
+            requires { IsSync R.row × IsSync P.row × IsSync W.row × (1 ≤ half) × (from + half ≤ workers) × (workers ≤ 64) }
+            ensures { IfOk result (λ all. AreOfAll (P.search pieces.entry.now) (P.budget pieces.entry.now) workers from half (P.places pieces.entry.now) all.items) }
+        { work_side_by_side(rt, alloc, watch, pieces, workers, from, half) },
         || -> Result<Vec<Vec<Outcome>>, AllocError>
-            requires { IsSync R.row × IsSync W.row × MayWork wave.now.priced.now.classes wave.now.fronts.now workers middle others }
-            ensures { IfOk result (λ all. AreOfAll (search_at wave.entry.now.priced.now wave.entry.now.fronts.now wave.entry.now.floor) wave.entry.now.nodes workers middle others (length wave.entry.now.fronts.now) all.items) }
-        { work_side_by_side(rt, alloc, watch, wave, workers, middle, others) },
+            requires { IsSync R.row × IsSync P.row × IsSync W.row × (1 ≤ others) × (middle + others ≤ workers) × (workers ≤ 64) }
+            ensures { IfOk result (λ all. AreOfAll (P.search pieces.entry.now) (P.budget pieces.entry.now) workers middle others (P.places pieces.entry.now) all.items) }
+        { work_side_by_side(rt, alloc, watch, pieces, workers, middle, others) },
     );
+    together(left, right)
+}
+
+/// The one list behind the other, where both are there.
+fn together(
+    left: Result<Vec<Vec<Outcome>>, AllocError>,
+    right: Result<Vec<Vec<Outcome>>, AllocError>,
+) -> Result<Vec<Vec<Outcome>>, AllocError>
+    ensures { IfOk result (λ all. AreTogether left right all.items) }
+{
     let mut all = left?;
-    all.extend(right?)?;
+    all.append(&mut right?)?;
     Ok(all)
 }

@@ -6,7 +6,7 @@ use Rattle.pricing_pool.proofs.waves.SoFar.take_outcomes.Given as goal
 -- the pieces so far were taken
 abbrev pub invariant-loop-place : goal.invariant-loop-place
 invariant-loop-place l = record {
-  taken : told l.self ≡ before l.wave.priced.now.classes l.wave.priced.now.closed l.wave.priced.now.row (told l.fn.self) l.wave.fronts.now l.nodes l.wave.nodes l.place;
+  taken : told l.self ≡ before l.wave.priced.classes l.wave.priced.closed l.wave.priced.row (told l.fn.self) l.wave.fronts l.nodes l.wave.nodes l.place;
   within : l.self.visits ≤ l.nodes;
   more : l.fn.self.visits ≤ l.self.visits;
 }
