@@ -10,7 +10,7 @@ use Rattle.std.proofs.lemmas.List.Sums.{get_or-le-sum_by}
 use Rattle.std.proofs.Math.ListN.{get_or-append}
 use Rattle.row_definitions.specs.Row.{Row}
 use Rattle.search_definitions.specs.Classes.{Class, Classes, KeepsLimits}
-use Rattle.search_definitions.specs.Compositions.{counts_of, counts_down}
+use Rattle.search_definitions.specs.Compositions.{counts_of}
 use Rattle.search_definitions.specs.Fronts.{is_reachable, is_live_above, optimistic, sizes_of, HaveEntries, HaveReach}
 use Rattle.search_definitions.specs.Visits.{Pricing, best_search, enter_best}
 use Rattle.search_definitions.proofs.Limits.{all_from_each}

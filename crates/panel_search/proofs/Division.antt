@@ -1,28 +1,25 @@
 -- The pieces of a search, class by class.
-use Rattle.std.proofs.Common.{◌≡◌, ℕ, zero, suc, ◌+◌, ◌-◌, ◌*◌, ◌≤◌, ◌<◌, Bool, true, false, cond, leb, ltb, ◌&&◌, List, [], ◌∷◌, ◌++◌, length, take, drop, filter, fold, map, get_or, refl, sym, ap, ◌∙◌, arith, subst, length-append, append_assoc}
-use Rattle.std.specs.Prelude.{slice_get, int_le, int_lt, ℤ, Some, Result, Ok, Err, Vec}
+use Rattle.std.proofs.Common.{◌≡◌, ℕ, zero, suc, ◌+◌, ◌-◌, ◌*◌, ◌≤◌, ◌<◌, Bool, true, false, cond, leb, ltb, ◌&&◌, List, [], ◌∷◌, ◌++◌, length, take, drop, filter, map, get_or, refl, sym, ap, ◌∙◌, arith, subst, length-append, append_assoc}
+use Rattle.std.specs.Prelude.{int_le, int_lt, ℤ, Result, Ok, Err, Vec}
 use Rattle.std.specs.Result.{IsErrAnd}
 use Rattle.std.specs.declared.alloc.Global.{Global}
 use Rattle.std.specs.List.{AllByRecursion, flat_map, list_all, range_with_len}
-use Rattle.std.proofs.lemmas.Bool.{and_parts, false≢true, false_from_ne_true, leb-true, le-leb, ltb-true, ltb-false}
-use Rattle.std.proofs.lemmas.List.{append-nil, drop_more, drop-take, length-take-le}
+use Rattle.std.proofs.lemmas.Bool.{false_from_ne_true, leb-true, le-leb, ltb-true, ltb-false}
+use Rattle.std.proofs.lemmas.List.{append-nil, drop_more, length-take-le}
 use Rattle.std.proofs.lemmas.List.FromFn.{get_or-range_with_len, length-range_with_len}
 use Rattle.std.proofs.lemmas.List.Sums.{fold-append, position_or_len_is}
 use Rattle.std.proofs.lemmas.Nat.{mul-le}
-use Rattle.std.proofs.lemmas.Option.{slice_get-get_or}
 use Rattle.basic_laws.proofs.Each.{each_append, each_filter}
 use Rattle.row_definitions.specs.Row.{Row}
 use Rattle.search_definitions.specs.Classes.{Class, Classes, KeepsLimits}
 use Rattle.search_definitions.specs.Compositions.{counts_of, counts_down}
 use Rattle.search_definitions.specs.Fronts.{is_live_above, is_reachable, optimistic}
-use Rattle.wave_definitions.specs.Below.{AreWithin}
 use Rattle.wave_definitions.specs.Waves.{Pieces, lists_of, piece_depth, pieces, pieces_below, together}
 use Rattle.wave_definitions.proofs.Pieces.{depth_within}
 use Rattle.panel_search.specs.Answers.{AnswersPieces}
 use Rattle.panel_search.specs.declared.searching.SearchStop.{SearchStop}
 use Rattle.panel_search.specs.declared.searching.SearchStop.TheVariants.{Spent}
 use Rattle.panel_search.specs.Pieces.{IsLiveFront, counts_first, live_among, live_children}
-use Rattle.panel_search.specs.Pricing.{CanTake}
 use Rattle.panel_search.specs.Steps.{counts_below}
 use Rattle.panel_search.proofs.BestStepping.{class_limits, same_class, within_more}
 use Rattle.panel_search.proofs.Ranges.{LiveBetween, below_next, below_none, live_counts}

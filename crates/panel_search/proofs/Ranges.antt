@@ -1,10 +1,10 @@
 -- The counts of the next class with which a front is live follow one another.
-use Rattle.std.proofs.Common.{◌≡◌, ℕ, zero, suc, ◌+◌, ◌-◌, ◌≤◌, ◌<◌, max, min, Bool, true, false, cond, eqb, leb, ltb, ◌&&◌, List, [], ◌∷◌, ◌++◌, length, drop, filter, fold, map, Option, Some, refl, sym, ap, ◌∙◌, arith, subst}
+use Rattle.std.proofs.Common.{◌≡◌, ℕ, zero, suc, ◌+◌, ◌-◌, ◌≤◌, ◌<◌, max, min, Bool, true, false, cond, eqb, leb, ltb, ◌&&◌, List, [], ◌∷◌, ◌++◌, length, drop, filter, Option, Some, refl, sym, ap, ◌∙◌, arith, subst}
 use Rattle.std.specs.Prelude.{slice_get, slice_index, slice_index_or}
 use Rattle.std.specs.List.{All}
 use Rattle.std.proofs.lemmas.Bool.{and_parts, and_from, eqb-true, eqb-false, false≢true, leb-true, leb-false, le-leb, ltb-true, ltb-false}
 use Rattle.std.proofs.lemmas.List.Elements.{All-get_or}
-use Rattle.std.proofs.lemmas.Option.{get_or_from_slice_get, slice_get-get_or, slice_get_within}
+use Rattle.std.proofs.lemmas.Option.{get_or_from_slice_get, slice_get_within}
 use Rattle.search_definitions.specs.declared.Bounds.{Bounds}
 use Rattle.search_definitions.specs.Classes.{Class, Classes, HasPlaces, KeepsLimits}
 use Rattle.search_definitions.specs.Compositions.{counts_down, counts_of, takes_one_a_household}
@@ -12,7 +12,7 @@ use Rattle.search_definitions.specs.Fronts.{is_reachable, size_reachable, values
 use Rattle.panel_search.specs.Front.{Tracks}
 use Rattle.panel_search.specs.Homes.{has_room}
 use Rattle.panel_search.specs.Steps.{counts_below}
-use Rattle.panel_search.specs.Tallies.{AllReach, AreSmallBounds, HasBound, cell, reaches}
+use Rattle.panel_search.specs.Tallies.{AllReach, AreSmallBounds, HasBound, reaches}
 use Rattle.panel_search.specs.declared.tally.Tally.{Tally}
 use Rattle.panel_search.proofs.Households.{child_households}
 use Rattle.panel_search.proofs.Liveness.{size_of_child, values_of_child, reach_of_child}

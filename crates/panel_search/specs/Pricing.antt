@@ -1,9 +1,9 @@
 -- One step of the search for the best composition.
-use Rattle.std.specs.Prelude.{◌≡◌, ◌≤◌, ◌<◌, ◌+◌, ℕ, if◌then◌else◌, true, List, [], ◌∷◌, ◌++◌, length, take, drop, fold, ℤ, Result, Ok, Err, Some, None, slice_get}
+use Rattle.std.specs.Prelude.{◌≡◌, ◌≤◌, ◌<◌, ℕ, if◌then◌else◌, true, List, [], ◌∷◌, ◌++◌, length, take, drop, fold, Result, Ok, Err, Some, None, slice_get}
 use Rattle.row_definitions.specs.Row.{Row}
 use Rattle.search_definitions.specs.Classes.{Class, Classes}
-use Rattle.search_definitions.specs.Fronts.{is_reachable, is_live_above, later_than}
-use Rattle.search_definitions.specs.Visits.{Pricing, enter_best}
+use Rattle.search_definitions.specs.Fronts.{is_reachable}
+use Rattle.search_definitions.specs.Visits.{Pricing}
 use Rattle.panel_search.specs.Front.{Tracks}
 use Rattle.panel_search.specs.Weights.{Weighs, WeighEach}
 use Rattle.panel_search.specs.declared.searching.BudgetSpent.{BudgetSpent}

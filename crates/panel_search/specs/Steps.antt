@@ -1,5 +1,5 @@
 -- One step of a search under a budget.
-use Rattle.std.specs.Prelude.{◌≡◌, ◌≤◌, ◌<◌, ◌+◌, ℕ, zero, suc, nat_le, if◌then◌else◌, Bool, true, false, List, [], ◌∷◌, ◌++◌, length, take, drop, filter, map, Result, Ok, Err, Some, None}
+use Rattle.std.specs.Prelude.{◌≡◌, ◌≤◌, ◌<◌, ◌+◌, ℕ, zero, suc, nat_le, if◌then◌else◌, Bool, true, false, List, [], ◌∷◌, ◌++◌, length, take, filter, map, Result, Ok, Err, Some, None}
 use Rattle.search_definitions.specs.Classes.{Class, Classes}
 use Rattle.search_definitions.specs.Fronts.{is_reachable}
 use Rattle.search_definitions.specs.Visits.{Search as Due, one_by_one, enter_first}

@@ -1,5 +1,5 @@
 -- The greatest sums of units in a row, and what fronts weigh in it.
-use Rattle.std.specs.Prelude.{◌≡◌, ℕ, ◌+◌, ◌*◌, ◌^◌, ◌≤◌, ◌<◌, List, length, drop, take, ℤ, pos, ◌+ℤ◌, unsigned_abs, slice_index, slice_index_or, slice_get, Some}
+use Rattle.std.specs.Prelude.{◌≡◌, ℕ, ◌+◌, ◌*◌, ◌^◌, ◌≤◌, ◌<◌, List, length, drop, take, ℤ, pos, ◌+ℤ◌, unsigned_abs, slice_index_or, slice_get, Some}
 use Rattle.std.specs.Int.{int_max}
 use Rattle.row_definitions.specs.Row.{Row, sum_of_sizes}
 use Rattle.search_definitions.specs.Classes.{Classes}

@@ -1,9 +1,8 @@
-use Rattle.std.proofs.Common.{◌≡◌, ◌+◌, ◌<◌, length, sym, ap, ◌∙◌, arith}
+use Rattle.std.proofs.Common.{sym, ap, ◌∙◌, arith}
 use Rattle.std.specs.List.{flat_map}
-use Rattle.search_definitions.proofs.Limits.{all_from_each}
 use Rattle.wave_definitions.specs.Waves.{pieces}
 use Rattle.wave_definitions.proofs.Pieces.{depth_within}
-use Rattle.panel_search.specs.Pieces.{IsLiveFront, live_children}
+use Rattle.panel_search.specs.Pieces.{live_children}
 use Rattle.panel_search.proofs.Division.{goes_last, goes_next, goes_too_far, pieces_spent}
 use Rattle.panel_search.proofs.WeightLaws.{element_at}
 use Rattle.panel_search.proofs.dividing.pieces.Goals as goal

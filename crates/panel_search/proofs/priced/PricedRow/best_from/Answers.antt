@@ -1,4 +1,4 @@
-use Rattle.std.proofs.Common.{rules, ◌≡◌, length, sym, ap, ◌∙◌, arith, FitsSigned, of_z, to_z}
+use Rattle.std.proofs.Common.{rules, length, sym, ap, ◌∙◌, arith, FitsSigned, of_z, to_z}
 use Rattle.std.specs.Int.{w128}
 use Rattle.std.proofs.lemmas.Int.{to_z-of_z}
 use Rattle.wave_definitions.specs.Below.{best_below, search_from}

@@ -1,4 +1,4 @@
-use Rattle.std.proofs.Common.{◌+◌, length, ap, ◌∙◌, arith}
+use Rattle.std.proofs.Common.{length, ap, arith}
 use Rattle.panel_search.proofs.BestStepping.{class_limits, same_class}
 use Rattle.panel_search.proofs.Division.{among_all, stands_after}
 use Rattle.panel_search.proofs.Ranges.{between}

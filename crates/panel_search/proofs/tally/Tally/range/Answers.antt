@@ -1,4 +1,4 @@
-use Rattle.std.proofs.Common.{◌≡◌, ◌+◌, true, length, sym, ap, ◌∙◌, arith, subst}
+use Rattle.std.proofs.Common.{◌+◌, true, length, sym, ap, ◌∙◌, arith, subst}
 use Rattle.panel_search.specs.Homes.{has_room}
 use Rattle.panel_search.specs.Tallies.{AreSmallBounds}
 use Rattle.panel_search.proofs.Ranges.{small_bounds, reached_live, live_reached}
