@@ -1,0 +1,4 @@
+pub mod SignedSums
+pub mod MetConstraints
+pub mod LeafShows
+pub mod TreeShows

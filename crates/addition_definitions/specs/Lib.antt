@@ -1,0 +1,7 @@
+pub mod Constraints
+pub mod Leaves
+pub mod Trees
+pub mod TreeLines
+pub mod CapsHold
+pub mod ProofVerdict
+pub mod WorkedTrees
