@@ -2,3 +2,5 @@ pub mod SignedSums
 pub mod MetConstraints
 pub mod LeafShows
 pub mod TreeShows
+pub mod ByLines
+pub mod Verdicts
