@@ -1,7 +1,8 @@
 -- Small proofs on which the definitions compute.
-use Rattle.std.specs.Prelude.{ℕ, List, [], ◌∷◌, ℤ, pos, negsuc, Some}
+use Rattle.std.specs.Prelude.{ℕ, List, [], ◌∷◌, ℤ, pos, negsuc}
 use Rattle.pool_definitions.specs.Certificate.{Answer}
-use Rattle.pool_definitions.specs.WorkedExamples.{couple, four, four_lottery, four_stages}
+use Rattle.pool_definitions.specs.WorkedExamples.{couple, four, four_lottery, four_stages, stage}
+use Rattle.addition_definitions.specs.Constraints.{Constraint}
 use Rattle.addition_definitions.specs.Leaves.{Leaf, Multiplier}
 use Rattle.addition_definitions.specs.ProofVerdict.{OfLottery, OfNoPanel, Proof}
 use Rattle.addition_definitions.specs.Trees.{AtLeaf, AtSplit, Tree}
@@ -30,6 +31,10 @@ four_trees = (OfLeaf women_leaf ∷ []) ∷ (OfLeaf men_leaf ∷ []) ∷ []
 abbrev pub four_proof : List (List TreeLine) → Proof
 four_proof trees = OfLottery four (record { lottery = four_lottery; stages = four_stages }) trees
 
+-- constraints of all four
+abbrev pub constraint : List ℤ → ℤ → ℤ → Constraint
+constraint coefficients lower upper = record { coefficients = coefficients; lower = lower; upper = upper }
+
 -- the women are taken twice
 abbrev pub double_leaf : Leaf
 double_leaf = leaf 1 (times 1 (pos 2) ∷ [])
@@ -44,6 +49,14 @@ split_tree = AtSplit 0 (AtLeaf (leaf 1 [])) (AtLeaf women_leaf)
 
 abbrev pub split_lines : List TreeLine
 split_lines = OfSplit 0 ∷ OfLeaf (leaf 1 []) ∷ OfLeaf women_leaf ∷ []
+
+-- a proof of an answer over the four with one stage, of weight 1 for each
+abbrev pub one_stage_proof : ℤ → Leaf → Proof
+one_stage_proof cap all = OfLottery four (record { lottery = four_lottery; stages = stage cap (pos 1 ∷ pos 1 ∷ pos 1 ∷ pos 1 ∷ []) ∷ [] }) ((OfLeaf all ∷ []) ∷ [])
+
+-- so many members as the size
+abbrev pub size_leaf : Leaf
+size_leaf = leaf 1 (times 0 (pos 1) ∷ [])
 
 -- ---- over one woman and one man of one household, and two seats: constraint 0 is the size, 3 the household
 

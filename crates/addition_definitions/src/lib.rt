@@ -5,21 +5,22 @@
 //! The functions here have no body: their contracts are laws over the definitions, and worked examples.
 #![tactic(auto)]
 
-ghost use Rattle.std.specs.Prelude.{◌≡◌, ◌↔◌, [], ◌∷◌, true, false, ℕ, pos, negsuc, List, IsTrue, None, Some};
+ghost use Rattle.std.specs.Prelude.{map, drop, ◌≡◌, ◌↔◌, ◌-◌, ◌^◌, [], ◌∷◌, ℕ, pos, negsuc, List, IsTrue, None};
 ghost use Rattle.bundle_definitions.specs.Ranges.{IsInRanges};
 ghost use Rattle.pool_definitions.specs.declared.Standing.{Standing};
 ghost use Rattle.pool_definitions.specs.Certificate.{Answer, Certifies, Stage, is_capped};
 ghost use Rattle.pool_definitions.specs.Lottery.{LeximinGreatest};
 ghost use Rattle.pool_definitions.specs.Pool.{Pool, is_quota_panel, panels};
-ghost use Rattle.pool_definitions.specs.WorkedExamples.{four};
+ghost use Rattle.pool_definitions.specs.WorkedExamples.{after_dropout, family, four, stage};
 ghost use Rattle.check_definitions.specs.Reasons.{Valid};
-ghost use Rattle.check_definitions.specs.WorkedChecks.{refused};
+ghost use Rattle.check_definitions.specs.WorkedChecks.{below_zero, one_stage, refused, two_women};
 ghost use Rattle.addition_definitions.specs.CapsHold.{CapsHold, EarlierCapsHold};
+ghost use Rattle.addition_definitions.specs.Constraints.{constraints};
 ghost use Rattle.addition_definitions.specs.Leaves.{Problem, no_panel_problem, stage_problem, standings};
 ghost use Rattle.addition_definitions.specs.ProofVerdict.{OfLottery, OfNoPanel, TreesShow, verdict};
 ghost use Rattle.addition_definitions.specs.Trees.{Tree, tree_shows};
-ghost use Rattle.addition_definitions.specs.WorkedTrees.{couple_lines, couple_proof, double_leaf, four_proof, four_trees, men_leaf, split_lines, unknown_leaf, women_leaf};
-ghost use Rattle.addition_definitions.specs.TreeLines.{AreOfTree, OfLeaf, OfSplit, TreeLine, tree_fault};
+ghost use Rattle.addition_definitions.specs.WorkedTrees.{constraint, couple_lines, couple_proof, double_leaf, four_proof, four_trees, leaf, men_leaf, one_stage_proof, size_leaf, split_lines, split_tree, times, unknown_leaf, women_leaf};
+ghost use Rattle.addition_definitions.specs.TreeLines.{AreOfTree, OfLeaf, OfSplit, TreeLine, fault, lines_of, tree_fault};
 
 /// Where the earlier caps hold, a tree that shows a stage's cap proves that it holds: no quota panel that attains the earlier caps weighs more.
 pub fn tree_shows_cap()
@@ -62,10 +63,53 @@ pub fn valid_no_panel()
     ensures none { (pool : Pool) (lines : List TreeLine) → verdict (OfNoPanel pool lines) ≡ Valid → panels pool ≡ [] }
 {}
 
-/// Proofs that hold.
+/// The constraints of two women and two men in the second stage: the size, the women, the men, and the first stage. Where a woman and a man
+/// are of one household, it comes last.
+pub fn worked_constraints()
+    ensures second_stage { constraints four (stage (pos 1) (pos 1 ∷ pos 1 ∷ pos 0 ∷ pos 0 ∷ []) ∷ []) ≡
+        constraint (pos 1 ∷ pos 1 ∷ pos 1 ∷ pos 1 ∷ []) (pos 2) (pos 2) ∷
+        constraint (pos 1 ∷ pos 1 ∷ pos 0 ∷ pos 0 ∷ []) (pos 1) (pos 1) ∷
+        constraint (pos 0 ∷ pos 0 ∷ pos 1 ∷ pos 1 ∷ []) (pos 1) (pos 1) ∷
+        constraint (pos 1 ∷ pos 1 ∷ pos 0 ∷ pos 0 ∷ []) (pos 1) (pos 1) ∷ [] }
+    ensures household { drop 3 (constraints family []) ≡ constraint (pos 1 ∷ pos 0 ∷ pos 1 ∷ pos 0 ∷ []) (pos 0) (pos 1) ∷ [] }
+    ensures earlier_in_order { map (λ it. it.upper) (drop 3 (constraints four (stage (pos 8) [] ∷ stage (pos 7) [] ∷ []))) ≡ pos 7 ∷ pos 8 ∷ [] }
+{}
+
+/// Proofs that hold: with a leaf for each stage, with a split, and of a pool without a quota panel.
 pub fn valid_proofs()
     ensures four { verdict (four_proof four_trees) ≡ Valid }
     ensures split { verdict (four_proof (split_lines ∷ (OfLeaf men_leaf ∷ []) ∷ [])) ≡ Valid }
+    ensures split_lines { lines_of split_tree ≡ split_lines }
     ensures no_panel { verdict (couple_proof couple_lines) ≡ Valid }
 {}
 
+/// Leaves that don't show the cap: with a multiplier changed, in the first stage and in the second, with a constraint that the stage hasn't
+/// got, in the tree with a volunteer, and where there are quota panels. The first tree begins with line 20 of the text, or with line 14.
+pub fn leaves_refused()
+    ensures multiplier { verdict (four_proof ((OfLeaf double_leaf ∷ []) ∷ (OfLeaf men_leaf ∷ []) ∷ [])) ≡ refused 1 12 (20 ∷ []) }
+    ensures second_stage { verdict (four_proof ((OfLeaf women_leaf ∷ []) ∷ (OfLeaf double_leaf ∷ []) ∷ [])) ≡ refused 2 12 (22 ∷ []) }
+    ensures unknown { verdict (four_proof ((OfLeaf unknown_leaf ∷ []) ∷ (OfLeaf men_leaf ∷ []) ∷ [])) ≡ refused 1 12 (20 ∷ []) }
+    ensures with_one { verdict (four_proof ((OfSplit 0 ∷ OfLeaf (leaf 1 []) ∷ OfLeaf (leaf 1 []) ∷ []) ∷ (OfLeaf men_leaf ∷ []) ∷ [])) ≡ refused 1 12 (22 ∷ []) }
+    ensures panels { verdict (OfNoPanel four (OfLeaf (leaf 0 (times 0 (negsuc 0) ∷ times 1 (pos 1) ∷ times 2 (pos 1) ∷ [])) ∷ [])) ≡ refused 0 12 (14 ∷ []) }
+{}
+
+/// Lines that aren't the next ones of a tree: a split on a volunteer who is decided, or on none, a tree that ends early, or a line behind its
+/// end.
+pub fn lines_refused()
+    ensures twice { verdict (four_proof ((OfSplit 0 ∷ split_lines) ∷ (OfLeaf men_leaf ∷ []) ∷ [])) ≡ refused 1 11 (21 ∷ []) }
+    ensures nobody { verdict (four_proof ((OfSplit 4 ∷ OfLeaf women_leaf ∷ OfLeaf women_leaf ∷ []) ∷ (OfLeaf men_leaf ∷ []) ∷ [])) ≡ refused 1 11 (20 ∷ []) }
+    ensures no_line { verdict (four_proof ([] ∷ (OfLeaf men_leaf ∷ []) ∷ [])) ≡ refused 1 11 (20 ∷ []) }
+    ensures early { verdict (four_proof ((OfSplit 0 ∷ OfLeaf women_leaf ∷ []) ∷ (OfLeaf men_leaf ∷ []) ∷ [])) ≡ refused 1 11 (22 ∷ []) }
+    ensures late { verdict (four_proof ((OfLeaf women_leaf ∷ OfLeaf women_leaf ∷ []) ∷ (OfLeaf men_leaf ∷ []) ∷ [])) ≡ refused 1 11 (21 ∷ []) }
+    ensures seated { tree_fault (stage_problem after_dropout [] (stage (pos 9) (pos 1 ∷ pos 1 ∷ pos 1 ∷ pos 1 ∷ []))) (standings after_dropout) 1
+        (OfSplit 1 ∷ OfLeaf size_leaf ∷ OfSplit 2 ∷ OfLeaf size_leaf ∷ OfLeaf size_leaf ∷ []) ≡ fault 3 11 }
+{}
+
+/// Other reasons come in their order: of the lottery, of a stage whose weights and cap reach too far, and of the listed panels.
+pub fn other_reasons()
+    ensures lottery { verdict (OfLottery four two_women []) ≡ refused 0 1 (0 ∷ 1 ∷ []) }
+    ensures negative { verdict (OfLottery four below_zero []) ≡ refused 1 4 (2 ∷ []) }
+    ensures too_far { verdict (one_stage_proof (pos (2 ^ 56 - 3)) double_leaf) ≡ refused 1 13 [] }
+    ensures farthest { verdict (one_stage_proof (pos (2 ^ 56 - 4)) size_leaf) ≡ refused 1 9 (0 ∷ 2 ∷ []) }
+    ensures left { verdict (OfLottery four one_stage ((OfLeaf women_leaf ∷ []) ∷ [])) ≡ refused 1 10 (2 ∷ []) }
+{}
