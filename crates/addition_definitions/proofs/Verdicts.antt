@@ -15,8 +15,9 @@ use Rattle.pool_definitions.specs.Lottery.{Lottery}
 use Rattle.pool_definitions.specs.Pool.{Pool, is_quota_panel, panels}
 use Rattle.addition_definitions.specs.CapsHold.{CapsHold, EarlierCapsHold}
 use Rattle.addition_definitions.specs.Leaves.{Problem, no_panel_problem, stage_problem, standings}
-use Rattle.addition_definitions.specs.ProofVerdict.{OfLottery, OfNoPanel, Proof, TreesShow, first_tree, later_trees, line_reason, lines_before_tree, listed_reasons, reach_limit, reasons, reasons_from, stage_reasons, tree_reasons, verdict}
+use Rattle.addition_definitions.specs.ProofVerdict.{OfLottery, OfNoPanel, Proof, TreesShow, first_tree, later_trees, line_reason, lines_before_tree, listed_reasons, reasons, reasons_from, stage_reasons, tree_reasons, verdict}
 use Rattle.addition_definitions.specs.TreeLines.{AreOfTree, TreeFault, TreeLine, tree_fault}
+use Rattle.addition_definitions.specs.TreeRanges.{number_limit}
 use Rattle.addition_definitions.proofs.ByLines.{no_fault_where_of_tree, of_tree_where_no_fault}
 use Rattle.addition_definitions.proofs.TreeShows.{capped, is_none, no_panels}
 
@@ -79,10 +80,10 @@ module _ (pool : Pool) (lottery : Lottery) where
     abbrev fault : Option TreeFault
     fault = tree_fault (stage_problem pool earlier stage) (standings pool) line lines
 
-    reach_within : NoneStands (stage_reasons pool lottery earlier stage line lines) → leb (reach stage) reach_limit ≡ true
+    reach_within : NoneStands (stage_reasons pool lottery earlier stage line lines) → leb (reach stage) number_limit ≡ true
     reach_within none =
         let trees = each_right (λ r. r ≡ None) before of_tree (each_left (λ r. r ≡ None) (before ++ of_tree) of_listed none) in
-        unless_none (leb (reach stage) reach_limit) (reason_none number 13 (nobody_unless (leb (reach stage) reach_limit)) trees.0)
+        unless_none (leb (reach stage) number_limit) (reason_none number 13 (nobody_unless (leb (reach stage) number_limit)) trees.0)
 
     lines_of_tree : NoneStands (stage_reasons pool lottery earlier stage line lines) → AreOfTree (stage_problem pool earlier stage) (standings pool) lines
     lines_of_tree none =
@@ -95,12 +96,12 @@ module _ (pool : Pool) (lottery : Lottery) where
         let last = each_right (λ r. r ≡ None) (before ++ of_tree) of_listed none in
         each_append (λ r. r ≡ None) before (cap_reasons pool lottery earlier stage) first (ap (reason number 8) (no_panel_where_capped pool earlier stage cap), last)
 
-    tree_none : leb (reach stage) reach_limit ≡ true → AreOfTree (stage_problem pool earlier stage) (standings pool) lines → NoneStands (check.stage_reasons pool lottery earlier stage) →
+    tree_none : leb (reach stage) number_limit ≡ true → AreOfTree (stage_problem pool earlier stage) (standings pool) lines → NoneStands (check.stage_reasons pool lottery earlier stage) →
         NoneStands (stage_reasons pool lottery earlier stage line lines)
     tree_none within is none =
         let first = each_left (λ r. r ≡ None) before (cap_reasons pool lottery earlier stage) none in
         let last = each_right (λ r. r ≡ None) before (cap_reasons pool lottery earlier stage) none in
-        let reached : reason number 13 (nobody_unless (leb (reach stage) reach_limit)) ≡ None = ap (λ b. reason number 13 (nobody_unless b)) within in
+        let reached : reason number 13 (nobody_unless (leb (reach stage) number_limit)) ≡ None = ap (λ b. reason number 13 (nobody_unless b)) within in
         let line_is : line_reason number fault ≡ None = ap (line_reason number) (no_fault_where_of_tree (stage_problem pool earlier stage) (standings pool) line lines is) in
         each_append (λ r. r ≡ None) (before ++ of_tree) of_listed (each_append (λ r. r ≡ None) before of_tree first (reached, (line_is, tt))) last.1
 

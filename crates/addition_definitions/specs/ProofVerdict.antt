@@ -1,5 +1,5 @@
 -- Proofs that a lottery is leximin greatest, or that a pool has no quota panel, and the verdict on them by additions and comparisons alone.
-use Rattle.std.specs.Prelude.{ℕ, ◌+◌, ◌^◌, nat_le, not, List, [], ◌∷◌, ◌++◌, drop, length, slice_index_or, Option, Some, None, IsTrue}
+use Rattle.std.specs.Prelude.{ℕ, ◌+◌, nat_le, not, List, [], ◌∷◌, ◌++◌, drop, length, slice_index_or, Option, Some, None, IsTrue}
 use Rattle.std.specs.List.{find}
 use Rattle.std.specs.Ordering.{int_eq}
 use Rattle.bundle_definitions.specs.BundleText.{lines_before_done, pool_lines}
@@ -10,6 +10,7 @@ use Rattle.pool_definitions.specs.Lottery.{Lottery}
 use Rattle.pool_definitions.specs.Pool.{Pool, everybody}
 use Rattle.addition_definitions.specs.Leaves.{no_panel_problem, stage_problem, standings}
 use Rattle.addition_definitions.specs.TreeLines.{AreOfTree, TreeFault, TreeLine, tree_fault}
+use Rattle.addition_definitions.specs.TreeRanges.{number_limit}
 
 -- a lottery with its stages, and for each stage the lines of a tree; or the lines of a tree that shows that there is no quota panel
 pub data Proof : Type 0 where
@@ -30,10 +31,6 @@ abbrev pub lines_before_tree : Proof → ℕ
 lines_before_tree (OfLottery pool answer trees) = 1 + (length (lines_before_done pool answer) + 1) + 1
 lines_before_tree (OfNoPanel pool lines) = 1 + length (pool_lines pool) + 1 + 1
 
--- what a stage's cap and weights may reach, so that no sum passes 128 bits
-abbrev pub reach_limit : ℕ
-reach_limit = 2 ^ 56
-
 -- a line that is refused
 abbrev pub line_reason : ℕ → Option TreeFault → Option Refusal
 line_reason stage None = None
@@ -44,7 +41,7 @@ abbrev pub tree_reasons : Pool → List Stage → Stage → ℕ → List TreeLin
 tree_reasons pool earlier stage line lines =
     let number = length earlier + 1 in
     -- 13: the stage's cap and weights reach too far
-    reason number 13 (nobody_unless (nat_le (reach stage) reach_limit)) ∷
+    reason number 13 (nobody_unless (nat_le (reach stage) number_limit)) ∷
     -- 11: a line isn't the next one of a tree; 12: its multipliers don't show the cap
     line_reason number (tree_fault (stage_problem pool earlier stage) (standings pool) line lines) ∷ []
 
@@ -83,6 +80,6 @@ verdict proof = first_reason (reasons proof)
 abbrev pub TreesShow : Pool → List Stage → List Stage → List (List TreeLine) → Type 0
 TreesShow pool earlier [] trees = Unit {0}
 TreesShow pool earlier (stage ∷ later) trees =
-    IsTrue (nat_le (reach stage) reach_limit)
+    IsTrue (nat_le (reach stage) number_limit)
     × AreOfTree (stage_problem pool earlier stage) (standings pool) (first_tree trees)
     × TreesShow pool (stage ∷ earlier) later (later_trees trees)
