@@ -1,3 +1,4 @@
 pub mod NodeLines
 pub mod Spelled
 pub mod ReadAgain
+pub mod FirstTree
