@@ -4,3 +4,5 @@ pub mod LeafShows
 pub mod TreeShows
 pub mod ByLines
 pub mod Verdicts
+pub mod Reaches
+pub mod NarrowSums

@@ -30,10 +30,10 @@ each_reversed_onto : {X : Type 0} (P : X → Type 0) (xs ys : List X) → AllByR
 each_reversed_onto P [] ys h k = k
 each_reversed_onto P (x ∷ xs) ys h k = each_reversed_onto P xs (x ∷ ys) h.1 (h.0, k)
 
-each_reversed : {X : Type 0} (P : X → Type 0) (xs : List X) → AllByRecursion P xs → AllByRecursion P (reverse xs)
+pub each_reversed : {X : Type 0} (P : X → Type 0) (xs : List X) → AllByRecursion P xs → AllByRecursion P (reverse xs)
 each_reversed P xs h = each_reversed_onto P xs [] h tt
 
-each_flat : {X Y : Type 0} (P : Y → Type 0) (f : X → List Y) (xs : List X) → AllByRecursion (λ x. AllByRecursion P (f x)) xs → AllByRecursion P (flat_map f xs)
+pub each_flat : {X Y : Type 0} (P : Y → Type 0) (f : X → List Y) (xs : List X) → AllByRecursion (λ x. AllByRecursion P (f x)) xs → AllByRecursion P (flat_map f xs)
 each_flat P f [] h = tt
 each_flat P f (x ∷ xs) h = each_append P (f x) (flat_map f xs) h.0 (each_flat P f xs h.1)
 

@@ -3,6 +3,7 @@ pub mod Leaves
 pub mod Trees
 pub mod TreeLines
 pub mod TreeRanges
+pub mod LeafSums
 pub mod CapsHold
 pub mod ProofVerdict
 pub mod WorkedTrees

@@ -5,19 +5,22 @@
 //! The functions here have no body: their contracts are laws over the definitions, and worked examples.
 #![tactic(auto)]
 
-ghost use Rattle.std.specs.Prelude.{map, drop, ◌≡◌, ◌↔◌, ◌-◌, ◌^◌, [], ◌∷◌, ℕ, pos, negsuc, List, IsTrue, None};
+ghost use Rattle.std.specs.Prelude.{map, drop, ◌≡◌, ◌↔◌, ◌<◌, ◌-◌, ◌^◌, ◌*ℤ◌, ◌+ℤ◌, [], ◌∷◌, ℕ, pos, negsuc, unsigned_abs, List, IsTrue, None};
+ghost use Rattle.std.specs.List.{list_all};
 ghost use Rattle.bundle_definitions.specs.Ranges.{IsInRanges};
 ghost use Rattle.pool_definitions.specs.declared.Standing.{Standing};
 ghost use Rattle.pool_definitions.specs.Certificate.{Answer, Certifies, Stage, is_capped};
 ghost use Rattle.pool_definitions.specs.Lottery.{LeximinGreatest};
-ghost use Rattle.pool_definitions.specs.Pool.{Pool, is_quota_panel, panels};
+ghost use Rattle.pool_definitions.specs.Pool.{IsPool, Pool, is_quota_panel, panels};
 ghost use Rattle.pool_definitions.specs.WorkedExamples.{after_dropout, family, four, stage};
 ghost use Rattle.check_definitions.specs.Reasons.{Valid};
 ghost use Rattle.check_definitions.specs.WorkedChecks.{below_zero, one_stage, refused, two_women};
 ghost use Rattle.addition_definitions.specs.CapsHold.{CapsHold, EarlierCapsHold};
 ghost use Rattle.addition_definitions.specs.Constraints.{constraints};
-ghost use Rattle.addition_definitions.specs.Leaves.{Problem, no_panel_problem, stage_problem, standings};
+ghost use Rattle.addition_definitions.specs.LeafSums.{charges_and_rests, first_charges, first_multipliers, is_in_reach, is_problem_in_reach, is_stage_in_reach};
+ghost use Rattle.addition_definitions.specs.Leaves.{Leaf, Problem, no_panel, no_panel_problem, rest, stage_problem, standings};
 ghost use Rattle.addition_definitions.specs.ProofVerdict.{OfLottery, OfNoPanel, TreesShow, verdict};
+ghost use Rattle.addition_definitions.specs.TreeRanges.{is_leaf};
 ghost use Rattle.addition_definitions.specs.Trees.{Tree, tree_shows};
 ghost use Rattle.addition_definitions.specs.WorkedTrees.{constraint, couple_lines, couple_proof, double_leaf, four_proof, four_trees, leaf, men_leaf, one_stage_proof, size_leaf, split_lines, split_tree, times, unknown_leaf, women_leaf};
 ghost use Rattle.addition_definitions.specs.TreeLines.{AreOfTree, OfLeaf, OfSplit, TreeLine, fault, lines_of, tree_fault};
@@ -61,6 +64,26 @@ pub fn valid_is_greatest()
 pub fn valid_no_panel()
     ensures where_shown { (pool : Pool) (lines : List TreeLine) → verdict (OfNoPanel pool lines) ≡ Valid ↔ AreOfTree (no_panel_problem pool) (standings pool) lines }
     ensures none { (pool : Pool) (lines : List TreeLine) → verdict (OfNoPanel pool lines) ≡ Valid → panels pool ≡ [] }
+{}
+
+/// The constraints of a stage are within reach, where the earlier stages are, and so is the stage of a pool that is to have no quota panel.
+pub fn constraints_are_in_reach()
+    ensures constraints { (pool : Pool) (earlier : List Stage) → IsPool pool → IsTrue (list_all is_stage_in_reach earlier) → IsTrue (list_all is_in_reach (constraints pool earlier)) }
+    ensures no_panel { (pool : Pool) → IsTrue (is_stage_in_reach (no_panel pool)) }
+{}
+
+/// No sum of a check of a leaf passes 128 bits, where the problem is within reach and the leaf keeps its ranges: a volunteer's rest after so
+/// many multipliers, the charges of so many multipliers, the total of these with the charges of so many rests, and what the total is compared
+/// with.
+pub fn leaf_sums_are_narrow()
+    ensures rest { (problem : Problem) (leaf : Leaf) (many i : ℕ) → IsTrue (is_problem_in_reach problem) → IsTrue (is_leaf leaf) →
+        unsigned_abs (rest problem (first_multipliers many leaf) i) < 2 ^ 127 }
+    ensures charges { (problem : Problem) (leaf : Leaf) (many : ℕ) → IsTrue (is_problem_in_reach problem) → IsTrue (is_leaf leaf) →
+        unsigned_abs (first_charges problem many leaf) < 2 ^ 127 }
+    ensures total { (problem : Problem) (leaf : Leaf) (all : List Standing) (many : ℕ) → IsTrue (is_problem_in_reach problem) → IsTrue (is_leaf leaf) →
+        unsigned_abs (charges_and_rests problem all many leaf) < 2 ^ 127 }
+    ensures bound { (problem : Problem) (leaf : Leaf) → IsTrue (is_problem_in_reach problem) → IsTrue (is_leaf leaf) →
+        unsigned_abs (pos leaf.scale *ℤ (problem.stage.cap +ℤ pos 1)) < 2 ^ 127 }
 {}
 
 /// The constraints of two women and two men in the second stage: the size, the women, the men, and the first stage. Where a woman and a man
