@@ -1,12 +1,12 @@
 -- Lines without a fault are those of a tree that shows the cap, and the other way round.
-use Rattle.std.proofs.Common.{◌≡◌, ℕ, zero, suc, ◌+◌, ◌<◌, ◌≤◌, Bool, true, false, cond, ◌&&◌, List, [], ◌∷◌, ◌++◌, set, length, Option, Some, None, refl, sym, ap, ◌∙◌, arith, subst}
+use Rattle.std.proofs.Common.{◌≡◌, ℕ, zero, suc, ◌+◌, ◌<◌, ◌≤◌, Bool, true, false, cond, ◌&&◌, List, [], ◌∷◌, ◌++◌, set, length, Some, None, refl, sym, ap, ◌∙◌, arith}
 use Rattle.std.proofs.lemmas.Bool.{and_from, and_parts}
 use Rattle.std.proofs.lemmas.List.{append-nil, append_assoc}
 use Rattle.pool_definitions.specs.declared.Standing.{Standing}
 use Rattle.pool_definitions.specs.declared.Standing.TheVariants.{Seated, Gone}
-use Rattle.addition_definitions.specs.Leaves.{Leaf, Problem, leaf_shows}
+use Rattle.addition_definitions.specs.Leaves.{Problem, leaf_shows}
 use Rattle.addition_definitions.specs.Trees.{AtLeaf, AtSplit, Tree, is_undecided, tree_shows}
-use Rattle.addition_definitions.specs.TreeLines.{AreOfTree, Decision, OfLeaf, OfSplit, TreeFault, TreeLine, fault, fault_from, lines_of, path_behind, standings_at, tree_fault}
+use Rattle.addition_definitions.specs.TreeLines.{AreOfTree, Decision, OfLeaf, OfSplit, TreeLine, fault, fault_from, lines_of, path_behind, standings_at, tree_fault}
 
 module _ (problem : Problem) (standings : List Standing) where
   -- without and with a volunteer, behind a path

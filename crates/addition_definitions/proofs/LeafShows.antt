@@ -1,5 +1,5 @@
 -- What a leaf shows of a panel that keeps the standings and meets the constraints.
-use Rattle.std.proofs.Common.{◌≡◌, ℕ, zero, suc, ◌+◌, ◌<◌, ◌≤◌, Bool, true, false, cond, ◌&&◌, ltb, List, [], ◌∷◌, length, ℤ, pos, negsuc, ◌+ℤ◌, ◌-ℤ◌, ◌*ℤ◌, neg_ℤ, ◌≤ℤ◌, ◌<ℤ◌, refl, sym, ap, ap₂, ◌∙◌, subst, arith}
+use Rattle.std.proofs.Common.{◌≡◌, ℕ, zero, suc, ◌+◌, Bool, true, false, cond, ltb, List, [], ◌∷◌, length, ℤ, pos, negsuc, ◌+ℤ◌, ◌*ℤ◌, ◌≤ℤ◌, ◌<ℤ◌, refl, sym, subst, arith}
 use Rattle.std.specs.Prelude.{int_lt}
 use Rattle.std.specs.List.{AllByRecursion, enumerate_from, list_all, range_with_len}
 use Rattle.std.proofs.lemmas.Bool.{and_parts}
@@ -12,9 +12,9 @@ use Rattle.pool_definitions.specs.declared.Standing.TheVariants.{Open, Seated, G
 use Rattle.pool_definitions.specs.Certificate.{weight_of}
 use Rattle.pool_definitions.specs.Lists.{includes, is_increasing}
 use Rattle.pool_definitions.specs.Pool.{allows}
-use Rattle.addition_definitions.specs.Constraints.{coefficient, constraint_at, signed_sum}
+use Rattle.addition_definitions.specs.Constraints.{coefficient, constraint_at}
 use Rattle.addition_definitions.specs.Leaves.{Leaf, Multiplier, Problem, charge, has_constraints, is_below, leaf_shows, multiplied, rest, rest_charge, total_charge}
-use Rattle.addition_definitions.proofs.SignedSums.{exchanged, sum-is-total, total, total-add, total-panel, total-scaled, total_eq, total_ext, total_le}
+use Rattle.addition_definitions.proofs.SignedSums.{exchanged, sum-is-total, total, total-add, total-panel, total-scaled, total_ext, total_le}
 use Rattle.addition_definitions.proofs.MetConstraints.{Meets, met_at}
 
 -- a panel keeps standings

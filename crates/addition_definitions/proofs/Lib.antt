@@ -6,3 +6,4 @@ pub mod ByLines
 pub mod Verdicts
 pub mod Reaches
 pub mod NarrowSums
+pub mod StepByStep

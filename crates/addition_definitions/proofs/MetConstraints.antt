@@ -1,5 +1,5 @@
 -- A quota panel that attains the earlier caps, where these hold, meets the constraints of a stage.
-use Rattle.std.proofs.Common.{◌≡◌, ℕ, zero, suc, ◌+◌, ◌<◌, ◌≤◌, Bool, true, false, cond, not, ◌&&◌, ◌||◌, eqb, ltb, leb, List, [], ◌∷◌, ◌++◌, map, reverse, length, get_or, count_by, ℤ, pos, ◌+ℤ◌, ◌≤ℤ◌, refl, sym, ap, ◌∙◌, arith}
+use Rattle.std.proofs.Common.{◌≡◌, ℕ, zero, suc, ◌<◌, ◌≤◌, Bool, true, cond, not, ◌||◌, eqb, ltb, leb, List, [], ◌∷◌, ◌++◌, map, reverse, length, get_or, count_by, ℤ, pos, ◌≤ℤ◌, refl, sym, ◌∙◌, arith}
 use Rattle.std.specs.Prelude.{int_le, slice_index}
 use Rattle.std.specs.List.{AllByRecursion, enumerate_from, flat_map, list_all}
 use Rattle.std.proofs.lemmas.Bool.{and_parts, ltb-true, leb-true}
@@ -134,12 +134,13 @@ module _ (pool : Pool) (panel : List ℕ) (quota : is_quota_panel pool panel ≡
   all_met earlier hold attained =
       let values = flat_map (category_constraints pool) (enumerate_from 0 pool.categories) in
       let stages = map stage_constraint (reverse earlier) in
-      let households = map (household_constraint pool) (first_members pool) in
-      (size_met,
-      each_append (Meets panel) (values ++ stages) households
-      (each_append (Meets panel) values stages values_met
-      (each_mapped (Meets panel) stage_constraint (reverse earlier) (each_reversed (λ stage. Meets panel (stage_constraint stage)) earlier (stages_met earlier hold attained))))
-      households_met)
+      let households = map (household_constraint pool) (first_members pool) in (
+        size_met,
+        each_append (Meets panel) (values ++ stages) households
+            (each_append (Meets panel) values stages values_met
+            (each_mapped (Meets panel) stage_constraint (reverse earlier) (each_reversed (λ stage. Meets panel (stage_constraint stage)) earlier (stages_met earlier hold attained))))
+            households_met,
+      )
 
 -- of constraints that a panel meets, it meets each by its number, and one past the last too
 pub met_at : (panel : List ℕ) (all : List Constraint) → AllByRecursion (Meets panel) all → (number : ℕ) → Meets panel (constraint_at all number)

@@ -1,5 +1,5 @@
 -- No sum that a check of a leaf makes on its way passes 128 bits.
-use Rattle.std.proofs.Common.{◌≡◌, ℕ, zero, suc, ◌+◌, ◌-◌, ◌*◌, ◌^◌, ◌≤◌, ◌<◌, Bool, true, false, cond, ◌&&◌, leb, ltb, List, [], ◌∷◌, map, take, length, get_or, sum_by, ℤ, pos, negsuc, ◌+ℤ◌, ◌-ℤ◌, ◌*ℤ◌, refl, sym, ap, ◌∙◌, subst, arith, lit<, le_of_eq, mul-le-mul_left, mul-le-mul_right}
+use Rattle.std.proofs.Common.{◌≡◌, ℕ, zero, suc, ◌+◌, ◌-◌, ◌*◌, ◌^◌, ◌≤◌, ◌<◌, Bool, true, false, cond, ◌&&◌, leb, ltb, List, [], ◌∷◌, map, take, length, get_or, sum_by, ℤ, pos, ◌+ℤ◌, ◌-ℤ◌, ◌*ℤ◌, refl, sym, ap, subst, arith, lit<, le_of_eq, mul-le-mul_left, mul-le-mul_right}
 use Rattle.std.specs.Prelude.{int_lt, unsigned_abs}
 use Rattle.std.specs.List.{AllByRecursion, enumerate_from, list_all}
 use Rattle.std.proofs.lemmas.Bool.{and_parts, leb-true, ltb-true}
@@ -315,6 +315,12 @@ module _ (problem : Problem) (near : is_problem_in_reach problem ≡ true) (leaf
 
   pub total_narrow : (standings : List Standing) (k : ℕ) → unsigned_abs (charges_and_rests problem standings k leaf) < 2 ^ 127
   total_narrow standings k = let most = total_within standings k in let room = wide in omega (arith, most, room)
+
+  pub products_narrow : (i : ℕ) → AllByRecursion (λ m. (unsigned_abs (multiplied all i m) < 2 ^ 127) × (unsigned_abs (charge all m) < 2 ^ 127)) ms
+  products_narrow i = each_map IsSmall (λ m. (unsigned_abs (multiplied all i m) < 2 ^ 127) × (unsigned_abs (charge all m) < 2 ^ 127)) both ms known.factors
+    where
+      both : (m : Multiplier) → IsSmall m → (unsigned_abs (multiplied all i m) < 2 ^ 127) × (unsigned_abs (charge all m) < 2 ^ 127)
+      both m small = let product = one_product i m small in let one = one_charge m small in let room : square < 2 ^ 127 = lit< tt in (omega (arith, product, room), omega (arith, one, room))
 
   pub bound_narrow : unsigned_abs (pos leaf.scale *ℤ (problem.stage.cap +ℤ pos 1)) < 2 ^ 127
   bound_narrow =

@@ -1,7 +1,7 @@
 -- The constraints of a stage are within reach, where the pool keeps its limits and the stages before are within reach.
-use Rattle.std.proofs.Common.{◌≡◌, ℕ, zero, suc, ◌+◌, ◌≤◌, ◌<◌, ◌^◌, Bool, true, false, cond, ◌&&◌, eqb, leb, List, [], ◌∷◌, ◌++◌, map, reverse, length, sum_by, ℤ, pos, refl, sym, ap, ◌∙◌, arith, lit<}
+use Rattle.std.proofs.Common.{◌≡◌, ℕ, suc, ◌+◌, ◌≤◌, ◌<◌, Bool, true, false, cond, ◌&&◌, eqb, leb, List, [], ◌∷◌, ◌++◌, map, reverse, length, sum_by, pos, refl, arith, lit<}
 use Rattle.std.specs.Prelude.{slice_index, unsigned_abs}
-use Rattle.std.specs.List.{AllByRecursion, enumerate_from, flat_map, list_all, range_with_len}
+use Rattle.std.specs.List.{AllByRecursion, enumerate_from, flat_map, list_all}
 use Rattle.std.proofs.lemmas.Bool.{and_from, and_parts, le-leb, leb-true}
 use Rattle.std.proofs.lemmas.List.FromFn.{length-range_with_len}
 use Rattle.basic_laws.proofs.Each.{each_append, each_everywhere, each_from_list_all, each_map, each_mapped, list_all_from_each}
@@ -9,10 +9,10 @@ use Rattle.basic_laws.proofs.Sums.{sum_by-is-total, total}
 use Rattle.bundle_definitions.specs.Ranges.{reach}
 use Rattle.pool_definitions.specs.Certificate.{Stage}
 use Rattle.pool_definitions.specs.Lists.{all_different}
-use Rattle.pool_definitions.specs.Pool.{BoundedValue, Category, IsPool, Pool, Volunteer, are_bounds, everybody, is_category, is_name, is_size, is_value, volunteer}
+use Rattle.pool_definitions.specs.Pool.{BoundedValue, Category, IsPool, Pool, Volunteer, are_bounds, everybody, is_category, is_name, is_value, volunteer}
 use Rattle.search_definitions.specs.Classes.{shared_household}
 use Rattle.search_definitions.specs.Compositions.{is_of_household}
-use Rattle.addition_definitions.specs.Constraints.{Constraint, category_constraints, constraints, counting, first_members, household_constraint, size_constraint, stage_constraint, value_constraint}
+use Rattle.addition_definitions.specs.Constraints.{Constraint, category_constraints, constraints, counting, first_members, household_constraint, stage_constraint, value_constraint}
 use Rattle.addition_definitions.specs.LeafSums.{is_in_reach, is_stage_in_reach}
 use Rattle.addition_definitions.specs.Leaves.{no_panel}
 use Rattle.addition_definitions.specs.TreeRanges.{number_limit}

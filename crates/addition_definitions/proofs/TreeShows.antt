@@ -1,8 +1,8 @@
 -- What a tree shows of each panel: the cap of a stage, or that there is none.
-use Rattle.std.proofs.Common.{◌≡◌, ℕ, zero, suc, ◌+◌, ◌<◌, Bool, true, false, not, ◌&&◌, ◌||◌, ltb, List, [], ◌∷◌, map, set, length, get_or, ℤ, pos, negsuc, ◌≤ℤ◌, refl, sym, ap, ◌∙◌, subst, arith, ◌⊎◌, inl, inr}
+use Rattle.std.proofs.Common.{◌≡◌, ℕ, zero, suc, ◌+◌, Bool, true, false, not, ◌&&◌, ◌||◌, ltb, List, [], ◌∷◌, map, set, length, get_or, pos, ◌≤ℤ◌, refl, sym, ap, ◌∙◌, subst, arith, ◌⊎◌, inl, inr}
 use Rattle.std.specs.Prelude.{int_le}
 use Rattle.std.specs.List.{AllByRecursion, enumerate_from, list_all}
-use Rattle.std.proofs.lemmas.Bool.{and_from, and_parts, cases_Bool, false_from_ne_true}
+use Rattle.std.proofs.lemmas.Bool.{and_from, and_parts, false_from_ne_true}
 use Rattle.std.proofs.lemmas.Int.{ints}
 use Rattle.std.proofs.lemmas.List.{length-map, length-set}
 use Rattle.basic_laws.proofs.Each.{each_everywhere, each_filter_passes, list_all_from_each, none_pass}
@@ -14,7 +14,7 @@ use Rattle.pool_definitions.specs.Certificate.{Stage, attains, is_capped, panel_
 use Rattle.pool_definitions.specs.Lists.{choices, includes, is_increasing}
 use Rattle.pool_definitions.specs.Pool.{Pool, Volunteer, allows, everybody, is_quota_panel, panels}
 use Rattle.pool_definitions.proofs.AllPanels.{quota_parts}
-use Rattle.addition_definitions.specs.CapsHold.{CapsHold, EarlierCapsHold}
+use Rattle.addition_definitions.specs.CapsHold.{EarlierCapsHold}
 use Rattle.addition_definitions.specs.Leaves.{Problem, no_panel, no_panel_problem, stage_problem, standings}
 use Rattle.addition_definitions.specs.Trees.{AtLeaf, AtSplit, Tree, is_undecided, tree_shows}
 use Rattle.addition_definitions.proofs.LeafShows.{keeps, weight_below}

@@ -1,25 +1,22 @@
 -- A proof is valid exactly where its certificate holds and its trees show the caps.
-use Rattle.std.proofs.Common.{◌≡◌, ℕ, ◌+◌, ◌^◌, Bool, true, false, cond, not, leb, List, [], ◌∷◌, ◌++◌, drop, length, Option, Some, None, refl, sym, ap, ◌∙◌, arith, subst}
-use Rattle.std.specs.Prelude.{slice_index_or}
-use Rattle.std.specs.List.{AllByRecursion, find}
-use Rattle.std.specs.Ordering.{int_eq}
+use Rattle.std.proofs.Common.{◌≡◌, ℕ, ◌+◌, Bool, true, false, leb, List, [], ◌∷◌, ◌++◌, length, Option, Some, None, refl, ap}
+use Rattle.std.specs.List.{AllByRecursion}
 use Rattle.basic_laws.proofs.Each.{each_append, each_left, each_right}
 use Rattle.bundle_definitions.specs.Ranges.{IsInRanges, reach}
 use Rattle.check_definitions.specs.Reasons as check
 use Rattle.check_definitions.specs.Reasons.{Refusal, Valid, Verdict, cap_reasons, first_reason, listed, lottery_reasons, nobody_unless, reason, reasons_before_cap}
-use Rattle.check_definitions.specs.Caps.{first_above_cap}
 use Rattle.check_definitions.proofs.PassedCaps.{no_panel_where_capped}
 use Rattle.check_definitions.proofs.ReasonsStand as certificates
-use Rattle.pool_definitions.specs.Certificate.{Answer, Certifies, Stage, is_capped, panel_weight}
+use Rattle.pool_definitions.specs.Certificate.{Answer, Certifies, Stage, is_capped}
 use Rattle.pool_definitions.specs.Lottery.{Lottery}
-use Rattle.pool_definitions.specs.Pool.{Pool, is_quota_panel, panels}
+use Rattle.pool_definitions.specs.Pool.{Pool, panels}
 use Rattle.addition_definitions.specs.CapsHold.{CapsHold, EarlierCapsHold}
-use Rattle.addition_definitions.specs.Leaves.{Problem, no_panel_problem, stage_problem, standings}
-use Rattle.addition_definitions.specs.ProofVerdict.{OfLottery, OfNoPanel, Proof, TreesShow, first_tree, later_trees, line_reason, lines_before_tree, listed_reasons, reasons, reasons_from, stage_reasons, tree_reasons, verdict}
+use Rattle.addition_definitions.specs.Leaves.{no_panel_problem, stage_problem, standings}
+use Rattle.addition_definitions.specs.ProofVerdict.{OfLottery, OfNoPanel, TreesShow, first_tree, later_trees, line_reason, lines_before_tree, listed_reasons, reasons, reasons_from, stage_reasons, tree_reasons, verdict}
 use Rattle.addition_definitions.specs.TreeLines.{AreOfTree, TreeFault, TreeLine, tree_fault}
 use Rattle.addition_definitions.specs.TreeRanges.{number_limit}
 use Rattle.addition_definitions.proofs.ByLines.{no_fault_where_of_tree, of_tree_where_no_fault}
-use Rattle.addition_definitions.proofs.TreeShows.{capped, is_none, no_panels}
+use Rattle.addition_definitions.proofs.TreeShows.{capped, no_panels}
 
 -- ---- caps, one after another
 

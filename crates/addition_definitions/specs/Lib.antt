@@ -6,4 +6,5 @@ pub mod TreeRanges
 pub mod LeafSums
 pub mod CapsHold
 pub mod ProofVerdict
+pub mod ProofSteps
 pub mod WorkedTrees

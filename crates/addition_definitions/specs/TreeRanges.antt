@@ -1,5 +1,5 @@
 -- The ranges that the numbers of a tree's lines have to keep, so that they have a text and no sum of them passes 128 bits.
-use Rattle.std.specs.Prelude.{ℕ, ◌^◌, nat_lt, nat_le, Bool, ◌&&◌, List, map, unsigned_abs}
+use Rattle.std.specs.Prelude.{ℕ, ◌^◌, nat_lt, nat_le, Bool, ◌&&◌, map, unsigned_abs}
 use Rattle.std.specs.List.{list_all}
 use Rattle.pool_definitions.specs.Lists.{is_increasing}
 use Rattle.addition_definitions.specs.Leaves.{Leaf, Multiplier}

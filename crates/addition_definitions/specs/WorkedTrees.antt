@@ -1,6 +1,5 @@
 -- Small proofs on which the definitions compute.
 use Rattle.std.specs.Prelude.{ℕ, List, [], ◌∷◌, ℤ, pos, negsuc}
-use Rattle.pool_definitions.specs.Certificate.{Answer}
 use Rattle.pool_definitions.specs.WorkedExamples.{couple, four, four_lottery, four_stages, stage}
 use Rattle.addition_definitions.specs.Constraints.{Constraint}
 use Rattle.addition_definitions.specs.Leaves.{Leaf, Multiplier}

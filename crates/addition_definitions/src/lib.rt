@@ -5,10 +5,11 @@
 //! The functions here have no body: their contracts are laws over the definitions, and worked examples.
 #![tactic(auto)]
 
-ghost use Rattle.std.specs.Prelude.{map, drop, ◌≡◌, ◌↔◌, ◌<◌, ◌-◌, ◌^◌, ◌*ℤ◌, ◌+ℤ◌, [], ◌∷◌, ℕ, pos, negsuc, unsigned_abs, List, IsTrue, None};
-ghost use Rattle.std.specs.List.{list_all};
+ghost use Rattle.std.specs.Prelude.{map, drop, length, slice_set, ◌≡◌, ◌↔◌, ◌⊎◌, ◌<◌, ◌≤◌, ◌+◌, ◌-◌, ◌^◌, ◌*ℤ◌, ◌+ℤ◌, [], ◌∷◌, ℕ, pos, negsuc, unsigned_abs, List, IsTrue, None, Some};
+ghost use Rattle.std.specs.List.{AllByRecursion, list_all};
 ghost use Rattle.bundle_definitions.specs.Ranges.{IsInRanges};
 ghost use Rattle.pool_definitions.specs.declared.Standing.{Standing};
+ghost use Rattle.pool_definitions.specs.declared.Standing.TheVariants.{Open};
 ghost use Rattle.pool_definitions.specs.Certificate.{Answer, Certifies, Stage, is_capped};
 ghost use Rattle.pool_definitions.specs.Lottery.{LeximinGreatest};
 ghost use Rattle.pool_definitions.specs.Pool.{IsPool, Pool, is_quota_panel, panels};
@@ -18,12 +19,13 @@ ghost use Rattle.check_definitions.specs.WorkedChecks.{below_zero, one_stage, re
 ghost use Rattle.addition_definitions.specs.CapsHold.{CapsHold, EarlierCapsHold};
 ghost use Rattle.addition_definitions.specs.Constraints.{constraints};
 ghost use Rattle.addition_definitions.specs.LeafSums.{charges_and_rests, first_charges, first_multipliers, is_in_reach, is_problem_in_reach, is_stage_in_reach};
-ghost use Rattle.addition_definitions.specs.Leaves.{Leaf, Problem, no_panel, no_panel_problem, rest, stage_problem, standings};
+ghost use Rattle.addition_definitions.specs.Leaves.{Leaf, Problem, charge, multiplied, no_panel, no_panel_problem, rest, stage_problem, standings};
 ghost use Rattle.addition_definitions.specs.ProofVerdict.{OfLottery, OfNoPanel, TreesShow, verdict};
 ghost use Rattle.addition_definitions.specs.TreeRanges.{is_leaf};
-ghost use Rattle.addition_definitions.specs.Trees.{Tree, tree_shows};
+ghost use Rattle.addition_definitions.specs.ProofSteps.{BeginsWithLottery, GoesOnByStages};
+ghost use Rattle.addition_definitions.specs.Trees.{Tree, is_undecided, tree_shows};
 ghost use Rattle.addition_definitions.specs.WorkedTrees.{constraint, couple_lines, couple_proof, double_leaf, four_proof, four_trees, leaf, men_leaf, one_stage_proof, size_leaf, split_lines, split_tree, times, unknown_leaf, women_leaf};
-ghost use Rattle.addition_definitions.specs.TreeLines.{AreOfTree, OfLeaf, OfSplit, TreeLine, fault, lines_of, tree_fault};
+ghost use Rattle.addition_definitions.specs.TreeLines.{AreOfTree, OfLeaf, OfSplit, TreeFault, TreeLine, fault, lines_of, tree_fault};
 
 /// Where the earlier caps hold, a tree that shows a stage's cap proves that it holds: no quota panel that attains the earlier caps weighs more.
 pub fn tree_shows_cap()
@@ -40,6 +42,24 @@ pub fn tree_shows_no_panel()
 /// Lines have no fault exactly where they are those of a tree that shows the cap.
 pub fn lines_are_of_tree()
     ensures { (problem : Problem) (all : List Standing) (number : ℕ) (lines : List TreeLine) → tree_fault problem all number lines ≡ None ↔ AreOfTree problem all lines }
+{}
+
+/// The first fault is in one of the lines, or behind them where these end early, for reason 11 or 12.
+pub fn fault_is_within_lines()
+    ensures { (problem : Problem) (all : List Standing) (number : ℕ) (lines : List TreeLine) (found : TreeFault) → tree_fault problem all number lines ≡ Some found →
+        (number ≤ found.line) × (found.line ≤ number + length lines) × ((found.reason ≡ 11) ⊎ (found.reason ≡ 12)) }
+{}
+
+/// Where a path goes back, a decision on a volunteer who was undecided is undone.
+pub fn decision_is_undone()
+    ensures { (all : List Standing) (i : ℕ) (standing : Standing) → IsTrue (is_undecided all i) → slice_set (slice_set all i standing) i Open ≡ all }
+{}
+
+/// A check goes through the reasons in their order: those of the lottery, then stage by stage those before the cap, those of the tree, and
+/// those of the listed panels.
+pub fn check_goes_by_stages()
+    ensures begins { BeginsWithLottery }
+    ensures goes_on { GoesOnByStages }
 {}
 
 /// Where each stage's lines are those of a tree that shows its cap, all caps hold.
@@ -73,8 +93,8 @@ pub fn constraints_are_in_reach()
 {}
 
 /// No sum of a check of a leaf passes 128 bits, where the problem is within reach and the leaf keeps its ranges: a volunteer's rest after so
-/// many multipliers, the charges of so many multipliers, the total of these with the charges of so many rests, and what the total is compared
-/// with.
+/// many multipliers, the charges of so many multipliers, the total of these with the charges of so many rests, each product, and what the total
+/// is compared with.
 pub fn leaf_sums_are_narrow()
     ensures rest { (problem : Problem) (leaf : Leaf) (many i : ℕ) → IsTrue (is_problem_in_reach problem) → IsTrue (is_leaf leaf) →
         unsigned_abs (rest problem (first_multipliers many leaf) i) < 2 ^ 127 }
@@ -82,6 +102,8 @@ pub fn leaf_sums_are_narrow()
         unsigned_abs (first_charges problem many leaf) < 2 ^ 127 }
     ensures total { (problem : Problem) (leaf : Leaf) (all : List Standing) (many : ℕ) → IsTrue (is_problem_in_reach problem) → IsTrue (is_leaf leaf) →
         unsigned_abs (charges_and_rests problem all many leaf) < 2 ^ 127 }
+    ensures products { (problem : Problem) (leaf : Leaf) (i : ℕ) → IsTrue (is_problem_in_reach problem) → IsTrue (is_leaf leaf) →
+        AllByRecursion (λ it. (unsigned_abs (multiplied problem.constraints i it) < 2 ^ 127) × (unsigned_abs (charge problem.constraints it) < 2 ^ 127)) leaf.multipliers }
     ensures bound { (problem : Problem) (leaf : Leaf) → IsTrue (is_problem_in_reach problem) → IsTrue (is_leaf leaf) →
         unsigned_abs (pos leaf.scale *ℤ (problem.stage.cap +ℤ pos 1)) < 2 ^ 127 }
 {}
