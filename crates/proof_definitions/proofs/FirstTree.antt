@@ -1,5 +1,5 @@
 -- Where the lines of a proof's first tree stand.
-use Rattle.std.proofs.Common.{◌≡◌, ℕ, zero, suc, ◌+◌, List, [], ◌∷◌, ◌++◌, length, map, drop, refl, ap, ◌∙◌, arith, length-append}
+use Rattle.std.proofs.Common.{◌≡◌, ℕ, suc, ◌+◌, List, [], ◌∷◌, ◌++◌, length, map, drop, ap, ◌∙◌, arith, length-append}
 use Rattle.pool_definitions.specs.Certificate.{Answer}
 use Rattle.pool_definitions.specs.Pool.{Pool}
 use Rattle.bundle_definitions.specs.BundleText.{done_line, lines_before_done, pool_lines}

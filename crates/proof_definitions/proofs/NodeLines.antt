@@ -1,5 +1,5 @@
 -- What a line of a tree says, and how a right one is spelled.
-use Rattle.std.proofs.Common.{◌≡◌, ℕ, zero, suc, ◌+◌, ◌-◌, ◌<◌, ◌≤◌, ◌^◌, Bool, true, false, ◌&&◌, cond, eqb, leb, ltb, List, [], ◌∷◌, ◌++◌, length, map, refl, sym, ◌∙◌, ap, subst, arith, lit<, Option, Some, None}
+use Rattle.std.proofs.Common.{◌≡◌, ℕ, ◌+◌, ◌-◌, ◌<◌, ◌≤◌, ◌^◌, true, ◌&&◌, cond, eqb, leb, ltb, List, [], ◌∷◌, ◌++◌, map, refl, sym, ◌∙◌, ap, subst, arith, lit<, Option, Some, None}
 use Rattle.std.specs.Prelude.{bytes_eq, codes, ℤ, unsigned_abs}
 use Rattle.std.specs.Fmt.{decimal, signed_decimal}
 use Rattle.std.specs.List.{AllByRecursion, flat_map, list_all}
@@ -13,7 +13,7 @@ use Rattle.line_definitions.proofs.LineLemmas.{Lacks, fields_of-line_of, line_of
 use Rattle.line_definitions.proofs.FieldLemmas.{IsField, decimal_field, line_lacks_feed, plain_field}
 use Rattle.line_definitions.proofs.NumberLemmas.{bytes_are, bytes_same, number_again, number_spelled, signed_again, signed_spelled}
 use Rattle.bundle_definitions.specs.BundleReading.{with_number}
-use Rattle.bundle_definitions.specs.Ranges.{is_stage, reach}
+use Rattle.bundle_definitions.specs.Ranges.{reach}
 use Rattle.bundle_definitions.proofs.AnswerLines.{stage_fields}
 use Rattle.addition_definitions.specs.Leaves.{Leaf, Multiplier}
 use Rattle.addition_definitions.specs.TreeLines.{OfLeaf, OfSplit, TreeLine}
@@ -172,7 +172,6 @@ leaf_parts leaf is =
     let A = leb leaf.scale number_limit in let B = list_all is_multiplier leaf.multipliers in
     let parts = and_parts (A && B) (is_increasing (map (λ (multiplier : Multiplier). multiplier.number) leaf.multipliers)) is in
     let two = and_parts A B parts.0 in record { scale = leb-true leaf.scale number_limit two.0; multipliers = two.1 }
-
 
 module _ (volunteers : ℕ) (small : volunteers ≤ 400) where
   split_fields : (i : ℕ) → ltb i volunteers ≡ true → AllByRecursion IsField (codes "split" ∷ decimal i ∷ [])

@@ -1,7 +1,7 @@
 -- The text of a proof is read again, and gives that proof.
-use Rattle.std.proofs.Common.{◌≡◌, ℕ, zero, suc, ◌+◌, ◌<◌, ◌≤◌, Bool, true, false, not, cond, ltb, leb, List, [], ◌∷◌, ◌++◌, length, map, drop, ◌||◌, refl, sym, ◌∙◌, ap, subst, arith, append_assoc, length-append, Option, Some, None}
+use Rattle.std.proofs.Common.{◌≡◌, ℕ, ◌+◌, ◌≤◌, Bool, true, false, not, cond, ltb, List, [], ◌∷◌, ◌++◌, length, map, drop, ◌||◌, refl, sym, ◌∙◌, ap, subst, arith, append_assoc, length-append, Option, Some, None}
 use Rattle.std.specs.Prelude.{bytes_eq, codes, Ok, is_none}
-use Rattle.std.specs.List.{AllByRecursion, flat_map, join_with_byte, list_all}
+use Rattle.std.specs.List.{AllByRecursion, join_with_byte, list_all}
 use Rattle.std.proofs.lemmas.Bool.{and_parts, leb-true, ltb-true}
 use Rattle.std.proofs.lemmas.Grind.{flat_map-append}
 use Rattle.std.proofs.lemmas.List.{append-nil}
@@ -9,21 +9,21 @@ use Rattle.std.proofs.lemmas.List.Splits.{join_with_byte-slice_split}
 use Rattle.pool_definitions.specs.Building.{lowest_kind}
 use Rattle.pool_definitions.specs.Certificate.{Answer}
 use Rattle.pool_definitions.specs.Pool.{IsPool, Pool, has_households}
-use Rattle.line_definitions.specs.Lines.{line_feed, line_of, pieces_of, text_of}
+use Rattle.line_definitions.specs.Lines.{line_feed, pieces_of, text_of}
 use Rattle.line_definitions.proofs.LineLemmas.{Lacks, pieces_lack, pieces_of-text_of, some_piece}
 use Rattle.line_definitions.proofs.FieldLemmas.{line_lacks_feed, plain_field}
 use Rattle.line_definitions.proofs.NumberLemmas.{bytes_same}
-use Rattle.text_definitions.specs.PoolText.{end_line, lines_before_end, version_line}
+use Rattle.text_definitions.specs.PoolText.{version_line}
 use Rattle.text_definitions.specs.PoolReading as pools
 use Rattle.text_definitions.proofs.ReadAgain as pool_again
 use Rattle.bundle_definitions.specs.BundleReading as bundles
-use Rattle.bundle_definitions.specs.BundleText.{Bundle, IsBundle, bundle_line, bundle_spelling, pool_lines}
+use Rattle.bundle_definitions.specs.BundleText.{Bundle, IsBundle, bundle_spelling, pool_lines}
 use Rattle.bundle_definitions.proofs.ReadAgain as bundle_again
 use Rattle.addition_definitions.specs.ProofVerdict.{OfLottery, OfNoPanel, Proof}
 use Rattle.addition_definitions.specs.TreeLines.{TreeLine}
 use Rattle.addition_definitions.specs.TreeRanges.{is_tree_line}
 use Rattle.proof_definitions.specs.ProofText.{IsLotteryProof, IsNoPanelProof, IsProof, bundle_lines, close_line, lines_before_close, most_trees, node_line, none_line, proof_line, proof_spelling, tree_line, tree_lines, trees_from}
-use Rattle.proof_definitions.specs.ProofReading.{Begun, Closed, InBundle, InNoPanel, InPool, InTrees, LineInTree, NextTree, OfNode, Opened, Progress, TheClose, WithoutPanel, after_line, after_no_panel, after_tree, at_last, begins_bundle, begins_pool, fault_or, line_in_tree, line_kind, read_lines, read_proof, said_in_no_panel, said_in_trees, tree_kinds}
+use Rattle.proof_definitions.specs.ProofReading.{Begun, Closed, InBundle, InNoPanel, InPool, InTrees, LineInTree, NextTree, OfNode, Opened, Progress, TheClose, after_line, after_no_panel, after_tree, at_last, begins_bundle, begins_pool, fault_or, line_in_tree, line_kind, read_lines, read_proof, said_in_no_panel, said_in_trees, tree_kinds}
 use Rattle.proof_definitions.proofs.NodeLines.{close_again, next_again, node_again, node_lacks_feed, tree_lacks_feed}
 use Rattle.proof_definitions.proofs.Spelled.{keep_ranges}
 

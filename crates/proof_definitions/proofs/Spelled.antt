@@ -1,8 +1,8 @@
 -- Lines that are read without a fault are those of the proof that is read.
-use Rattle.std.proofs.Common.{◌≡◌, ℕ, zero, suc, ◌+◌, ◌<◌, ◌≤◌, Bool, true, false, not, cond, ◌||◌, leb, ltb, List, [], ◌∷◌, ◌++◌, length, map, refl, sym, ◌∙◌, ap, subst, arith, append_assoc, length-append, Option, Some, None}
+use Rattle.std.proofs.Common.{◌≡◌, ℕ, suc, ◌+◌, ◌<◌, Bool, true, false, not, cond, ◌||◌, List, [], ◌∷◌, ◌++◌, length, refl, sym, ◌∙◌, ap, subst, arith, append_assoc, length-append, Option, Some, None}
 use Rattle.std.specs.Prelude.{bytes_eq, Ok, is_none}
 use Rattle.std.specs.List.{join_with_byte, list_all}
-use Rattle.std.proofs.lemmas.Bool.{and_from, false≢true, le-leb, ltb-true, not-false}
+use Rattle.std.proofs.lemmas.Bool.{false≢true, le-leb, ltb-true, not-false}
 use Rattle.std.proofs.lemmas.Grind.{flat_map-append}
 use Rattle.std.proofs.lemmas.List.{append-nil, map-append}
 use Rattle.std.proofs.lemmas.List.Splits.{join_with_byte-slice_split}
@@ -21,7 +21,7 @@ use Rattle.bundle_definitions.proofs.Spelled as bundle_read
 use Rattle.addition_definitions.specs.ProofVerdict.{OfLottery, OfNoPanel, Proof}
 use Rattle.addition_definitions.specs.TreeLines.{TreeLine}
 use Rattle.addition_definitions.specs.TreeRanges.{is_tree_line}
-use Rattle.proof_definitions.specs.ProofText.{IsLotteryProof, IsNoPanelProof, IsProof, bundle_lines, close_line, lines_before_close, most_trees, node_line, none_line, proof_line, proof_spelling, tree_line, tree_lines, trees_from}
+use Rattle.proof_definitions.specs.ProofText.{IsNoPanelProof, IsProof, bundle_lines, close_line, lines_before_close, most_trees, node_line, none_line, proof_line, proof_spelling, tree_line, tree_lines, trees_from}
 use Rattle.proof_definitions.specs.ProofReading.{Begun, Closed, InBundle, InNoPanel, InPool, InTrees, LineInTree, NextTree, OfNode, Opened, Progress, TheClose, Unknown, WithoutPanel, after_line, after_no_panel, after_tree, at_last, begins_bundle, begins_pool, fault_or, line_kind, read_lines, read_proof, said_in_no_panel, said_in_trees, tree_kinds}
 use Rattle.proof_definitions.proofs.NodeLines.{IsSpelled, line_spelled}
 

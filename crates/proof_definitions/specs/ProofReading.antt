@@ -1,5 +1,5 @@
 -- What a list of bytes says as the text of a proof: the proof, or the first faulty line and in it the lowest kind.
-use Rattle.std.specs.Prelude.{ℕ, ◌+◌, ◌==◌, nat_lt, if◌then◌else◌, Bool, true, false, not, ◌&&◌, ◌||◌, List, [], ◌∷◌, ◌++◌, bytes_eq, codes, length, ℤ, Option, Some, None, Result, Ok, Err, is_none}
+use Rattle.std.specs.Prelude.{ℕ, ◌+◌, ◌==◌, nat_lt, if◌then◌else◌, Bool, true, not, ◌&&◌, ◌||◌, List, [], ◌∷◌, ◌++◌, bytes_eq, codes, length, ℤ, Option, Some, None, Result, Ok, Err, is_none}
 use Rattle.pool_definitions.specs.Building.{lowest_kind}
 use Rattle.pool_definitions.specs.Pool.{Pool}
 use Rattle.line_definitions.specs.Lines.{Fault, fields_of, pieces_of}
@@ -8,7 +8,7 @@ use Rattle.text_definitions.specs.PoolReading as pools
 use Rattle.bundle_definitions.specs.BundleReading as bundles
 use Rattle.bundle_definitions.specs.BundleReading.{with_number}
 use Rattle.bundle_definitions.specs.BundleText.{Bundle}
-use Rattle.addition_definitions.specs.Leaves.{Leaf, Multiplier}
+use Rattle.addition_definitions.specs.Leaves.{Multiplier}
 use Rattle.addition_definitions.specs.ProofVerdict.{OfLottery, OfNoPanel, Proof}
 use Rattle.addition_definitions.specs.TreeLines.{OfLeaf, OfSplit, TreeLine}
 use Rattle.addition_definitions.specs.TreeRanges.{is_tree_line, last_constraint, number_limit}

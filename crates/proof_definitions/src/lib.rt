@@ -4,15 +4,16 @@
 //! The functions here have no body: their contracts are laws over the definitions, and worked examples.
 #![tactic(auto)]
 
-ghost use Rattle.std.specs.Prelude.{◌≡◌, ◌≢◌, ◌-◌, ◌^◌, ◌++◌, [], ◌∷◌, codes, drop, map, pos, negsuc, ℕ, List, Ok, Err, MatchResult};
+ghost use Rattle.std.specs.Prelude.{◌≡◌, ◌≢◌, ◌-◌, ◌^◌, ◌++◌, [], ◌∷◌, codes, drop, map, pos, negsuc, ℕ, List, IsTrue, Ok, Err, MatchResult};
 ghost use Rattle.line_definitions.specs.Lines.{line_of, text_of};
 ghost use Rattle.pool_definitions.specs.Certificate.{Answer};
+ghost use Rattle.pool_definitions.specs.Lists.{is_increasing};
 ghost use Rattle.pool_definitions.specs.Pool.{Pool};
 ghost use Rattle.addition_definitions.specs.ProofVerdict.{OfLottery, OfNoPanel, Proof, lines_before_tree};
 ghost use Rattle.addition_definitions.specs.TreeLines.{OfLeaf, OfSplit, TreeLine};
 ghost use Rattle.addition_definitions.specs.WorkedTrees.{couple_lines, couple_proof, four_proof, four_trees, leaf, split_lines, times};
 ghost use Rattle.proof_definitions.specs.ProofText.{IsProof, close_line, lines_before_close, node_line, proof_spelling, trees_from};
-ghost use Rattle.proof_definitions.specs.ProofReading.{NextTree, OfNode, TheClose, Unknown, line_in_tree, read_proof};
+ghost use Rattle.proof_definitions.specs.ProofReading.{NextTree, OfNode, Progress, TheClose, Unknown, line_in_tree, line_kinds, read_proof};
 ghost use Rattle.proof_definitions.specs.WorkedProofs.{faulty, one_tree, read_text, second_version, three_trees, whole, without_done, without_end, without_pool, without_size, without_tree};
 
 /// A list of bytes is the text of a proof, which is then read, or has a first fault and is the text of none.
@@ -30,6 +31,11 @@ pub fn proof_is_read()
 /// Proofs of one text are one proof.
 pub fn one_proof_per_text()
     ensures { (first second : Proof) → IsProof first → IsProof second → proof_spelling first ≡ proof_spelling second → first ≡ second }
+{}
+
+/// The kinds of fault that a line may have are one rising list, so the first of them that applies is the lowest.
+pub fn kinds_rise()
+    ensures { (progress : Progress) (line : List ℕ) → IsTrue (is_increasing (map (λ one. one.0) (line_kinds progress line))) }
 {}
 
 /// The lines of the first tree stand behind those that a proof counts before it.
