@@ -4,5 +4,9 @@
 
 mod generator;
 mod made_pools;
+mod summaries;
+#[cfg(test)]
+mod tests;
 
 pub use made_pools::made_pool;
+pub use summaries::{RunSizes, run_summary};
