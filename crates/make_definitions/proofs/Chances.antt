@@ -1,9 +1,7 @@
 -- The least and the greatest of some numbers are among them, and none is less, or greater.
-use Rattle.std.proofs.Common.{◌≡◌, ℕ, zero, suc, ◌+◌, ◌<◌, ◌≤◌, min, max, List, [], ◌∷◌, length, get_or, All, Contains, fold, refl, sym, ◌∙◌, arith, ⊎_elim, ◌⊎◌}
+use Rattle.std.proofs.Common.{◌≡◌, ℕ, zero, suc, ◌<◌, ◌≤◌, min, max, List, [], ◌∷◌, length, get_or, All, Contains, fold, refl, sym, ◌∙◌, arith, ⊎_elim, ◌⊎◌}
 use Rattle.std.specs.List.{AllByRecursion}
-use Rattle.std.proofs.lemmas.Bool.{cases_lt}
 use Rattle.std.proofs.lemmas.List.Elements.{All-from_recursion}
-use Rattle.basic_laws.proofs.Each.{each_map}
 use Rattle.make_definitions.specs.Summary.{least, greatest}
 
 -- where each step keeps one of the two, what is left at the end is one of all

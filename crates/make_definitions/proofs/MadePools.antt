@@ -1,5 +1,5 @@
 -- A made pool is a pool, and its first volunteers are a quota panel.
-use Rattle.std.proofs.Common.{◌≡◌, ℕ, zero, suc, ◌+◌, ◌-◌, ◌/◌, ◌<◌, ◌≤◌, max, Bool, true, ◌&&◌, eqb, ltb, leb, get_or, List, [], ◌∷◌, length, refl, arith}
+use Rattle.std.proofs.Common.{◌≡◌, ℕ, zero, suc, ◌+◌, ◌-◌, ◌≤◌, true, eqb, ltb, leb, get_or, List, length, refl, arith}
 use Rattle.std.specs.List.{list_all, range_with_len}
 use Rattle.std.specs.Str.{is_utf8, chars}
 use Rattle.std.proofs.lemmas.Bool.{and_from, le-leb, lt-ltb}
@@ -8,7 +8,7 @@ use Rattle.std.proofs.lemmas.List.Sums.{count_by-le-length}
 use Rattle.basic_laws.proofs.Each.{each_range, list_all_from_each}
 use Rattle.pool_definitions.specs.Lists.{is_increasing}
 use Rattle.pool_definitions.specs.Pool.{Volunteer, IsPool, are_bounds, is_category, is_household, is_name, is_quota_panel, has_values, members_with, meets_quotas, volunteer}
-use Rattle.pool_definitions.proofs.AllPanels.{Quota, quota_from}
+use Rattle.pool_definitions.proofs.AllPanels.{quota_from}
 use Rattle.make_definitions.specs.MadePools.{made_categories, made_pool, made_size, made_volunteer, made_volunteers}
 use Rattle.make_definitions.proofs.Volunteers.{each_volunteer, households_are_kept, id_is_name, ids_are_different, standings_are_kept, values_are_places}
 use lib.Utf8.{encode}
@@ -29,9 +29,9 @@ pub categories_fit : (volunteers : List Volunteer) (size : ℕ) → size ≤ 40 
 unfolding is_utf8 chars encode
 categories_fit volunteers size few =
     let ordered : (place value_place : ℕ) → leb (members_with volunteers (range_with_len 0 size) place value_place - 1) (members_with volunteers (range_with_len 0 size) place value_place + 1) ≡ true =
-        λ place value_place. le-leb _ _ (omega arith) in
+    λ place value_place. le-leb _ _ (omega arith) in
     let small : (place value_place : ℕ) → leb (members_with volunteers (range_with_len 0 size) place value_place + 1) 999 ≡ true =
-        λ place value_place. le-leb _ _ (omega (arith, members_fit volunteers size place value_place)) in
+    λ place value_place. le-leb _ _ (omega (arith, members_fit volunteers size place value_place)) in
     simp (ordered, small)
 
 pub is_pool : (seed n : ℕ) → 1 ≤ n → n ≤ 400 → IsPool (made_pool seed n)

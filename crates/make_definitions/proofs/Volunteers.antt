@@ -1,11 +1,11 @@
 -- The volunteers of a made pool: their ids are different names, and their values are places of the three categories.
-use Rattle.std.proofs.Common.{◌≡◌, ℕ, zero, suc, ◌+◌, ◌*◌, ◌%◌, ◌^◌, ◌<◌, ◌≤◌, Bool, true, false, not, ◌&&◌, ltb, leb, eqb, List, [], ◌∷◌, ◌++◌, map, length, cond, get_or, take, refl, sym, ◌∙◌, ap, ap₂, arith, Some, None}
+use Rattle.std.proofs.Common.{◌≡◌, ℕ, zero, suc, ◌+◌, ◌*◌, ◌%◌, ◌<◌, ◌≤◌, Bool, true, false, not, ◌&&◌, ltb, leb, eqb, List, [], ◌∷◌, map, length, cond, get_or, refl, sym, ◌∙◌, ap, ap₂, arith, None}
 use Rattle.std.specs.Prelude.{bytes_eq, count_by}
 use Rattle.std.specs.Fmt.{decimal}
 use Rattle.std.specs.List.{enumerate_from, list_all, range_with_len}
 use Rattle.std.specs.Str.{is_utf8}
 use Rattle.std.specs.Str.Parse.{AllDigits}
-use Rattle.std.proofs.lemmas.Bool.{and_from, false_from_ne_true, ltb-true, or_from, le-leb, lt-ltb, ne_eqb, not_from_false}
+use Rattle.std.proofs.lemmas.Bool.{and_from, false_from_ne_true, or_from, le-leb, lt-ltb, ne_eqb, not_from_false}
 use Rattle.std.proofs.lemmas.Fmt.{decimal_injective, decimal_is_IsNumeral, length-decimal-le, IsAscii-decimal}
 use Rattle.std.proofs.lemmas.Str.Ascii.{IsAscii-cons}
 use Rattle.std.proofs.lemmas.List.FromFn.{get_or-map-range_with_len}
@@ -121,6 +121,7 @@ households_are_kept seed n panel =
   where
     alone : (i j : ℕ) → share_household (made_volunteers seed n) i j ≡ false
     alone i j = rw (nobody_is_housed seed 0 n i) refl
+
     at_most_one : (i : ℕ) → leb (count_by (share_household (made_volunteers seed n) i) panel) 1 ≡ true
     at_most_one i = rw (none_counted (share_household (made_volunteers seed n) i) panel (alone i)) refl
 

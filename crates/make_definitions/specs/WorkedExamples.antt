@@ -1,7 +1,7 @@
 -- Small answers, on which the lines before the seal compute.
 use Rattle.std.specs.Prelude.{ℕ, List, [], ◌∷◌, codes, pos}
 use Rattle.pool_definitions.specs.Certificate.{Answer}
-use Rattle.pool_definitions.specs.WorkedExamples.{row, stage, after_dropout, dropout_lottery, dropout_stages}
+use Rattle.pool_definitions.specs.WorkedExamples.{row, stage, dropout_lottery, dropout_stages}
 
 -- the answer for one volunteer
 abbrev pub single_answer : Answer

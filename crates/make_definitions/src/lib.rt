@@ -53,12 +53,13 @@ pub fn first_numbers()
 /// bounds among 20 of them, of whom the first two are an old woman and a man of middle age, both from the country.
 pub fn made_pools()
     ensures single { made_pool 0 1 ≡ record {
-        size = 1;
-        categories =
-            category (codes "gender") (bounded (codes "female") 0 1 ∷ bounded (codes "male") 0 2 ∷ []) ∷
-            category (codes "age") (bounded (codes "young") 0 2 ∷ bounded (codes "middle") 0 1 ∷ bounded (codes "old") 0 1 ∷ []) ∷
-            category (codes "area") (bounded (codes "town") 0 1 ∷ bounded (codes "country") 0 2 ∷ []) ∷ [];
-        volunteers = person (codes "v1") (1 ∷ 0 ∷ 1 ∷ []) ∷ [] } }
+      size = 1;
+      categories =
+          category (codes "gender") (bounded (codes "female") 0 1 ∷ bounded (codes "male") 0 2 ∷ []) ∷
+          category (codes "age") (bounded (codes "young") 0 2 ∷ bounded (codes "middle") 0 1 ∷ bounded (codes "old") 0 1 ∷ []) ∷
+          category (codes "area") (bounded (codes "town") 0 1 ∷ bounded (codes "country") 0 2 ∷ []) ∷ [];
+      volunteers = person (codes "v1") (1 ∷ 0 ∷ 1 ∷ []) ∷ [];
+    } }
     ensures sizes { map made_size (1 ∷ 9 ∷ 10 ∷ 19 ∷ 20 ∷ 400 ∷ []) ≡ 1 ∷ 1 ∷ 1 ∷ 1 ∷ 2 ∷ 40 ∷ [] }
     ensures values { map (made_values 7) (0 ∷ 1 ∷ 2 ∷ []) ≡ (0 ∷ 2 ∷ 1 ∷ []) ∷ (1 ∷ 1 ∷ 1 ∷ []) ∷ (0 ∷ 0 ∷ 1 ∷ []) ∷ [] }
     ensures bounds { (made_pool 7 20).categories ≡

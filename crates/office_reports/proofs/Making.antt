@@ -63,7 +63,7 @@ pool_is_made seed n size first empty with_categories with_volunteers some s f e 
     let few : size ≤ n = omega arith in
     let same = ap categories_by f ∙ categories_are_made seed n size few in
     let made : made_pool seed n ≡ record { size = size; categories = made_categories (made_volunteers seed n) size; volunteers = made_volunteers seed n } =
-        ap (λ k. let pool : Pool = record { size = k; categories = made_categories (made_volunteers seed n) k; volunteers = made_volunteers seed n } in pool) (sym s) in
+    ap (λ k. let pool : Pool = record { size = k; categories = made_categories (made_volunteers seed n) k; volunteers = made_volunteers seed n } in pool) (sym s) in
     v ∙ ap (λ (p : Pool). let pool : Pool = record p { volunteers = made_volunteers seed n } in pool) c
     ∙ ap (λ (p : Pool). let pool : Pool = record { size = p.size; categories = categories_by first; volunteers = made_volunteers seed n } in pool) e
     ∙ ap (λ cs. let pool : Pool = record { size = size; categories = cs; volunteers = made_volunteers seed n } in pool) same

@@ -54,11 +54,13 @@ known_here gender age area a b c = and_from (includes_list genders (get_or gende
     gender_known zero h = refl
     gender_known (suc zero) h = refl
     gender_known (suc (suc k)) h = absurd (omega arith)
+
     age_known : (k : ℕ) → k < 3 → includes_list ages (get_or ages k []) ≡ true
     age_known zero h = refl
     age_known (suc zero) h = refl
     age_known (suc (suc zero)) h = refl
     age_known (suc (suc (suc k))) h = absurd (omega arith)
+
     area_known : (k : ℕ) → k < 2 → includes_list areas (get_or areas k []) ≡ true
     area_known zero h = refl
     area_known (suc zero) h = refl

@@ -91,8 +91,8 @@ summary_is pool answer sizes empty with_sizes with_total with_least with_greates
     let first = w.sizes_added ∙ ap (λ bytes. bytes ++ text_of lines) w.is_empty in
     let second = number_is_added [] with_sizes with_total (codes "total") (unsigned_abs total) answer.lottery.total lines (ap unsigned_abs w.total_is) first w.total_added in
     let third = chance_is_added [] with_total with_least (codes "least") (take 8 (summary_lines pool answer sizes)) least low_counts (counts pool answer.lottery) low low_total answer.lottery.total
-        w.low_counts_are w.low_is w.low_total_is second w.least_added in
+    w.low_counts_are w.low_is w.low_total_is second w.least_added in
     let fourth = chance_is_added [] with_least with_greatest (codes "greatest") (take 9 (summary_lines pool answer sizes)) greatest high_counts (counts pool answer.lottery) high high_total answer.lottery.total
-        w.high_counts_are w.high_is w.high_total_is third w.greatest_added in
+    w.high_counts_are w.high_is w.high_total_is third w.greatest_added in
     more_lines [] with_greatest all (take 10 (summary_lines pool answer sizes)) (field_line (codes "seal") (seal_of (bundle_text pool answer)) ∷ []) fourth
     (w.seal_added ∙ ap (λ bytes. with_greatest ++ text_of (field_line (codes "seal") bytes ∷ [])) w.seal_is)

@@ -90,7 +90,12 @@ fn add_bounded(pool: &mut Pool, name: &str, members: usize) -> Result<(), AllocE
 }
 
 /// Adds so many volunteers to a pool that has the three categories.
-fn add_volunteers(alloc: Global, pool: &mut Pool, seed: u64, volunteers: usize) -> Result<(), AllocError>
+fn add_volunteers(
+    alloc: Global,
+    pool: &mut Pool,
+    seed: u64,
+    volunteers: usize,
+) -> Result<(), AllocError>
     requires names { names_of_values pool.old.categories ≡ made_names }
     requires nobody { pool.old.volunteers ≡ [] }
     requires few { volunteers ≤ 400 }
@@ -104,7 +109,12 @@ fn add_volunteers(alloc: Global, pool: &mut Pool, seed: u64, volunteers: usize) 
 }
 
 /// Adds the volunteer of a number, counted from 0, who has these values.
-fn add_volunteer(alloc: Global, pool: &mut Pool, number: usize, values: [usize; 3]) -> Result<(), AllocError>
+fn add_volunteer(
+    alloc: Global,
+    pool: &mut Pool,
+    number: usize,
+    values: [usize; 3],
+) -> Result<(), AllocError>
     requires names { names_of_values pool.old.categories ≡ made_names }
     requires places { ArePlaces values }
     requires new { includes_list (ids pool.old.volunteers) (made_id number) ≡ false }

@@ -24,7 +24,7 @@ add_volunteer-requires-clause-room c =
 pub loop-number-preserved : goal.loop-number-preserved
 loop-number-preserved c =
     let more = next_volunteer c.args.seed c.loop-number.number c.loop-number.generator.state c.values.result c.loop-number.pool.volunteers
-        c.loop-number.invariant.numbers c.values.ensures.value c.loop-number.invariant.volunteers in
+    c.loop-number.invariant.numbers c.values.ensures.value c.loop-number.invariant.volunteers in
     let added = c.in_ok-add_volunteer.ensures in
     record {
       numbers = next_numbers c.args.seed c.loop-number.number c.loop-number.generator.state c.values.new.self.state c.loop-number.invariant.numbers c.values.ensures.state;
