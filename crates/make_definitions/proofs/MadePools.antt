@@ -7,7 +7,7 @@ use Rattle.std.proofs.lemmas.List.FromFn.{length-map-range_with_len, length-rang
 use Rattle.std.proofs.lemmas.List.Sums.{count_by-le-length}
 use Rattle.basic_laws.proofs.Each.{each_range, list_all_from_each}
 use Rattle.pool_definitions.specs.Lists.{is_increasing}
-use Rattle.pool_definitions.specs.Pool.{Volunteer, IsPool, are_bounds, is_category, is_household, is_name, is_quota_panel, has_values, members_with, meets_quotas, volunteer}
+use Rattle.pool_definitions.specs.Pool.{Volunteer, IsPool, is_category, is_household, is_name, is_quota_panel, has_values, members_with, meets_quotas, volunteer}
 use Rattle.pool_definitions.proofs.AllPanels.{quota_from}
 use Rattle.make_definitions.specs.MadePools.{made_categories, made_pool, made_size, made_volunteer, made_volunteers}
 use Rattle.make_definitions.proofs.Volunteers.{each_volunteer, households_are_kept, id_is_name, ids_are_different, standings_are_kept, values_are_places}
@@ -20,10 +20,6 @@ size_fits n some few = (omega arith, omega arith, omega arith)
 pub members_fit : (volunteers : List Volunteer) (size place value_place : ℕ) → members_with volunteers (range_with_len 0 size) place value_place ≤ size
 members_fit volunteers size place value_place =
     omega (arith, count_by-le-length (λ i. eqb (get_or (volunteer volunteers i).values place 0) value_place) (range_with_len 0 size), length-range_with_len 0 size)
-
-pub bounds_fit : (members : ℕ) → members ≤ 40 → are_bounds (members - 1) (members + 1) ≡ true
-bounds_fit members few =
-    and_from (leb (members - 1) (members + 1)) (leb (members + 1) 999) (le-leb (members - 1) (members + 1) (omega arith)) (le-leb (members + 1) 999 (omega arith))
 
 pub categories_fit : (volunteers : List Volunteer) (size : ℕ) → size ≤ 40 → list_all is_category (made_categories volunteers size) ≡ true
 unfolding is_utf8 chars encode

@@ -1,5 +1,5 @@
 -- A step of the loops that find the least and the greatest count.
-use Rattle.std.proofs.Common.{◌≡◌, ℕ, ◌+◌, ◌<◌, ◌≤◌, min, max, Bool, true, false, cond, ltb, List, map, length, get_or, take, fold, ℤ, pos, unsigned_abs, refl, sym, ◌∙◌, ap, arith}
+use Rattle.std.proofs.Common.{◌≡◌, ℕ, ◌+◌, ◌<◌, min, max, ltb, List, map, length, get_or, take, fold, ℤ, pos, unsigned_abs, sym, ◌∙◌, ap, arith}
 use Rattle.std.specs.Int.{int_max, int_min}
 use Rattle.std.proofs.Math.ListN.{get_or-map}
 use Rattle.std.proofs.lemmas.Bool.{cond_both, ltb-false, ltb-true}

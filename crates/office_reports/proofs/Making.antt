@@ -1,13 +1,13 @@
 -- The steps of making a pool come to the definition's pool.
-use Rattle.std.proofs.Common.{◌≡◌, ℕ, suc, ◌+◌, ◌*◌, ◌/◌, ◌%◌, ◌<◌, ◌≤◌, max, List, [], ◌∷◌, ◌++◌, map, length, refl, sym, ◌∙◌, ap, arith}
+use Rattle.std.proofs.Common.{◌≡◌, ℕ, suc, ◌+◌, ◌*◌, ◌/◌, ◌≤◌, max, List, [], ◌∷◌, ◌++◌, map, length, refl, sym, ◌∙◌, ap, arith}
 use Rattle.std.specs.List.{range_with_len}
 use Rattle.std.proofs.lemmas.List.FromFn.{length-map-range_with_len, map-range_with_len_more}
 use Rattle.pool_definitions.specs.Building.{empty_pool}
 use Rattle.pool_definitions.specs.Pool.{Pool, Volunteer}
 use Rattle.make_definitions.specs.Generator.{next_state, state}
-use Rattle.make_definitions.specs.MadePools.{bounded_by, made_categories, made_pool, made_values, made_volunteer, made_volunteers}
+use Rattle.make_definitions.specs.MadePools.{made_categories, made_pool, made_values, made_volunteer, made_volunteers}
 use Rattle.make_definitions.proofs.Volunteers.{members_are_counted}
-use Rattle.office_reports.specs.Making.{ArePlaces, categories_by, values_behind, with_values}
+use Rattle.office_reports.specs.Making.{categories_by, values_behind, with_values}
 
 -- a volunteer takes three numbers
 pub three_more : (seed i : ℕ) → next_state (next_state (next_state (state seed (3 * i)))) ≡ state seed (3 * (i + 1))
@@ -20,9 +20,6 @@ values_here seed i =
     let one : 3 * i + 1 ≡ suc (3 * i) = omega arith in
     let two : 3 * i + 2 ≡ suc (suc (3 * i)) = omega arith in
     rw (one, two) refl
-
-pub are_places : (x : ℕ) → ArePlaces (values_behind x)
-are_places x = (omega arith, omega arith, omega arith)
 
 pub one_more_list : (seed i : ℕ) (first : List (List ℕ)) → first ≡ map (made_values seed) (range_with_len 0 i) →
     first ++ values_behind (state seed (3 * i)) ∷ [] ≡ map (made_values seed) (range_with_len 0 (i + 1))

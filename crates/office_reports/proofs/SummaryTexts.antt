@@ -1,7 +1,6 @@
 -- What the lines of a summary come to.
 use Rattle.std.proofs.Common.{◌≡◌, ℕ, List, [], ◌∷◌, ◌++◌, map, ℤ, pos, unsigned_abs, codes, take, append_assoc, refl, sym, ◌∙◌, ap, subst}
 use Rattle.std.specs.Prelude.{OnOk, Result}
-use Rattle.std.proofs.lemmas.List.{append-nil}
 use Rattle.std.proofs.lemmas.Grind.{flat_map-append}
 use Rattle.frac128.specs.Fractions.{Fraction, fraction_text, lowest_of}
 use Rattle.pool_definitions.specs.Pool.{Pool}
@@ -9,7 +8,7 @@ use Rattle.pool_definitions.specs.Lottery.{counts}
 use Rattle.pool_definitions.specs.Certificate.{Answer}
 use Rattle.bundle_definitions.specs.BundleText.{bundle_text}
 use Rattle.draw_definitions.specs.Seal.{seal_of}
-use Rattle.line_definitions.specs.Lines.{line_feed, tab, text_of}
+use Rattle.line_definitions.specs.Lines.{line_feed, text_of}
 use Rattle.make_definitions.specs.Summary.{Sizes, field_line, greatest, least, number_line, summary_lines, summary_text}
 use Rattle.office_reports.specs.Lines.{size_lines}
 
@@ -33,10 +32,6 @@ chance_is : (pick : List ℕ → ℕ) (zs : List ℤ) (ns : List ℕ) (num den :
 chance_is pick zs ns num den total e n d =
     ap (λ z. lowest_of (unsigned_abs z) (unsigned_abs den)) n ∙ ap (λ z. lowest_of (pick (map unsigned_abs zs)) (unsigned_abs z)) d
     ∙ ap (λ xs. lowest_of (pick xs) total) (as_naturals zs ns e)
-
--- a word and a field make a line
-pub line_is : (word field : List ℕ) → word ++ (tab ∷ (field ++ line_feed ∷ [])) ≡ text_of (field_line word field ∷ [])
-line_is word field = sym (append_assoc word (tab ∷ field) (line_feed ∷ [])) ∙ sym (append-nil ((word ++ (tab ∷ field)) ++ line_feed ∷ []))
 
 -- lines one after the other
 pub more_lines : (before first second : List ℕ) (lines more : List (List ℕ)) → first ≡ before ++ text_of lines → second ≡ first ++ text_of more → second ≡ before ++ text_of (lines ++ more)

@@ -11,7 +11,9 @@ use crate::generator::Generator;
 use pool_model::Pool;
 use std::alloc::{AllocError, Global};
 
-/// The pool that is made from a seed and a number of volunteers, from 1 to 400.
+/// The pool that is made from a seed and 1 to 400 volunteers, `v1`, `v2` and so on. A generator gives each of them a gender, an age and
+/// an area, by three numbers in turn. A panel has a tenth of the volunteers, and at least one; and of each value one member fewer or more
+/// than as many of the first volunteers have it. All are open, without households. Stops only where no memory is left.
 pub fn made_pool(alloc: Global, seed: u64, volunteers: u32) -> Result<Pool, AllocError>
     requires some { 1 ≤ volunteers }
     requires few { volunteers ≤ 400 }

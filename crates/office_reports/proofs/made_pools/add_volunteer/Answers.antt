@@ -1,4 +1,4 @@
-use Rattle.std.proofs.Common.{◌≡◌, ◌<◌, get_or, length, false, refl, sym, ◌∙◌, ap, arith}
+use Rattle.std.proofs.Common.{get_or, ◌∙◌}
 use Rattle.office_reports.proofs.Names.{made_volunteer_is_added, made_volunteer_fits}
 use Rattle.office_reports.proofs.made_pools.add_volunteer.Goals as goal
 

@@ -1,4 +1,4 @@
-use Rattle.std.proofs.Common.{◌≡◌, List, ℕ, codes, length, string_bytes, take, refl, sym, ◌∙◌, ap}
+use Rattle.std.proofs.Common.{codes, length, string_bytes, take, refl, sym, ◌∙◌, ap}
 use Rattle.std.proofs.lemmas.List.{append-nil}
 use Rattle.pool_definitions.specs.Lottery.{Lottery}
 use Rattle.make_definitions.specs.Summary.{Sizes}
