@@ -1,0 +1,4 @@
+pub mod Enumerated
+pub mod HouseholdNumbers
+pub mod QuotaTests
+pub mod Twice
