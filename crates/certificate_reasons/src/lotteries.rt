@@ -22,16 +22,13 @@ pub fn lottery_verdict(
     ensures { IfOk result (λ verdict. verdict ≡ first_reason (lottery_reasons pool.now lottery.now)) }
 {
     let households = household_numbers(alloc, pool.volunteers())?;
-    let other = first_other(alloc, pool, &households, lottery.rows())?;
-    let repeated = first_repeated(alloc, lottery.rows())?;
-    let agrees = total_agrees(lottery);
-    if let Some(panel) = other {
+    if let Some(panel) = first_other(alloc, pool, &households, lottery.rows())? {
         return Verdict::refused(alloc, 0, 1, panel.members());
     }
-    if let Some(panel) = repeated {
+    if let Some(panel) = first_repeated(alloc, lottery.rows())? {
         return Verdict::refused(alloc, 0, 2, panel.members());
     }
-    if !agrees {
+    if !total_agrees(lottery) {
         return Verdict::refused(alloc, 0, 3, &[]);
     }
     Ok(Verdict::valid())
