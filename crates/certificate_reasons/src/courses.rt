@@ -58,6 +58,13 @@ impl<'a> Course<'a> {
         })
     }
 
+    /// The pool.
+    pub fn pool(&self) -> &'a Pool
+        ensures { result.now ≡ self.now.pool }
+    {
+        self.pool
+    }
+
     /// The stages that were passed, in their order.
     pub fn earlier(&self) -> &'a [Stage]
         ensures { reverse result.now ≡ self.now.earlier }

@@ -2,7 +2,7 @@
 
 ghost use Rattle.std.specs.Prelude.{◌≡◌, option_map, IfOk};
 ghost use Rattle.check_definitions.specs.Reasons.{Refused, Valid};
-ghost use Rattle.certificate_reasons.specs.Sayings.{verdict_of};
+ghost use Rattle.certificate_reasons.specs.Sayings.{holds, verdict_of};
 
 use std::alloc::{AllocError, Global};
 use std::marker::Model;
@@ -81,6 +81,13 @@ impl Verdict {
         let who = Vec::from_slice(alloc, who)?;
         let refusal = Some(Refusal { stage, reason, who });
         Ok(Verdict { refusal })
+    }
+
+    /// Is the certificate valid?
+    pub fn is_valid(&self) -> bool
+        ensures { result ≡ holds self.now }
+    {
+        self.refusal.is_none()
     }
 
     /// Why the certificate is refused, or None where it is valid.
