@@ -54,9 +54,9 @@ fn stages_verdict(
     stages: &[Stage],
     nodes: u64,
 ) -> Result<Verdict, CheckStop>
-    requires first { course.entry.earlier ≡ [] }
-    requires all { course.entry.later ≡ stages.now }
-    requires ranges { IsTrue (list_all (is_stage (length course.entry.pool.volunteers)) stages.now) }
+    requires first { course.earlier ≡ [] }
+    requires all { course.later ≡ stages.now }
+    requires ranges { IsTrue (list_all (is_stage (length course.pool.volunteers)) stages.now) }
     ensures { Answers (answer_from course.entry.pool course.entry.lottery nodes [] stages.now) result }
 {
     for stage in stages {
