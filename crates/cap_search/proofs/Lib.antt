@@ -1,0 +1,10 @@
+pub mod Adding
+pub mod ClosedRows
+pub mod Filters
+pub mod Households
+pub mod Liveness
+pub mod Places
+pub mod Taken
+pub mod Tracking
+pub mod UnitSums
+pub mod WeightLaws
