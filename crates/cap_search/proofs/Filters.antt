@@ -1,10 +1,11 @@
 -- The numbers of a range that pass, with one number more.
-use Rattle.std.proofs.Common.{◌≡◌, ℕ, suc, ◌+◌, Bool, true, false, cond, not, ◌||◌, List, [], ◌∷◌, ◌++◌, map, filter, refl, sym, ap, ◌∙◌, arith, append_assoc}
-use Rattle.std.specs.List.{list_any, range_with_len}
-use Rattle.std.proofs.lemmas.List.{map-append}
+use Rattle.std.proofs.Common.{◌≡◌, ℕ, suc, ◌+◌, ◌<◌, Bool, true, false, cond, not, ◌||◌, List, [], ◌∷◌, ◌++◌, filter, get_or, length, refl, sym, ap, ◌∙◌, arith, subst, zero}
+use Rattle.std.specs.List.{AllByRecursion, list_any, range_with_len}
 use Rattle.std.proofs.lemmas.List.Elements.{filter-append}
+use Rattle.basic_laws.proofs.Each.{each_filter, each_range}
 use Rattle.basic_laws.proofs.Lists.{range-more}
 use Rattle.basic_laws.proofs.Tests.{or-false}
+use Rattle.search_definitions.specs.Classes.{leaders}
 
 -- the range up to a number, and the number
 range_next : (i : ℕ) → range_with_len 0 (i + 1) ≡ range_with_len 0 i ++ i ∷ []
@@ -34,13 +35,16 @@ any_append p (y ∷ ys) x = ap (λ b. p y || b) (any_append p ys x) ∙ along (p
 pub any_next : (p : ℕ → Bool) (i : ℕ) → list_any p (range_with_len 0 (i + 1)) ≡ (list_any p (range_with_len 0 i) || p i)
 any_next p i = ap (list_any p) (range_next i) ∙ any_append p (range_with_len 0 i) i
 
--- what is made of each that passes, with one number more
-pub mapped_taken : {X : Type 0} (f : ℕ → X) (p : ℕ → Bool) (i : ℕ) (xs made : List X) (x : X) → p i ≡ true → x ≡ f i → xs ≡ map f (filter p (range_with_len 0 i)) → made ≡ xs ++ x ∷ [] →
-    made ≡ map f (filter p (range_with_len 0 (i + 1)))
-mapped_taken {X} f p i xs made x t e g h =
-    h ∙ ap (λ (xs : List X). xs ++ x ∷ []) g ∙ ap (λ x. map f (filter p (range_with_len 0 i)) ++ x ∷ []) e
-    ∙ sym (map-append f (filter p (range_with_len 0 i)) (i ∷ [])) ∙ sym (ap (map f) (filter_taken p i t))
+-- a leader is a volunteer
+leaders_below : (alike : ℕ → ℕ → Bool) (count : ℕ) → AllByRecursion (λ leader. leader < count) (leaders alike count)
+leaders_below alike count =
+    let leads : ℕ → Bool = λ i. not (list_any (λ j. alike j i) (range_with_len 0 i)) in
+    each_filter (λ leader. leader < count) leads (range_with_len 0 count) (each_range (λ leader. leads leader ≡ true → leader < count) 0 count (λ k l m t. omega (arith, m)))
 
-pub mapped_passed : {X : Type 0} (f : ℕ → X) (p : ℕ → Bool) (i : ℕ) (xs made : List X) → p i ≡ false → xs ≡ map f (filter p (range_with_len 0 i)) → made ≡ xs →
-    made ≡ map f (filter p (range_with_len 0 (i + 1)))
-mapped_passed f p i xs made t g h = h ∙ g ∙ sym (ap (map f) (filter_passed p i t))
+each_below : (count : ℕ) (xs : List ℕ) (k : ℕ) → k < length xs → AllByRecursion (λ x. x < count) xs → get_or xs k 0 < count
+each_below count [] k l each = absurd (omega arith)
+each_below count (x ∷ xs) zero l each = each.0
+each_below count (x ∷ xs) (suc k) l each = each_below count xs k (omega arith) each.1
+
+pub leader_below : (alike : ℕ → ℕ → Bool) (count : ℕ) (found : List ℕ) (k : ℕ) → found ≡ leaders alike count → k < length found → get_or found k 0 < count
+leader_below alike count found k e below = each_below count found k below (subst (AllByRecursion (λ leader. leader < count)) (sym e) (leaders_below alike count))

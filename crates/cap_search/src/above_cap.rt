@@ -42,8 +42,9 @@ fn reversed(alloc: Global, stages: &[Stage]) -> Result<Vec<Stage>, AllocError>
     ensures { IfOk result (λ copies. copies.items ≡ reverse stages.now) }
 {
     let mut copies = Vec::with_capacity(alloc, stages.len())?;
-    for stage in stages.iter().rev() {
+    for stage in stages {
         copies.push(stage.copy()?)?;
     }
+    copies.reverse();
     Ok(copies)
 }

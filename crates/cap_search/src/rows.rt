@@ -33,13 +33,9 @@ impl Row {
     ) -> Result<Row, AllocError>
         ensures { IfOk result (λ row. row ≡ record { b = stage.now.cap; a = map (weight_in_stage stage.now) leaders.now }) }
     {
-        let entries = leaders
-            .iter()
-            .map(|i| weight_of(stage, *i))
-            .collect(alloc)?;
         Ok(Row {
             cap: stage.cap(),
-            entries,
+            entries: weights_of(alloc, leaders, stage)?,
         })
     }
 
@@ -56,6 +52,20 @@ impl Row {
     {
         &self.entries
     }
+}
+
+// What these volunteers weigh in the stage.
+fn weights_of(
+    alloc: Global,
+    leaders: &[usize],
+    stage: &Stage,
+) -> Result<Vec<i128>, AllocError>
+    ensures { IfOk result (λ weights. weights.items ≡ map (weight_in_stage stage.now) leaders.now) }
+{
+    leaders
+        .iter()
+        .map(|leader| weight_of(stage, *leader))
+        .collect(alloc)
 }
 
 // Of each of the stages.
