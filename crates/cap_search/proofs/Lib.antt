@@ -1,3 +1,4 @@
+pub mod AboveCap
 pub mod Adding
 pub mod ClosedRows
 pub mod Filters
