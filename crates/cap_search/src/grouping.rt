@@ -115,11 +115,7 @@ fn group(alloc: Global, likeness: &Likeness<'_>, leader: usize) -> Result<Class,
 }
 
 // Who is alike a volunteer, in number order.
-fn members(
-    alloc: Global,
-    likeness: &Likeness<'_>,
-    leader: usize,
-) -> Result<Vec<usize>, AllocError>
+fn members(alloc: Global, likeness: &Likeness<'_>, leader: usize) -> Result<Vec<usize>, AllocError>
     requires households { KnowsHouseholds likeness.now }
     requires below { leader < count_of likeness.now }
     ensures { IfOk result (λ found. found.items ≡ class_of (is_alike likeness.now) (count_of likeness.now) leader) }

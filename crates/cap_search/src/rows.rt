@@ -55,11 +55,7 @@ impl Row {
 }
 
 // What these volunteers weigh in the stage.
-fn weights_of(
-    alloc: Global,
-    leaders: &[usize],
-    stage: &Stage,
-) -> Result<Vec<i128>, AllocError>
+fn weights_of(alloc: Global, leaders: &[usize], stage: &Stage) -> Result<Vec<i128>, AllocError>
     ensures { IfOk result (λ weights. weights.items ≡ map (weight_in_stage stage.now) leaders.now) }
 {
     leaders
@@ -82,4 +78,3 @@ pub(crate) fn rows_of(
     }
     Ok(rows)
 }
-

@@ -218,12 +218,7 @@ impl Search {
 
     #[cycle(search)]
     // Tries the children of the front, with counts of the next class from so many above the least down to it.
-    fn children(
-        &mut self,
-        terms: &Terms,
-        depth: usize,
-        above: usize,
-    ) -> Result<bool, BudgetSpent>
+    fn children(&mut self, terms: &Terms, depth: usize, above: usize) -> Result<bool, BudgetSpent>
         requires terms { AreTerms terms.now }
         requires below { depth < length terms.now.classes.classes }
         requires can_take { CanTakeAbove terms.now.classes depth above }
@@ -247,12 +242,7 @@ impl Search {
 
     #[cycle(search)]
     // Enters the child with this count of the next class, where it is live.
-    fn try_child(
-        &mut self,
-        terms: &Terms,
-        depth: usize,
-        count: usize,
-    ) -> Result<bool, BudgetSpent>
+    fn try_child(&mut self, terms: &Terms, depth: usize, count: usize) -> Result<bool, BudgetSpent>
         requires terms { AreTerms terms.now }
         requires below { depth < length terms.now.classes.classes }
         requires can_take { CanTake terms.now.classes depth count }

@@ -5,9 +5,9 @@ ghost use Rattle.cap_search.specs.Front.{Gives, Tracks};
 ghost use Rattle.cap_search.specs.Tallies.{AreAtMost};
 ghost use Rattle.search_definitions.specs.Fronts.{is_reachable, size_reachable, taken_by, values_reachable};
 
+use crate::groups::Classes;
 use crate::homes;
 use crate::tallies::{PLACES, add_to, all_within_reach, take_from, values_allow};
-use crate::groups::Classes;
 use std::alloc::{AllocError, Global};
 
 // How many a front takes, and the most that later classes give: in all, and of each value; and how many it takes of each household.

@@ -47,6 +47,18 @@ const GIVEN: &[Given<'static>] = &[
         found: Some(&[0, 3]),
     },
     Given {
+        name: "nobody weighs more than the cap",
+        size: 2,
+        bounds: ONE_OF_EACH,
+        volunteers: TWO_OF_EACH,
+        standings: &[],
+        households: &[],
+        earlier: &[],
+        stage: (2, &[1, 1, 1, 1]),
+        visits: 1,
+        found: None,
+    },
+    Given {
         name: "they are of one household",
         size: 2,
         bounds: ONE_OF_EACH,
@@ -59,6 +71,18 @@ const GIVEN: &[Given<'static>] = &[
         found: None,
     },
     Given {
+        name: "of a household of alike volunteers one weighs less",
+        size: 2,
+        bounds: &[&[(0, 2), (0, 2)]],
+        volunteers: &[&[0], &[0], &[0], &[1]],
+        standings: &[],
+        households: &[(0, "h"), (1, "h")],
+        earlier: &[],
+        stage: (1, &[0, 1, 1, 0]),
+        visits: 5,
+        found: Some(&[1, 2]),
+    },
+    Given {
         name: "an earlier cap keeps the other woman out",
         size: 2,
         bounds: ONE_OF_EACH,
@@ -69,6 +93,114 @@ const GIVEN: &[Given<'static>] = &[
         stage: (0, &[0, 1, 0, 0]),
         visits: 2,
         found: None,
+    },
+    Given {
+        name: "an earlier stage alone tells the women apart",
+        size: 2,
+        bounds: ONE_OF_EACH,
+        volunteers: TWO_OF_EACH,
+        standings: &[],
+        households: &[],
+        earlier: &[(1, &[0, 1, 0, 0])],
+        stage: (0, &[1, 1, 0, 0]),
+        visits: 5,
+        found: Some(&[1, 2]),
+    },
+    Given {
+        name: "two earlier caps leave one panel",
+        size: 2,
+        bounds: ONE_OF_EACH,
+        volunteers: TWO_OF_EACH,
+        standings: &[],
+        households: &[],
+        earlier: &[(0, &[-1, 0, 0, 0]), (1, &[0, 0, 0, 1])],
+        stage: (1, &[0, 1, 1, 1]),
+        visits: 5,
+        found: Some(&[1, 3]),
+    },
+    Given {
+        name: "one is gone",
+        size: 2,
+        bounds: ONE_OF_EACH,
+        volunteers: TWO_OF_EACH,
+        standings: &[(0, Standing::Gone)],
+        households: &[],
+        earlier: &[],
+        stage: (0, &[3, 1, 0, 1]),
+        visits: 5,
+        found: Some(&[1, 2]),
+    },
+    Given {
+        name: "one is seated",
+        size: 2,
+        bounds: ONE_OF_EACH,
+        volunteers: TWO_OF_EACH,
+        standings: &[(1, Standing::Seated)],
+        households: &[],
+        earlier: &[],
+        stage: (0, &[0, 0, 1, 3]),
+        visits: 6,
+        found: Some(&[1, 2]),
+    },
+    Given {
+        name: "weights below 0",
+        size: 3,
+        bounds: &[],
+        volunteers: &[&[], &[], &[], &[]],
+        standings: &[],
+        households: &[],
+        earlier: &[(-4, &[-1, -1, -1, -2])],
+        stage: (-6, &[-2, -1, -2, -3]),
+        visits: 4,
+        found: Some(&[0, 1, 2]),
+    },
+    Given {
+        name: "the empty front isn't live",
+        size: 1,
+        bounds: &[&[(1, 1), (0, 1)], &[(0, 0), (1, 1)]],
+        volunteers: &[&[0, 0], &[1, 1]],
+        standings: &[],
+        households: &[],
+        earlier: &[],
+        stage: (0, &[1, 1]),
+        visits: 1,
+        found: None,
+    },
+    Given {
+        name: "the greatest cap",
+        size: 1,
+        bounds: &[],
+        volunteers: &[&[], &[]],
+        standings: &[],
+        households: &[],
+        earlier: &[],
+        stage: (170141183460469231731687303715884105727, &[0, 0]),
+        visits: 1,
+        found: None,
+    },
+    Given {
+        name: "the widest weights",
+        size: 1,
+        bounds: &[],
+        volunteers: &[&[], &[]],
+        standings: &[],
+        households: &[],
+        earlier: &[(
+            -85070591730234615865843651857942052863,
+            &[
+                42535295865117307932921825928971026432,
+                -42535295865117307932921825928971026432,
+            ],
+        )],
+        stage: (
+            -1,
+            &[
+                -85070591730234615865843651857942052864,
+                42535295865117307932921825928971026432,
+            ],
+        ),
+        visits: 3,
+        found: Some(&[1]),
     },
 ];
 
@@ -144,12 +276,22 @@ fn check(rt: &impl Abort, alloc: Global, given: &Given<'_>) -> Result<(), Fail> 
     let pool = with_standings(alloc, given)?;
     let earlier = stages_of(alloc, given.earlier)?;
     let stage = stage_of(alloc, given.stage)?;
-    assert!(rt; are_stages(pool.volunteers().len(), &earlier), "{}", given.name);
+    assert!(rt;
+        are_stages(pool.volunteers().len(), &earlier),
+        "{}",
+        given.name
+    );
     assert!(rt; is_stage(pool.volunteers().len(), &stage), "{}", given.name);
     let found = panel_above_cap(alloc, &pool, &earlier, &stage, given.visits)?;
     let members = found.as_ref().map(|panel| panel.members());
     assert_eq!(rt; members, given.found, "{}", given.name);
-    let short = panel_above_cap(alloc, &pool, &earlier, &stage, given.visits.saturating_sub(1));
+    let short = panel_above_cap(
+        alloc,
+        &pool,
+        &earlier,
+        &stage,
+        given.visits.saturating_sub(1),
+    );
     assert!(rt; matches!(short, Err(SearchStop::Spent)), "{}", given.name);
     Ok(())
 }

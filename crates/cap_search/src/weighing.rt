@@ -19,7 +19,11 @@ pub(crate) struct Weights {
 
 impl Weights {
     // Of the empty front.
-    pub(crate) fn of_nothing(alloc: Global, classes: &Classes, row: &Row) -> Result<Weights, AllocError>
+    pub(crate) fn of_nothing(
+        alloc: Global,
+        classes: &Classes,
+        row: &Row,
+    ) -> Result<Weights, AllocError>
         requires { AreNarrow classes.now row.now.a }
         ensures { IfOk result (λ weights. Weighs classes.now row.now [] weights) }
     {
