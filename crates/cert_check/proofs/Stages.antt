@@ -114,6 +114,7 @@ total_agrees pool answer said lottery ranges same e h =
   where
     differ : (refusal : Refusal) → Refused refusal ≡ Valid → ⊥
     differ refusal e = cc
+
     last : (first second : Option (List ℕ)) (third : Bool) → first_reason (reason 0 1 first ∷ reason 0 2 second ∷ reason 0 3 (nobody_unless third) ∷ []) ≡ Valid → third ≡ true
     last (Some who) second third e = absurd (differ _ e)
     last None (Some who) third e = absurd (differ _ e)

@@ -98,17 +98,11 @@ fn cap_verdict(
     requires stage { IsTrue (is_stage (length course.now.pool.volunteers) stage.now) }
     ensures { Answers (cap_answer course.now.pool course.now.lottery nodes course.now.earlier stage.now) result }
 {
+    let number = course.number();
     match panel_above_cap(alloc, course.pool(), course.earlier(), stage, nodes) {
-        Ok(Some(panel)) => Ok(Verdict::refused(
-            alloc,
-            course.number(),
-            8,
-            panel.members(),
-        )?),
+        Ok(Some(panel)) => Ok(Verdict::refused(alloc, number, 8, panel.members())?),
         Ok(None) => Ok(course.off_cap(alloc, stage)?),
-        Err(SearchStop::Spent) => Err(CheckStop::NodesSpent {
-            stage: course.number(),
-        }),
+        Err(SearchStop::Spent) => Err(CheckStop::NodesSpent { stage: number }),
         Err(SearchStop::OutOfMemory) => Err(CheckStop::OutOfMemory),
     }
 }

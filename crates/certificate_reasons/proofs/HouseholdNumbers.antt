@@ -1,9 +1,8 @@
 -- Members of a panel are of different households exactly where the numbers of their households are different.
-use Rattle.std.proofs.Common.{◌≡◌, ℕ, ◌+◌, ◌<◌, ◌≤◌, Bool, true, false, not, cond, ◌&&◌, ◌||◌, eqb, leb, ltb, List, [], ◌∷◌, length, map, count_by, get_or, Option, Some, None, refl, sym, ap, ap₂, ◌∙◌, ◌⊎◌, inl, inr, ⊎_elim, arith, subst}
+use Rattle.std.proofs.Common.{◌≡◌, ℕ, ◌+◌, ◌<◌, ◌≤◌, Bool, true, false, not, ◌&&◌, ◌||◌, eqb, leb, ltb, List, [], ◌∷◌, length, map, count_by, get_or, Option, Some, None, refl, sym, ap, ap₂, ◌∙◌, ◌⊎◌, inl, inr, ⊎_elim, arith, subst}
 use Rattle.std.specs.Prelude.{unwrap_or}
 use Rattle.std.specs.List.{find, list_all, list_any, AllByRecursion, range_with_len}
-use Rattle.std.proofs.lemmas.Bool.{and_parts, cases_Bool, eqb-true, eq-eqb, ne_eqb, ltb-true, lt-ltb, leb-true, le-leb, false≢true, false_from_ne_true}
-use Rattle.std.proofs.lemmas.Bool.Decides.{nat_tests}
+use Rattle.std.proofs.lemmas.Bool.{and_parts, eqb-true, eq-eqb, ltb-true, lt-ltb, leb-true, le-leb, false≢true, false_from_ne_true}
 use Rattle.std.proofs.lemmas.List.FromFn.{get_or-map-range_with_len, length-map-range_with_len}
 use Rattle.std.proofs.lemmas.Slice.Eq.{bytes_eq-Decides}
 use Rattle.basic_laws.proofs.Each.{each_from_list_all, each_map, each_mapped, each_range, list_all_from_each, range_each}
@@ -99,6 +98,7 @@ module _ (volunteers : List Volunteer) where
     where
       same : find (tested i) everybody ≡ find (tested j) everybody
       same = find_same (tested i) (tested j) (λ k. tested_is i (itself i j h) k ∙ share_along i j k h ∙ sym (tested_is j (itself j i (back i j h)) k)) everybody
+
       by : (found : Option ℕ) → find (tested i) everybody ≡ found → number i ≡ number j
       by None e = absurd (is_found i below e)
       by (Some k) e = ap (λ found. unwrap_or found i) e ∙ sym (ap (λ found. unwrap_or found j) (sym same ∙ e))

@@ -1,8 +1,7 @@
 -- What is found first in a list, as far as it was read.
 use Rattle.std.proofs.Common.{◌≡◌, ℕ, zero, suc, ◌+◌, ◌<◌, Bool, true, false, cond, ◌||◌, List, [], ◌∷◌, length, map, get_or, take, Option, Some, None, refl, sym, ap, ◌∙◌, arith}
 use Rattle.std.specs.Prelude.{bytes_eq}
-use Rattle.std.specs.List.{AllByRecursion, find, list_any}
-use Rattle.std.proofs.lemmas.Bool.{false≢true}
+use Rattle.std.specs.List.{find, list_any}
 use Rattle.pool_definitions.specs.Lists.{includes_list}
 use Rattle.check_definitions.specs.Reasons.{first_repeated}
 

@@ -1,5 +1,5 @@
 -- What a course keeps tells the counts and who is settled, and so the reasons of a stage.
-use Rattle.std.proofs.Common.{◌≡◌, ℕ, zero, suc, ◌+◌, ◌<◌, ◌≤◌, Bool, true, false, not, cond, ◌||◌, eqb, ltb, List, [], ◌∷◌, ◌++◌, length, map, filter, get_or, take, drop, Option, Some, None, ℤ, pos, refl, sym, ap, ap₂, ◌∙◌, arith, subst}
+use Rattle.std.proofs.Common.{◌≡◌, ℕ, ◌+◌, ◌<◌, ◌≤◌, Bool, true, false, not, ◌||◌, eqb, ltb, List, [], ◌∷◌, length, map, filter, get_or, take, drop, Option, ℤ, pos, refl, sym, ap, ap₂, ◌∙◌, arith}
 use Rattle.std.specs.Prelude.{int_lt, reverse}
 use Rattle.std.specs.List.{AllByRecursion, find, range_with_len}
 use Rattle.std.specs.Ordering.{int_eq}
@@ -8,15 +8,15 @@ use Rattle.std.proofs.lemmas.Cmp.{int_eq_equiv}
 use Rattle.std.proofs.lemmas.Int.{ints}
 use Rattle.std.proofs.lemmas.List.{length-reverse, length-take-le, take_more, reverse-append}
 use Rattle.std.proofs.lemmas.List.FromFn.{fill_by_all, get_or-map-range_with_len, length-map-range_with_len}
-use Rattle.basic_laws.proofs.Each.{each_filter, each_map, each_range, each_everywhere}
+use Rattle.basic_laws.proofs.Each.{each_filter, each_map, each_range}
 use Rattle.basic_laws.proofs.Integers.{eq-tested, lt-tested, same_pos, tested-lt}
 use Rattle.basic_laws.proofs.Lists.{map-map}
-use Rattle.pool_definitions.specs.Certificate.{Stage, is_positive, is_settled, settling, unsettled, weight_of}
+use Rattle.pool_definitions.specs.Certificate.{Stage, is_positive, is_settled, settling, unsettled}
 use Rattle.pool_definitions.specs.Lottery.{Lottery, count, counts}
 use Rattle.pool_definitions.specs.Pool.{Pool, everybody}
-use Rattle.check_definitions.specs.Reasons.{Refusal, Verdict, first_count as first_count_of, first_reason, one, reason, reasons_before_cap, reasons_from}
+use Rattle.check_definitions.specs.Reasons.{first_count as first_count_of, first_reason, one, reason, reasons_before_cap, reasons_from}
 use Rattle.certificate_reasons.proofs.HouseholdNumbers.{same_tests}
-use Rattle.certificate_reasons.specs.Courses.{Course, Keeps, count_at, count_reasons, first_count, kept_reasons}
+use Rattle.certificate_reasons.specs.Courses.{Course, Keeps, count_at, first_count, kept_reasons}
 
 filter_same : (p q : ℕ → Bool) (xs : List ℕ) → AllByRecursion (λ x. p x ≡ q x) xs → filter p xs ≡ filter q xs
 filter_same p q [] h = refl

@@ -1,8 +1,7 @@
 -- A list of numbers, as far as it was read, in which none comes twice.
-use Rattle.std.proofs.Common.{◌≡◌, ℕ, zero, suc, ◌+◌, ◌<◌, Bool, true, false, not, ◌&&◌, ◌||◌, eqb, ltb, List, [], ◌∷◌, length, map, get_or, set, take, refl, sym, ap, ap₂, ◌∙◌, ⊎_elim, arith, subst}
-use Rattle.std.specs.List.{list_all, list_any}
-use Rattle.std.proofs.lemmas.Bool.{and_parts, cases_eq, eqb-true, eq-eqb, ne_eqb, ltb-true, false≢true}
-use Rattle.std.proofs.lemmas.List.{get_or-set_same, get_or-set_other, length-set}
+use Rattle.std.proofs.Common.{◌≡◌, ℕ, zero, suc, ◌+◌, ◌<◌, Bool, true, false, not, ◌&&◌, ◌||◌, eqb, List, [], ◌∷◌, length, get_or, set, take, refl, sym, ap, ap₂, ◌∙◌, ⊎_elim, arith}
+use Rattle.std.proofs.lemmas.Bool.{and_parts, cases_eq, eqb-true, eq-eqb, ne_eqb, false≢true}
+use Rattle.std.proofs.lemmas.List.{get_or-set_same, get_or-set_other}
 use Rattle.std.proofs.lemmas.List.Folds.{list_any_more}
 use Rattle.basic_laws.proofs.Tests.{or-false, or-true}
 use Rattle.pool_definitions.specs.Lists.{includes}
@@ -22,6 +21,7 @@ comes_twice (x ∷ xs) (suc j) l e = by (eqb x (get_or xs j 0)) refl e (comes_tw
     and_none : (b : Bool) → (b && false) ≡ false
     and_none true = refl
     and_none false = refl
+
     by : (b : Bool) → eqb x (get_or xs j 0) ≡ b → (b || includes (take j xs) (get_or xs j 0)) ≡ true → (includes (take j xs) (get_or xs j 0) ≡ true → none_twice xs ≡ false) →
         (not (includes xs x) && none_twice xs) ≡ false
     by true same e rest =

@@ -14,11 +14,7 @@ use std::collections::BTreeSet;
 
 /// Whether the lottery itself is refused: for a listed panel that is no quota panel, reason 1; for one that equals an earlier one, reason
 /// 2; or because the weights don't sum to the total, reason 3.
-pub fn lottery_verdict(
-    alloc: Global,
-    pool: &Pool,
-    lottery: &Lottery,
-) -> Result<Verdict, AllocError>
+pub fn lottery_verdict(alloc: Global, pool: &Pool, lottery: &Lottery) -> Result<Verdict, AllocError>
     ensures { IfOk result (λ verdict. verdict ≡ first_reason (lottery_reasons pool.now lottery.now)) }
 {
     let households = household_numbers(alloc, pool.volunteers())?;

@@ -195,12 +195,7 @@ fn numbers_with(
     Ok(numbers)
 }
 
-fn count_values(
-    numbers: &mut [usize],
-    volunteers: &[Volunteer],
-    members: &[usize],
-    category: usize,
-)
+fn count_values(numbers: &mut [usize], volunteers: &[Volunteer], members: &[usize], category: usize)
     requires members { IsTrue (list_all (λ i. nat_lt i (length volunteers.now)) members.now) }
     requires zero { (v : ℕ) → v < length numbers.old → slice_index_or numbers.old v 0 ≡ 0 }
     ensures { (v : ℕ) → v < length numbers.old → slice_index_or numbers.new v 0 ≡ members_with volunteers.now members.now category v }

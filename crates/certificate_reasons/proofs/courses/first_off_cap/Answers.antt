@@ -1,4 +1,4 @@
-use Rattle.std.proofs.Common.{◌≡◌, List, not, Some, true, false, sym, ap, ◌∙◌}
+use Rattle.std.proofs.Common.{◌≡◌, not, Some, true, false, sym, ap, ◌∙◌}
 use Rattle.std.specs.Ordering.{int_eq}
 use Rattle.pool_definitions.specs.Certificate.{panel_weight}
 use Rattle.pool_definitions.specs.Lottery.{LotteryRow}

@@ -1,4 +1,4 @@
-use Rattle.std.proofs.Common.{◌≡◌, List, not, Some, true, false, sym, ap, ◌∙◌}
+use Rattle.std.proofs.Common.{◌≡◌, not, Some, true, false, sym, ap, ◌∙◌}
 use Rattle.pool_definitions.specs.Lottery.{LotteryRow}
 use Rattle.pool_definitions.specs.Pool.{is_quota_panel as is_quota}
 use Rattle.certificate_reasons.proofs.InOrder.{found_here, found_later}

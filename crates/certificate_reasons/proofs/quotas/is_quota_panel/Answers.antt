@@ -1,5 +1,4 @@
-use Rattle.std.proofs.Common.{◌≡◌, true, sym, ◌∙◌}
-use Rattle.pool_definitions.specs.Pool.{is_of_size}
+use Rattle.std.proofs.Common.{sym, ◌∙◌}
 use Rattle.certificate_reasons.proofs.HouseholdNumbers.{kept_numbers_below}
 use Rattle.certificate_reasons.proofs.QuotaTests.{members_known, quota_panel_is}
 use Rattle.certificate_reasons.proofs.quotas.is_quota_panel.Goals as goal

@@ -1,6 +1,6 @@
-use Rattle.std.proofs.Common.{◌≡◌, ℕ, Bool, false, List, get_or, ap, ◌∙◌, arith}
+use Rattle.std.proofs.Common.{Bool, false, List, get_or, ap, ◌∙◌, arith}
 use Rattle.pool_definitions.specs.Lists.{includes}
-use Rattle.pool_definitions.specs.Pool.{Volunteer, allows}
+use Rattle.pool_definitions.specs.Pool.{allows}
 use Rattle.certificate_reasons.proofs.Enumerated.{list_all-enumerated_same}
 use Rattle.certificate_reasons.proofs.quotas.keep_standings.Goals as goal
 

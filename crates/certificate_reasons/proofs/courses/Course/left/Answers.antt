@@ -1,4 +1,4 @@
-use Rattle.std.proofs.Common.{◌≡◌, ℕ, ◌≤◌, List, [], ◌∷◌, Bool, not, false, length, get_or, Option, Some, None, sym, ap, ◌∙◌, arith, subst}
+use Rattle.std.proofs.Common.{◌≡◌, ℕ, List, Bool, not, false, length, get_or, Option, Some, None, sym, ap, ◌∙◌, subst}
 use Rattle.std.specs.List.{find, range_with_len}
 use Rattle.std.specs.Result.{IfOk}
 use Rattle.check_definitions.specs.Reasons.{Verdict}
