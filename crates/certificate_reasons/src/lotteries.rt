@@ -3,7 +3,7 @@
 ghost use Rattle.std.specs.Prelude.{◌≡◌, ◌==◌, [], IfOk, map, not, option_map, sum_by};
 ghost use Rattle.std.specs.List.{find};
 ghost use Rattle.pool_definitions.specs.Pool.{is_quota_panel as is_quota};
-ghost use Rattle.check_definitions.specs.Reasons.{first_reason, first_repeated as first_again, listed, lottery_reasons};
+ghost use Rattle.check_definitions.specs.Reasons.{first_reason, first_repeated as first_again, lottery_reasons};
 ghost use Rattle.certificate_reasons.specs.Households.{household_numbers as numbers_of};
 
 use crate::quotas::{household_numbers, is_quota_panel};
@@ -18,7 +18,7 @@ pub fn lottery_verdict(alloc: Global, pool: &Pool, lottery: &Lottery) -> Result<
     ensures { IfOk result (λ verdict. verdict ≡ first_reason (lottery_reasons pool.now lottery.now)) }
 {
     let households = household_numbers(alloc, pool.volunteers())?;
-    if let Some(panel) = first_other(alloc, pool, &households, lottery.rows())? {
+    if let Some(panel) = first_unfit(alloc, pool, &households, lottery.rows())? {
         return Verdict::refused(alloc, 0, 1, panel.members());
     }
     if let Some(panel) = first_repeated(alloc, lottery.rows())? {
@@ -31,7 +31,7 @@ pub fn lottery_verdict(alloc: Global, pool: &Pool, lottery: &Lottery) -> Result<
 }
 
 /// The first listed panel that is no quota panel.
-fn first_other<'a>(
+fn first_unfit<'a>(
     alloc: Global,
     pool: &Pool,
     households: &[usize],

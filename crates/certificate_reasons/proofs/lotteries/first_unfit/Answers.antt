@@ -2,7 +2,7 @@ use Rattle.std.proofs.Common.{◌≡◌, not, Some, true, false, sym, ap, ◌∙
 use Rattle.pool_definitions.specs.Lottery.{LotteryRow}
 use Rattle.pool_definitions.specs.Pool.{is_quota_panel as is_quota}
 use Rattle.certificate_reasons.proofs.InOrder.{found_here, found_later}
-use Rattle.certificate_reasons.proofs.lotteries.first_other.Goals as goal
+use Rattle.certificate_reasons.proofs.lotteries.first_unfit.Goals as goal
 
 pub returns-then-not-fits : goal.returns-then-not-fits
 returns-then-not-fits c =
