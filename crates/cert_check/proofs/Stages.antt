@@ -1,5 +1,5 @@
 -- How a check goes from one stage to the next.
-use Rattle.std.proofs.Common.{◌≡◌, ℕ, zero, suc, ◌+◌, ◌<◌, ◌≤◌, ◌^◌, Bool, true, not, false, cond, ◌&&◌, eqb, leb, ltb, List, [], ◌∷◌, ◌++◌, length, get_or, take, drop, Option, Some, None, Result, Ok, Err, refl, sym, ap, ap₂, ◌∙◌, arith, subst}
+use Rattle.std.proofs.Common.{◌≡◌, ℕ, suc, ◌+◌, ◌<◌, ◌^◌, Bool, true, not, false, cond, ◌&&◌, eqb, leb, ltb, List, [], ◌∷◌, ◌++◌, length, get_or, drop, Option, Some, None, Result, Ok, Err, refl, sym, ap, ap₂, ◌∙◌, arith, subst}
 use Rattle.std.specs.Prelude.{reverse, sum_by}
 use Rattle.std.specs.List.{find, list_all}
 use Rattle.std.proofs.lemmas.Bool.{and_parts, eqb-true, false≢true}
@@ -13,11 +13,11 @@ use Rattle.pool_definitions.specs.Lottery.{Lottery, TotalAgrees}
 use Rattle.pool_definitions.specs.Pool.{Pool, is_quota_panel}
 use Rattle.certificate_reasons.specs.Courses.{Course, passed}
 use Rattle.certificate_reasons.specs.Sayings.{holds}
-use Rattle.check_definitions.specs.Reasons.{Refusal, Refused, Valid, Verdict, cap_reasons, first_reason, first_repeated, listed, lottery_reasons, nobody_unless, reason, reasons_before_cap, reasons_from}
+use Rattle.check_definitions.specs.Reasons.{Refusal, Refused, Valid, Verdict, cap_reasons, first_reason, first_repeated, listed, lottery_reasons, nobody_unless, reason, reasons_before_cap}
 use Rattle.check_definitions.specs.Steps.{answer_from, or_next}
 use Rattle.check_definitions.specs.Visits.{check_answer, stage_search}
-use Rattle.check_definitions.proofs.GoesOn.{begins_with_lottery, goes_on_by_stages}
-use Rattle.cert_check.specs.Answers.{Answers, cap_answer, stage_answer}
+use Rattle.check_definitions.proofs.GoesOn.{goes_on_by_stages}
+use Rattle.cert_check.specs.Answers.{Answers, stage_answer}
 use Rattle.cert_check.specs.declared.stops.CheckStop.{CheckStop}
 use Rattle.cert_check.specs.declared.stops.CheckStop.TheVariants.{NodesSpent, OutOfMemory}
 
