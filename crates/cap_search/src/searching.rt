@@ -162,7 +162,8 @@ impl Search {
         Ok(())
     }
 
-    // Are the child's optimistic weights at least the closed rows' right sides, and more than the row's?
+    // Are the child's optimistic weights at least the closed rows' right sides, and more than the row's? The row is tried first, which
+    // rules out the most children.
     fn weights_allow(&mut self, terms: &Terms, depth: usize, count: usize) -> bool
         requires terms { AreTerms terms.now }
         requires below { depth < length terms.now.classes.classes }
@@ -180,18 +181,19 @@ impl Search {
         let classes = &terms.classes;
         let front = &self.counts[..depth];
         let lack = self.tally.lack(classes, front, count);
-        child_attains(
-            &mut self.closed,
-            &terms.closed_sums,
-            classes,
-            &terms.closed,
-            front,
-            count,
-            lack,
-        ) && terms.row.side()
-            < self
-                .weights
-                .child(&terms.sums, classes, &terms.row, front, count, lack)
+        let reached = self
+            .weights
+            .child(&terms.sums, classes, &terms.row, front, count, lack);
+        terms.row.side() < reached
+            && child_attains(
+                &mut self.closed,
+                &terms.closed_sums,
+                classes,
+                &terms.closed,
+                front,
+                count,
+                lack,
+            )
     }
 
     #[cycle(search)]
