@@ -6,6 +6,7 @@ pub mod Households
 pub mod Liveness
 pub mod MadeClasses
 pub mod Places
+pub mod RuledOut
 pub mod StageTerms
 pub mod Stands
 pub mod Stepping

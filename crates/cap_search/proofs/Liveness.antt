@@ -1,8 +1,8 @@
 -- What a tally says about live fronts.
-use Rattle.std.proofs.Common.{◌≡◌, ℕ, zero, suc, ◌+◌, ◌<◌, Bool, true, false, cond, ◌&&◌, leb, List, [], ◌∷◌, ◌++◌, length, drop, Some, refl, sym, ap, ◌∙◌, arith, subst, length-append}
+use Rattle.std.proofs.Common.{◌≡◌, ℕ, zero, suc, ◌+◌, ◌-◌, ◌≤◌, ◌<◌, Bool, true, false, cond, ◌&&◌, leb, max, min, List, [], ◌∷◌, ◌++◌, length, drop, Some, refl, sym, ap, ◌∙◌, arith, subst, length-append}
 use Rattle.std.specs.Prelude.{slice_get, slice_index, slice_index_or}
 use Rattle.std.specs.List.{list_all, enumerate_from}
-use Rattle.std.proofs.lemmas.Bool.{and_parts, and_from, eqb-true, eq-eqb, false≢true, false_from_ne_true}
+use Rattle.std.proofs.lemmas.Bool.{and_parts, and_from, eqb-true, eq-eqb, false≢true, false_from_ne_true, leb-false, leb-true, lt-leb}
 use Rattle.std.proofs.lemmas.Option.{get_or_from_slice_get, slice_get-get_or, slice_get_within}
 use Rattle.search_definitions.specs.declared.Bounds.{Bounds}
 use Rattle.search_definitions.specs.Classes.{Class, Classes, HasPlaces, KeepsLimits}
@@ -132,6 +132,47 @@ pub child_dead : (all : Classes) (front : List ℕ) (class : Class) (count : ℕ
     (size_reachable all (front ++ count ∷ []) && values_reachable all (front ++ count ∷ [])) ≡ false
 child_dead all front class count tally stands tracks size =
     ap (λ b. b && values_reachable all (front ++ count ∷ [])) (size_of_child all front class count tally stands tracks ∙ size)
+
+and_false : (b : Bool) → (b && false) ≡ false
+and_false true = refl
+and_false false = refl
+
+pub child_values_dead : (all : Classes) (front : List ℕ) (class : Class) (count : ℕ) (tally : Tally) → KeepsLimits all → HasPlaces all.bounds class → Stands all (length front) class →
+    Tracks all front (drop (length front + 1) all.classes) tally → OneFails all.bounds tally.held.items tally.later.items class.values count → is_reachable all (front ++ count ∷ []) ≡ false
+child_values_dead all front class count tally limits places stands tracks fails =
+    let child = front ++ count ∷ [] in
+    ap (λ b. size_reachable all child && b && takes_one_a_household all.classes child) (values_fail all front class count tally limits places stands tracks fails)
+    ∙ ap (λ b. b && takes_one_a_household all.classes child) (and_false (size_reachable all child))
+
+pub child_size_dead : (all : Classes) (front : List ℕ) (class : Class) (count : ℕ) (tally : Tally) → Stands all (length front) class →
+    Tracks all front (drop (length front + 1) all.classes) tally → (leb (tally.taken + count) all.size && leb all.size (tally.taken + count + tally.later_taken)) ≡ false →
+    is_reachable all (front ++ count ∷ []) ≡ false
+child_size_dead all front class count tally stands tracks size = ap (λ b. b && takes_one_a_household all.classes (front ++ count ∷ [])) (child_dead all front class count tally stands tracks size)
+
+-- counts above what the size and the upper bounds allow
+pub passed_dead : (all : Classes) (front : List ℕ) (class : Class) (tally : Tally) → KeepsLimits all → HasPlaces all.bounds class → Stands all (length front) class → Tracks all front (drop (length front + 1) all.classes) tally →
+    (most lack limit top : ℕ) → lack ≡ all.size - tally.taken → limit ≡ min most lack → ((count : ℕ) → top < count → count ≤ limit → OneFails all.bounds tally.held.items tally.later.items class.values count) →
+    (count : ℕ) → top < count → count ≤ most → is_reachable all (front ++ count ∷ []) ≡ false
+passed_dead all front class tally limits places stands tracks most lack limit top lack_is limit_is fails count l u =
+    let many : limit < count → is_reachable all (front ++ count ∷ []) ≡ false = λ lt.
+    child_size_dead all front class count tally stands tracks (ap (λ b. b && leb all.size (tally.taken + count + tally.later_taken)) (lt-leb (tally.taken + count) all.size (omega arith))) in
+    (elim (leb count limit) as (λ b. leb count limit ≡ b → is_reachable all (front ++ count ∷ []) ≡ false) [
+      | true ↦ λ t. child_values_dead all front class count tally limits places stands tracks (fails count l (leb-true count limit t))
+      | false ↦ λ f. many (leb-false count limit f)
+    ]) refl
+
+-- counts below what the size and the lower bounds need
+pub lacking_dead : (all : Classes) (front : List ℕ) (class : Class) (tally : Tally) → KeepsLimits all → HasPlaces all.bounds class → Stands all (length front) class → Tracks all front (drop (length front + 1) all.classes) tally →
+    (least lack limit low : ℕ) → lack ≡ all.size - (tally.taken + tally.later_taken) → limit ≡ max least lack → ((count : ℕ) → count < low → limit ≤ count → OneFails all.bounds tally.held.items tally.later.items class.values count) →
+    (count : ℕ) → count < low → least ≤ count → is_reachable all (front ++ count ∷ []) ≡ false
+lacking_dead all front class tally limits places stands tracks least lack limit low lack_is limit_is fails count l u =
+    let few : count < limit → is_reachable all (front ++ count ∷ []) ≡ false = λ lt.
+    child_size_dead all front class count tally stands tracks
+    (ap (λ b. leb (tally.taken + count) all.size && b) (lt-leb all.size (tally.taken + count + tally.later_taken) (omega arith)) ∙ and_false (leb (tally.taken + count) all.size)) in
+    (elim (leb limit count) as (λ b. leb limit count ≡ b → is_reachable all (front ++ count ∷ []) ≡ false) [
+      | true ↦ λ t. child_values_dead all front class count tally limits places stands tracks (fails count l (leb-true limit count t))
+      | false ↦ λ f. few (leb-false limit count f)
+    ]) refl
 
 -- ---- a front
 

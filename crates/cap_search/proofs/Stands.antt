@@ -10,11 +10,11 @@ use Rattle.std.proofs.lemmas.List.Sums.{get_or-le-sum_by}
 use Rattle.std.proofs.Math.ListN.{get_or-append}
 use Rattle.row_definitions.specs.Row.{Row}
 use Rattle.search_definitions.specs.Classes.{Class, Classes, KeepsLimits}
-use Rattle.search_definitions.specs.Fronts.{is_reachable, is_live_above, optimistic, sizes_of, taken_by, HaveEntries, HaveReach}
+use Rattle.search_definitions.specs.Fronts.{is_reachable, is_live_above, optimistic, sizes_of, taken_by}
 use Rattle.search_definitions.proofs.Limits.{all_from_each}
 use Rattle.cap_search.specs.Front.{Tracks}
 use Rattle.cap_search.specs.Steps.{Begins, CanTake, StandsAt}
-use Rattle.cap_search.specs.Weights.{AreNarrow, AreWithin, EachNarrow, Weighs, WeighEach}
+use Rattle.cap_search.specs.Weights.{AreWithin, Weighs, WeighEach}
 use Rattle.cap_search.specs.declared.searching.Search.{Search}
 use Rattle.cap_search.specs.declared.tally.Tally.{Tally}
 use Rattle.cap_search.specs.declared.weighing.Weights.{Weights}

@@ -3,7 +3,7 @@ use Rattle.std.specs.Prelude.{◌≡◌, ◌∷◌, ℕ, Bool, List, Option, len
 use Rattle.std.specs.List.{range_with_len}
 use Rattle.check_definitions.specs.Caps.{alike_at}
 use Rattle.pool_definitions.specs.Certificate.{Stage}
-use Rattle.pool_definitions.specs.Pool.{Pool, Volunteer}
+use Rattle.pool_definitions.specs.Pool.{Volunteer}
 use Rattle.search_definitions.specs.Classes.{shared_household}
 use Rattle.cap_search.specs.declared.likeness.Likeness.{Likeness}
 

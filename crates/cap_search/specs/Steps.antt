@@ -3,7 +3,7 @@ use Rattle.std.specs.Prelude.{◌≡◌, ◌≤◌, ◌<◌, ◌+◌, ℕ, if◌
 use Rattle.check_definitions.specs.Visits.{enter_above}
 use Rattle.row_definitions.specs.Row.{Row}
 use Rattle.search_definitions.specs.Classes.{Class, Classes}
-use Rattle.search_definitions.specs.Compositions.{counts_down}
+use Rattle.search_definitions.specs.Compositions.{counts_of}
 use Rattle.search_definitions.specs.Fronts.{is_live_above, is_reachable}
 use Rattle.search_definitions.specs.Visits.{Search as Due, one_by_one}
 use Rattle.cap_search.specs.Front.{Tracks}
@@ -32,10 +32,6 @@ pub record Begins (all : Classes) (closed : List Row) (row : Row) (search : Sear
 abbrev pub CanTake : Classes → ℕ → ℕ → Type 0
 CanTake all depth count = (class : Class) → slice_get all.classes depth ≡ Some class → count ≤ length class.members
 
--- so many above the least number of the class in a place can be taken
-abbrev pub CanTakeAbove : Classes → ℕ → ℕ → Type 0
-CanTakeAbove all depth above = (class : Class) → slice_get all.classes depth ≡ Some class → class.least + above ≤ length class.members
-
 -- a child where it is live, else nothing
 abbrev pub child_above : Classes → List Row → Row → List Class → List ℕ → Due
 child_above all closed row later child = if is_live_above all closed row row.b child then enter_above all closed row later child else record { visits = 0; found = None }
@@ -45,13 +41,14 @@ abbrev pub children_above : Classes → List Row → Row → List Class → List
 children_above all closed row later front counts =
     one_by_one (map (λ child. enter_above all closed row later child) (filter (is_live_above all closed row row.b) (map (λ c. front ++ c ∷ []) counts)))
 
-abbrev pub counts_among : List Class → ℕ → List ℕ
-counts_among [] above = []
-counts_among (class ∷ later) above = counts_down class.least above
+-- the counts of the first of some classes
+abbrev pub counts_of_first : List Class → List ℕ
+counts_of_first [] = []
+counts_of_first (class ∷ later) = counts_of class
 
--- the counts of the class in a place, from so many above the least down to it
-abbrev pub counts_at : Classes → ℕ → ℕ → List ℕ
-counts_at all depth above = counts_among (drop depth all.classes) above
+-- the counts that the class in a place may have
+abbrev pub counts_at : Classes → ℕ → List ℕ
+counts_at all depth = counts_of_first (drop depth all.classes)
 
 -- a step from a front, with so many visits left: it finds what is due and takes the visits that are due, or it finds that they are
 -- more than are left; without a find it stands where it stood

@@ -4,10 +4,11 @@
 ghost use Rattle.std.specs.Prelude.{◌≡◌, ◌≤◌, ◌<◌, ◌+◌, [], ◌∷◌, ◌++◌, true, false, ◌&&◌, length, take, drop, int_le, int_lt, IfOk, OnOk, OnErr};
 ghost use Rattle.std.specs.List.{list_all};
 ghost use Rattle.cap_search.specs.Answers.{Answers, AnswersWithin};
-ghost use Rattle.cap_search.specs.Steps.{Begins, CanTake, CanTakeAbove, Finds, StandsAt, Steps, child_above, children_above, counts_at};
+ghost use Rattle.cap_search.specs.Steps.{Begins, CanTake, Finds, StandsAt, Steps, child_above, children_above, counts_at};
 ghost use Rattle.cap_search.specs.Terms.{AreTerms};
 ghost use Rattle.cap_search.specs.Weights.{Weighs, WeighEach};
 ghost use Rattle.check_definitions.specs.Visits.{above_search, enter_above};
+ghost use Rattle.search_definitions.specs.Compositions.{counts_down};
 ghost use Rattle.search_definitions.specs.Fronts.{is_live_above, is_reachable, optimistic};
 
 use crate::composing::Composition;
@@ -161,7 +162,8 @@ impl Search {
         Ok(())
     }
 
-    // Are the child's optimistic weights at least the closed rows' right sides, and more than the row's?
+    // Are the child's optimistic weights at least the closed rows' right sides, and more than the row's? The row is tried first, which
+    // rules out the most children.
     fn weights_allow(&mut self, terms: &Terms, depth: usize, count: usize) -> bool
         requires terms { AreTerms terms.now }
         requires below { depth < length terms.now.classes.classes }
@@ -179,18 +181,19 @@ impl Search {
         let classes = &terms.classes;
         let front = &self.counts[..depth];
         let lack = self.tally.lack(classes, front, count);
-        child_attains(
-            &mut self.closed,
-            &terms.closed_sums,
-            classes,
-            &terms.closed,
-            front,
-            count,
-            lack,
-        ) && terms.row.side()
-            < self
-                .weights
-                .child(&terms.sums, classes, &terms.row, front, count, lack)
+        let reached = self
+            .weights
+            .child(&terms.sums, classes, &terms.row, front, count, lack);
+        terms.row.side() < reached
+            && child_attains(
+                &mut self.closed,
+                &terms.closed_sums,
+                classes,
+                &terms.closed,
+                front,
+                count,
+                lack,
+            )
     }
 
     #[cycle(search)]
@@ -207,9 +210,8 @@ impl Search {
             return Ok(true);
         }
         classes.facts();
-        let class = &classes.classes()[depth];
         self.tally.begin_class(classes, &self.counts[..depth]);
-        if self.children(terms, depth, class.most() - class.least())? {
+        if self.go_on(terms, depth)? {
             return Ok(true);
         }
         self.tally.end_class(classes, &self.counts[..depth]);
@@ -217,27 +219,52 @@ impl Search {
     }
 
     #[cycle(search)]
-    // Tries the children of the front, with counts of the next class from so many above the least down to it.
-    fn children(&mut self, terms: &Terms, depth: usize, above: usize) -> Result<bool, BudgetSpent>
+    // Tries the children of the front, but for those that the size or a bound rules out.
+    fn go_on(&mut self, terms: &Terms, depth: usize) -> Result<bool, BudgetSpent>
         requires terms { AreTerms terms.now }
         requires below { depth < length terms.now.classes.classes }
-        requires can_take { CanTakeAbove terms.now.classes depth above }
-        requires above { above ≤ 400 }
         requires stands { StandsAt terms.now.classes terms.now.closed.items terms.now.row depth (drop (depth + 1) terms.now.classes.classes) self.old }
         ensures { Steps terms.now.classes terms.now.closed.items terms.now.row depth (drop (depth + 1) terms.now.classes.classes)
-            (children_above terms.now.classes terms.now.closed.items terms.now.row (drop (depth + 1) terms.now.classes.classes) (take depth self.old.counts.items) (counts_at terms.now.classes depth above))
+            (children_above terms.now.classes terms.now.closed.items terms.now.row (drop (depth + 1) terms.now.classes.classes) (take depth self.old.counts.items) (counts_at terms.now.classes depth))
             self.old result self.new }
     {
         let classes = &terms.classes;
         classes.facts();
-        let count = classes.classes()[depth].least() + above;
-        if self.try_child(terms, depth, count)? {
+        let class = &classes.classes()[depth];
+        let front = &self.counts[..depth];
+        let most = self.tally.greatest_count(classes, front, class.most());
+        let least = self.tally.least_count(classes, front, class.least());
+        if most < least {
+            return Ok(false);
+        }
+        self.children(terms, depth, least, most - least)
+    }
+
+    #[cycle(search)]
+    // Tries the children with so many of the next class, from so many above the least down to it.
+    fn children(
+        &mut self,
+        terms: &Terms,
+        depth: usize,
+        least: usize,
+        above: usize,
+    ) -> Result<bool, BudgetSpent>
+        requires terms { AreTerms terms.now }
+        requires below { depth < length terms.now.classes.classes }
+        requires can_take { CanTake terms.now.classes depth (least + above) }
+        requires few { least + above ≤ 400 }
+        requires stands { StandsAt terms.now.classes terms.now.closed.items terms.now.row depth (drop (depth + 1) terms.now.classes.classes) self.old }
+        ensures { Steps terms.now.classes terms.now.closed.items terms.now.row depth (drop (depth + 1) terms.now.classes.classes)
+            (children_above terms.now.classes terms.now.closed.items terms.now.row (drop (depth + 1) terms.now.classes.classes) (take depth self.old.counts.items) (counts_down least above))
+            self.old result self.new }
+    {
+        if self.try_child(terms, depth, least + above)? {
             return Ok(true);
         }
         if above == 0 {
             return Ok(false);
         }
-        self.children(terms, depth, above - 1)
+        self.children(terms, depth, least, above - 1)
     }
 
     #[cycle(search)]

@@ -1,6 +1,6 @@
 //! Numbers for the values of the categories, 50 places for each category, and what they allow.
 
-ghost use Rattle.std.specs.Prelude.{◌≡◌, true, false, ◌≤◌, ◌<◌, ◌+◌, ◌^◌, length};
+ghost use Rattle.std.specs.Prelude.{◌≡◌, ℕ, List, true, false, ◌≤◌, ◌<◌, ◌+◌, ◌^◌, length};
 ghost use Rattle.cap_search.specs.Tallies.{HaveCells, CanGive, AreAtMost, HasMore, HaveBounds, AllReach, OneFails, FitCells, EachReaches, SomeFails, within_reach};
 
 use crate::groups::ValueBounds;
@@ -57,6 +57,51 @@ pub(crate) fn values_allow(
         }
     }
     true
+}
+
+// The greatest number, up to `most`, for which the upper bounds of these values leave room: with more of them, one passes its bound.
+pub(crate) fn room_left(
+    bounds: &[ValueBounds],
+    held: &[usize],
+    values: &[usize],
+    most: usize,
+) -> usize
+    requires bounds { HaveBounds bounds.now values.now }
+    requires held { HaveCells values.now held.now }
+    ensures within { result ≤ most }
+    ensures passed { (count : ℕ) (later : List ℕ) → result < count → count ≤ most → OneFails bounds.now held.now later values.now count }
+{
+    let mut room = most;
+    for (category, value) in values.iter().enumerate() {
+        let bound = bounds[category].as_slice()[*value];
+        room = room.min(bound.upper.saturating_sub(held[PLACES * category + value]));
+    }
+    room
+}
+
+// The least number, from `least` on, that these values need: with fewer of them, one can't reach its lower bound.
+pub(crate) fn number_needed(
+    bounds: &[ValueBounds],
+    held: &[usize],
+    later: &[usize],
+    values: &[usize],
+    least: usize,
+) -> usize
+    requires bounds { HaveBounds bounds.now values.now }
+    requires held { HaveCells values.now held.now }
+    requires later { HaveCells values.now later.now }
+    requires small { AreAtMost 1000000 (length values.now) held.now }
+    requires small_later { AreAtMost 1000000 (length values.now) later.now }
+    ensures within { least ≤ result }
+    ensures lacking { (count : ℕ) → count < result → least ≤ count → OneFails bounds.now held.now later.now values.now count }
+{
+    let mut needed = least;
+    for (category, value) in values.iter().enumerate() {
+        let place = PLACES * category + value;
+        let bound = bounds[category].as_slice()[*value];
+        needed = needed.max(bound.lower.saturating_sub(held[place] + later[place]));
+    }
+    needed
 }
 
 // Is each value's number at most its upper bound, and can it still reach its lower one?

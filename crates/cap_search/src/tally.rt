@@ -1,13 +1,15 @@
 //! What a front takes of everybody, of each value and of each household, and the most that the classes after it give.
 
-ghost use Rattle.std.specs.Prelude.{◌≡◌, ◌+◌, ◌-◌, ◌*◌, ◌≤◌, ◌<◌, ◌++◌, ◌^◌, [], ◌∷◌, IfOk, true, nat_le, ◌&&◌, drop, length};
+ghost use Rattle.std.specs.Prelude.{◌≡◌, ℕ, false, ◌+◌, ◌-◌, ◌*◌, ◌≤◌, ◌<◌, ◌++◌, ◌^◌, [], ◌∷◌, IfOk, true, nat_le, ◌&&◌, drop, length};
 ghost use Rattle.cap_search.specs.Front.{Gives, Tracks};
 ghost use Rattle.cap_search.specs.Tallies.{AreAtMost};
 ghost use Rattle.search_definitions.specs.Fronts.{is_reachable, size_reachable, taken_by, values_reachable};
 
 use crate::groups::Classes;
 use crate::homes;
-use crate::tallies::{PLACES, add_to, all_within_reach, take_from, values_allow};
+use crate::tallies::{
+    PLACES, add_to, all_within_reach, number_needed, room_left, take_from, values_allow,
+};
 use std::alloc::{AllocError, Global};
 
 // How many a front takes, and the most that later classes give: in all, and of each value; and how many it takes of each household.
@@ -124,6 +126,39 @@ impl Tally {
                 class.values(),
                 count,
             )
+    }
+
+    // The greatest count of the next class, up to `most`, that the size and the upper bounds allow: the front isn't live with more.
+    pub(crate) fn greatest_count(&self, classes: &Classes, front: &[usize], most: usize) -> usize
+        requires below { length front.now < length classes.now.classes }
+        requires stands { Tracks classes.now front.now (drop (length front.now + 1) classes.now.classes) self.now }
+        ensures within { result ≤ most }
+        ensures passed { (count : ℕ) → result < count → count ≤ most → is_reachable classes.now (front.now ++ count ∷ []) ≡ false }
+    {
+        classes.facts();
+        let class = &classes.classes()[front.len()];
+        let lack = classes.size().saturating_sub(self.taken);
+        room_left(classes.bounds(), &self.held, class.values(), most.min(lack))
+    }
+
+    // The least count of the next class, from `least` on, that the size and the lower bounds need: the front isn't live with fewer.
+    pub(crate) fn least_count(&self, classes: &Classes, front: &[usize], least: usize) -> usize
+        requires below { length front.now < length classes.now.classes }
+        requires live { is_reachable classes.now front.now ≡ true }
+        requires stands { Tracks classes.now front.now (drop (length front.now + 1) classes.now.classes) self.now }
+        ensures within { least ≤ result }
+        ensures lacking { (count : ℕ) → count < result → least ≤ count → is_reachable classes.now (front.now ++ count ∷ []) ≡ false }
+    {
+        classes.facts();
+        let class = &classes.classes()[front.len()];
+        let lack = classes.size().saturating_sub(self.taken + self.later_taken);
+        number_needed(
+            classes.bounds(),
+            &self.held,
+            &self.later,
+            class.values(),
+            least.max(lack),
+        )
     }
 
     // Is the empty front live?

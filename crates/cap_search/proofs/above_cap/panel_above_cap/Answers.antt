@@ -1,4 +1,4 @@
-use Rattle.std.proofs.Common.{length, reverse, sym, ap, ◌∙◌}
+use Rattle.std.proofs.Common.{length, reverse, sym, ◌∙◌}
 use Rattle.bundle_definitions.specs.Ranges.{is_stage}
 use Rattle.cap_search.proofs.AboveCap.{none_above, panel_is, turned_in_ranges, visits_within}
 use Rattle.cap_search.proofs.above_cap.panel_above_cap.Goals as goal

@@ -1,4 +1,4 @@
-use Rattle.std.proofs.Common.{◌≡◌, ◌∙◌, ℕ, Bool, not, [], ◌∷◌, ◌++◌, List, Vec, Global, sym, ap}
+use Rattle.std.proofs.Common.{◌∙◌, ℕ, Bool, not, [], ◌∷◌, ◌++◌, List, Vec, Global, sym, ap}
 use Rattle.std.specs.List.{list_any, range_with_len}
 use Rattle.cap_search.specs.Likeness.{is_alike as alike}
 use Rattle.cap_search.proofs.Filters.{filter_passed, filter_taken}

@@ -1,4 +1,4 @@
-use Rattle.std.proofs.Common.{◌≡◌, length, not}
+use Rattle.std.proofs.Common.{◌≡◌, not}
 use Rattle.std.specs.List.{filter, list_any, range_with_len}
 use Rattle.cap_search.specs.Likeness.{is_alike as alike}
 use Rattle.cap_search.proofs.grouping.leaders.Given as goal

@@ -1,4 +1,4 @@
-use Rattle.std.proofs.Common.{◌≡◌, ◌∙◌, ℕ, [], ◌∷◌, ◌++◌, List, Vec, Global, sym, ap}
+use Rattle.std.proofs.Common.{◌∙◌, ℕ, [], ◌∷◌, ◌++◌, List, Vec, Global, sym, ap}
 use Rattle.cap_search.specs.Likeness.{is_alike as alike}
 use Rattle.cap_search.proofs.Filters.{filter_passed, filter_taken}
 use Rattle.cap_search.proofs.grouping.members.Goals.{then-are_alike+in_ok-push, else-are_alike}

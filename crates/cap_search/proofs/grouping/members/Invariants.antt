@@ -1,4 +1,4 @@
-use Rattle.std.proofs.Common.{◌≡◌, length}
+use Rattle.std.proofs.Common.{◌≡◌}
 use Rattle.std.specs.List.{filter, range_with_len}
 use Rattle.cap_search.specs.Likeness.{is_alike as alike}
 use Rattle.cap_search.proofs.grouping.members.Given as goal

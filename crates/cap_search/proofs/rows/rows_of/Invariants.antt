@@ -1,6 +1,5 @@
 use Rattle.std.proofs.Common.{◌≡◌, map, take}
 use Rattle.pool_definitions.specs.Certificate.{Stage, weight_of}
-use Rattle.row_definitions.specs.Row.{Row}
 use Rattle.cap_search.proofs.rows.rows_of.Given as goal
 
 -- a stage as a row over classes with these first members
