@@ -1,6 +1,6 @@
 //! The traits through which the program meets the world: a source of bytes and a sink of bytes,
 //! each of which counts its faults. In memory for tests, and over std's readers and writers.
-//! Below it stands nothing of the repository.
+//! And who is told that pieces of work start. Below it stands nothing of the repository.
 #![tactic(auto)]
 
 mod calls;
@@ -13,6 +13,7 @@ mod std_sink;
 mod std_source;
 #[cfg(test)]
 mod tests;
+mod watch;
 
 pub use mem_sink::MemSink;
 pub use mem_source::MemSource;
@@ -21,3 +22,4 @@ pub use sink::Sink;
 pub use source::{Failed, Source};
 pub use std_sink::StdSink;
 pub use std_source::StdSource;
+pub use watch::{NoWatch, Watch};

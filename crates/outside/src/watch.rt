@@ -1,0 +1,16 @@
+//! Who is told that pieces of work start.
+
+/// Is told of each piece of work as a worker starts it. What a watch does with it changes no answer, and no contract says that it is
+/// told.
+pub trait Watch {
+    /// The piece of this number is about to start. Pieces count from 0 in each pricing.
+    fn piece(&self, number: u64);
+}
+
+/// Does nothing.
+#[derive(Clone, Copy, Debug)]
+pub struct NoWatch;
+
+impl Watch for NoWatch {
+    fn piece(&self, _number: u64) {}
+}
