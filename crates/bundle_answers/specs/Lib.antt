@@ -1,3 +1,4 @@
 pub mod OfBundle
 pub mod Seal
 pub mod Draw
+pub mod Check
