@@ -1,14 +1,17 @@
 //! One call of a command.
 
+ghost use Rattle.std.specs.Fn.{FnOnceReturnsAt};
+ghost use Rattle.std.specs.Prelude.{ℕ, List, IfOk};
 ghost use Rattle.command_shell.specs.Told.{object, told};
-ghost use Rattle.command_shell.specs.Answers.{number_of};
+ghost use Rattle.command_shell.specs.Answers.{number_of, saying};
 ghost use Rattle.command_shell.specs.Calls.{CallIsRight};
 
-use crate::command::TextCommand;
+use crate::answer::Answer;
+use crate::command::{TextCommand, TextMeaning};
 use crate::status::Status;
 use crate::telling::{read_fault, tell, too_long, want_memory};
 use outside::{ReadStop, Sink, Source, read_all};
-use std::alloc::Global;
+use std::alloc::{AllocError, Global};
 
 /// The most bytes that an input may have.
 const INPUT_LIMIT: usize = 16_777_216;
@@ -27,8 +30,36 @@ pub fn call<C: TextCommand, S: Source, O: Sink, E: Sink>(
         (object (O.written out.old) (O.written out.new) (O.faults out.old) (O.faults out.new))
         (object (E.written errs.old) (E.written errs.new) (E.faults errs.old) (E.faults errs.new))) }
 {
+    call_answered_by(
+        alloc,
+        command,
+        |bytes: &[u8]| -> Result<Answer, AllocError>
+            ensures { IfOk result (λ answer. C.means command.entry.now bytes.now (saying answer)) }
+        { command.answer(alloc, bytes) },
+        source,
+        out,
+        errs,
+    )
+}
+
+/// The same of a command that a function answers, which is right about each text. So a command can be handed what no trait's method may
+/// be, as whoever starts threads.
+pub fn call_answered_by<
+    C: TextMeaning,
+    F: FnOnce(&[u8]) -> Result<Answer, AllocError>,
+    S: Source,
+    O: Sink,
+    E: Sink,
+>(alloc: Global, command: &C, answer: F, source: &mut S, out: &mut O, errs: &mut E) -> Status
+    requires callable { F.IsAlwaysCallable answer }
+    requires right { (bytes : List ℕ) (answered : _) → FnOnceReturnsAt F.FnOnce answer bytes answered → IfOk answered (λ it. C.means command.now bytes (saying it)) }
+    ensures { CallIsRight (C.means command.now) (told (number_of result)
+        (object (S.left source.old) (S.left source.new) (S.faults source.old) (S.faults source.new))
+        (object (O.written out.old) (O.written out.new) (O.faults out.old) (O.faults out.new))
+        (object (E.written errs.old) (E.written errs.new) (E.faults errs.old) (E.faults errs.new))) }
+{
     match read_all(alloc, source, INPUT_LIMIT) {
-        Ok(bytes) => match command.answer(alloc, &bytes) {
+        Ok(bytes) => match answer(&bytes) {
             Ok(answer) => tell(out, errs, &answer),
             Err(_) => want_memory(errs),
         },

@@ -6,15 +6,18 @@ ghost use Rattle.command_shell.specs.Answers.{AnswersOnce, Saying, saying};
 use crate::answer::Answer;
 use std::alloc::{AllocError, Global};
 
-/// A command about the text of the input, with its arguments: a function from its bytes to an answer.
-pub trait TextCommand {
+/// A command about the text of the input, with its arguments, as far as its answers go.
+pub trait TextMeaning {
     /// Which answers are right about some bytes.
     ghost means: { Self → List ℕ → Saying → Type 0 };
 
-    /// An answer that is right about the bytes, or want of memory.
-    fn answer(&self, alloc: Global, bytes: &[u8]) -> Result<Answer, AllocError>
-        ensures { IfOk result (λ answer. means self.now bytes.now (saying answer)) };
-
     /// At most one answer is right about some bytes.
     ghost answers_once: { (command : Self) → AnswersOnce (means command) };
+}
+
+/// A command about the text of the input, with its arguments: a function from its bytes to an answer.
+pub trait TextCommand: TextMeaning {
+    /// An answer that is right about the bytes, or want of memory.
+    fn answer(&self, alloc: Global, bytes: &[u8]) -> Result<Answer, AllocError>
+        ensures { IfOk result (λ answer. Self.means self.now bytes.now (saying answer)) };
 }

@@ -13,8 +13,8 @@ mod telling;
 mod tests;
 
 pub use answer::Answer;
-pub use calling::call;
-pub use command::TextCommand;
+pub use calling::{call, call_answered_by};
+pub use command::{TextCommand, TextMeaning};
 pub use lines::{input_line, no_panel};
 pub use status::{Cause, Printed, Status};
 pub use telling::{refuse_words, want_memory};

@@ -1,6 +1,6 @@
 //! Calls of small commands over the forms in memory: what is told where the source, `out` or `errs` fails.
 
-use crate::{Answer, Cause, Printed, TextCommand, call};
+use crate::{Answer, Cause, Printed, TextCommand, TextMeaning, call};
 use outside::{MemSink, MemSource};
 use std::alloc::{AllocError, Global};
 use std::test::Fail;
@@ -9,42 +9,46 @@ use std::test::Fail;
 #[derive(Clone, Copy)]
 struct Echo(Printed);
 
-impl TextCommand for Echo {
+impl TextMeaning for Echo {
     ghost use Rattle.std.specs.Prelude.{◌≡◌};
     ghost use Rattle.std.proofs.Common.{◌∙◌, sym};
     ghost use Rattle.command_shell.specs.Answers.{Prints};
 
     ghost means = { λ command bytes answer. answer ≡ Prints command.0 bytes };
 
+    ghost answers_once = { λ command bytes first second is also. is ∙ sym also };
+}
+
+impl TextCommand for Echo {
     fn answer(&self, alloc: Global, bytes: &[u8]) -> Result<Answer, AllocError> {
         Ok(Answer::Prints {
             printed: self.0,
             text: Vec::from_slice(alloc, bytes)?,
         })
     }
-
-    ghost answers_once = { λ command bytes first second is also. is ∙ sym also };
 }
 
 /// Stops for this cause, with the line `stopped`.
 #[derive(Clone, Copy)]
 struct Halt(Cause);
 
-impl TextCommand for Halt {
+impl TextMeaning for Halt {
     ghost use Rattle.std.specs.Prelude.{◌≡◌, [], ◌∷◌, codes};
     ghost use Rattle.std.proofs.Common.{◌∙◌, sym};
     ghost use Rattle.command_shell.specs.Answers.{Stops};
 
     ghost means = { λ command bytes answer. answer ≡ Stops command.0 (codes "stopped\n") };
 
+    ghost answers_once = { λ command bytes first second is also. is ∙ sym also };
+}
+
+impl TextCommand for Halt {
     fn answer(&self, alloc: Global, _bytes: &[u8]) -> Result<Answer, AllocError> {
         Ok(Answer::Stops {
             cause: self.0,
             line: Vec::from_slice(alloc, b"stopped\n")?,
         })
     }
-
-    ghost answers_once = { λ command bytes first second is also. is ∙ sym also };
 }
 
 /// A call whose listed reads and puts fail, counted from 1, and how many bytes `out` takes.
