@@ -5,7 +5,7 @@ ghost use Rattle.command_shell.specs.Answers.{saying};
 ghost use Rattle.bundle_commands.specs.Stopped.{TellsStop};
 
 use crate::lines::{drawn_lines, number_rule_line, seal_rule_line};
-use crate::of_bundle::BundleCommand;
+use crate::of_bundle::{BundleCommand, BundleMeaning};
 use bundle_text::Bundle;
 use command_shell::{Answer, Cause, Printed, input_line};
 use sealed_draw::{DrawStop, draw, seal, total_agrees};
@@ -23,12 +23,16 @@ pub struct DrawnPanel<'a> {
     pub digits: &'a str,
 }
 
-impl BundleCommand for DrawnPanel<'_> {
+impl BundleMeaning for DrawnPanel<'_> {
     ghost use Rattle.bundle_answers.specs.Draw.{DrawMeans};
     ghost use Rattle.bundle_answers.proofs.BundleLaws.{draw_once};
 
     ghost means = { λ command. DrawMeans command.seal.now command.digits.now };
 
+    ghost answers_once = { λ command. draw_once command.seal.now command.digits.now };
+}
+
+impl BundleCommand for DrawnPanel<'_> {
     fn answer(&self, alloc: Global, bundle: &Bundle, text: &[u8]) -> Result<Answer, AllocError> {
         if !total_agrees(bundle) {
             return Ok(Answer::Stops {
@@ -46,8 +50,6 @@ impl BundleCommand for DrawnPanel<'_> {
             Err(stop) => stopped(alloc, &stop),
         }
     }
-
-    ghost answers_once = { λ command. draw_once command.seal.now command.digits.now };
 }
 
 /// What is answered where nothing is drawn.

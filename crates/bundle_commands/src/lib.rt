@@ -8,5 +8,5 @@ mod of_bundle;
 mod seal;
 
 pub use draw::DrawnPanel;
-pub use of_bundle::{BundleCommand, OfBundle};
+pub use of_bundle::{BundleCommand, BundleMeaning, OfBundle};
 pub use seal::BundleSeal;

@@ -8,5 +8,5 @@ mod of_pool;
 mod panel;
 
 pub use lottery::PoolLottery;
-pub use of_pool::{OfPool, PoolCommand};
+pub use of_pool::{OfPool, PoolCommand, PoolMeaning, answer_of_pool};
 pub use panel::FirstPanel;

@@ -5,7 +5,7 @@ ghost use Rattle.command_shell.specs.Answers.{saying};
 ghost use Rattle.pool_commands.specs.Found.{TellsStop};
 
 use crate::lines::{nodes_spent_line, pivots_spent_line, total_line, wide_line};
-use crate::of_pool::PoolCommand;
+use crate::of_pool::{PoolCommand, PoolMeaning};
 use bundle_text::write_bundle;
 use command_shell::{Answer, Cause, Printed, no_panel};
 use leximin_run::{Limits, Solved, Stop, solve};
@@ -52,8 +52,6 @@ impl<R: Threads + Sync, W: Watch + Sync> PoolCommand for PoolLottery<'_, R, W> {
             Err(stop) => stopped(alloc, self.limits, &stop),
         }
     }
-
-    ghost answers_once = { λ command. lottery_once command.limits };
 }
 
 /// What is answered where a step of the run is refused.

@@ -4,7 +4,7 @@ ghost use Rattle.std.specs.Prelude.{IfOk};
 ghost use Rattle.pool_commands.specs.Found.{FirstSays};
 
 use crate::lines::{nodes_spent_line, panel_line};
-use crate::of_pool::PoolCommand;
+use crate::of_pool::{PoolCommand, PoolMeaning};
 use alike::{classes, first_panel};
 use command_shell::{Answer, Cause, Printed, no_panel};
 use leximin_run::At;
@@ -20,12 +20,16 @@ pub struct FirstPanel {
     pub nodes: u64,
 }
 
-impl PoolCommand for FirstPanel {
+impl PoolMeaning for FirstPanel {
     ghost use Rattle.pool_answers.specs.Panel.{PanelMeans};
     ghost use Rattle.pool_answers.proofs.PanelLaws.{panel_once};
 
     ghost means = { λ command. PanelMeans command.nodes };
 
+    ghost answers_once = { λ command. panel_once command.nodes };
+}
+
+impl PoolCommand for FirstPanel {
     fn answer(&self, alloc: Global, pool: &Pool) -> Result<Answer, AllocError> {
         match first_of(alloc, self.nodes, pool) {
             Ok(Some(panel)) => Ok(Answer::Prints {
@@ -40,8 +44,6 @@ impl PoolCommand for FirstPanel {
             Err(SearchStop::OutOfMemory) => Err(AllocError),
         }
     }
-
-    ghost answers_once = { λ command. panel_once command.nodes };
 }
 
 /// The first members of the first composition's classes, if the search makes at most `nodes` visits.
