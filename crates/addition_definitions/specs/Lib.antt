@@ -1,0 +1,10 @@
+pub mod Constraints
+pub mod Leaves
+pub mod Trees
+pub mod TreeLines
+pub mod TreeRanges
+pub mod LeafSums
+pub mod CapsHold
+pub mod ProofVerdict
+pub mod ProofSteps
+pub mod WorkedTrees

@@ -1,0 +1,70 @@
+-- Trees as lists of lines, and the first line that isn't one of a tree that shows a cap.
+use Rattle.std.specs.Prelude.{◌≡◌, ℕ, ◌+◌, if◌then◌else◌, Bool, true, false, IsTrue, List, [], ◌∷◌, ◌++◌, slice_set, Option, Some, None}
+use Rattle.pool_definitions.specs.declared.Standing.{Standing}
+use Rattle.pool_definitions.specs.declared.Standing.TheVariants.{Seated, Gone}
+use Rattle.addition_definitions.specs.Leaves.{Leaf, Problem, leaf_shows}
+use Rattle.addition_definitions.specs.Trees.{AtLeaf, AtSplit, Tree, is_undecided, tree_shows}
+
+-- a line of a tree: a split on a volunteer, or a leaf
+pub data TreeLine : Type 0 where
+  OfSplit : (i : ℕ) → TreeLine
+  OfLeaf : (leaf : Leaf) → TreeLine
+
+-- the lines of a tree: a split stands before its subtrees, and the subtree without before the one with the volunteer
+abbrev pub lines_of : Tree → List TreeLine
+lines_of (AtLeaf leaf) = OfLeaf leaf ∷ []
+lines_of (AtSplit i without with) = OfSplit i ∷ (lines_of without ++ lines_of with)
+
+-- lines are those of a tree that shows the cap of a problem
+pub record AreOfTree (problem : Problem) (standings : List Standing) (lines : List TreeLine) : Type 0 where
+  pub tree : Tree
+  pub its_lines : lines_of tree ≡ lines
+  pub shows : IsTrue (tree_shows problem standings tree)
+
+-- ---- line after line
+
+-- a volunteer whom a split has decided, and whether the line that comes next is of the subtree with or without this volunteer
+pub record Decision : Type 0 where
+  pub volunteer : ℕ
+  pub is_in : Bool
+
+-- what a volunteer's standing is in a subtree
+abbrev pub decided_standing : Bool → Standing
+decided_standing is_in = if is_in then Seated else Gone
+
+-- the standings where a path of decisions leads, the latest first
+abbrev pub standings_at : List Standing → List Decision → List Standing
+standings_at standings [] = standings
+standings_at standings (decision ∷ path) = slice_set (standings_at standings path) decision.volunteer (decided_standing decision.is_in)
+
+-- the path of the line behind a leaf: back to the latest volunteer who was out, and who is in from here on. There is none behind the last leaf
+abbrev pub path_behind : List Decision → Option (List Decision)
+path_behind [] = None
+path_behind (decision ∷ path) = if decision.is_in then path_behind path else Some (record decision { is_in = true } ∷ path)
+
+-- the number of a line, and the reason for which it is refused
+pub record TreeFault : Type 0 where
+  pub line : ℕ
+  pub reason : ℕ
+
+abbrev pub fault : ℕ → ℕ → Option TreeFault
+fault line reason = Some (record { line = line; reason = reason })
+
+-- the first fault of lines from a number on, where a path leads, or none where the tree is complete. 11: it isn't the next line of a tree:
+-- a split on a volunteer who is decided, no line where the tree goes on, or a line behind its end; 12: the multipliers don't show the cap
+abbrev pub fault_from : Problem → List Standing → ℕ → Option (List Decision) → List TreeLine → Option TreeFault
+fault_from problem standings number None [] = None
+fault_from problem standings number None (line ∷ later) = fault number 11
+fault_from problem standings number (Some path) [] = fault number 11
+fault_from problem standings number (Some path) (OfSplit i ∷ later) =
+    if is_undecided (standings_at standings path) i
+    then fault_from problem standings (number + 1) (Some (record { volunteer = i; is_in = false } ∷ path)) later
+    else fault number 11
+fault_from problem standings number (Some path) (OfLeaf leaf ∷ later) =
+    if leaf_shows problem (standings_at standings path) leaf
+    then fault_from problem standings (number + 1) (path_behind path) later
+    else fault number 12
+
+-- the first fault of the lines of a tree, whose first line has a number
+abbrev pub tree_fault : Problem → List Standing → ℕ → List TreeLine → Option TreeFault
+tree_fault problem standings number lines = fault_from problem standings number (Some []) lines

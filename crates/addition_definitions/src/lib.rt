@@ -1,0 +1,160 @@
+//! The words of a proof by additions: the constraints of a stage's problem, leaves and trees that show its cap, the lines of a tree, and
+//! the verdict on a proof. They stand in `specs/`, over the words of `pool_definitions`, `search_definitions`, `check_definitions` and
+//! `bundle_definitions`.
+//!
+//! The functions here have no body: their contracts are laws over the definitions, and worked examples.
+#![tactic(auto)]
+
+ghost use Rattle.std.specs.Prelude.{map, drop, length, slice_set, ◌≡◌, ◌↔◌, ◌⊎◌, ◌<◌, ◌≤◌, ◌+◌, ◌-◌, ◌^◌, ◌*ℤ◌, ◌+ℤ◌, [], ◌∷◌, ℕ, pos, negsuc, unsigned_abs, List, IsTrue, None, Some};
+ghost use Rattle.std.specs.List.{AllByRecursion, list_all};
+ghost use Rattle.bundle_definitions.specs.Ranges.{IsInRanges};
+ghost use Rattle.pool_definitions.specs.declared.Standing.{Standing};
+ghost use Rattle.pool_definitions.specs.declared.Standing.TheVariants.{Open};
+ghost use Rattle.pool_definitions.specs.Certificate.{Answer, Certifies, Stage, is_capped};
+ghost use Rattle.pool_definitions.specs.Lottery.{LeximinGreatest};
+ghost use Rattle.pool_definitions.specs.Pool.{IsPool, Pool, is_quota_panel, panels};
+ghost use Rattle.pool_definitions.specs.WorkedExamples.{after_dropout, family, four, stage};
+ghost use Rattle.check_definitions.specs.Reasons.{Valid};
+ghost use Rattle.check_definitions.specs.WorkedChecks.{below_zero, one_stage, refused, two_women};
+ghost use Rattle.addition_definitions.specs.CapsHold.{CapsHold, EarlierCapsHold};
+ghost use Rattle.addition_definitions.specs.Constraints.{constraints};
+ghost use Rattle.addition_definitions.specs.LeafSums.{charges_and_rests, first_charges, first_multipliers, is_in_reach, is_problem_in_reach, is_stage_in_reach};
+ghost use Rattle.addition_definitions.specs.Leaves.{Leaf, Problem, charge, multiplied, no_panel, no_panel_problem, rest, stage_problem, standings};
+ghost use Rattle.addition_definitions.specs.ProofVerdict.{OfLottery, OfNoPanel, TreesShow, verdict};
+ghost use Rattle.addition_definitions.specs.TreeRanges.{is_leaf};
+ghost use Rattle.addition_definitions.specs.ProofSteps.{BeginsWithLottery, GoesOnByStages};
+ghost use Rattle.addition_definitions.specs.Trees.{Tree, is_undecided, tree_shows};
+ghost use Rattle.addition_definitions.specs.WorkedTrees.{constraint, couple_lines, couple_proof, double_leaf, four_proof, four_trees, leaf, men_leaf, one_stage_proof, size_leaf, split_lines, split_tree, times, unknown_leaf, women_leaf};
+ghost use Rattle.addition_definitions.specs.TreeLines.{AreOfTree, OfLeaf, OfSplit, TreeFault, TreeLine, fault, lines_of, tree_fault};
+
+/// Where the earlier caps hold, a tree that shows a stage's cap proves that it holds: no quota panel that attains the earlier caps weighs more.
+pub fn tree_shows_cap()
+    ensures { (pool : Pool) (earlier : List Stage) (stage : Stage) (tree : Tree) → EarlierCapsHold pool earlier →
+        IsTrue (tree_shows (stage_problem pool earlier stage) (standings pool) tree) → IsTrue (is_capped pool earlier stage) }
+{}
+
+/// A tree that shows of a stage in which all weigh 0 that no panel weighs more than -1 proves that the pool has no quota panel.
+pub fn tree_shows_no_panel()
+    ensures none { (pool : Pool) (tree : Tree) → IsTrue (tree_shows (no_panel_problem pool) (standings pool) tree) → panels pool ≡ [] }
+    ensures no_list { (pool : Pool) (tree : Tree) (panel : List ℕ) → IsTrue (tree_shows (no_panel_problem pool) (standings pool) tree) → ¬ IsTrue (is_quota_panel pool panel) }
+{}
+
+/// Lines have no fault exactly where they are those of a tree that shows the cap.
+pub fn lines_are_of_tree()
+    ensures { (problem : Problem) (all : List Standing) (number : ℕ) (lines : List TreeLine) → tree_fault problem all number lines ≡ None ↔ AreOfTree problem all lines }
+{}
+
+/// The first fault is in one of the lines, or behind them where these end early, for reason 11 or 12.
+pub fn fault_is_within_lines()
+    ensures { (problem : Problem) (all : List Standing) (number : ℕ) (lines : List TreeLine) (found : TreeFault) → tree_fault problem all number lines ≡ Some found →
+        (number ≤ found.line) × (found.line ≤ number + length lines) × ((found.reason ≡ 11) ⊎ (found.reason ≡ 12)) }
+{}
+
+/// Where a path goes back, a decision on a volunteer who was undecided is undone.
+pub fn decision_is_undone()
+    ensures { (all : List Standing) (i : ℕ) (standing : Standing) → IsTrue (is_undecided all i) → slice_set (slice_set all i standing) i Open ≡ all }
+{}
+
+/// A check goes through the reasons in their order: those of the lottery, then stage by stage those before the cap, those of the tree, and
+/// those of the listed panels.
+pub fn check_goes_by_stages()
+    ensures begins { BeginsWithLottery }
+    ensures goes_on { GoesOnByStages }
+{}
+
+/// Where each stage's lines are those of a tree that shows its cap, all caps hold.
+pub fn trees_show_caps()
+    ensures { (pool : Pool) (stages : List Stage) (trees : List (List TreeLine)) → TreesShow pool [] stages trees → CapsHold pool [] stages }
+{}
+
+/// A proof of a lottery is valid exactly where its stages certify the lottery, reach no further than they may, and have trees that show
+/// their caps, for the answer of each bundle.
+pub fn valid_where_shown()
+    ensures { (pool : Pool) (answer : Answer) (trees : List (List TreeLine)) → IsInRanges pool answer →
+        verdict (OfLottery pool answer trees) ≡ Valid ↔ (Certifies pool answer.lottery answer.stages × TreesShow pool [] answer.stages trees) }
+{}
+
+/// A lottery with a valid proof is leximin greatest.
+pub fn valid_is_greatest()
+    ensures { (pool : Pool) (answer : Answer) (trees : List (List TreeLine)) → IsInRanges pool answer →
+        verdict (OfLottery pool answer trees) ≡ Valid → LeximinGreatest pool answer.lottery }
+{}
+
+/// A proof that there is no quota panel is valid exactly where its lines are those of a tree that shows it, and then there is none.
+pub fn valid_no_panel()
+    ensures where_shown { (pool : Pool) (lines : List TreeLine) → verdict (OfNoPanel pool lines) ≡ Valid ↔ AreOfTree (no_panel_problem pool) (standings pool) lines }
+    ensures none { (pool : Pool) (lines : List TreeLine) → verdict (OfNoPanel pool lines) ≡ Valid → panels pool ≡ [] }
+{}
+
+/// The constraints of a stage are within reach, where the earlier stages are, and so is the stage of a pool that is to have no quota panel.
+pub fn constraints_are_in_reach()
+    ensures constraints { (pool : Pool) (earlier : List Stage) → IsPool pool → IsTrue (list_all is_stage_in_reach earlier) → IsTrue (list_all is_in_reach (constraints pool earlier)) }
+    ensures no_panel { (pool : Pool) → IsTrue (is_stage_in_reach (no_panel pool)) }
+{}
+
+/// No sum of a check of a leaf passes 128 bits, where the problem is within reach and the leaf keeps its ranges: a volunteer's rest after so
+/// many multipliers, the charges of so many multipliers, the total of these with the charges of so many rests, each product, and what the total
+/// is compared with.
+pub fn leaf_sums_are_narrow()
+    ensures rest { (problem : Problem) (leaf : Leaf) (many i : ℕ) → IsTrue (is_problem_in_reach problem) → IsTrue (is_leaf leaf) →
+        unsigned_abs (rest problem (first_multipliers many leaf) i) < 2 ^ 127 }
+    ensures charges { (problem : Problem) (leaf : Leaf) (many : ℕ) → IsTrue (is_problem_in_reach problem) → IsTrue (is_leaf leaf) →
+        unsigned_abs (first_charges problem many leaf) < 2 ^ 127 }
+    ensures total { (problem : Problem) (leaf : Leaf) (all : List Standing) (many : ℕ) → IsTrue (is_problem_in_reach problem) → IsTrue (is_leaf leaf) →
+        unsigned_abs (charges_and_rests problem all many leaf) < 2 ^ 127 }
+    ensures products { (problem : Problem) (leaf : Leaf) (i : ℕ) → IsTrue (is_problem_in_reach problem) → IsTrue (is_leaf leaf) →
+        AllByRecursion (λ it. (unsigned_abs (multiplied problem.constraints i it) < 2 ^ 127) × (unsigned_abs (charge problem.constraints it) < 2 ^ 127)) leaf.multipliers }
+    ensures bound { (problem : Problem) (leaf : Leaf) → IsTrue (is_problem_in_reach problem) → IsTrue (is_leaf leaf) →
+        unsigned_abs (pos leaf.scale *ℤ (problem.stage.cap +ℤ pos 1)) < 2 ^ 127 }
+{}
+
+/// The constraints of two women and two men in the second stage: the size, the women, the men, and the first stage. Where a woman and a man
+/// are of one household, it comes last.
+pub fn worked_constraints()
+    ensures second_stage { constraints four (stage (pos 1) (pos 1 ∷ pos 1 ∷ pos 0 ∷ pos 0 ∷ []) ∷ []) ≡
+        constraint (pos 1 ∷ pos 1 ∷ pos 1 ∷ pos 1 ∷ []) (pos 2) (pos 2) ∷
+        constraint (pos 1 ∷ pos 1 ∷ pos 0 ∷ pos 0 ∷ []) (pos 1) (pos 1) ∷
+        constraint (pos 0 ∷ pos 0 ∷ pos 1 ∷ pos 1 ∷ []) (pos 1) (pos 1) ∷
+        constraint (pos 1 ∷ pos 1 ∷ pos 0 ∷ pos 0 ∷ []) (pos 1) (pos 1) ∷ [] }
+    ensures household { drop 3 (constraints family []) ≡ constraint (pos 1 ∷ pos 0 ∷ pos 1 ∷ pos 0 ∷ []) (pos 0) (pos 1) ∷ [] }
+    ensures earlier_in_order { map (λ it. it.upper) (drop 3 (constraints four (stage (pos 8) [] ∷ stage (pos 7) [] ∷ []))) ≡ pos 7 ∷ pos 8 ∷ [] }
+{}
+
+/// Proofs that hold: with a leaf for each stage, with a split, and of a pool without a quota panel.
+pub fn valid_proofs()
+    ensures four { verdict (four_proof four_trees) ≡ Valid }
+    ensures split { verdict (four_proof (split_lines ∷ (OfLeaf men_leaf ∷ []) ∷ [])) ≡ Valid }
+    ensures split_lines { lines_of split_tree ≡ split_lines }
+    ensures no_panel { verdict (couple_proof couple_lines) ≡ Valid }
+{}
+
+/// Leaves that don't show the cap: with a multiplier changed, in the first stage and in the second, with a constraint that the stage hasn't
+/// got, in the tree with a volunteer, and where there are quota panels. The first tree begins with line 20 of the text, or with line 14.
+pub fn leaves_refused()
+    ensures multiplier { verdict (four_proof ((OfLeaf double_leaf ∷ []) ∷ (OfLeaf men_leaf ∷ []) ∷ [])) ≡ refused 1 12 (20 ∷ []) }
+    ensures second_stage { verdict (four_proof ((OfLeaf women_leaf ∷ []) ∷ (OfLeaf double_leaf ∷ []) ∷ [])) ≡ refused 2 12 (22 ∷ []) }
+    ensures unknown { verdict (four_proof ((OfLeaf unknown_leaf ∷ []) ∷ (OfLeaf men_leaf ∷ []) ∷ [])) ≡ refused 1 12 (20 ∷ []) }
+    ensures with_one { verdict (four_proof ((OfSplit 0 ∷ OfLeaf (leaf 1 []) ∷ OfLeaf (leaf 1 []) ∷ []) ∷ (OfLeaf men_leaf ∷ []) ∷ [])) ≡ refused 1 12 (22 ∷ []) }
+    ensures panels { verdict (OfNoPanel four (OfLeaf (leaf 0 (times 0 (negsuc 0) ∷ times 1 (pos 1) ∷ times 2 (pos 1) ∷ [])) ∷ [])) ≡ refused 0 12 (14 ∷ []) }
+{}
+
+/// Lines that aren't the next ones of a tree: a split on a volunteer who is decided, or on none, a tree that ends early, or a line behind its
+/// end.
+pub fn lines_refused()
+    ensures twice { verdict (four_proof ((OfSplit 0 ∷ split_lines) ∷ (OfLeaf men_leaf ∷ []) ∷ [])) ≡ refused 1 11 (21 ∷ []) }
+    ensures nobody { verdict (four_proof ((OfSplit 4 ∷ OfLeaf women_leaf ∷ OfLeaf women_leaf ∷ []) ∷ (OfLeaf men_leaf ∷ []) ∷ [])) ≡ refused 1 11 (20 ∷ []) }
+    ensures no_line { verdict (four_proof ([] ∷ (OfLeaf men_leaf ∷ []) ∷ [])) ≡ refused 1 11 (20 ∷ []) }
+    ensures early { verdict (four_proof ((OfSplit 0 ∷ OfLeaf women_leaf ∷ []) ∷ (OfLeaf men_leaf ∷ []) ∷ [])) ≡ refused 1 11 (22 ∷ []) }
+    ensures late { verdict (four_proof ((OfLeaf women_leaf ∷ OfLeaf women_leaf ∷ []) ∷ (OfLeaf men_leaf ∷ []) ∷ [])) ≡ refused 1 11 (21 ∷ []) }
+    ensures seated { tree_fault (stage_problem after_dropout [] (stage (pos 9) (pos 1 ∷ pos 1 ∷ pos 1 ∷ pos 1 ∷ []))) (standings after_dropout) 1
+        (OfSplit 1 ∷ OfLeaf size_leaf ∷ OfSplit 2 ∷ OfLeaf size_leaf ∷ OfLeaf size_leaf ∷ []) ≡ fault 3 11 }
+{}
+
+/// Other reasons come in their order: of the lottery, of a stage whose weights and cap reach too far, and of the listed panels.
+pub fn other_reasons()
+    ensures lottery { verdict (OfLottery four two_women []) ≡ refused 0 1 (0 ∷ 1 ∷ []) }
+    ensures negative { verdict (OfLottery four below_zero []) ≡ refused 1 4 (2 ∷ []) }
+    ensures too_far { verdict (one_stage_proof (pos (2 ^ 56 - 3)) double_leaf) ≡ refused 1 13 [] }
+    ensures farthest { verdict (one_stage_proof (pos (2 ^ 56 - 4)) size_leaf) ≡ refused 1 9 (0 ∷ 2 ∷ []) }
+    ensures left { verdict (OfLottery four one_stage ((OfLeaf women_leaf ∷ []) ∷ [])) ≡ refused 1 10 (2 ∷ []) }
+{}

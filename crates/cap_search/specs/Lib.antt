@@ -1,0 +1,8 @@
+pub mod Answers
+pub mod Tallies
+pub mod Homes
+pub mod Front
+pub mod Weights
+pub mod Terms
+pub mod Steps
+pub mod Likeness

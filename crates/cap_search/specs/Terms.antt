@@ -1,0 +1,20 @@
+-- What a search reads.
+use Rattle.std.specs.Prelude.{◌≡◌, ◌∷◌, List, map}
+use Rattle.check_definitions.specs.Caps.{classes_at, stage_row}
+use Rattle.pool_definitions.specs.Certificate.{Stage}
+use Rattle.pool_definitions.specs.Pool.{Pool}
+use Rattle.cap_search.specs.Weights.{AreNarrow, EachNarrow, IsSummed, SumEach}
+use Rattle.cap_search.specs.declared.terms.Terms.{Terms}
+
+-- no weight in the rows is too wide, and the sums are theirs
+pub record AreTerms (terms : Terms) : Type 0 where
+  pub narrow : AreNarrow terms.classes terms.row.a
+  pub closed_narrow : EachNarrow terms.classes terms.closed.items
+  pub summed : IsSummed terms.classes terms.row terms.sums
+  pub closed_summed : SumEach terms.classes terms.closed.items terms.closed_sums.items
+
+-- the classes and rows are those of a stage after earlier ones, the latest first
+pub record AreOfStage (pool : Pool) (earlier : List Stage) (stage : Stage) (terms : Terms) : Type 0 where
+  pub classes : terms.classes ≡ classes_at pool (stage ∷ earlier)
+  pub closed : terms.closed.items ≡ map (stage_row pool (stage ∷ earlier)) earlier
+  pub row : terms.row ≡ stage_row pool (stage ∷ earlier) stage

@@ -1,0 +1,50 @@
+//! The search for a quota panel above the cap of a stage.
+
+ghost use Rattle.std.specs.Prelude.{◌≡◌, ◌∷◌, IfOk, IsTrue, length, reverse};
+ghost use Rattle.std.specs.List.{list_all};
+ghost use Rattle.bundle_definitions.specs.Ranges.{is_stage};
+ghost use Rattle.cap_search.specs.Answers.{AnswersAt};
+
+use crate::composing::first_panel;
+use crate::searching::{SearchStop, first_above};
+use crate::terms::Terms;
+use pool_model::{Panel, Pool, Stage};
+use std::alloc::{AllocError, Global};
+
+/// The first quota panel, in the order of compositions, that attains the caps of the earlier stages and weighs more than the cap of the
+/// stage, or None where there is none, if the search needs at most `nodes` visits. The earlier stages stand in their order, the first one
+/// first, and each stage is in the ranges of a bundle for the pool. Fails with `Spent` where the search takes more visits, and with
+/// `OutOfMemory` where no memory is left.
+///
+/// Volunteers of equal values, equal standing and equal weights in the stages are of one class, but who shares a household is a class
+/// alone; the panel has the first members of each class. All memory that the search needs is taken before the first visit.
+pub fn panel_above_cap(
+    alloc: Global,
+    pool: &Pool,
+    earlier: &[Stage],
+    stage: &Stage,
+    nodes: u64,
+) -> Result<Option<Panel>, SearchStop>
+    requires earlier { IsTrue (list_all (is_stage (length pool.now.volunteers)) earlier.now) }
+    requires stage { IsTrue (is_stage (length pool.now.volunteers) stage.now) }
+    ensures answers { AnswersAt pool.now (reverse earlier.now) stage.now nodes result }
+{
+    let latest_first = reversed(alloc, earlier)?;
+    let terms = Terms::new(alloc, pool, &latest_first, stage)?;
+    match first_above(alloc, &terms, nodes)? {
+        Some(composition) => Ok(Some(first_panel(alloc, &terms.classes, &composition)?)),
+        None => Ok(None),
+    }
+}
+
+// Copies of the stages, the last one first.
+fn reversed(alloc: Global, stages: &[Stage]) -> Result<Vec<Stage>, AllocError>
+    ensures { IfOk result (λ copies. copies.items ≡ reverse stages.now) }
+{
+    let mut copies = Vec::with_capacity(alloc, stages.len())?;
+    for stage in stages {
+        copies.push(stage.copy()?)?;
+    }
+    copies.reverse();
+    Ok(copies)
+}

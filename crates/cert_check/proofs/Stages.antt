@@ -1,0 +1,172 @@
+-- How a check goes from one stage to the next.
+use Rattle.std.proofs.Common.{◌≡◌, ℕ, suc, ◌+◌, ◌<◌, ◌^◌, Bool, true, not, false, cond, ◌&&◌, eqb, leb, ltb, List, [], ◌∷◌, ◌++◌, length, get_or, drop, Option, Some, None, Result, Ok, Err, refl, sym, ap, ap₂, ◌∙◌, arith, subst}
+use Rattle.std.specs.Prelude.{reverse, sum_by}
+use Rattle.std.specs.List.{find, list_all}
+use Rattle.std.proofs.lemmas.Bool.{and_parts, eqb-true, false≢true}
+use Rattle.std.proofs.lemmas.List.{reverse-append}
+use Rattle.std.proofs.lemmas.List.Folds.{list_all_at}
+use Rattle.std.proofs.Math.Seq.{drop-cons}
+use Rattle.basic_laws.proofs.Each.{list_all_implies}
+use Rattle.bundle_definitions.specs.Ranges.{IsInRanges, is_group, is_row, is_weight}
+use Rattle.pool_definitions.specs.Certificate.{Answer, Stage}
+use Rattle.pool_definitions.specs.Lottery.{Lottery, TotalAgrees}
+use Rattle.pool_definitions.specs.Pool.{Pool, is_quota_panel}
+use Rattle.certificate_reasons.specs.Courses.{Course, passed}
+use Rattle.certificate_reasons.specs.Sayings.{holds}
+use Rattle.check_definitions.specs.Reasons.{Refusal, Refused, Valid, Verdict, cap_reasons, first_reason, first_repeated, listed, lottery_reasons, nobody_unless, reason, reasons_before_cap}
+use Rattle.check_definitions.specs.Steps.{answer_from, or_next}
+use Rattle.check_definitions.specs.Visits.{check_answer, stage_search}
+use Rattle.check_definitions.proofs.GoesOn.{goes_on_by_stages}
+use Rattle.cert_check.specs.Answers.{Answers, stage_answer}
+use Rattle.cert_check.specs.declared.stops.CheckStop.{CheckStop}
+use Rattle.cert_check.specs.declared.stops.CheckStop.TheVariants.{NodesSpent, OutOfMemory}
+
+-- ---- lists of stages
+
+list_all-append : {X : Type 0} (p : X → Bool) (xs ys : List X) → list_all p (xs ++ ys) ≡ (list_all p xs && list_all p ys)
+list_all-append p [] ys = refl
+list_all-append p (x ∷ xs) ys = ap (λ b. p x && b) (list_all-append p xs ys) ∙ along (p x) (list_all p xs) (list_all p ys)
+  where
+    along : (a b c : Bool) → (a && (b && c)) ≡ ((a && b) && c)
+    along true b c = refl
+    along false b c = refl
+
+pub list_all-reverse : {X : Type 0} (p : X → Bool) (xs : List X) → list_all p (reverse xs) ≡ list_all p xs
+list_all-reverse {X} p [] = refl
+list_all-reverse {X} p (x ∷ xs) =
+    ap (list_all p) (reverse-append (x ∷ []) xs) ∙ list_all-append p (reverse xs) (x ∷ []) ∙ ap (λ b. b && (p x && true)) (list_all-reverse p xs) ∙ turned (p x) (list_all p xs)
+  where
+    turned : (a b : Bool) → (b && (a && true)) ≡ (a && b)
+    turned true true = refl
+    turned true false = refl
+    turned false true = refl
+    turned false false = refl
+
+-- what each passes, the one at a place does
+passes_at : {X : Type 0} (p : X → Bool) (xs : List X) (j : ℕ) (d : X) → list_all p xs ≡ true → j < length xs → p (get_or xs j d) ≡ true
+passes_at p xs j d all l = by (p (get_or xs j d)) refl
+  where
+    by : (b : Bool) → p (get_or xs j d) ≡ b → p (get_or xs j d) ≡ true
+    by true e = e
+    by false e = absurd (false≢true (sym (list_all_at p xs j d l e) ∙ all))
+
+-- ---- one stage
+
+-- where the verdict on a stage is none that holds, it is the answer
+pub stops_at : (wanted next : Result Verdict ℕ) (verdict : Verdict) → holds verdict ≡ false → or_next verdict next ≡ Ok verdict
+stops_at wanted next Valid e = absurd (false≢true (sym e))
+stops_at wanted next (Refused refusal) e = refl
+
+pub is_valid : (verdict : Verdict) → holds verdict ≡ true → verdict ≡ Valid
+is_valid Valid e = refl
+is_valid (Refused refusal) e = absurd (false≢true e)
+
+-- what is said of stages, by what is said of the first
+abbrev then : Result Verdict ℕ → Result Verdict ℕ → Result Verdict ℕ
+then (Ok verdict) next = or_next verdict next
+then (Err stage) next = Err stage
+
+pub by_first : (pool : Pool) (lottery : Lottery) (nodes : ℕ) (earlier later : List Stage) (stage : Stage) →
+    answer_from pool lottery nodes earlier (stage ∷ later) ≡ then (stage_answer pool lottery nodes earlier stage) (answer_from pool lottery nodes (stage ∷ earlier) later)
+by_first pool lottery nodes earlier later stage =
+    goes_on_by_stages pool lottery nodes earlier later stage
+    ∙ parts (first_reason (reasons_before_cap pool lottery earlier stage)) (ltb nodes (stage_search pool earlier stage).visits)
+  where
+    parts : (before : Verdict) (spent : Bool) →
+        or_next before (cond spent (Err (length earlier + 1)) (or_next (first_reason (cap_reasons pool lottery earlier stage)) (answer_from pool lottery nodes (stage ∷ earlier) later)))
+        ≡ then (or_next before (cond spent (Err (length earlier + 1)) (Ok (first_reason (cap_reasons pool lottery earlier stage))))) (answer_from pool lottery nodes (stage ∷ earlier) later)
+    parts Valid true = refl
+    parts Valid false = refl
+    parts (Refused refusal) spent = refl
+
+-- a refusal at the first stage is the answer, and so is an end without a verdict
+pub refused_at : (pool : Pool) (lottery : Lottery) (nodes : ℕ) (earlier later : List Stage) (stage : Stage) (verdict : Verdict) → stage_answer pool lottery nodes earlier stage ≡ Ok verdict → holds verdict ≡ false →
+    answer_from pool lottery nodes earlier (stage ∷ later) ≡ Ok verdict
+refused_at pool lottery nodes earlier later stage verdict e h =
+    by_first pool lottery nodes earlier later stage ∙ ap (λ said. then said (answer_from pool lottery nodes (stage ∷ earlier) later)) e ∙ stops_at (Ok verdict) (answer_from pool lottery nodes (stage ∷ earlier) later) verdict h
+
+pub stopped_at : (pool : Pool) (lottery : Lottery) (nodes : ℕ) (earlier later : List Stage) (stage : Stage) (stop : CheckStop) → Answers (stage_answer pool lottery nodes earlier stage) (Err stop) →
+    Answers (answer_from pool lottery nodes earlier (stage ∷ later)) (Err stop)
+stopped_at pool lottery nodes earlier later stage (NodesSpent number) e =
+    by_first pool lottery nodes earlier later stage ∙ ap (λ said. then said (answer_from pool lottery nodes (stage ∷ earlier) later)) e
+stopped_at pool lottery nodes earlier later stage OutOfMemory e = tt
+
+pub goes_on_after : (pool : Pool) (lottery : Lottery) (nodes : ℕ) (earlier later : List Stage) (stage : Stage) (verdict : Verdict) → stage_answer pool lottery nodes earlier stage ≡ Ok verdict → holds verdict ≡ true →
+    answer_from pool lottery nodes earlier (stage ∷ later) ≡ answer_from pool lottery nodes (stage ∷ earlier) later
+goes_on_after pool lottery nodes earlier later stage verdict e h =
+    by_first pool lottery nodes earlier later stage
+    ∙ ap (λ said. then said (answer_from pool lottery nodes (stage ∷ earlier) later)) (e ∙ ap Ok (is_valid verdict h))
+
+-- ---- the lottery
+
+-- where no reason of the lottery stands, its weights sum to the total
+pub total_agrees : (pool : Pool) (answer : Answer) (said : Verdict) (lottery : Lottery) → IsInRanges pool answer → lottery ≡ answer.lottery → said ≡ first_reason (lottery_reasons pool lottery) → holds said ≡ true →
+    TotalAgrees answer.lottery
+total_agrees pool answer said lottery ranges same e h =
+    let own = answer.lottery in
+    let valid : first_reason (lottery_reasons pool own) ≡ Valid = ap (λ lottery. first_reason (lottery_reasons pool lottery)) (sym same) ∙ sym e ∙ is_valid said h in
+    record {
+      weights = list_all_implies (is_row (length pool.volunteers)) (λ row. leb 1 row.weight)
+          (λ row h. (and_parts (leb 1 row.weight) (leb row.weight (10 ^ 38)) (and_parts (is_weight row.weight) (is_group (length pool.volunteers) row.panel) h).0).0) own.rows ranges.rows;
+      total = eqb-true own.total (sum_by (λ row. row.weight) own.rows)
+          (last (find (λ panel. not (is_quota_panel pool panel)) (listed own)) (first_repeated [] (listed own)) (eqb own.total (sum_by (λ row. row.weight) own.rows)) valid);
+    }
+  where
+    differ : (refusal : Refusal) → Refused refusal ≡ Valid → ⊥
+    differ refusal e = cc
+
+    last : (first second : Option (List ℕ)) (third : Bool) → first_reason (reason 0 1 first ∷ reason 0 2 second ∷ reason 0 3 (nobody_unless third) ∷ []) ≡ Valid → third ≡ true
+    last (Some who) second third e = absurd (differ _ e)
+    last None (Some who) third e = absurd (differ _ e)
+    last None None true e = refl
+    last None None false e = absurd (differ _ e)
+
+pub same_answers : (pool given : Pool) (answer other : Answer) (nodes : ℕ) (result : Result Verdict CheckStop) → given ≡ pool → other ≡ answer → Answers (check_answer given other nodes) result → Answers (check_answer pool answer nodes) result
+same_answers pool given answer other nodes result e f h =
+    let P : Result Verdict ℕ → Type 0 = λ wanted. Answers wanted result in
+    subst P (ap₂ (λ pool answer. check_answer pool answer nodes) e f) h
+
+-- ---- the loop over the stages
+
+module _ (pool : Pool) (lottery : Lottery) (nodes : ℕ) (stages : List Stage) (j : ℕ) (course : Course) (stage : Stage) (below : j < length stages) (is : stage ≡ get_or stages j stage) (later : course.later ≡ drop j stages) where
+  abbrev all : Result Verdict ℕ
+  all = answer_from pool lottery nodes [] stages
+
+  later_is : course.later ≡ stage ∷ drop (j + 1) stages
+  later_is =
+      let next : suc j ≡ j + 1 = omega arith in
+      later ∙ drop-cons stages j stage below ∙ ap (λ s. s ∷ drop (suc j) stages) (sym is) ∙ ap (λ k. stage ∷ drop k stages) next
+
+  module _ (same : all ≡ answer_from course.pool course.lottery nodes course.earlier course.later) where
+    from_here : all ≡ answer_from course.pool course.lottery nodes course.earlier (stage ∷ drop (j + 1) stages)
+    from_here = same ∙ ap (answer_from course.pool course.lottery nodes course.earlier) later_is
+
+    pub refusing : (verdict : Verdict) → stage_answer course.pool course.lottery nodes course.earlier stage ≡ Ok verdict → holds verdict ≡ false → all ≡ Ok verdict
+    refusing verdict e h = from_here ∙ refused_at course.pool course.lottery nodes course.earlier (drop (j + 1) stages) stage verdict e h
+
+    pub stopping : (stop : CheckStop) → Answers (stage_answer course.pool course.lottery nodes course.earlier stage) (Err stop) → Answers all (Err stop)
+    stopping stop e =
+        let P : Result Verdict ℕ → Type 0 = λ wanted. Answers wanted (Err stop) in
+        subst P (sym from_here) (stopped_at course.pool course.lottery nodes course.earlier (drop (j + 1) stages) stage stop e)
+
+    module _ (verdict : Verdict) (said : stage_answer course.pool course.lottery nodes course.earlier stage ≡ Ok verdict) (valid : holds verdict ≡ true) (new : Course) (passes : new ≡ passed course course.later) where
+      new_is : new ≡ record course { earlier = stage ∷ course.earlier; later = drop (j + 1) stages }
+      new_is = passes ∙ ap (passed course) later_is
+
+      pub same_pool : new.pool ≡ course.pool
+      same_pool = ap (λ (c : Course). c.pool) new_is
+
+      pub same_lottery : new.lottery ≡ course.lottery
+      same_lottery = ap (λ (c : Course). c.lottery) new_is
+
+      pub new_later : new.later ≡ drop (j + 1) stages
+      new_later = ap (λ (c : Course). c.later) new_is
+
+      pub new_earlier : (p : Stage → Bool) → list_all p stages ≡ true → list_all p course.earlier ≡ true → list_all p new.earlier ≡ true
+      new_earlier p each h =
+          ap (λ (c : Course). list_all p c.earlier) new_is ∙ ap₂ (λ a b. a && b) (ap p is ∙ passes_at p stages j stage each below) h
+
+      pub new_answer : all ≡ answer_from new.pool new.lottery nodes new.earlier new.later
+      new_answer =
+          from_here ∙ goes_on_after course.pool course.lottery nodes course.earlier (drop (j + 1) stages) stage verdict said valid
+          ∙ sym (ap (λ (c : Course). answer_from c.pool c.lottery nodes c.earlier c.later) new_is)

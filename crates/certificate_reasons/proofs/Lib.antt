@@ -1,0 +1,6 @@
+pub mod Enumerated
+pub mod HouseholdNumbers
+pub mod InOrder
+pub mod Kept
+pub mod QuotaTests
+pub mod Twice

@@ -1,0 +1,3 @@
+pub mod Volunteers
+pub mod MadePools
+pub mod Chances

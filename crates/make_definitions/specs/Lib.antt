@@ -1,0 +1,4 @@
+pub mod Generator
+pub mod MadePools
+pub mod Summary
+pub mod WorkedExamples

@@ -1,0 +1,4 @@
+pub mod Names
+pub mod Making
+pub mod Chances
+pub mod SummaryTexts

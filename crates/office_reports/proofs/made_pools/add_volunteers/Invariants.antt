@@ -1,0 +1,12 @@
+use Rattle.std.proofs.Common.{◌≡◌, ◌*◌}
+use Rattle.make_definitions.specs.Generator.{state}
+use Rattle.make_definitions.specs.MadePools.{made_volunteers}
+use Rattle.office_reports.proofs.made_pools.add_volunteers.Given as goal
+
+abbrev pub invariant-loop-number : goal.invariant-loop-number
+invariant-loop-number l = record {
+  numbers : l.generator.state ≡ state l.seed (3 * l.number);
+  size : l.pool.size ≡ l.initial.pool.size;
+  categories : l.pool.categories ≡ l.initial.pool.categories;
+  volunteers : l.pool.volunteers ≡ made_volunteers l.seed l.number;
+}

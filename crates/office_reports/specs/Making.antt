@@ -1,0 +1,52 @@
+-- What the steps of making a pool make.
+use Rattle.std.specs.Prelude.{ℕ, ◌==◌, ◌%◌, ◌<◌, None, List, [], ◌∷◌, count_by, codes, map, slice_index}
+use Rattle.std.specs.List.{enumerate_from}
+use Rattle.pool_definitions.specs.declared.Standing.TheVariants.{Open}
+use Rattle.pool_definitions.specs.Pool.{Category, Volunteer}
+use Rattle.pool_definitions.specs.Building.{value_names}
+use Rattle.make_definitions.specs.Generator.{next_state, upper_bits}
+use Rattle.make_definitions.specs.MadePools.{ages, areas, bounded_by, genders, made_id}
+
+-- the values of the volunteer whose numbers follow a state
+abbrev pub values_behind : ℕ → List ℕ
+values_behind x =
+    let first = next_state x in
+    let second = next_state first in
+    let third = next_state second in
+    upper_bits first % 2 ∷ upper_bits second % 3 ∷ upper_bits third % 2 ∷ []
+
+-- how many lists of values have one at a place
+abbrev pub members_with : List (List ℕ) → ℕ → ℕ → ℕ
+members_with first place value_place = count_by (λ values. slice_index values place == value_place) first
+
+-- a category, bounded by the values of the first volunteers
+abbrev pub category_by : List (List ℕ) → ℕ → List ℕ → List (List ℕ) → Category
+category_by first place name value_names = record {
+  name = name;
+  values = map (λ (value_place, value_name). bounded_by value_name (members_with first place value_place)) (enumerate_from 0 value_names);
+}
+
+-- the three categories
+abbrev pub categories_by : List (List ℕ) → List Category
+categories_by first = category_by first 0 (codes "gender") genders ∷ category_by first 1 (codes "age") ages ∷ category_by first 2 (codes "area") areas ∷ []
+
+-- for each category the names of its values
+abbrev pub names_of_values : List Category → List (List (List ℕ))
+names_of_values categories = map (λ category. value_names category.values) categories
+
+-- the names of the values of a made pool
+abbrev pub made_names : List (List (List ℕ))
+made_names = genders ∷ ages ∷ areas ∷ []
+
+-- each is a place of a value of its category
+abbrev pub ArePlaces : List ℕ → Type 0
+ArePlaces values = (slice_index values 0 < 2) × (slice_index values 1 < 3) × (slice_index values 2 < 2)
+
+-- the volunteer of a number with these three values
+abbrev pub with_values : ℕ → List ℕ → Volunteer
+with_values number values = record {
+  id = made_id number;
+  values = slice_index values 0 ∷ slice_index values 1 ∷ slice_index values 2 ∷ [];
+  standing = Open;
+  household = None;
+}
