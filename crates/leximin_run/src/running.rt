@@ -12,7 +12,7 @@ use outside::Watch;
 use panel_search::{Pricer, SearchStop};
 use pricing_pool::price_by;
 use run_limits::Limits;
-use std::alloc::AllocError;
+use std::alloc::{AllocError, Global};
 use std::thread::Threads;
 
 // Why a step that is due is not made.
@@ -77,6 +77,7 @@ impl<'c> Run<'c> {
     pub(crate) fn advance<R: Threads + Sync, W: Watch + Sync>(
         &mut self,
         rt: &R,
+        alloc: Global,
         workers: u32,
         watch: &W,
     ) -> Result<bool, Refusal>
@@ -91,7 +92,7 @@ impl<'c> Run<'c> {
         if self.table.in_stage() {
             match self.table.bland() {
                 Some((row, variable)) => self.pivot(row, variable)?,
-                None => self.price(rt, workers, watch)?,
+                None => self.price(rt, alloc, workers, watch)?,
             }
             Ok(true)
         } else if self.table.some_unsettled() {
@@ -122,6 +123,7 @@ impl<'c> Run<'c> {
     fn price<R: Threads + Sync, W: Watch + Sync>(
         &mut self,
         rt: &R,
+        alloc: Global,
         workers: u32,
         watch: &W,
     ) -> Result<(), Refusal>
@@ -136,7 +138,15 @@ impl<'c> Run<'c> {
         ensures limits { self.new.limits ≡ self.old.limits }
     {
         let row = self.table.row(self.table.open_row());
-        let (found, _) = price_by(rt, workers, watch, &self.pricer, row, self.limits.nodes())?;
+        let (found, _) = price_by(
+            rt,
+            alloc,
+            workers,
+            watch,
+            &self.pricer,
+            row,
+            self.limits.nodes(),
+        )?;
         match found {
             Some(column) => Ok(self.table.add_column(column)?),
             None => Ok(self.close()?),

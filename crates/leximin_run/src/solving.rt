@@ -150,7 +150,7 @@ fn finish<R: Threads + Sync, W: Watch + Sync>(
     ensures { TellsSized run.entry.pricer.classes (run_limits run.entry.limits) result }
 {
     loop {
-        match run.advance(rt, workers, watch) {
+        match run.advance(rt, alloc, workers, watch) {
             Ok(true) => {}
             Ok(false) => return answer(alloc, run),
             Err(refusal) => return Err(stop(run, refusal)),
