@@ -10,7 +10,7 @@ use Rattle.clap.specs.declared.error.Error.{Error}
 use Rattle.clap.specs.declared.error.kind.ErrorKind.TheVariants as kind
 use Rattle.clap.specs.declared.parser.matches.ArgMatches.{ArgMatches}
 use Rattle.run_definitions.specs.Run.{Limits}
-use Rattle.run_limits.specs.declared.TheConstants.{LEAST_BITS, MOST_BITS, MOST_NODES, MOST_PIVOTS}
+use Rattle.run_limits.specs.declared.TheConstants.{LEAST_BITS, LEAST_WORKERS, MOST_BITS, MOST_NODES, MOST_PIVOTS, MOST_WORKERS}
 use Rattle.command_words.specs.declared.asked.Asked.{Asked}
 use Rattle.command_words.specs.declared.asked.Asked.TheVariants as asked_for
 use Rattle.command_words.specs.declared.asked.WordsStop.{WordsStop}
@@ -20,8 +20,8 @@ use Rattle.command_words.specs.declared.asked.WordsStop.TheVariants.{Usage, OutO
 pub data Order : Type 0 where
   -- the first panel of a pool, by a search of at most so many visits
   Panel : ℕ → Order
-  -- the lottery over the panels of a pool, by a run under these limits
-  Lottery : Limits → Order
+  -- the lottery over the panels of a pool, by a run under these limits, which so many workers price
+  Lottery : Limits → ℕ → Order
   -- the seal of a bundle
   Seal : Order
   -- the panel that is drawn from a bundle, by a seal that is given and digits
@@ -29,7 +29,7 @@ pub data Order : Type 0 where
 
 abbrev pub order : Asked → Order
 order (asked_for.Panel nodes) = Panel nodes
-order (asked_for.Lottery limits) = Lottery limits
+order (asked_for.Lottery limits workers) = Lottery limits workers
 order asked_for.Seal = Seal
 order (asked_for.Draw seal digits) = Draw seal.now digits.now
 
@@ -50,6 +50,9 @@ pivots_rule = number_rule (codes "pivots") 0 MOST_PIVOTS (codes "100000")
 abbrev pub nodes_rule : Rule
 nodes_rule = number_rule (codes "nodes") 0 MOST_NODES (codes "50000000")
 
+abbrev pub workers_rule : Rule
+workers_rule = number_rule (codes "workers") LEAST_WORKERS MOST_WORKERS (codes "1")
+
 -- an option that is required and holds a text
 abbrev pub text_rule : Text → Rule
 text_rule name = record (new_rule name) { long = Some name; required = true }
@@ -64,7 +67,7 @@ abbrev pub panel_app : App
 panel_app = with_rule (new_app (codes "panel")) nodes_rule
 
 abbrev pub lottery_app : App
-lottery_app = with_rule (with_rule (with_rule (new_app (codes "lottery")) bits_rule) pivots_rule) nodes_rule
+lottery_app = with_rule (with_rule (with_rule (with_rule (new_app (codes "lottery")) bits_rule) pivots_rule) nodes_rule) workers_rule
 
 abbrev pub seal_app : App
 seal_app = new_app (codes "seal")
@@ -118,8 +121,12 @@ limits_asked rows =
     (number_within (codes "pivots") 0 MOST_PIVOTS rows))
     (number_within (codes "bits") LEAST_BITS MOST_BITS rows)
 
+-- how many workers, where that is in its range
+abbrev pub workers_asked : List Row → Option ℕ
+workers_asked rows = number_within (codes "workers") LEAST_WORKERS MOST_WORKERS rows
+
 abbrev pub lottery_asked : List Row → Option Order
-lottery_asked rows = option_map Lottery (limits_asked rows)
+lottery_asked rows = option_and_then (λ limits. option_map (Lottery limits) (workers_asked rows)) (limits_asked rows)
 
 abbrev pub draw_asked : List Row → Option Order
 draw_asked rows = option_and_then (λ seal. option_map (Draw seal) (first_of (codes "digits") rows)) (first_of (codes "seal") rows)

@@ -1,6 +1,6 @@
 //! What the words of a call ask for.
 
-use run_limits::Limits;
+use run_limits::{Limits, Workers};
 use thiserror::Error;
 
 /// What the words ask for. Texts are lent from the words.
@@ -15,6 +15,8 @@ pub enum Asked<'a> {
     Lottery {
         /// How wide its numbers may be, and how many pivots and visits it may make.
         limits: Limits,
+        /// By how many workers it prices.
+        workers: Workers,
     },
     /// The seal of a bundle.
     Seal,

@@ -16,10 +16,11 @@ ghost use Rattle.command_words.specs.Words.{
   program_of_pools as words_of_program_of_pools,
   seal_app,
   seal_rule,
+  workers_rule,
 };
 
 use clap::{Arg, Command, value_parser};
-use run_limits::{LEAST_BITS, MOST_BITS, MOST_NODES, MOST_PIVOTS};
+use run_limits::{LEAST_BITS, LEAST_WORKERS, MOST_BITS, MOST_NODES, MOST_PIVOTS, MOST_WORKERS};
 use std::alloc::{AllocError, Global};
 
 /// The program with its subcommands.
@@ -67,7 +68,8 @@ fn lottery<'a>(alloc: Global) -> Result<Command<'a>, AllocError>
         )
         .arg(bits_option(alloc))?
         .arg(pivots_option(alloc))?
-        .arg(nodes_option(alloc))
+        .arg(nodes_option(alloc))?
+        .arg(workers_option(alloc))
 }
 
 fn seal<'a>(alloc: Global) -> Command<'a>
@@ -137,4 +139,15 @@ fn nodes_option<'a>(alloc: Global) -> Arg<'a>
         .help("The most visits that a search may make")
         .value_parser(value_parser!(u64).range(0..=MOST_NODES as i64))
         .default_value("50000000")
+}
+
+fn workers_option<'a>(alloc: Global) -> Arg<'a>
+    ensures rule { rule_of result ≡ workers_rule }
+    ensures local { result.global ≡ false }
+{
+    Arg::new(alloc, "workers")
+        .long("workers")
+        .help("How many workers price, on threads")
+        .value_parser(value_parser!(u64).range(LEAST_WORKERS as i64..=MOST_WORKERS as i64))
+        .default_value("1")
 }

@@ -22,11 +22,11 @@ const WORDS: &[(&[&str], &str)] = &[
     (&["panel", "--nodes", "5", "--"], "Panel { nodes: 5 }"),
     (
         &["lottery"],
-        "Lottery { limits: Limits { bits: 127, pivots: 100000, nodes: 50000000 } }",
+        "Lottery { limits: Limits { bits: 127, pivots: 100000, nodes: 50000000 }, workers: Workers { number: 1 } }",
     ),
     (
         &["lottery", "--nodes", "9", "--bits", "1", "--pivots", "0"],
-        "Lottery { limits: Limits { bits: 1, pivots: 0, nodes: 9 } }",
+        "Lottery { limits: Limits { bits: 1, pivots: 0, nodes: 9 }, workers: Workers { number: 1 } }",
     ),
     (
         &[
@@ -35,8 +35,9 @@ const WORDS: &[(&[&str], &str)] = &[
             "--bits=00127",
             "--nodes",
             "1000000000000",
+            "--workers=64",
         ],
-        "Lottery { limits: Limits { bits: 127, pivots: 1000000000, nodes: 1000000000000 } }",
+        "Lottery { limits: Limits { bits: 127, pivots: 1000000000, nodes: 1000000000000 }, workers: Workers { number: 64 } }",
     ),
     (&["seal"], "Seal"),
     (
@@ -58,7 +59,9 @@ const WORDS: &[(&[&str], &str)] = &[
     (&["lottery", "--pivots", "-1"], USAGE),
     (&["lottery", "--nodes", "1000000000001"], USAGE),
     (&["lottery", "--bits", "3", "--bits", "3"], USAGE),
-    (&["lottery", "--workers", "1"], USAGE),
+    (&["lottery", "--workers", "0"], USAGE),
+    (&["lottery", "--workers", "65"], USAGE),
+    (&["panel", "--workers", "1"], USAGE),
     (&["lottery", "x"], USAGE),
     (&["sortition", "panel"], USAGE),
     (&["--", "panel"], USAGE),
@@ -99,7 +102,7 @@ const TEXTS: &[(&[&str], &str)] = &[
     ),
     (
         &["lottery", "--help"],
-        "Prints the lottery over the quota panels of the pool on standard input, with its certificate\n\nUsage: sortition lottery [OPTIONS]\n\nOptions:\n      --bits <bits>      The width in bits of the run's numbers [default: 127]\n      --pivots <pivots>  The most pivots that the run may make [default: 100000]\n      --nodes <nodes>    The most visits that a search may make [default: 50000000]\n  -h, --help             Print help\n",
+        "Prints the lottery over the quota panels of the pool on standard input, with its certificate\n\nUsage: sortition lottery [OPTIONS]\n\nOptions:\n      --bits <bits>        The width in bits of the run's numbers [default: 127]\n      --pivots <pivots>    The most pivots that the run may make [default: 100000]\n      --nodes <nodes>      The most visits that a search may make [default: 50000000]\n      --workers <workers>  How many workers price, on threads [default: 1]\n  -h, --help               Print help\n",
     ),
 ];
 

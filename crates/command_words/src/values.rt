@@ -11,11 +11,14 @@ ghost use Rattle.command_words.specs.Words.{
   number_within as number_said_within,
   order,
   panel_asked,
+  workers_asked,
 };
 
 use crate::asked::Asked;
 use clap::ArgMatches;
-use run_limits::{LEAST_BITS, Limits, MOST_BITS, MOST_NODES, MOST_PIVOTS};
+use run_limits::{
+    LEAST_BITS, LEAST_WORKERS, Limits, MOST_BITS, MOST_NODES, MOST_PIVOTS, MOST_WORKERS, Workers,
+};
 
 /// What the subcommand that was met asks for, where its numbers are in their ranges.
 pub(crate) fn asked_by<'a>(matches: &ArgMatches<'a>) -> Option<Asked<'a>>
@@ -41,7 +44,8 @@ fn lottery_of<'a>(matches: &ArgMatches<'a>) -> Option<Asked<'a>>
     ensures { option_map order result ≡ lottery_asked (rows_of (found_of matches.now)) }
 {
     let limits = limits_of(matches)?;
-    Some(Asked::Lottery { limits })
+    let workers = workers_of(matches)?;
+    Some(Asked::Lottery { limits, workers })
 }
 
 fn draw_of<'a>(matches: &ArgMatches<'a>) -> Option<Asked<'a>>
@@ -67,6 +71,19 @@ fn limits_of(matches: &ArgMatches) -> Option<Limits>
     let pivots = number_within(matches, "pivots", 0, MOST_PIVOTS)?;
     let nodes = number_within(matches, "nodes", 0, MOST_NODES)?;
     Limits::new(u32::try_from(bits).ok()?, pivots, nodes)
+}
+
+/// How many workers, where that is in its range.
+fn workers_of(matches: &ArgMatches) -> Option<Workers>
+    ensures { result ≡ workers_asked (rows_of (found_of matches.now)) }
+{
+    let number = number_within(
+        matches,
+        "workers",
+        u64::from(LEAST_WORKERS),
+        u64::from(MOST_WORKERS),
+    )?;
+    Workers::new(u32::try_from(number).ok()?)
 }
 
 /// The number that an option has, where it is from `least` to `most`.

@@ -26,7 +26,8 @@ pub record UsageIsRight (told : Told) : Type 0 where
 abbrev pub AnswersRightly : Option Order → Told → Type 0
 AnswersRightly None told = UsageIsRight told
 AnswersRightly (Some (Order.Panel nodes)) told = PanelIsRight nodes told
-AnswersRightly (Some (Order.Lottery limits)) told = LotteryIsRight limits told
+-- the number of workers changes nothing that is told
+AnswersRightly (Some (Order.Lottery limits workers)) told = LotteryIsRight limits told
 AnswersRightly (Some Order.Seal) told = CallIsRight (OfBundle SealMeans) told
 AnswersRightly (Some (Order.Draw seal digits)) told = CallIsRight (OfBundle (DrawMeans seal digits)) told
 

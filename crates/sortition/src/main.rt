@@ -8,7 +8,7 @@ mod office;
 #[cfg(test)]
 mod tests;
 
-use outside::{StdSink, StdSource};
+use outside::{NoWatch, StdSink, StdSource};
 use std::process::ExitCode;
 
 fn main(rt: HostRuntime) -> ExitCode {
@@ -16,7 +16,15 @@ fn main(rt: HostRuntime) -> ExitCode {
     let mut out = StdSink::new(rt.stdout());
     let mut errs = StdSink::new(rt.stderr());
     let status = match given::given_words(&rt) {
-        Ok(words) => office::office(rt.alloc(), &words, &mut source, &mut out, &mut errs),
+        Ok(words) => office::office(
+            &rt,
+            rt.alloc(),
+            &words,
+            &mut source,
+            &mut out,
+            &mut errs,
+            &NoWatch,
+        ),
         Err(error) => given::no_words(&mut errs, error.kind()).number(),
     };
     ExitCode::from(status)

@@ -9,20 +9,25 @@ ghost use Rattle.sortition.specs.Office.{AnswersRightly, OfficeIsRight};
 use bundle_commands::{BundleSeal, DrawnPanel, OfBundle};
 use command_shell::{Status, call, refuse_words, want_memory};
 use command_words::{Asked, WordsStop, read_words};
-use outside::{Sink, Source};
+use outside::{Sink, Source, Watch};
 use pool_answers::{lottery_by_status, panel_by_status};
-use pool_commands::{FirstPanel, OfPool, PoolLottery};
+use pool_commands::{FirstPanel, OfPool, Working, call_lottery};
 use std::alloc::Global;
+use std::thread::Threads;
 
 /// One call of the program with its words, which do not include its name. The answer is the program's status.
 ///
 /// The contract says what each status means and what `out` and `errs` gained then, for each list of words.
-pub fn office<S: Source, O: Sink, E: Sink>(
+///
+/// Pieces of a pricing are worked on threads, and the watch is told as they start; nothing that is told depends on that.
+pub fn office<R: Threads + Sync, S: Source, O: Sink, E: Sink, W: Watch + Sync>(
+    rt: &R,
     alloc: Global,
     words: &[String],
     source: &mut S,
     out: &mut O,
     errs: &mut E,
+    watch: &W,
 ) -> u8
     ensures { OfficeIsRight (map string_bytes words.now) (told result
         (object (S.left source.old) (S.left source.new) (S.faults source.old) (S.faults source.new))
@@ -30,19 +35,21 @@ pub fn office<S: Source, O: Sink, E: Sink>(
         (object (E.written errs.old) (E.written errs.new) (E.faults errs.old) (E.faults errs.new))) }
 {
     match read_words(alloc, words) {
-        Ok(asked) => run(alloc, asked, source, out, errs).number(),
+        Ok(asked) => run(rt, alloc, asked, source, out, errs, watch).number(),
         Err(WordsStop::Usage(text)) => refuse_words(errs, text.as_bytes()).number(),
         Err(WordsStop::OutOfMemory) => want_memory(errs).number(),
     }
 }
 
 /// One call of a command.
-fn run<S: Source, O: Sink, E: Sink>(
+fn run<R: Threads + Sync, S: Source, O: Sink, E: Sink, W: Watch + Sync>(
+    rt: &R,
     alloc: Global,
     asked: Asked<'_>,
     source: &mut S,
     out: &mut O,
     errs: &mut E,
+    watch: &W,
 ) -> Status
     ensures { AnswersRightly (Some (order asked.entry)) (told (number_of result)
         (object (S.left source.old) (S.left source.new) (S.faults source.old) (S.faults source.new))
@@ -53,8 +60,9 @@ fn run<S: Source, O: Sink, E: Sink>(
     lottery_by_status();
     match asked {
         Asked::Panel { nodes } => call(alloc, &OfPool(FirstPanel { nodes }), source, out, errs),
-        Asked::Lottery { limits } => {
-            call(alloc, &OfPool(PoolLottery { limits }), source, out, errs)
+        Asked::Lottery { limits, workers } => {
+            let working = Working { rt, workers, watch };
+            call_lottery(&working, alloc, limits, source, out, errs)
         }
         Asked::Seal => call(alloc, &OfBundle(BundleSeal), source, out, errs),
         Asked::Draw { seal, digits } => {

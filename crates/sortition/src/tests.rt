@@ -2,14 +2,19 @@
 
 use crate::given::no_words;
 use crate::office::office;
-use outside::{MemSink, MemSource};
+use outside::{MemSink, MemSource, NoWatch};
 use std::alloc::{AllocError, Global};
 use std::io;
 use std::test::Fail;
+use std::thread::Threads;
 
 /// Two women and two men, one of each to be chosen. The search makes 3 visits.
 const FOUR: &[u8] =
     b"pool\t1\nsize\t2\ncategory\tgender\nvalue\tfemale\t1\t1\nvalue\tmale\t1\t1\nvolunteer\ta\tfemale\nvolunteer\tb\tfemale\nvolunteer\tc\tmale\nvolunteer\td\tmale\nend\n";
+
+/// Two seats, and each of four volunteers has another value. The first pricing makes 12 visits, in one wave of three pieces.
+const APART: &[u8] =
+    b"pool\t1\nsize\t2\ncategory\tvalue\nvalue\tp\t0\t1\nvalue\tq\t0\t1\nvalue\tr\t0\t1\nvalue\ts\t0\t1\nvolunteer\ta\tp\nvolunteer\tb\tq\nvolunteer\tc\tr\nvolunteer\td\ts\nend\n";
 
 /// Two women are asked for, and one is there.
 const SHORT: &[u8] =
@@ -110,7 +115,11 @@ struct Answer {
     errs: MemSink,
 }
 
-fn answer_of(alloc: Global, call: &Call<'_>) -> Result<Answer, AllocError> {
+fn answer_of<R: Threads + Sync>(
+    rt: &R,
+    alloc: Global,
+    call: &Call<'_>,
+) -> Result<Answer, AllocError> {
     let mut words = Vec::new(alloc);
     for word in call.words {
         words.push(String::from_str(alloc, word)?)?;
@@ -118,7 +127,15 @@ fn answer_of(alloc: Global, call: &Call<'_>) -> Result<Answer, AllocError> {
     let mut source = MemSource::new(alloc, call.text, call.reads)?;
     let mut out = MemSink::new(alloc, call.room, call.puts)?;
     let mut errs = MemSink::new(alloc, 1000, &[])?;
-    let status = office(alloc, &words, &mut source, &mut out, &mut errs);
+    let status = office(
+        rt,
+        alloc,
+        &words,
+        &mut source,
+        &mut out,
+        &mut errs,
+        &NoWatch,
+    );
     Ok(Answer { status, out, errs })
 }
 
@@ -145,6 +162,15 @@ const ROWS: &[(&[&str], &[u8], u8, &[u8], &[u8])] = &[
         b"input\t2\t2\n",
     ),
     (&["lottery"], FOUR, 0, FOUR_BUNDLE, b""),
+    (&["lottery", "--workers", "2"], FOUR, 0, FOUR_BUNDLE, b""),
+    (&["lottery", "--workers=7"], FOUR, 0, FOUR_BUNDLE, b""),
+    (
+        &["lottery", "--workers", "3", "--nodes", "11"],
+        APART,
+        5,
+        b"",
+        b"spent\tnodes\t11\t1\t1\t1\n",
+    ),
     (&["lottery"], WOMEN_GONE, 1, b"no panel\n", b""),
     (
         &["lottery", "--bits", "1"],
@@ -361,15 +387,15 @@ fn calls_are_answered(rt: HostRuntime) -> Result<(), AllocError> {
     let alloc = rt.alloc();
     for rows in [ROWS, BUNDLE_ROWS] {
         for (words, text, status, out, errs) in rows {
-            let told = answer_of(alloc, &asking(words, text))?;
+            let told = answer_of(&rt, alloc, &asking(words, text))?;
             assert_eq!(rt; told.status, *status, "{words:?}");
             assert_eq!(rt; told.out.written(), *out, "{words:?}");
             assert_eq!(rt; told.errs.written(), *errs, "{words:?}");
         }
     }
-    let told = answer_of(alloc, &asking(&["lottery"], REPLACED))?;
+    let told = answer_of(&rt, alloc, &asking(&["lottery"], REPLACED))?;
     assert!(rt; told.status == 0 && told.out.written().ends_with(REPLACED_ANSWER));
-    let refused = answer_of(alloc, &asking(&["bundle"], FOUR))?;
+    let refused = answer_of(&rt, alloc, &asking(&["bundle"], FOUR))?;
     assert!(rt;
         refused.status == 2
             && refused.out.written().is_empty()
@@ -385,7 +411,7 @@ fn each_cut_is_told(rt: HostRuntime) -> Result<(), AllocError> {
     for length in 0..FOUR.len() {
         let line = FOUR[..length].split(|byte| *byte == b'\n').count();
         let errs = format!(in alloc; "input\t{line}\t12\n")?;
-        let told = answer_of(alloc, &asking(&["lottery"], &FOUR[..length]))?;
+        let told = answer_of(&rt, alloc, &asking(&["lottery"], &FOUR[..length]))?;
         assert!(rt;
             told.status == 3 && told.errs.written() == errs.as_bytes(),
             "{length}"
@@ -401,6 +427,7 @@ fn each_cut_is_told(rt: HostRuntime) -> Result<(), AllocError> {
         (&[18], 218, 0, 218),
     ] {
         let told = answer_of(
+            &rt,
             alloc,
             &Call {
                 puts,
@@ -416,6 +443,7 @@ fn each_cut_is_told(rt: HostRuntime) -> Result<(), AllocError> {
         );
     }
     let told = answer_of(
+        &rt,
         alloc,
         &Call {
             reads: &[2],
@@ -457,8 +485,13 @@ fn answer_lines(bundle: &str) -> &str {
 }
 
 /// Each volunteer's count and the total, as the bundle that `lottery` prints has them.
-fn counts(alloc: Global, text: &[u8], volunteers: usize) -> Result<String, AllocError> {
-    let told = answer_of(alloc, &asking(&["lottery"], text))?;
+fn counts<R: Threads + Sync>(
+    rt: &R,
+    alloc: Global,
+    text: &[u8],
+    volunteers: usize,
+) -> Result<String, AllocError> {
+    let told = answer_of(rt, alloc, &asking(&["lottery"], text))?;
     let bundle = match std::str::from_utf8(told.out.written()) {
         Ok(bundle) => bundle,
         Err(_) => "",
@@ -501,7 +534,7 @@ fn pools_have_their_chances(rt: HostRuntime) -> Result<(), Fail> {
         (FIVE, 5, "[2, 2, 2, 3, 3] of 6"),
         (REPLACED, 4, "[0, 1, 1, 0] of 1"),
     ] {
-        assert_eq!(rt; counts(alloc, text, volunteers)?.as_str(), wanted);
+        assert_eq!(rt; counts(&rt, alloc, text, volunteers)?.as_str(), wanted);
     }
     Ok(())
 }
