@@ -229,7 +229,7 @@ fn small_pools(rt: HostRuntime) -> Result<(), Fail> {
         (EITHER, (2, 2, 2), "spent nodes 0 0 0"),
         (FOUR, (127, 1, 50), "spent pivots 2 1 1"),
         (FAMILY, (127, 50, 5), "spent nodes 1 1 1"),
-        (SIX, (127, 50, 5), "spent nodes 1 2 2"),
+        (SIX, (127, 50, 6), "spent nodes 1 1 1"),
         (FIVE, (3, 50, 50), "wide 1 1 0 2 Add 7 6"),
     ];
     for (given, limits, wanted) in cases {

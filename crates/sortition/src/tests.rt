@@ -218,11 +218,11 @@ const ROWS: &[(&[&str], &[u8], u8, &[u8], &[u8])] = &[
         b"wide\t1\t1\t0\t2\tadd\t7\t6\n",
     ),
     (
-        &["lottery", "--nodes", "5"],
+        &["lottery", "--nodes", "6"],
         SIX,
         5,
         b"",
-        b"spent\tnodes\t5\t1\t2\t2\n",
+        b"spent\tnodes\t6\t1\t1\t1\n",
     ),
 ];
 
