@@ -2,9 +2,8 @@
 //! exists. Below stand the shell and the command.
 #![tactic(auto)]
 
-use command_shell::call;
 use outside::{MemSink, MemSource, NoWatch};
-use pool_commands::{OfPool, PoolLottery};
+use pool_commands::call_lottery;
 use run_limits::{Limits, Workers};
 use std::alloc::Global;
 use std::thread::Threads;
@@ -37,18 +36,22 @@ fn main(rt: HostRuntime) -> io::Result<()> {
 
 /// What `lottery` prints of a pool's text, under the limits that it has without options.
 fn printed<R: Threads + Sync>(rt: &R, alloc: Global, pool: &[u8]) -> io::Result<Vec<u8>> {
-    let (Some(limits), Some(workers)) = (Limits::new(127, 100_000, 50_000_000), Workers::new(4)) else {
+    let (Some(limits), Some(workers)) = (Limits::new(127, 100_000, 50_000_000), Workers::new(4))
+    else {
         return Ok(Vec::new(alloc));
     };
     let mut source = MemSource::new(alloc, pool, &[])?;
     let mut out = MemSink::new(alloc, ROOM, &[])?;
     let mut errs = MemSink::new(alloc, ROOM, &[])?;
-    let command = OfPool(PoolLottery {
+    let _ = call_lottery(
         rt,
+        alloc,
         limits,
         workers,
-        watch: &NoWatch,
-    });
-    let _ = call(alloc, &command, &mut source, &mut out, &mut errs);
+        &NoWatch,
+        &mut source,
+        &mut out,
+        &mut errs,
+    );
     Ok(out.written().to_vec(alloc)?)
 }

@@ -9,4 +9,5 @@ mod summaries;
 mod tests;
 
 pub use made_pools::made_pool;
-pub use summaries::{RunSizes, run_summary};
+pub use run_limits::RunSizes;
+pub use summaries::run_summary;

@@ -11,19 +11,9 @@ ghost use Rattle.office_reports.specs.Lines.{size_lines};
 use bundle_text::write_bundle;
 use frac128::lowest;
 use pool_model::{Answer, Pool, chances};
+use run_limits::RunSizes;
 use sealed_draw::seal;
 use std::alloc::{AllocError, Global};
-
-/// How large the last table of a run was, and how many pivots the run made.
-#[derive(Clone, Copy, Debug)]
-pub struct RunSizes {
-    /// How many classes the volunteers have.
-    pub classes: usize,
-    /// How many compositions the last table has as columns.
-    pub columns: usize,
-    /// How many pivots were made in all stages together.
-    pub pivots: u64,
-}
 
 /// The summary of a run that found this answer: lines of a word and a field, parted by TAB and ended by LF. The fields are the number of
 /// volunteers, of classes, the size of a panel, the numbers of the lottery's panels, of columns, of pivots and of stages, the total, the

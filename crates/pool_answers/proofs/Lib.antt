@@ -4,3 +4,4 @@ pub mod LotteryLaws
 pub mod LotteryByStatus
 pub mod PanelByStatus
 pub mod PanelLines
+pub mod MakeLaws

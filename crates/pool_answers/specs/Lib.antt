@@ -2,3 +2,4 @@ pub mod Lines
 pub mod OfPool
 pub mod Panel
 pub mod Lottery
+pub mod Make

@@ -1,4 +1,4 @@
-//! What the commands about a pool answer: `panel` and `lottery`. Their words stand in `specs/`, over those of the shell, of texts, bundles,
+//! What the commands about a pool answer: `panel`, `lottery` and `make`. Their words stand in `specs/`, over those of the shell, of texts, bundles,
 //! searches and the run. The functions here have no body: their contracts are laws.
 #![tactic(auto)]
 
@@ -9,6 +9,7 @@ ghost use Rattle.run_definitions.specs.Run.{Limits};
 ghost use Rattle.pool_answers.specs.OfPool.{OfPool};
 ghost use Rattle.pool_answers.specs.Panel.{PanelIsRight, PanelMeans};
 ghost use Rattle.pool_answers.specs.Lottery.{LotteryIsRight, LotteryMeans};
+ghost use Rattle.pool_answers.specs.Make.{MakeMeans};
 ghost use Rattle.std.specs.Prelude.{ℕ};
 
 /// `panel` has one answer about a text.
@@ -29,4 +30,9 @@ pub fn lottery_answers_once()
 /// A call of `lottery` that is right by what its answers mean, read status by status.
 pub fn lottery_by_status()
     ensures { (limits : Limits) (told : Told) → CallIsRight (OfPool (LotteryMeans limits)) told → LotteryIsRight limits told }
+{}
+
+/// `make` has one answer, for a seed and a number of volunteers.
+pub fn make_answers_once()
+    ensures { (seed volunteers : ℕ) (limits : Limits) → AnswersOnce (MakeMeans seed volunteers limits) }
 {}

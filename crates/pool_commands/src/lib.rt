@@ -7,6 +7,6 @@ mod lottery;
 mod of_pool;
 mod panel;
 
-pub use lottery::{PoolLottery, Working, call_lottery};
+pub use lottery::{PoolLottery, call_lottery};
 pub use of_pool::{OfPool, PoolCommand, PoolMeaning, answer_of_pool};
 pub use panel::FirstPanel;

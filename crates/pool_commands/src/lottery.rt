@@ -38,23 +38,14 @@ impl PoolMeaning for PoolLottery {
     ghost answers_once = { λ command. lottery_once command.limits };
 }
 
-/// How the run of a lottery works: by which threads, how many workers, and who is told of each piece of a pricing as it starts. Nothing
-/// that is answered depends on it.
-#[derive(Clone, Copy)]
-pub struct Working<'a, R, W> {
-    /// By which threads are started.
-    pub rt: &'a R,
-    /// How many workers price.
-    pub workers: Workers,
-    /// Who is told of the pieces.
-    pub watch: &'a W,
-}
-
-/// One call of `lottery`.
+/// One call of `lottery`, whose run prices by so many workers, on threads, and tells the watch of each piece as it starts. Nothing that is
+/// told depends on either.
 pub fn call_lottery<R: Threads + Sync, W: Watch + Sync, S: Source, O: Sink, E: Sink>(
-    working: &Working<'_, R, W>,
+    rt: &R,
     alloc: Global,
     limits: Limits,
+    workers: Workers,
+    watch: &W,
     source: &mut S,
     out: &mut O,
     errs: &mut E,
@@ -70,7 +61,7 @@ pub fn call_lottery<R: Threads + Sync, W: Watch + Sync, S: Source, O: Sink, E: S
         |bytes: &[u8]| -> Result<Answer, AllocError>
             requires { IsSync R.row × IsSync W.row }
             ensures { IfOk result (λ answer. about (LotteryMeans limits) bytes.now (saying answer)) }
-        { lottery_of_text(working, alloc, limits, bytes) },
+        { lottery_of_text(rt, alloc, limits, workers, watch, bytes) },
         source,
         out,
         errs,
@@ -79,9 +70,11 @@ pub fn call_lottery<R: Threads + Sync, W: Watch + Sync, S: Source, O: Sink, E: S
 
 /// What `lottery` answers about the text of a pool.
 fn lottery_of_text<R: Threads + Sync, W: Watch + Sync>(
-    working: &Working<'_, R, W>,
+    rt: &R,
     alloc: Global,
     limits: Limits,
+    workers: Workers,
+    watch: &W,
     bytes: &[u8],
 ) -> Result<Answer, AllocError>
     ensures { IfOk result (λ answer. about (LotteryMeans limits) bytes.now (saying answer)) }
@@ -92,23 +85,24 @@ fn lottery_of_text<R: Threads + Sync, W: Watch + Sync>(
         |pool: &Pool| -> Result<Answer, AllocError>
             requires { IsSync R.row × IsSync W.row }
             ensures { IfOk result (λ answer. LotteryMeans limits pool.now (saying answer)) }
-        { lottery(working, alloc, limits, pool) },
+        { lottery(rt, alloc, limits, workers, watch, pool) },
         bytes,
     )
 }
 
 /// What `lottery` answers about a pool.
 fn lottery<R: Threads + Sync, W: Watch + Sync>(
-    working: &Working<'_, R, W>,
+    rt: &R,
     alloc: Global,
     limits: Limits,
+    workers: Workers,
+    watch: &W,
     pool: &Pool,
 ) -> Result<Answer, AllocError>
     ensures { IfOk result (λ answer. LotteryMeans limits pool.now (saying answer)) }
 {
     no_panel_where_none();
-    let workers = working.workers.number();
-    match solve(working.rt, alloc, pool, limits, workers, working.watch) {
+    match solve(rt, alloc, pool, limits, workers.number(), watch) {
         Ok(Solved::Found(answer)) => Ok(Answer::Prints {
             printed: Printed::Done,
             text: write_bundle(alloc, pool, &answer)?,

@@ -11,7 +11,7 @@ use command_shell::{Status, call, refuse_words, want_memory};
 use command_words::{Asked, WordsStop, read_words};
 use outside::{Sink, Source, Watch};
 use pool_answers::{lottery_by_status, panel_by_status};
-use pool_commands::{FirstPanel, OfPool, Working, call_lottery};
+use pool_commands::{FirstPanel, OfPool, call_lottery};
 use std::alloc::Global;
 use std::thread::Threads;
 
@@ -61,8 +61,7 @@ fn run<R: Threads + Sync, S: Source, O: Sink, E: Sink, W: Watch + Sync>(
     match asked {
         Asked::Panel { nodes } => call(alloc, &OfPool(FirstPanel { nodes }), source, out, errs),
         Asked::Lottery { limits, workers } => {
-            let working = Working { rt, workers, watch };
-            call_lottery(&working, alloc, limits, source, out, errs)
+            call_lottery(rt, alloc, limits, workers, watch, source, out, errs)
         }
         Asked::Seal => call(alloc, &OfBundle(BundleSeal), source, out, errs),
         Asked::Draw { seal, digits } => {
