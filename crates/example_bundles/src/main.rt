@@ -3,11 +3,10 @@
 #![tactic(auto)]
 
 use command_shell::call;
-use outside::{MemSink, MemSource, NoWatch};
+use outside::{MemSink, MemSource};
 use pool_commands::{OfPool, PoolLottery};
-use run_limits::{Limits, Workers};
+use run_limits::Limits;
 use std::alloc::Global;
-use std::thread::Threads;
 use std::{fs, io};
 
 /// The pools that have a bundle beside them.
@@ -24,31 +23,26 @@ fn main(rt: HostRuntime) -> io::Result<()> {
     for name in WITH_BUNDLE {
         let pool = fs::read(&rt, format!(in alloc; "{name}.pool")?)?;
         let bundle = fs::read(&rt, format!(in alloc; "{name}.bundle")?)?;
-        let is_same = printed(&rt, alloc, &pool)? == bundle;
+        let is_same = printed(alloc, &pool)? == bundle;
         println!(rt; "{name}\t{is_same}")?;
     }
     for name in WITHOUT_PANEL {
         let pool = fs::read(&rt, format!(in alloc; "{name}.pool")?)?;
-        let is_same = printed(&rt, alloc, &pool)?.as_slice() == b"no panel\n".as_slice();
+        let is_same = printed(alloc, &pool)?.as_slice() == b"no panel\n".as_slice();
         println!(rt; "{name}\t{is_same}")?;
     }
     Ok(())
 }
 
 /// What `lottery` prints of a pool's text, under the limits that it has without options.
-fn printed<R: Threads + Sync>(rt: &R, alloc: Global, pool: &[u8]) -> io::Result<Vec<u8>> {
-    let (Some(limits), Some(workers)) = (Limits::new(127, 100_000, 50_000_000), Workers::new(4)) else {
+fn printed(alloc: Global, pool: &[u8]) -> io::Result<Vec<u8>> {
+    let Some(limits) = Limits::new(127, 100_000, 50_000_000) else {
         return Ok(Vec::new(alloc));
     };
     let mut source = MemSource::new(alloc, pool, &[])?;
     let mut out = MemSink::new(alloc, ROOM, &[])?;
     let mut errs = MemSink::new(alloc, ROOM, &[])?;
-    let command = OfPool(PoolLottery {
-        rt,
-        limits,
-        workers,
-        watch: &NoWatch,
-    });
+    let command = OfPool(PoolLottery { limits });
     let _ = call(alloc, &command, &mut source, &mut out, &mut errs);
     Ok(out.written().to_vec(alloc)?)
 }

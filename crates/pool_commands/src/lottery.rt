@@ -9,41 +9,30 @@ use crate::of_pool::{PoolCommand, PoolMeaning};
 use bundle_text::write_bundle;
 use command_shell::{Answer, Cause, Printed, no_panel};
 use leximin_run::{Limits, Solved, Stop, solve};
-use outside::Watch;
 use pool_model::Pool;
 use run_laws::no_panel_where_none;
-use run_limits::Workers;
 use std::alloc::{AllocError, Global};
-use std::thread::Threads;
 
 /// The lottery over the quota panels of a pool, by the run under these limits.
-pub struct PoolLottery<'a, R, W> {
-    /// By which threads are started.
-    pub rt: &'a R,
+#[derive(Clone, Copy, Debug)]
+pub struct PoolLottery {
     /// How wide the run's numbers may be, and how many pivots and visits it may make.
     pub limits: Limits,
-    /// By how many workers the run prices. The answer doesn't depend on it.
-    pub workers: Workers,
-    /// Who is told of each piece of a pricing as it starts.
-    pub watch: &'a W,
 }
 
-impl<R: Threads + Sync, W: Watch + Sync> PoolCommand for PoolLottery<'_, R, W> {
+impl PoolMeaning for PoolLottery {
     ghost use Rattle.pool_answers.specs.Lottery.{LotteryMeans};
     ghost use Rattle.pool_answers.proofs.LotteryLaws.{lottery_once};
 
     ghost means = { λ command. LotteryMeans command.limits };
 
+    ghost answers_once = { λ command. lottery_once command.limits };
+}
+
+impl PoolCommand for PoolLottery {
     fn answer(&self, alloc: Global, pool: &Pool) -> Result<Answer, AllocError> {
         no_panel_where_none();
-        match solve(
-            self.rt,
-            alloc,
-            pool,
-            self.limits,
-            self.workers.number(),
-            self.watch,
-        ) {
+        match solve(alloc, pool, self.limits) {
             Ok(Solved::Found(answer)) => Ok(Answer::Prints {
                 printed: Printed::Done,
                 text: write_bundle(alloc, pool, &answer)?,

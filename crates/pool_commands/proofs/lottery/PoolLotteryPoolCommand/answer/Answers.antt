@@ -9,7 +9,7 @@ use Rattle.pool_commands.proofs.RunAnswers.{stop_is_meant}
 use Rattle.pool_commands.proofs.lottery.PoolLotteryPoolCommand.answer.Goals as goal
 
 pub returns-in_ok-write_bundle-in-Ok-Found : goal.returns-in_ok-write_bundle-in-Ok-Found
-returns-in_ok-write_bundle-in-Ok-Found g c =
+returns-in_ok-write_bundle-in-Ok-Found c =
     let ends = rw c.in-Ok-Found.field-0-is at c.in-Ok-Found.ensures.run in
     let certified = rw c.in-Ok-Found.field-0-is at c.in-Ok-Found.ensures.certified in
     record {
@@ -20,7 +20,7 @@ returns-in_ok-write_bundle-in-Ok-Found g c =
     }
 
 pub returns-in-Ok-NoPanel : goal.returns-in-Ok-NoPanel
-returns-in-Ok-NoPanel g c =
+returns-in-Ok-NoPanel c =
     let ends = rw c.in-Ok-NoPanel.field-0-is at c.in-Ok-NoPanel.ensures.run in
     IfOk-weaker c.no_panel.result _ _
     (λ answer is. record {
@@ -35,6 +35,6 @@ returns-in-Ok-NoPanel g c =
     }) c.no_panel.ensures
 
 pub returns-in-Err : goal.returns-in-Err
-returns-in-Err g c =
+returns-in-Err c =
     IfOk-weaker c.stopped.result _ _
     (λ answer tells. stop_is_meant c.args.self.now.limits c.args.pool.now c.in-Err.stop c.in-Err.ensures.run (saying answer) tells) c.stopped.ensures
