@@ -123,8 +123,7 @@ pub(crate) fn nodes_spent_line(
     line.extend_from_slice(b"spent\tnodes")?;
     push_number(&mut line, nodes as usize)?;
     push_number(&mut line, stage)?;
-    push_number(&mut line, 0)?;
-    push_number(&mut line, 0)?;
+    line.extend_from_slice(b"\t0\t0")?;
     end_line(&mut line)?;
     Ok(line)
 }
