@@ -1,2 +1,4 @@
 pub mod Members
 pub mod Stopped
+pub mod CheckLines
+pub mod Checked

@@ -1,16 +1,18 @@
-//! The lines of `seal` and `draw`.
+//! The lines of `seal`, `draw` and `check`.
 
 ghost use Rattle.std.specs.Prelude.{◌≡◌, ◌++◌, ◌∷◌, [], ◌≤ℤ◌, pos, codes, length, nat_lt, string_bytes, unsigned_abs, IfOk, IsTrue, OnOk};
 ghost use Rattle.std.specs.Fmt.{decimal};
 ghost use Rattle.std.specs.List.{list_all};
 ghost use Rattle.draw_definitions.specs.Seal.{seal_of};
 ghost use Rattle.command_shell.specs.Lines.{line as words_of_line};
+ghost use Rattle.bundle_answers.specs.Check.{refused_line as words_of_refused, spent_line};
 ghost use Rattle.pool_answers.specs.Lines.{panel_line as words_of_panel};
 
+use cert_check::Refusal;
 use pool_model::{Panel, Pool};
 use sealed_draw::{Draw, seal};
 use std::alloc::{AllocError, Global};
-use text_lines::{end_line, push_field, push_line, push_number, push_signed};
+use text_lines::{end_line, push_field, push_line, push_number, push_numbers, push_signed};
 
 /// The line of the seal of a text.
 pub(crate) fn seal_line(alloc: Global, text: &[u8]) -> Result<Vec<u8>, AllocError>
@@ -83,6 +85,45 @@ pub(crate) fn number_rule_line(
     line.extend_from_slice(b"rule")?;
     push_field(&mut line, rule)?;
     push_number(&mut line, number)?;
+    end_line(&mut line)?;
+    Ok(line)
+}
+
+/// The line of a certificate that holds.
+pub(crate) fn valid_line(alloc: Global) -> Result<Vec<u8>, AllocError>
+    ensures { IfOk result (λ line. line.items ≡ words_of_line (codes "valid" ∷ [])) }
+{
+    let mut line = Vec::new(alloc);
+    push_line(&mut line, b"valid", &[])?;
+    Ok(line)
+}
+
+/// The line of a certificate that is refused: the stage, the reason, and the numbers of the volunteers who show it.
+pub(crate) fn refused_line(alloc: Global, refusal: &Refusal) -> Result<Vec<u8>, AllocError>
+    ensures { IfOk result (λ line. line.items ≡ words_of_refused refusal.now) }
+{
+    let mut line = Vec::new(alloc);
+    line.extend_from_slice(b"refused")?;
+    push_number(&mut line, refusal.stage())?;
+    push_number(&mut line, usize::from(refusal.reason()))?;
+    push_numbers(&mut line, refusal.who())?;
+    end_line(&mut line)?;
+    Ok(line)
+}
+
+/// The line of visits that are spent at a stage, after no columns and no pivots.
+pub(crate) fn nodes_spent_line(
+    alloc: Global,
+    nodes: u64,
+    stage: usize,
+) -> Result<Vec<u8>, AllocError>
+    ensures { IfOk result (λ line. line.items ≡ spent_line nodes stage) }
+{
+    let mut line = Vec::new(alloc);
+    line.extend_from_slice(b"spent\tnodes")?;
+    push_number(&mut line, nodes as usize)?;
+    push_number(&mut line, stage)?;
+    line.extend_from_slice(b"\t0\t0")?;
     end_line(&mut line)?;
     Ok(line)
 }

@@ -1,15 +1,15 @@
 -- Calls of a command that are right, whatever it means.
-use Rattle.std.proofs.Common.{◌≡◌, ◌<◌, ◌≤◌, ℕ, List, length, Option, Some, None, ⊎_elim, subst, arith, rules}
-use Rattle.std.specs.Prelude.{IfSome, ◌⊎◌, ◌≢◌}
+use Rattle.std.proofs.Common.{◌≡◌, ◌≤◌, ℕ, List, length, Option, Some, None, ⊎_elim, subst, arith, rules}
+use Rattle.std.specs.Prelude.{IfSome}
 use Rattle.outside.specs.Content.{ReadsAll}
 use Rattle.command_shell.specs.declared.status.Printed.{Printed}
 use Rattle.command_shell.specs.declared.status.Printed.TheVariants.{Done, NoPanel, Refused}
 use Rattle.command_shell.specs.declared.status.Cause.{Cause}
 use Rattle.command_shell.specs.declared.status.Cause.TheVariants.{Input, Wide, Spent, Rule}
-use Rattle.command_shell.specs.Told.{Bytes, Told, told, HasFaulted, HasNoFault, HeldAll}
+use Rattle.command_shell.specs.Told.{Bytes, Told, told, HasNoFault, HeldAll}
 use Rattle.command_shell.specs.Answers.{AnswersOnce, Saying, Prints, Stops, cause_number, printed_number, status_of}
 use Rattle.command_shell.specs.Lines.{input_limit}
-use Rattle.command_shell.specs.Calls.{CallIsRight, IsAnswer, IsDue, IsOneAnswer, TellsStop, TellsText, TellsWriteFault}
+use Rattle.command_shell.specs.Calls.{CallIsRight, IsAnswer, IsDue, TellsStop, TellsText, TellsWriteFault}
 use Rattle.command_shell.specs.Telling.{IsCutOff, IsPrinted, IsTold}
 
 -- the one answer about some bytes

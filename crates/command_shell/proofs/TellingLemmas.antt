@@ -1,5 +1,5 @@
 -- A text is put line by line.
-use Rattle.std.proofs.Common.{◌≡◌, ℕ, ◌+◌, List, take, drop, subst, sym, Option}
+use Rattle.std.proofs.Common.{ℕ, ◌+◌, List, take, drop, subst, sym, Option}
 use Rattle.std.specs.Io.KnownBytes.{Appends}
 use Rattle.std.proofs.KnownBytes.{Appends-trans}
 use Rattle.std.proofs.Math.Seq.{take-add}

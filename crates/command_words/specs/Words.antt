@@ -26,12 +26,15 @@ pub data Order : Type 0 where
   Seal : Order
   -- the panel that is drawn from a bundle, by a seal that is given and digits
   Draw : Text → Text → Order
+  -- the verdict on the certificate of a bundle, by searches of at most so many visits at each stage
+  Check : ℕ → Order
 
 abbrev pub order : Asked → Order
 order (asked_for.Panel nodes) = Panel nodes
 order (asked_for.Lottery limits workers) = Lottery limits workers
 order asked_for.Seal = Seal
 order (asked_for.Draw seal digits) = Draw seal.now digits.now
+order (asked_for.Check nodes) = Check nodes
 
 -- an option that holds a number of a range, with the text of its default
 abbrev pub number_rule : Text → ℕ → ℕ → Text → Rule
@@ -75,6 +78,9 @@ seal_app = new_app (codes "seal")
 abbrev pub draw_app : App
 draw_app = with_rule (with_rule (new_app (codes "draw")) seal_rule) digits_rule
 
+abbrev pub check_app : App
+check_app = with_rule (new_app (codes "check")) nodes_rule
+
 -- the program, of which one subcommand is required; the words don't include its name
 abbrev pub program_alone : App
 program_alone = on_top (λ top. record top { no_binary_name = true; subcommand_required = true }) (new_app (codes "sortition"))
@@ -85,7 +91,7 @@ program_of_pools = with_subcommand (with_subcommand program_alone panel_app.top)
 
 -- and with those about a bundle
 abbrev pub program_app : App
-program_app = with_subcommand (with_subcommand program_of_pools seal_app.top) draw_app.top
+program_app = with_subcommand (with_subcommand (with_subcommand program_of_pools seal_app.top) draw_app.top) check_app.top
 
 -- some digits of a number below 2 ^ 64
 abbrev pub is_number : Text → Bool
@@ -131,6 +137,9 @@ lottery_asked rows = option_and_then (λ limits. option_map (Lottery limits) (wo
 abbrev pub draw_asked : List Row → Option Order
 draw_asked rows = option_and_then (λ seal. option_map (Draw seal) (first_of (codes "digits") rows)) (first_of (codes "seal") rows)
 
+abbrev pub check_asked : List Row → Option Order
+check_asked rows = option_map Check (number_within (codes "nodes") 0 MOST_NODES rows)
+
 -- the command of a subcommand's name, with its values
 abbrev pub asked_named : Text → List Row → Option Order
 asked_named name rows =
@@ -138,6 +147,7 @@ asked_named name rows =
     else if bytes_eq name (codes "lottery") then lottery_asked rows
     else if bytes_eq name (codes "seal") then Some Seal
     else if bytes_eq name (codes "draw") then draw_asked rows
+    else if bytes_eq name (codes "check") then check_asked rows
     else None
 
 abbrev pub asked_of : Option (Text × List Row) → Option Order

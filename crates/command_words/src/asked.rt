@@ -27,6 +27,11 @@ pub enum Asked<'a> {
         /// The digits of dice.
         digits: &'a str,
     },
+    /// The verdict on the certificate of a bundle, by searches of at most so many visits at each stage.
+    Check {
+        /// From 0 to 1,000,000,000,000.
+        nodes: u64,
+    },
 }
 
 /// Why the words ask for nothing.

@@ -5,6 +5,7 @@ ghost use Rattle.clap.specs.Words.{app_of, rule_of};
 ghost use Rattle.clap.specs.declared.builder.command.Command.TheViews.{out-Command};
 ghost use Rattle.command_words.specs.Words.{
   bits_rule,
+  check_app,
   digits_rule,
   draw_app,
   lottery_app,
@@ -29,7 +30,8 @@ pub(crate) fn program<'a>(alloc: Global) -> Result<Command<'a>, AllocError>
 {
     program_of_pools(alloc)?
         .subcommand(seal(alloc))?
-        .subcommand(draw(alloc)?)
+        .subcommand(draw(alloc)?)?
+        .subcommand(check(alloc)?)
 }
 
 /// The program with the subcommands about a pool.
@@ -86,6 +88,14 @@ fn draw<'a>(alloc: Global) -> Result<Command<'a>, AllocError>
         .about("Prints the panel that dice draw from the bundle on standard input")
         .arg(seal_option(alloc))?
         .arg(digits_option(alloc))
+}
+
+fn check<'a>(alloc: Global) -> Result<Command<'a>, AllocError>
+    ensures { IfOk result (λ check. (app_of check ≡ check_app) × ((out-Command check).has_globals ≡ false)) }
+{
+    Command::new(alloc, "check")
+        .about("Checks the certificate of the bundle on standard input")
+        .arg(nodes_option(alloc))
 }
 
 fn seal_option<'a>(alloc: Global) -> Arg<'a>

@@ -48,6 +48,8 @@ const WORDS: &[(&[&str], &str)] = &[
         &["draw", "--digits", "", "--seal=x"],
         "Draw { seal: \"x\", digits: \"\" }",
     ),
+    (&["check"], "Check { nodes: 50000000 }"),
+    (&["check", "--nodes", "7"], "Check { nodes: 7 }"),
     (&[], USAGE),
     (&[""], USAGE),
     (&["pane"], USAGE),
@@ -83,14 +85,14 @@ const WORDS: &[(&[&str], &str)] = &[
         &["draw", "--seal", "x", "--digits", "7", "--digits", "7"],
         USAGE,
     ),
-    (&["check"], USAGE),
+    (&["check", "x"], USAGE),
 ];
 
 /// Words, and the text of `clap` about them.
 const TEXTS: &[(&[&str], &str)] = &[
     (
         &[],
-        "error: 'sortition' requires a subcommand but one was not provided\n  [subcommands: panel, lottery, seal, draw, help]\n\nUsage: sortition <COMMAND>\n\nFor more information, try '--help'.\n",
+        "error: 'sortition' requires a subcommand but one was not provided\n  [subcommands: panel, lottery, seal, draw, check, help]\n\nUsage: sortition <COMMAND>\n\nFor more information, try '--help'.\n",
     ),
     (
         &["panel", "--nodes", "x"],

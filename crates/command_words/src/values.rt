@@ -4,6 +4,7 @@ ghost use Rattle.std.specs.Prelude.{◌≡◌, option_map};
 ghost use Rattle.clap.specs.Words.{first_of, found_of, rows_of, subcommand_rows_of};
 ghost use Rattle.command_words.specs.Words.{
   asked_of,
+  check_asked,
   draw_asked,
   limits_asked,
   lottery_asked,
@@ -29,6 +30,7 @@ pub(crate) fn asked_by<'a>(matches: &ArgMatches<'a>) -> Option<Asked<'a>>
         Some(("lottery", own)) => lottery_of(own),
         Some(("seal", _)) => Some(Asked::Seal),
         Some(("draw", own)) => draw_of(own),
+        Some(("check", own)) => check_of(own),
         _ => None,
     }
 }
@@ -54,6 +56,13 @@ fn draw_of<'a>(matches: &ArgMatches<'a>) -> Option<Asked<'a>>
     let seal = text_at(matches, "seal")?;
     let digits = text_at(matches, "digits")?;
     Some(Asked::Draw { seal, digits })
+}
+
+fn check_of<'a>(matches: &ArgMatches<'a>) -> Option<Asked<'a>>
+    ensures { option_map order result ≡ check_asked (rows_of (found_of matches.now)) }
+{
+    let nodes = number_within(matches, "nodes", 0, MOST_NODES)?;
+    Some(Asked::Check { nodes })
 }
 
 /// The text that an option has.

@@ -7,6 +7,7 @@ use Rattle.command_words.specs.Words.{Order, asked}
 use Rattle.bundle_answers.specs.OfBundle.{OfBundle}
 use Rattle.bundle_answers.specs.Seal.{SealMeans}
 use Rattle.bundle_answers.specs.Draw.{DrawMeans}
+use Rattle.bundle_answers.specs.Check.{CheckMeans}
 use Rattle.pool_answers.specs.Lottery.{LotteryIsRight}
 use Rattle.pool_answers.specs.Panel.{PanelIsRight}
 
@@ -30,6 +31,7 @@ AnswersRightly (Some (Order.Panel nodes)) told = PanelIsRight nodes told
 AnswersRightly (Some (Order.Lottery limits workers)) told = LotteryIsRight limits told
 AnswersRightly (Some Order.Seal) told = CallIsRight (OfBundle SealMeans) told
 AnswersRightly (Some (Order.Draw seal digits)) told = CallIsRight (OfBundle (DrawMeans seal digits)) told
+AnswersRightly (Some (Order.Check nodes)) told = CallIsRight (OfBundle (CheckMeans nodes)) told
 
 -- a call is right
 abbrev pub OfficeIsRight : List (List ℕ) → Told → Type 0

@@ -6,7 +6,7 @@ ghost use Rattle.command_shell.specs.Answers.{number_of};
 ghost use Rattle.command_words.specs.Words.{order};
 ghost use Rattle.sortition.specs.Office.{AnswersRightly, OfficeIsRight};
 
-use bundle_commands::{BundleSeal, DrawnPanel, OfBundle};
+use bundle_commands::{BundleCheck, BundleSeal, DrawnPanel, OfBundle};
 use command_shell::{Status, call, refuse_words, want_memory};
 use command_words::{Asked, WordsStop, read_words};
 use outside::{Sink, Source, Watch};
@@ -72,6 +72,9 @@ fn run<R: Threads + Sync, S: Source, O: Sink, E: Sink, W: Watch + Sync>(
                 out,
                 errs,
             )
+        }
+        Asked::Check { nodes } => {
+            call(alloc, &OfBundle(BundleCheck { nodes }), source, out, errs)
         }
     }
 }

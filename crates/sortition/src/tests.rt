@@ -34,6 +34,18 @@ const NOBODY: &[u8] = b"pool\t1\nsize\t1\nend\n";
 const FOUR_BUNDLE: &[u8] =
     b"bundle\t1\npool\t1\nsize\t2\ncategory\tgender\nvalue\tfemale\t1\t1\nvalue\tmale\t1\t1\nvolunteer\ta\tfemale\nvolunteer\tb\tfemale\nvolunteer\tc\tmale\nvolunteer\td\tmale\nend\ntotal\t2\npanel\t1\t0\t2\npanel\t1\t1\t3\nstage\t1\t1\t1\t0\t0\nstage\t0\t-1\t-1\t1\t1\ndone\n";
 
+/// The same with a first stage whose cap a quota panel of a and d passes.
+const PASSED_CAP: &[u8] =
+    b"bundle\t1\npool\t1\nsize\t2\ncategory\tgender\nvalue\tfemale\t1\t1\nvalue\tmale\t1\t1\nvolunteer\ta\tfemale\nvolunteer\tb\tfemale\nvolunteer\tc\tmale\nvolunteer\td\tmale\nend\ntotal\t2\npanel\t1\t0\t2\npanel\t1\t1\t3\nstage\t1\t1\t0\t0\t1\nstage\t0\t-1\t-1\t1\t1\ndone\n";
+
+/// The same with a total of 3.
+const TOTAL_OF_THREE: &[u8] =
+    b"bundle\t1\npool\t1\nsize\t2\ncategory\tgender\nvalue\tfemale\t1\t1\nvalue\tmale\t1\t1\nvolunteer\ta\tfemale\nvolunteer\tb\tfemale\nvolunteer\tc\tmale\nvolunteer\td\tmale\nend\ntotal\t3\npanel\t1\t0\t2\npanel\t1\t1\t3\nstage\t1\t1\t1\t0\t0\nstage\t0\t-1\t-1\t1\t1\ndone\n";
+
+/// The same without the last stage, which settles the men.
+const MEN_LEFT: &[u8] =
+    b"bundle\t1\npool\t1\nsize\t2\ncategory\tgender\nvalue\tfemale\t1\t1\nvalue\tmale\t1\t1\nvolunteer\ta\tfemale\nvolunteer\tb\tfemale\nvolunteer\tc\tmale\nvolunteer\td\tmale\nend\ntotal\t2\npanel\t1\t0\t2\npanel\t1\t1\t3\nstage\t1\t1\t1\t0\t0\ndone\n";
+
 /// One woman and three men, one of each to be chosen.
 const ONE_WOMAN: &[u8] =
     b"pool\t1\nsize\t2\ncategory\tgender\nvalue\tfemale\t1\t1\nvalue\tmale\t1\t1\nvolunteer\tw\tfemale\nvolunteer\tx\tmale\nvolunteer\ty\tmale\nvolunteer\tz\tmale\nend\n";
@@ -382,10 +394,27 @@ const BUNDLE_ROWS: &[(&[&str], &[u8], u8, &[u8], &[u8])] = &[
     ),
 ];
 
+/// The same of checks.
+const CHECK_ROWS: &[(&[&str], &[u8], u8, &[u8], &[u8])] = &[
+    (&["check"], FOUR_BUNDLE, 0, b"valid\n", b""),
+    (&["check"], PASSED_CAP, 11, b"refused\t1\t8\t0\t3\n", b""),
+    (&["check"], TOTAL_OF_THREE, 11, b"refused\t0\t3\n", b""),
+    (&["check"], MEN_LEFT, 11, b"refused\t1\t10\t2\n", b""),
+    (&["check"], EITHER_BUNDLE, 0, b"valid\n", b""),
+    (
+        &["check", "--nodes", "0"],
+        EITHER_BUNDLE,
+        5,
+        b"",
+        b"spent\tnodes\t0\t1\t0\t0\n",
+    ),
+    (&["check"], FOUR, 3, b"", b"input\t1\t13\n"),
+];
+
 #[test]
 fn calls_are_answered(rt: HostRuntime) -> Result<(), AllocError> {
     let alloc = rt.alloc();
-    for rows in [ROWS, BUNDLE_ROWS] {
+    for rows in [ROWS, BUNDLE_ROWS, CHECK_ROWS] {
         for (words, text, status, out, errs) in rows {
             let told = answer_of(&rt, alloc, &asking(words, text))?;
             assert_eq!(rt; told.status, *status, "{words:?}");
