@@ -1,0 +1,1 @@
+//! The edges of the ranges, and of the number of trees.
