@@ -10,6 +10,9 @@ const MOST: u64 = 72_057_594_037_927_936;
 
 const MOST_FACTOR: i128 = 72_057_594_037_927_936;
 
+/// The number of nobody.
+const NONE: usize = 1000;
+
 /// The number of a constraint, and its factor.
 type Pair = (usize, i128);
 
@@ -76,21 +79,26 @@ fn trees(alloc: Global, count: usize, last: usize) -> Result<Vec<TreeLines>, All
     Ok(trees)
 }
 
-/// How many trees and how many lines a proof has, and the number that its last line splits on.
-fn told(proof: &Proof) -> (usize, usize, usize) {
+/// How many trees a proof has, and the number that the last line of the last splits on.
+fn told(proof: &Proof) -> (usize, usize) {
     proof.facts();
-    let (count, lines) = match proof.parts() {
-        Parts::Lottery(_, trees) => (
-            trees.len(),
-            trees.last().map_or([].as_slice(), TreeLines::lines),
-        ),
-        Parts::NoPanel(_, lines) => (0, lines.lines()),
-    };
-    let last = match lines.last().map(TreeLine::node) {
-        Some(Node::Split(i)) => *i,
-        _ => 1000,
-    };
-    (count, lines.len(), last)
+    match proof.parts() {
+        Parts::Lottery(_, trees) => match trees.last() {
+            Some(lines) => (trees.len(), last_split(lines)),
+            None => (0, NONE),
+        },
+        Parts::NoPanel(_, lines) => (0, last_split(lines)),
+    }
+}
+
+fn last_split(lines: &TreeLines) -> usize {
+    match lines.lines().last() {
+        Some(line) => match line.node() {
+            Node::Split(i) => *i,
+            Node::Leaf(_) => NONE,
+        },
+        None => NONE,
+    }
 }
 
 /// One tree for each stage, and at most 400.
@@ -111,7 +119,7 @@ fn makes_proofs(rt: HostRuntime) -> Result<(), Fail> {
         let said = proof.map(|proof| told(&proof));
         assert_eq!(rt;
             said,
-            want.then_some((count, 2, last)),
+            want.then_some((count, last)),
             "at {stages}, {count}, {last}"
         );
     }
@@ -119,7 +127,7 @@ fn makes_proofs(rt: HostRuntime) -> Result<(), Fail> {
         let pool = bundle(alloc, 1)?.pool().copy()?;
         let lines = trees(alloc, 1, last)?.pop().ok_or("no tree")?;
         let said = Proof::of_no_panel(pool, lines).map(|proof| told(&proof));
-        assert_eq!(rt; said, want.then_some((0, 2, last)), "at {last}");
+        assert_eq!(rt; said, want.then_some((0, last)), "at {last}");
     }
     Ok(())
 }

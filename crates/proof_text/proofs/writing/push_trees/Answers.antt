@@ -1,4 +1,4 @@
-use Rattle.std.proofs.Common.{◌≡◌, ◌+◌, ◌++◌, get_or, take, ap, ◌∙◌}
+use Rattle.std.proofs.Common.{◌≡◌, ◌+◌, ◌++◌, take, ap, ◌∙◌}
 use Rattle.line_definitions.specs.Lines.{text_of}
 use Rattle.proof_definitions.specs.ProofText.{tree_lines, trees_from}
 use Rattle.proof_text.proofs.Texts.{one_tree_more}
