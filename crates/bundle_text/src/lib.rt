@@ -15,6 +15,7 @@ mod writing;
 
 pub use bundles::Bundle;
 pub use faults::{BundleFault, ReadBundle};
+pub use progress::{Progress, after};
 pub use ranges::is_in_ranges;
 pub use reading::read_bundle;
 pub use writing::write_bundle;

@@ -41,7 +41,7 @@ pub(crate) const ENDING: u8 = 17;
 
 /// What right lines make of a text so far.
 #[derive(Debug, Drop)]
-pub(crate) enum Progress {
+pub enum Progress {
     /// No line stood.
     Begun,
     /// The first line stood, of version 2 or 1, and the pool's lines up to now come to this.
@@ -55,7 +55,7 @@ pub(crate) enum Progress {
 }
 
 /// What one more line makes of it. Stops with the lowest kind of fault that the line has.
-pub(crate) fn after(alloc: Global, progress: Progress, line: &[u8]) -> Result<Progress, BuildStop>
+pub fn after(alloc: Global, progress: Progress, line: &[u8]) -> Result<Progress, BuildStop>
     ensures kind { Tells (line_kind (seen progress) line.now) result }
     ensures ok { IfOk result (λ next. seen next ≡ after_line (seen progress) line.now) }
 {

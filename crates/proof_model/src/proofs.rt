@@ -1,0 +1,103 @@
+//! Proofs: a bundle with a tree for each stage, or a pool with a tree that is to show that there is no quota panel.
+
+ghost use Rattle.std.specs.Prelude.{◌≡◌, ◌↔◌, IfSome, IsSome, IsTrue};
+ghost use Rattle.addition_definitions.specs.ProofVerdict.{OfLottery, OfNoPanel};
+ghost use Rattle.proof_definitions.specs.ProofText.{IsProof, IsLotteryProof, IsNoPanelProof};
+ghost use Rattle.proof_model.specs.Parts.{seen};
+
+use crate::ranges::{are_tree_lines, are_trees};
+use crate::trees::TreeLines;
+use bundle_text::Bundle;
+use pool_model::Pool;
+use std::marker::Model;
+
+/// The greatest number of trees.
+const MOST_TREES: usize = 400;
+
+/// The parts of a proof.
+#[derive(Debug, Drop)]
+pub enum Parts {
+    /// A lottery with its stages, and for each stage the lines of a tree.
+    Lottery(Bundle, Vec<TreeLines>),
+    /// A pool, and the lines of a tree that is to show that it has no quota panel.
+    NoPanel(Pool, TreeLines),
+}
+
+/// A proof, which has a text: of a lottery, with one tree for each of at most 400 stages, or that there is no quota panel. The lines of
+/// the trees keep their ranges.
+#[derive(Debug, Drop)]
+pub struct Proof {
+    parts: Parts,
+}
+
+impl Model for Proof {
+    ghost use Rattle.addition_definitions.specs.ProofVerdict.{Proof as Seen};
+    ghost use Rattle.proof_definitions.specs.ProofText.{IsProof};
+    ghost use Rattle.proof_model.specs.Parts.{seen};
+
+    ghost Value = { Seen };
+
+    ghost view = { λ p. seen p.parts };
+
+    ghost invariant = { λ p. IsProof (seen p.parts) };
+}
+
+impl Proof {
+    /// The proof of a lottery by these trees, exactly where there is one for each of at most 400 stages and their lines keep their ranges.
+    pub fn of_lottery(bundle: Bundle, trees: Vec<TreeLines>) -> Option<Proof>
+        ensures value { IfSome result (λ proof. proof ≡ OfLottery bundle.pool bundle.answer trees.items) }
+        ensures exact { IsSome result ↔ IsProof (OfLottery bundle.pool bundle.answer trees.items) }
+    {
+        if is_lottery_proof(&bundle, &trees) {
+            Some(Proof {
+                parts: Parts::Lottery(bundle, trees),
+            })
+        } else {
+            None
+        }
+    }
+
+    /// The proof that there is no quota panel by these lines, exactly where they keep their ranges.
+    pub fn of_no_panel(pool: Pool, lines: TreeLines) -> Option<Proof>
+        ensures value { IfSome result (λ proof. proof ≡ OfNoPanel pool lines) }
+        ensures exact { IsSome result ↔ IsProof (OfNoPanel pool lines) }
+    {
+        if is_no_panel_proof(&pool, &lines) {
+            Some(Proof {
+                parts: Parts::NoPanel(pool, lines),
+            })
+        } else {
+            None
+        }
+    }
+
+    /// The parts.
+    pub fn parts(&self) -> &Parts
+        ensures { seen result.now ≡ self.now }
+    {
+        &self.parts
+    }
+
+    /// Does nothing; its contract tells what each proof keeps.
+    pub fn facts(&self)
+        ensures { IsProof self.now }
+    {
+        let _ = &self.parts;
+    }
+}
+
+fn is_lottery_proof(bundle: &Bundle, trees: &[TreeLines]) -> bool
+    ensures { IsTrue result ↔ IsLotteryProof bundle.now.pool bundle.now.answer trees.now }
+{
+    bundle.facts();
+    let stages = bundle.answer().certificate().stages();
+    let volunteers = bundle.pool().volunteers().len();
+    trees.len() == stages.len() && trees.len() <= MOST_TREES && are_trees(volunteers, trees)
+}
+
+fn is_no_panel_proof(pool: &Pool, lines: &TreeLines) -> bool
+    ensures { IsTrue result ↔ IsNoPanelProof pool.now lines.now }
+{
+    pool.facts();
+    are_tree_lines(pool.volunteers().len(), lines.lines())
+}

@@ -1,0 +1,3 @@
+pub mod LineByLine
+pub mod Multipliers
+pub mod Texts

@@ -1,0 +1,8 @@
+use Rattle.std.proofs.Common.{◌≡◌, ◌*◌, drop, map}
+use Rattle.proof_definitions.specs.ProofReading.{multipliers_of as multipliers_in}
+use Rattle.proof_text.proofs.Multipliers.{behind}
+use Rattle.proof_text.proofs.lines.multipliers_of.Given as goal
+
+-- the multipliers so far, and those of the fields that are left
+abbrev pub invariant-loop-i : goal.invariant-loop-i
+invariant-loop-i l = behind l.multipliers.items (multipliers_in (map (λ field. field.now) (drop (2 * l.i) l.fields))) ≡ multipliers_in (map (λ field. field.now) l.fields)

@@ -1,0 +1,7 @@
+use Rattle.std.proofs.Common.{◌≡◌, ◌++◌, take}
+use Rattle.line_definitions.specs.Lines.{text_of}
+use Rattle.proof_definitions.specs.ProofText.{trees_from}
+use Rattle.proof_text.proofs.writing.push_trees.Given as goal
+
+abbrev pub invariant-loop-i : goal.invariant-loop-i
+invariant-loop-i l = l.text.items ≡ l.fn.text.items ++ text_of (trees_from 1 (take l.i l.trees))

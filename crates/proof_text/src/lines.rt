@@ -1,0 +1,205 @@
+//! The lines of a tree: what one says.
+
+ghost use Rattle.std.specs.Prelude.{◌≡◌, ◌<◌, ◌^◌, ◌==◌, nat_lt, ◌&&◌, if◌then◌else◌, map, IfOk, bytes_eq, option_map};
+ghost use Rattle.line_definitions.specs.Numbers.{number_up_to as number_in, signed_up_to};
+ghost use Rattle.std.specs.Fmt.{decimal};
+ghost use Rattle.addition_definitions.specs.TreeRanges.{last_constraint, number_limit};
+ghost use Rattle.proof_definitions.specs.ProofText.{most_trees, tree_line};
+ghost use Rattle.proof_definitions.specs.ProofReading.{NextTree, TheClose, Unknown, leaf_said, line_in_tree as line_said, multiplier_of as multiplier_in, multipliers_of as multipliers_in, node_in_range, node_said, split_said};
+ghost use Rattle.proof_text.specs.Progress.{said};
+
+use itoa::Buffer;
+use proof_model::{Leaf, Multiplier, TreeLine, is_tree_line};
+use std::alloc::{AllocError, Global};
+use text_lines::{fields, number_up_to, signed_number};
+
+/// The greatest number of a constraint.
+const LAST_CONSTRAINT: usize = 1800;
+
+/// The greatest scale.
+const MAX_SCALE: usize = 72_057_594_037_927_936;
+
+/// The greatest absolute value of a factor.
+const MAX_FACTOR: u128 = 72_057_594_037_927_936;
+
+/// The greatest number of trees.
+const MOST_TREES: usize = 400;
+
+/// How the first line of a tree begins.
+const TREE: &[u8] = b"tree\t";
+
+const SPLIT: &[u8] = b"split";
+
+const BOUND: &[u8] = b"bound";
+
+const CLOSE: &[u8] = b"close";
+
+/// What a line behind the first of a tree says.
+#[derive(Debug, Drop)]
+pub(crate) enum LineInTree {
+    /// A node in its ranges.
+    Node(TreeLine),
+    /// The next tree begins.
+    NextTree,
+    /// The last line.
+    Close,
+    Unknown,
+}
+
+/// What a line says behind the first of the tree of a number, where the last tree has another or the same, and there are so many volunteers.
+pub(crate) fn line_in_tree(
+    alloc: Global,
+    volunteers: usize,
+    number: usize,
+    last: usize,
+    line: &[u8],
+) -> Result<LineInTree, AllocError>
+    requires { number < 2 ^ 63 }
+    ensures { IfOk result (λ in_tree. said in_tree ≡ line_said volunteers number last line.now) }
+{
+    if line == CLOSE {
+        Ok(close_at(number, last))
+    } else if begins_tree(number + 1, line) {
+        Ok(next_at(number, last))
+    } else {
+        let fields = fields(alloc, line)?;
+        node_of(alloc, volunteers, &fields)
+    }
+}
+
+/// The last line stands behind the last tree.
+fn close_at(number: usize, last: usize) -> LineInTree
+    ensures { said result ≡ (if number == last then TheClose else Unknown) }
+{
+    if number == last {
+        LineInTree::Close
+    } else {
+        LineInTree::Unknown
+    }
+}
+
+/// Another tree begins behind each tree but the last.
+fn next_at(number: usize, last: usize) -> LineInTree
+    ensures { said result ≡ (if nat_lt number last && nat_lt number most_trees then NextTree else Unknown) }
+{
+    if number < last && number < MOST_TREES {
+        LineInTree::NextTree
+    } else {
+        LineInTree::Unknown
+    }
+}
+
+/// The line is the first of the tree of a number.
+pub(crate) fn begins_tree(number: usize, line: &[u8]) -> bool
+    ensures { result ≡ bytes_eq line.now (tree_line number) }
+{
+    match line.strip_prefix(TREE) {
+        Some(field) => is_spelled(number, field),
+        None => false,
+    }
+}
+
+/// The digits of the number are the field.
+fn is_spelled(number: usize, field: &[u8]) -> bool
+    ensures { result ≡ bytes_eq (decimal number) field.now }
+{
+    let mut digits = Buffer::new();
+    digits.format(number).as_bytes() == field
+}
+
+/// What the fields of a node's line say.
+fn node_of(alloc: Global, volunteers: usize, fields: &[&[u8]]) -> Result<LineInTree, AllocError>
+    ensures { IfOk result (λ node. said node ≡ node_said volunteers (map (λ field. field.now) fields.now)) }
+{
+    let Some((first, rest)) = fields.split_first() else {
+        return Ok(LineInTree::Unknown);
+    };
+    let first = *first;
+    if first == SPLIT {
+        Ok(split_of(volunteers, rest))
+    } else if first == BOUND {
+        leaf_of(alloc, volunteers, rest)
+    } else {
+        Ok(LineInTree::Unknown)
+    }
+}
+
+/// What the fields behind `split` say.
+fn split_of(volunteers: usize, fields: &[&[u8]]) -> LineInTree
+    ensures { said result ≡ split_said volunteers (map (λ field. field.now) fields.now) }
+{
+    match fields {
+        [field] => match number_up_to(volunteers, field) {
+            Some(i) => in_range(volunteers, TreeLine::split(i)),
+            None => LineInTree::Unknown,
+        },
+        _ => LineInTree::Unknown,
+    }
+}
+
+/// What the fields behind `bound` say.
+fn leaf_of(alloc: Global, volunteers: usize, fields: &[&[u8]]) -> Result<LineInTree, AllocError>
+    ensures { IfOk result (λ leaf. said leaf ≡ leaf_said volunteers (map (λ field. field.now) fields.now)) }
+{
+    let Some((scale, rest)) = fields.split_first() else {
+        return Ok(LineInTree::Unknown);
+    };
+    let Some(scale) = number_up_to(MAX_SCALE, scale) else {
+        return Ok(LineInTree::Unknown);
+    };
+    match multipliers_of(alloc, rest)? {
+        Some(multipliers) => Ok(in_range(
+            volunteers,
+            TreeLine::leaf(Leaf::new(scale as u64, multipliers)),
+        )),
+        None => Ok(LineInTree::Unknown),
+    }
+}
+
+/// The node, if it keeps its ranges.
+fn in_range(volunteers: usize, node: TreeLine) -> LineInTree
+    ensures { said result ≡ node_in_range volunteers node }
+{
+    if is_tree_line(volunteers, &node) {
+        LineInTree::Node(node)
+    } else {
+        LineInTree::Unknown
+    }
+}
+
+/// The multipliers that fields give two by two.
+fn multipliers_of(alloc: Global, fields: &[&[u8]]) -> Result<Option<Vec<Multiplier>>, AllocError>
+    ensures { IfOk result (λ multipliers. option_map (λ v. v.items) multipliers ≡ multipliers_in (map (λ field. field.now) fields.now)) }
+{
+    let mut multipliers = Vec::with_capacity(alloc, fields.len() / 2)?;
+    for i in 0..fields.len() / 2 {
+        let Some(multiplier) = multiplier_of(fields[2 * i], fields[2 * i + 1]) else {
+            return Ok(None);
+        };
+        multipliers.push(multiplier)?;
+    }
+    if fields.len() % 2 == 0 {
+        Ok(Some(multipliers))
+    } else {
+        Ok(None)
+    }
+}
+
+/// The multiplier of these fields, if both are numbers.
+fn multiplier_of(number: &[u8], factor: &[u8]) -> Option<Multiplier>
+    ensures { result ≡ multiplier_in (number_in last_constraint number.now) (signed_up_to number_limit factor.now) }
+{
+    let number = number_up_to(LAST_CONSTRAINT, number)?;
+    let factor = factor_of(factor)?;
+    Some(Multiplier::new(number, factor))
+}
+
+/// The number from -2^56 to 2^56 that the field spells.
+fn factor_of(field: &[u8]) -> Option<i128>
+    ensures { result ≡ signed_up_to number_limit field.now }
+{
+    match signed_number(field) {
+        Some(factor) if factor.unsigned_abs() <= MAX_FACTOR => Some(factor),
+        _ => None,
+    }
+}
