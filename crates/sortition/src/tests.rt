@@ -2,9 +2,10 @@
 
 use crate::given::no_words;
 use crate::office::office;
-use outside::{MemSink, MemSource, NoWatch};
+use outside::{MemSink, MemSource, NoWatch, Watch};
 use std::alloc::{AllocError, Global};
 use std::io;
+use std::sync::atomic::{AtomicBool, Ordering};
 use std::test::Fail;
 use std::thread::Threads;
 
@@ -132,6 +133,15 @@ fn answer_of<R: Threads + Sync>(
     alloc: Global,
     call: &Call<'_>,
 ) -> Result<Answer, AllocError> {
+    answer_watched(rt, alloc, call, &NoWatch)
+}
+
+fn answer_watched<R: Threads + Sync, W: Watch + Sync>(
+    rt: &R,
+    alloc: Global,
+    call: &Call<'_>,
+    watch: &W,
+) -> Result<Answer, AllocError> {
     let mut words = Vec::new(alloc);
     for word in call.words {
         words.push(String::from_str(alloc, word)?)?;
@@ -139,16 +149,33 @@ fn answer_of<R: Threads + Sync>(
     let mut source = MemSource::new(alloc, call.text, call.reads)?;
     let mut out = MemSink::new(alloc, call.room, call.puts)?;
     let mut errs = MemSink::new(alloc, 1000, &[])?;
-    let status = office(
-        rt,
-        alloc,
-        &words,
-        &mut source,
-        &mut out,
-        &mut errs,
-        &NoWatch,
-    );
+    let status = office(rt, alloc, &words, &mut source, &mut out, &mut errs, watch);
     Ok(Answer { status, out, errs })
+}
+
+/// How often a piece looks whether another one has started.
+const TURNS: u64 = 1_000_000_000;
+
+/// Holds pieces 0 and 1 of the first pricing until piece 2 has started, for so many turns at most; and keeps whether it did.
+#[derive(Drop)]
+struct Holding {
+    started: AtomicBool,
+    seen: AtomicBool,
+}
+
+impl Watch for Holding {
+    fn piece(&self, number: u64) {
+        if number == 2 {
+            self.started.store(true, Ordering::SeqCst);
+            return;
+        }
+        for _ in 0..TURNS {
+            if self.started.load(Ordering::SeqCst) {
+                self.seen.store(true, Ordering::SeqCst);
+                return;
+            }
+        }
+    }
 }
 
 /// Words, a text, and the status, the gain of `out` and the gain of `errs`.
@@ -434,6 +461,19 @@ fn calls_are_answered(rt: HostRuntime) -> Result<(), AllocError> {
 }
 
 /// A text that is cut off runs out before its end, after as many lines as are whole; and `out` may fail at each line of a bundle.
+#[test]
+fn the_third_worker_starts_while_two_are_held(rt: HostRuntime) -> Result<(), AllocError> {
+    let watch = Holding {
+        started: AtomicBool::new(false),
+        seen: AtomicBool::new(false),
+    };
+    let call = asking(&["lottery", "--workers", "3"], APART);
+    let told = answer_watched(&rt, rt.alloc(), &call, &watch)?;
+    assert_eq!(rt; told.status, 0);
+    assert!(rt; watch.seen.load(Ordering::SeqCst));
+    Ok(())
+}
+
 #[test]
 fn each_cut_is_told(rt: HostRuntime) -> Result<(), AllocError> {
     let alloc = rt.alloc();
