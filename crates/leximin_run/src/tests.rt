@@ -2,9 +2,11 @@
 //! the rules.
 
 use crate::{At, Limits, Solved, Stop, solve};
+use outside::NoWatch;
 use pool_model::{Answer, BuildStop, Name, Pool, Standing};
 use std::alloc::{AllocError, Global};
 use std::test::Fail;
+use std::thread::Threads;
 
 /// A pool with one category, by the bounds of its values, and each volunteer's value and standing; the volunteers of the numbers in
 /// `family` are of one household.
@@ -173,7 +175,8 @@ fn told(alloc: Global, answer: &Result<Solved, Stop>) -> Result<String, AllocErr
     }
 }
 
-fn run(
+fn run<R: Threads + Sync>(
+    rt: &R,
     alloc: Global,
     given: Given<'_>,
     limits: (u32, u64, u64),
@@ -181,7 +184,7 @@ fn run(
     let pool = built(alloc, given)?;
     let (bits, pivots, nodes) = limits;
     match Limits::new(bits, pivots, nodes) {
-        Some(limits) => Ok(solve(alloc, &pool, limits)),
+        Some(limits) => Ok(solve(rt, alloc, &pool, limits, 2, &NoWatch)),
         None => Ok(Err(Stop::OutOfMemory)),
     }
 }
@@ -230,7 +233,7 @@ fn small_pools(rt: HostRuntime) -> Result<(), Fail> {
         (FIVE, (3, 50, 50), "wide 1 1 0 2 Add 7 6"),
     ];
     for (given, limits, wanted) in cases {
-        let answer = run(alloc, given, limits)?;
+        let answer = run(&rt, alloc, given, limits)?;
         assert_eq!(rt; told(alloc, &answer)?.as_str(), wanted);
     }
     Ok(())

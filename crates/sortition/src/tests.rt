@@ -17,6 +17,10 @@ const FOUR: &[u8] =
 const APART: &[u8] =
     b"pool\t1\nsize\t2\ncategory\tvalue\nvalue\tp\t0\t1\nvalue\tq\t0\t1\nvalue\tr\t0\t1\nvalue\ts\t0\t1\nvolunteer\ta\tp\nvolunteer\tb\tq\nvolunteer\tc\tr\nvolunteer\td\ts\nend\n";
 
+/// Two seats for a woman and a man.
+const PAIR: &[u8] =
+    b"pool\t1\nsize\t2\ncategory\tgender\nvalue\tfemale\t0\t2\nvalue\tmale\t0\t2\nvolunteer\ta\tfemale\nvolunteer\tb\tmale\nend\n";
+
 /// Two women are asked for, and one is there.
 const SHORT: &[u8] =
     b"pool\t1\nsize\t2\ncategory\tgender\nvalue\tfemale\t2\t2\nvalue\tmale\t0\t2\nvolunteer\ta\tfemale\nvolunteer\tb\tmale\nvolunteer\tc\tmale\nend\n";
@@ -601,9 +605,13 @@ fn pools_have_their_chances(rt: HostRuntime) -> Result<(), Fail> {
         (ONE_WOMAN, 4, "[3, 1, 1, 1] of 3"),
         (BARRED, 3, "[0, 1, 1] of 2"),
         (FIVE, 5, "[2, 2, 2, 3, 3] of 6"),
+        (PAIR, 2, "[1, 1] of 1"),
         (REPLACED, 4, "[0, 1, 1, 0] of 1"),
     ] {
         assert_eq!(rt; counts(&rt, alloc, text, volunteers)?.as_str(), wanted);
+        let bundle = answer_of(&rt, alloc, &asking(&["lottery"], text))?;
+        let checked = answer_of(&rt, alloc, &asking(&["check"], bundle.out.written()))?;
+        assert_eq!(rt; checked.out.written(), b"valid\n".as_slice());
     }
     Ok(())
 }
