@@ -78,6 +78,7 @@ fn each_number_of_workers_finds_the_same(rt: HostRuntime) -> Result<(), Fail> {
     let row = Row::new(0, Vec::from_slice(alloc, &[0, 0, 1, 0])?);
     assert!(rt; is_small(&all, &row));
     for workers in [1, 2, 3, 7, 64] {
+        assert!(rt; 1 <= workers && workers <= 64);
         let (found, visits) = best_by(&rt, alloc, workers, &NoWatch, &all, &[], &row, 12)?;
         let counts = found.as_ref().map(|composition| composition.counts());
         assert_eq!(rt; counts, Some([1, 0, 1, 0].as_slice()));
