@@ -74,6 +74,13 @@ const SAID: &[(&[u8], &[u8], u64, &str)] = &[
         AMPLE,
         "valid",
     ),
+    // The same stage split: women and men weighed apart, each under a cap of its own.
+    (
+        FOUR,
+        b"total\t2\npanel\t1\t0\t2\npanel\t1\t1\t3\nstage\t1\t1\t1\t0\t0\nstage\t1\t0\t0\t1\t1\ndone\n",
+        AMPLE,
+        "valid",
+    ),
     // The second cap holds only of panels that attain the first.
     (
         FAMILY,
