@@ -1,6 +1,6 @@
 -- When a call of a command is right, whatever the command. Its meaning says which answers are right about the bytes that the
 -- source held.
-use Rattle.std.specs.Prelude.{◌≡◌, ◌≢◌, ◌⊎◌, ◌<◌, ◌≤◌, ℕ, List, length, IfSome}
+use Rattle.std.specs.Prelude.{◌≡◌, ◌≢◌, ◌⊎◌, ◌<◌, ◌≤◌, ℕ, List, [], Some, length, IfSome}
 use Rattle.command_shell.specs.declared.status.Printed.{Printed}
 use Rattle.command_shell.specs.declared.status.Printed.TheVariants.{Done, NoPanel, Refused}
 use Rattle.command_shell.specs.declared.status.Cause.{Cause}
@@ -95,3 +95,11 @@ pub record CallIsRight (Means : List ℕ → Saying → Type 0) (told : Told) : 
   pub no_other : told.status ≢ 0 → told.status ≢ 1 → told.status ≢ 3 → told.status ≢ 4 → told.status ≢ 5 → told.status ≢ 6 → told.status ≢ 7 → told.status ≢ 8 → told.status ≢ 11 → told.status ≡ 12
   -- where the source counted no fault, the status is the one that its bytes ask for, but for 8 and 12
   pub complete : (HasFaulted told.source → ⊥) → told.status ≢ 8 → told.status ≢ 12 → IfSome told.source.before (λ bytes. IsDue Means bytes told.status)
+
+-- a call of a command that reads nothing is right: as one whose source has no bytes and no fault, and the source was left alone
+pub record ReadsNothing (Means : List ℕ → Saying → Type 0) (told : Told) : Type 0 where
+  pub source : IsUntouched told.source
+  pub nothing : Bytes
+  pub empty : nothing.before ≡ Some []
+  pub no_fault : HasNoFault nothing
+  pub call : CallIsRight Means (record told { source = nothing })

@@ -1,10 +1,10 @@
 //! One call of a command.
 
-ghost use Rattle.std.specs.Fn.{FnOnceReturnsAt};
-ghost use Rattle.std.specs.Prelude.{ℕ, List, IfOk};
-ghost use Rattle.command_shell.specs.Told.{object, told};
+ghost use Rattle.std.specs.Fn.{FnOnceReturns, FnOnceReturnsAt};
+ghost use Rattle.std.specs.Prelude.{ℕ, List, [], IfOk};
+ghost use Rattle.command_shell.specs.Told.{Bytes, IsUntouched, object, told};
 ghost use Rattle.command_shell.specs.Answers.{number_of, saying};
-ghost use Rattle.command_shell.specs.Calls.{CallIsRight};
+ghost use Rattle.command_shell.specs.Calls.{CallIsRight, ReadsNothing};
 
 use crate::answer::Answer;
 use crate::command::{TextCommand, TextMeaning};
@@ -66,5 +66,24 @@ pub fn call_answered_by<
         Err(ReadStop::TooLong) => too_long(errs),
         Err(ReadStop::Fault) => read_fault(errs),
         Err(ReadStop::OutOfMemory) => want_memory(errs),
+    }
+}
+
+/// One call of a command that reads nothing, and that a function answers which is right about a text without bytes. The source is left alone.
+pub fn call_without_input<
+    C: TextMeaning,
+    F: FnOnce() -> Result<Answer, AllocError>,
+    O: Sink,
+    E: Sink,
+>(command: &C, answer: F, out: &mut O, errs: &mut E) -> Status
+    requires callable { F.IsAlwaysCallable answer }
+    requires right { (answered : _) → FnOnceReturns F.FnOnce answer tt answered → IfOk answered (λ it. C.means command.now [] (saying it)) }
+    ensures { (source : Bytes) → IsUntouched source → ReadsNothing (C.means command.now) (told (number_of result) source
+        (object (O.written out.old) (O.written out.new) (O.faults out.old) (O.faults out.new))
+        (object (E.written errs.old) (E.written errs.new) (E.faults errs.old) (E.faults errs.new))) }
+{
+    match answer() {
+        Ok(answer) => tell(out, errs, &answer),
+        Err(_) => want_memory(errs),
     }
 }

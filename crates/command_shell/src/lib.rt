@@ -13,7 +13,7 @@ mod telling;
 mod tests;
 
 pub use answer::Answer;
-pub use calling::{call, call_answered_by};
+pub use calling::{call, call_answered_by, call_without_input};
 pub use command::{TextCommand, TextMeaning};
 pub use lines::{input_line, no_panel};
 pub use status::{Cause, Printed, Status};

@@ -11,6 +11,8 @@ use Rattle.clap.specs.declared.error.kind.ErrorKind.TheVariants as kind
 use Rattle.clap.specs.declared.parser.matches.ArgMatches.{ArgMatches}
 use Rattle.run_definitions.specs.Run.{Limits}
 use Rattle.run_limits.specs.declared.TheConstants.{LEAST_BITS, LEAST_WORKERS, MOST_BITS, MOST_NODES, MOST_PIVOTS, MOST_WORKERS}
+use Rattle.command_words.specs.Made.{Made}
+use Rattle.command_words.specs.declared.asked.TheConstants.{LEAST_VOLUNTEERS, MOST_SEED, MOST_VOLUNTEERS}
 use Rattle.command_words.specs.declared.asked.Asked.{Asked}
 use Rattle.command_words.specs.declared.asked.Asked.TheVariants as asked_for
 use Rattle.command_words.specs.declared.asked.WordsStop.{WordsStop}
@@ -22,19 +24,28 @@ pub data Order : Type 0 where
   Panel : ℕ → Order
   -- the lottery over the panels of a pool, by a run under these limits, which so many workers price
   Lottery : Limits → ℕ → Order
+  -- the summary of the run over a made pool, under these limits, which so many workers price
+  Make : Made → Limits → ℕ → Order
   -- the seal of a bundle
   Seal : Order
   -- the panel that is drawn from a bundle, by a seal that is given and digits
   Draw : Text → Text → Order
   -- the verdict on the certificate of a bundle, by searches of at most so many visits at each stage
   Check : ℕ → Order
+  -- the verdict on a proof
+  Verify : Order
+  -- the bundle of a proof
+  Bundle : Order
 
 abbrev pub order : Asked → Order
 order (asked_for.Panel nodes) = Panel nodes
 order (asked_for.Lottery limits workers) = Lottery limits workers
+order (asked_for.Make made limits workers) = Make made limits workers
 order asked_for.Seal = Seal
 order (asked_for.Draw seal digits) = Draw seal.now digits.now
 order (asked_for.Check nodes) = Check nodes
+order asked_for.Verify = Verify
+order asked_for.Bundle = Bundle
 
 -- an option that holds a number of a range, with the text of its default
 abbrev pub number_rule : Text → ℕ → ℕ → Text → Rule
@@ -56,6 +67,20 @@ nodes_rule = number_rule (codes "nodes") 0 MOST_NODES (codes "50000000")
 abbrev pub workers_rule : Rule
 workers_rule = number_rule (codes "workers") LEAST_WORKERS MOST_WORKERS (codes "1")
 
+-- an option that is required and holds a number of a range
+abbrev pub required_number_rule : Text → ℕ → ℕ → Rule
+required_number_rule name least most = record (new_rule name) {
+  long = Some name;
+  parser = Some (parser.Unsigned least most);
+  required = true;
+}
+
+abbrev pub seed_rule : Rule
+seed_rule = required_number_rule (codes "seed") 0 MOST_SEED
+
+abbrev pub volunteers_rule : Rule
+volunteers_rule = required_number_rule (codes "volunteers") LEAST_VOLUNTEERS MOST_VOLUNTEERS
+
 -- an option that is required and holds a text
 abbrev pub text_rule : Text → Rule
 text_rule name = record (new_rule name) { long = Some name; required = true }
@@ -72,6 +97,12 @@ panel_app = with_rule (new_app (codes "panel")) nodes_rule
 abbrev pub lottery_app : App
 lottery_app = with_rule (with_rule (with_rule (with_rule (new_app (codes "lottery")) bits_rule) pivots_rule) nodes_rule) workers_rule
 
+abbrev pub make_without_limits : App
+make_without_limits = with_rule (with_rule (new_app (codes "make")) seed_rule) volunteers_rule
+
+abbrev pub make_app : App
+make_app = with_rule (with_rule (with_rule (with_rule make_without_limits bits_rule) pivots_rule) nodes_rule) workers_rule
+
 abbrev pub seal_app : App
 seal_app = new_app (codes "seal")
 
@@ -81,17 +112,27 @@ draw_app = with_rule (with_rule (new_app (codes "draw")) seal_rule) digits_rule
 abbrev pub check_app : App
 check_app = with_rule (new_app (codes "check")) nodes_rule
 
+abbrev pub verify_app : App
+verify_app = new_app (codes "verify")
+
+abbrev pub bundle_app : App
+bundle_app = new_app (codes "bundle")
+
 -- the program, of which one subcommand is required; the words don't include its name
 abbrev pub program_alone : App
 program_alone = on_top (λ top. record top { no_binary_name = true; subcommand_required = true }) (new_app (codes "sortition"))
 
 -- the same with the commands about a pool
 abbrev pub program_of_pools : App
-program_of_pools = with_subcommand (with_subcommand program_alone panel_app.top) lottery_app.top
+program_of_pools = with_subcommand (with_subcommand (with_subcommand program_alone panel_app.top) lottery_app.top) make_app.top
 
 -- and with those about a bundle
+abbrev pub program_of_bundles : App
+program_of_bundles = with_subcommand (with_subcommand (with_subcommand program_of_pools seal_app.top) draw_app.top) check_app.top
+
+-- and with those about a proof
 abbrev pub program_app : App
-program_app = with_subcommand (with_subcommand (with_subcommand program_of_pools seal_app.top) draw_app.top) check_app.top
+program_app = with_subcommand (with_subcommand program_of_bundles verify_app.top) bundle_app.top
 
 -- some digits of a number below 2 ^ 64
 abbrev pub is_number : Text → Bool
@@ -134,6 +175,18 @@ workers_asked rows = number_within (codes "workers") LEAST_WORKERS MOST_WORKERS 
 abbrev pub lottery_asked : List Row → Option Order
 lottery_asked rows = option_and_then (λ limits. option_map (Lottery limits) (workers_asked rows)) (limits_asked rows)
 
+-- which pool is to be made, where its number and its volunteers are in their ranges
+abbrev pub made_asked : List Row → Option Made
+made_asked rows =
+    option_and_then (λ seed.
+    option_map (λ volunteers. record { seed = seed; volunteers = volunteers })
+    (number_within (codes "volunteers") LEAST_VOLUNTEERS MOST_VOLUNTEERS rows))
+    (number_within (codes "seed") 0 MOST_SEED rows)
+
+abbrev pub make_asked : List Row → Option Order
+make_asked rows =
+    option_and_then (λ made. option_and_then (λ limits. option_map (Make made limits) (workers_asked rows)) (limits_asked rows)) (made_asked rows)
+
 abbrev pub draw_asked : List Row → Option Order
 draw_asked rows = option_and_then (λ seal. option_map (Draw seal) (first_of (codes "digits") rows)) (first_of (codes "seal") rows)
 
@@ -145,9 +198,12 @@ abbrev pub asked_named : Text → List Row → Option Order
 asked_named name rows =
     if bytes_eq name (codes "panel") then panel_asked rows
     else if bytes_eq name (codes "lottery") then lottery_asked rows
+    else if bytes_eq name (codes "make") then make_asked rows
     else if bytes_eq name (codes "seal") then Some Seal
     else if bytes_eq name (codes "draw") then draw_asked rows
     else if bytes_eq name (codes "check") then check_asked rows
+    else if bytes_eq name (codes "verify") then Some Verify
+    else if bytes_eq name (codes "bundle") then Some Bundle
     else None
 
 abbrev pub asked_of : Option (Text × List Row) → Option Order

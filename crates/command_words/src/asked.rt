@@ -1,7 +1,68 @@
 //! What the words of a call ask for.
 
+ghost use Rattle.std.specs.Prelude.{◌≡◌, ◌≤◌, ◌&&◌, if◌then◌else◌, nat_le, Some, None};
+
 use run_limits::{Limits, Workers};
+use std::marker::Model;
 use thiserror::Error;
+
+/// The greatest number from which a pool is made: 2^63 - 1.
+pub(crate) const MOST_SEED: u64 = 9_223_372_036_854_775_807;
+
+pub(crate) const LEAST_VOLUNTEERS: u32 = 1;
+
+/// The most volunteers that a made pool may have.
+pub(crate) const MOST_VOLUNTEERS: u32 = 400;
+
+/// Which pool is to be made: from a number of at most 2^63 - 1, with 1 to 400 volunteers.
+#[derive(Clone, Copy, Debug)]
+pub struct Made {
+    seed: u64,
+    volunteers: u32,
+}
+
+impl Model for Made {
+    ghost use Rattle.std.specs.Prelude.{◌≤◌};
+    ghost use Rattle.command_words.specs.Made.{Made as Seen};
+
+    ghost Value = { Seen };
+
+    ghost view = { λ m. record { seed = m.seed; volunteers = m.volunteers } };
+
+    ghost invariant = { λ m. (1 ≤ m.volunteers) × (m.volunteers ≤ 400) };
+
+    ghost inverse = { λ m. record { seed = m.seed; volunteers = m.volunteers } };
+}
+
+impl Made {
+    /// The pool of this number with so many volunteers, or None exactly where one of the two is out of its range.
+    pub(crate) fn new(seed: u64, volunteers: u32) -> Option<Made>
+        ensures { result ≡ (if nat_le seed MOST_SEED && nat_le LEAST_VOLUNTEERS volunteers && nat_le volunteers MOST_VOLUNTEERS
+            then Some (record { seed = seed; volunteers = volunteers }) else None) }
+    {
+        if seed <= MOST_SEED && LEAST_VOLUNTEERS <= volunteers && volunteers <= MOST_VOLUNTEERS {
+            Some(Made { seed, volunteers })
+        } else {
+            None
+        }
+    }
+
+    /// The number from which the pool is made.
+    pub fn seed(self) -> u64
+        ensures { result ≡ self.seed }
+    {
+        self.seed
+    }
+
+    /// How many volunteers it has.
+    pub fn volunteers(self) -> u32
+        ensures value { result ≡ self.volunteers }
+        ensures some { 1 ≤ self.volunteers }
+        ensures few { self.volunteers ≤ 400 }
+    {
+        self.volunteers
+    }
+}
 
 /// What the words ask for. Texts are lent from the words.
 #[derive(Clone, Copy, Debug)]
@@ -14,6 +75,15 @@ pub enum Asked<'a> {
     /// The lottery over the quota panels of a pool, by a run under these limits.
     Lottery {
         /// How wide its numbers may be, and how many pivots and visits it may make.
+        limits: Limits,
+        /// By how many workers it prices.
+        workers: Workers,
+    },
+    /// The summary of the run over a made pool, under these limits.
+    Make {
+        /// Which pool is to be made.
+        made: Made,
+        /// How wide the run's numbers may be, and how many pivots and visits it may make.
         limits: Limits,
         /// By how many workers it prices.
         workers: Workers,
@@ -32,6 +102,10 @@ pub enum Asked<'a> {
         /// From 0 to 1,000,000,000,000.
         nodes: u64,
     },
+    /// The verdict on a proof.
+    Verify,
+    /// The bundle of a proof.
+    Bundle,
 }
 
 /// Why the words ask for nothing.

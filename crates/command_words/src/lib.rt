@@ -9,5 +9,5 @@ mod reading;
 mod tests;
 mod values;
 
-pub use asked::{Asked, WordsStop};
+pub use asked::{Asked, Made, WordsStop};
 pub use reading::read_words;

@@ -5,21 +5,29 @@ ghost use Rattle.clap.specs.Words.{app_of, rule_of};
 ghost use Rattle.clap.specs.declared.builder.command.Command.TheViews.{out-Command};
 ghost use Rattle.command_words.specs.Words.{
   bits_rule,
+  bundle_app,
   check_app,
   digits_rule,
   draw_app,
   lottery_app,
+  make_app,
+  make_without_limits as words_of_make_without_limits,
   nodes_rule,
   panel_app,
   pivots_rule,
   program_alone as words_of_program_alone,
   program_app,
+  program_of_bundles as words_of_program_of_bundles,
   program_of_pools as words_of_program_of_pools,
   seal_app,
   seal_rule,
+  seed_rule,
+  verify_app,
+  volunteers_rule,
   workers_rule,
 };
 
+use crate::asked::{LEAST_VOLUNTEERS, MOST_SEED, MOST_VOLUNTEERS};
 use clap::{Arg, Command, value_parser};
 use run_limits::{LEAST_BITS, LEAST_WORKERS, MOST_BITS, MOST_NODES, MOST_PIVOTS, MOST_WORKERS};
 use std::alloc::{AllocError, Global};
@@ -27,6 +35,15 @@ use std::alloc::{AllocError, Global};
 /// The program with its subcommands.
 pub(crate) fn program<'a>(alloc: Global) -> Result<Command<'a>, AllocError>
     ensures { IfOk result (λ program. app_of program ≡ program_app) }
+{
+    program_of_bundles(alloc)?
+        .subcommand(verify(alloc))?
+        .subcommand(bundle(alloc))
+}
+
+/// The program with the subcommands about a pool or a bundle.
+fn program_of_bundles<'a>(alloc: Global) -> Result<Command<'a>, AllocError>
+    ensures { IfOk result (λ program. app_of program ≡ words_of_program_of_bundles) }
 {
     program_of_pools(alloc)?
         .subcommand(seal(alloc))?
@@ -40,7 +57,8 @@ fn program_of_pools<'a>(alloc: Global) -> Result<Command<'a>, AllocError>
 {
     program_alone(alloc)?
         .subcommand(panel(alloc)?)?
-        .subcommand(lottery(alloc)?)
+        .subcommand(lottery(alloc)?)?
+        .subcommand(make(alloc)?)
 }
 
 fn program_alone<'a>(alloc: Global) -> Result<Command<'a>, AllocError>
@@ -74,6 +92,25 @@ fn lottery<'a>(alloc: Global) -> Result<Command<'a>, AllocError>
         .arg(workers_option(alloc))
 }
 
+fn make<'a>(alloc: Global) -> Result<Command<'a>, AllocError>
+    ensures { IfOk result (λ make. (app_of make ≡ make_app) × ((out-Command make).has_globals ≡ false)) }
+{
+    make_without_limits(alloc)?
+        .arg(bits_option(alloc))?
+        .arg(pivots_option(alloc))?
+        .arg(nodes_option(alloc))?
+        .arg(workers_option(alloc))
+}
+
+fn make_without_limits<'a>(alloc: Global) -> Result<Command<'a>, AllocError>
+    ensures { IfOk result (λ make. (app_of make ≡ words_of_make_without_limits) × ((out-Command make).has_globals ≡ false)) }
+{
+    Command::new(alloc, "make")
+        .about("Makes a pool from a number, and prints a summary of its lottery")
+        .arg(seed_option(alloc))?
+        .arg(volunteers_option(alloc))
+}
+
 fn seal<'a>(alloc: Global) -> Command<'a>
     ensures app { app_of result ≡ seal_app }
     ensures local { (out-Command result).has_globals ≡ false }
@@ -96,6 +133,42 @@ fn check<'a>(alloc: Global) -> Result<Command<'a>, AllocError>
     Command::new(alloc, "check")
         .about("Checks the certificate of the bundle on standard input")
         .arg(nodes_option(alloc))
+}
+
+fn verify<'a>(alloc: Global) -> Command<'a>
+    ensures app { app_of result ≡ verify_app }
+    ensures local { (out-Command result).has_globals ≡ false }
+{
+    Command::new(alloc, "verify").about("Checks the proof on standard input by additions")
+}
+
+fn bundle<'a>(alloc: Global) -> Command<'a>
+    ensures app { app_of result ≡ bundle_app }
+    ensures local { (out-Command result).has_globals ≡ false }
+{
+    Command::new(alloc, "bundle").about("Prints the bundle of the proof on standard input")
+}
+
+fn seed_option<'a>(alloc: Global) -> Arg<'a>
+    ensures rule { rule_of result ≡ seed_rule }
+    ensures local { result.global ≡ false }
+{
+    Arg::new(alloc, "seed")
+        .long("seed")
+        .help("The number from which the pool is made")
+        .required(true)
+        .value_parser(value_parser!(u64).range(0..=MOST_SEED as i64))
+}
+
+fn volunteers_option<'a>(alloc: Global) -> Arg<'a>
+    ensures rule { rule_of result ≡ volunteers_rule }
+    ensures local { result.global ≡ false }
+{
+    Arg::new(alloc, "volunteers")
+        .long("volunteers")
+        .help("How many volunteers the pool has")
+        .required(true)
+        .value_parser(value_parser!(u64).range(LEAST_VOLUNTEERS as i64..=MOST_VOLUNTEERS as i64))
 }
 
 fn seal_option<'a>(alloc: Global) -> Arg<'a>

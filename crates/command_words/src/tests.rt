@@ -39,6 +39,21 @@ const WORDS: &[(&[&str], &str)] = &[
         ],
         "Lottery { limits: Limits { bits: 127, pivots: 1000000000, nodes: 1000000000000 }, workers: Workers { number: 64 } }",
     ),
+    (
+        &["make", "--seed", "7", "--volunteers", "20", "--nodes", "9"],
+        "Make { made: Made { seed: 7, volunteers: 20 }, limits: Limits { bits: 127, pivots: 100000, nodes: 9 }, workers: Workers { number: 1 } }",
+    ),
+    (
+        &[
+            "make",
+            "--volunteers=400",
+            "--seed=9223372036854775807",
+            "--bits=1",
+            "--pivots=2",
+            "--workers=4",
+        ],
+        "Make { made: Made { seed: 9223372036854775807, volunteers: 400 }, limits: Limits { bits: 1, pivots: 2, nodes: 50000000 }, workers: Workers { number: 4 } }",
+    ),
     (&["seal"], "Seal"),
     (
         &["draw", "--seal", "A0 b", "--digits", "97"],
@@ -50,6 +65,8 @@ const WORDS: &[(&[&str], &str)] = &[
     ),
     (&["check"], "Check { nodes: 50000000 }"),
     (&["check", "--nodes", "7"], "Check { nodes: 7 }"),
+    (&["verify"], "Verify"),
+    (&["bundle"], "Bundle"),
     (&[], USAGE),
     (&[""], USAGE),
     (&["pane"], USAGE),
@@ -86,13 +103,23 @@ const WORDS: &[(&[&str], &str)] = &[
         USAGE,
     ),
     (&["check", "x"], USAGE),
+    (&["make", "--seed", "7"], USAGE),
+    (&["make", "--volunteers", "7"], USAGE),
+    (&["make", "--seed", "7", "--volunteers", "0"], USAGE),
+    (&["make", "--seed", "7", "--volunteers", "401"], USAGE),
+    (
+        &["make", "--seed", "9223372036854775808", "--volunteers", "1"],
+        USAGE,
+    ),
+    (&["verify", "--nodes", "1"], USAGE),
+    (&["bundle", "x"], USAGE),
 ];
 
 /// Words, and the text of `clap` about them.
 const TEXTS: &[(&[&str], &str)] = &[
     (
         &[],
-        "error: 'sortition' requires a subcommand but one was not provided\n  [subcommands: panel, lottery, seal, draw, check, help]\n\nUsage: sortition <COMMAND>\n\nFor more information, try '--help'.\n",
+        "error: 'sortition' requires a subcommand but one was not provided\n  [subcommands: panel, lottery, make, seal, draw, check, verify, bundle, help]\n\nUsage: sortition <COMMAND>\n\nFor more information, try '--help'.\n",
     ),
     (
         &["panel", "--nodes", "x"],

@@ -8,6 +8,8 @@ ghost use Rattle.command_words.specs.Words.{
   draw_asked,
   limits_asked,
   lottery_asked,
+  made_asked,
+  make_asked,
   number_at as number_said,
   number_within as number_said_within,
   order,
@@ -15,7 +17,7 @@ ghost use Rattle.command_words.specs.Words.{
   workers_asked,
 };
 
-use crate::asked::Asked;
+use crate::asked::{Asked, LEAST_VOLUNTEERS, MOST_SEED, MOST_VOLUNTEERS, Made};
 use clap::ArgMatches;
 use run_limits::{
     LEAST_BITS, LEAST_WORKERS, Limits, MOST_BITS, MOST_NODES, MOST_PIVOTS, MOST_WORKERS, Workers,
@@ -28,9 +30,12 @@ pub(crate) fn asked_by<'a>(matches: &ArgMatches<'a>) -> Option<Asked<'a>>
     match matches.subcommand() {
         Some(("panel", own)) => panel_of(own),
         Some(("lottery", own)) => lottery_of(own),
+        Some(("make", own)) => make_of(own),
         Some(("seal", _)) => Some(Asked::Seal),
         Some(("draw", own)) => draw_of(own),
         Some(("check", own)) => check_of(own),
+        Some(("verify", _)) => Some(Asked::Verify),
+        Some(("bundle", _)) => Some(Asked::Bundle),
         _ => None,
     }
 }
@@ -48,6 +53,19 @@ fn lottery_of<'a>(matches: &ArgMatches<'a>) -> Option<Asked<'a>>
     let limits = limits_of(matches)?;
     let workers = workers_of(matches)?;
     Some(Asked::Lottery { limits, workers })
+}
+
+fn make_of<'a>(matches: &ArgMatches<'a>) -> Option<Asked<'a>>
+    ensures { option_map order result ≡ make_asked (rows_of (found_of matches.now)) }
+{
+    let made = made_of(matches)?;
+    let limits = limits_of(matches)?;
+    let workers = workers_of(matches)?;
+    Some(Asked::Make {
+        made,
+        limits,
+        workers,
+    })
 }
 
 fn draw_of<'a>(matches: &ArgMatches<'a>) -> Option<Asked<'a>>
@@ -70,6 +88,20 @@ fn text_at<'a>(matches: &ArgMatches<'a>, name: &str) -> Option<&'a str>
     ensures { option_map (λ text. text.now) result ≡ first_of name.now (rows_of (found_of matches.now)) }
 {
     matches.get_str(name)
+}
+
+/// Which pool is to be made, where its number and its volunteers are in their ranges.
+fn made_of(matches: &ArgMatches) -> Option<Made>
+    ensures { result ≡ made_asked (rows_of (found_of matches.now)) }
+{
+    let seed = number_within(matches, "seed", 0, MOST_SEED)?;
+    let volunteers = number_within(
+        matches,
+        "volunteers",
+        u64::from(LEAST_VOLUNTEERS),
+        u64::from(MOST_VOLUNTEERS),
+    )?;
+    Made::new(seed, u32::try_from(volunteers).ok()?)
 }
 
 /// The limits of a run, where each is in its range.

@@ -1,6 +1,6 @@
 -- What the command `make` answers: the summary of the run under these limits over the pool that a number makes. It reads nothing, so an
 -- answer about some bytes is right about any.
-use Rattle.std.specs.Prelude.{◌≡◌, ℕ, [], List, Some, length}
+use Rattle.std.specs.Prelude.{◌≡◌, ℕ, List, length}
 use Rattle.make_definitions.specs.MadePools.{made_pool}
 use Rattle.make_definitions.specs.Summary.{Sizes, summary_text}
 use Rattle.pool_definitions.specs.Pool.{Pool}
@@ -8,8 +8,6 @@ use Rattle.row_definitions.specs.Table.{Table}
 use Rattle.run_definitions.specs.Run.{Ending, Limits, RunEnds}
 use Rattle.command_shell.specs.declared.status.Printed.TheVariants as printed
 use Rattle.command_shell.specs.Answers.{Saying, Prints}
-use Rattle.command_shell.specs.Calls.{CallIsRight}
-use Rattle.command_shell.specs.Told.{Bytes, Told, HasFaulted, IsUntouched}
 use Rattle.pool_answers.specs.Lottery.{SaysOf, answer_of}
 
 -- the sizes of a run's last table
@@ -31,11 +29,3 @@ pub record MakeMeans (seed volunteers : ℕ) (limits : Limits) (bytes : List ℕ
   pub ends : RunEnds (made_pool seed volunteers) limits ending
   pub says : SaysOf limits (made_pool seed volunteers) ending
   pub is : answer ≡ summary_of limits (made_pool seed volunteers) ending
-
--- a call of a command that reads nothing is right: as one whose source has no bytes and no fault, and the source was left alone
-pub record ReadsNothing (Means : List ℕ → Saying → Type 0) (told : Told) : Type 0 where
-  pub source : IsUntouched told.source
-  pub nothing : Bytes
-  pub empty : nothing.before ≡ Some []
-  pub no_fault : HasFaulted nothing → ⊥
-  pub call : CallIsRight Means (record told { source = nothing })

@@ -113,7 +113,7 @@ fn lottery<R: Threads + Sync, W: Watch + Sync>(
 }
 
 /// What is answered where a step of the run is refused.
-fn stopped(alloc: Global, limits: Limits, stop: &Stop) -> Result<Answer, AllocError>
+pub(crate) fn stopped(alloc: Global, limits: Limits, stop: &Stop) -> Result<Answer, AllocError>
     ensures { IfOk result (λ answer. TellsStop limits stop.now (saying answer)) }
 {
     match stop {

@@ -2,14 +2,18 @@
 use Rattle.std.specs.Prelude.{◌≡◌, ◌≢◌, ℕ, List, [], ◌∷◌, codes, Option, Some, None}
 use Rattle.command_shell.specs.Lines.{line, want_of_memory_line}
 use Rattle.command_shell.specs.Told.{Told, GainsLine, IsUntouched}
-use Rattle.command_shell.specs.Calls.{CallIsRight}
+use Rattle.command_shell.specs.Calls.{CallIsRight, ReadsNothing}
 use Rattle.command_words.specs.Words.{Order, asked}
 use Rattle.bundle_answers.specs.OfBundle.{OfBundle}
 use Rattle.bundle_answers.specs.Seal.{SealMeans}
 use Rattle.bundle_answers.specs.Draw.{DrawMeans}
 use Rattle.bundle_answers.specs.Check.{CheckMeans}
 use Rattle.pool_answers.specs.Lottery.{LotteryIsRight}
+use Rattle.pool_answers.specs.Make.{MakeMeans}
 use Rattle.pool_answers.specs.Panel.{PanelIsRight}
+use Rattle.proof_answers.specs.Bundle.{BundleMeans}
+use Rattle.proof_answers.specs.OfProof.{OfProof}
+use Rattle.proof_answers.specs.Verify.{VerifyMeans}
 
 -- words that are not of the forms, or ask for help
 pub record UsageIsRight (told : Told) : Type 0 where
@@ -29,9 +33,12 @@ AnswersRightly None told = UsageIsRight told
 AnswersRightly (Some (Order.Panel nodes)) told = PanelIsRight nodes told
 -- the number of workers changes nothing that is told
 AnswersRightly (Some (Order.Lottery limits workers)) told = LotteryIsRight limits told
+AnswersRightly (Some (Order.Make made limits workers)) told = ReadsNothing (MakeMeans made.seed made.volunteers limits) told
 AnswersRightly (Some Order.Seal) told = CallIsRight (OfBundle SealMeans) told
 AnswersRightly (Some (Order.Draw seal digits)) told = CallIsRight (OfBundle (DrawMeans seal digits)) told
 AnswersRightly (Some (Order.Check nodes)) told = CallIsRight (OfBundle (CheckMeans nodes)) told
+AnswersRightly (Some Order.Verify) told = CallIsRight (OfProof VerifyMeans) told
+AnswersRightly (Some Order.Bundle) told = CallIsRight (OfProof BundleMeans) told
 
 -- a call is right
 abbrev pub OfficeIsRight : List (List ℕ) → Told → Type 0

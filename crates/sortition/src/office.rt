@@ -11,7 +11,8 @@ use command_shell::{Status, call, refuse_words, want_memory};
 use command_words::{Asked, WordsStop, read_words};
 use outside::{Sink, Source, Watch};
 use pool_answers::{lottery_by_status, panel_by_status};
-use pool_commands::{FirstPanel, OfPool, call_lottery};
+use pool_commands::{FirstPanel, MadeRun, OfPool, call_lottery, call_make};
+use proof_commands::{OfProof, ProofBundle, ProofVerify};
 use std::alloc::Global;
 use std::thread::Threads;
 
@@ -63,6 +64,18 @@ fn run<R: Threads + Sync, S: Source, O: Sink, E: Sink, W: Watch + Sync>(
         Asked::Lottery { limits, workers } => {
             call_lottery(rt, alloc, limits, workers, watch, source, out, errs)
         }
+        Asked::Make {
+            made,
+            limits,
+            workers,
+        } => {
+            let run = MadeRun {
+                seed: made.seed(),
+                volunteers: made.volunteers(),
+                limits,
+            };
+            call_make(rt, alloc, run, workers, watch, out, errs)
+        }
         Asked::Seal => call(alloc, &OfBundle(BundleSeal), source, out, errs),
         Asked::Draw { seal, digits } => {
             call(
@@ -76,5 +89,7 @@ fn run<R: Threads + Sync, S: Source, O: Sink, E: Sink, W: Watch + Sync>(
         Asked::Check { nodes } => {
             call(alloc, &OfBundle(BundleCheck { nodes }), source, out, errs)
         }
+        Asked::Verify => call(alloc, &OfProof(ProofVerify), source, out, errs),
+        Asked::Bundle => call(alloc, &OfProof(ProofBundle), source, out, errs),
     }
 }

@@ -33,6 +33,18 @@ const CROSSED: &[u8] =
 const LATER: &[u8] =
     b"pool\t1\nsize\t2\ncategory\tone\nvalue\tx\t0\t1\nvalue\ty\t0\t2\ncategory\ttwo\nvalue\tp\t2\t2\nvalue\tq\t0\t0\nvolunteer\ta\tx\tp\nvolunteer\tb\ty\tq\nvolunteer\tc\tx\tp\nvolunteer\td\ty\tp\nend\n";
 
+/// A couple of one household, of whom two are asked for; and a proof that there is no quota panel.
+const COUPLE_PROOF: &[u8] =
+    b"proof\t1\npool\t2\nsize\t2\ncategory\tgender\nvalue\tfemale\t0\t2\nvalue\tmale\t0\t2\nvolunteer\ta\tfemale\nvolunteer\tb\tmale\nhousehold\ta\th\nhousehold\tb\th\nend\nnone\ntree\t0\nbound\t0\t0\t-1\t3\t1\nclose\n";
+
+/// A proof of the lottery over two women and two men.
+const FOUR_PROOF: &[u8] =
+    b"proof\t1\nbundle\t1\npool\t1\nsize\t2\ncategory\tgender\nvalue\tfemale\t1\t1\nvalue\tmale\t1\t1\nvolunteer\ta\tfemale\nvolunteer\tb\tfemale\nvolunteer\tc\tmale\nvolunteer\td\tmale\nend\ntotal\t2\npanel\t1\t0\t2\npanel\t1\t1\t3\nstage\t1\t1\t1\t0\t0\nstage\t0\t-1\t-1\t1\t1\ndone\ntree\t1\nbound\t1\t1\t1\ntree\t2\nbound\t1\t2\t1\t3\t-1\nclose\n";
+
+/// The same with a multiplier of 2 in the first stage.
+const DOUBLED_PROOF: &[u8] =
+    b"proof\t1\nbundle\t1\npool\t1\nsize\t2\ncategory\tgender\nvalue\tfemale\t1\t1\nvalue\tmale\t1\t1\nvolunteer\ta\tfemale\nvolunteer\tb\tfemale\nvolunteer\tc\tmale\nvolunteer\td\tmale\nend\ntotal\t2\npanel\t1\t0\t2\npanel\t1\t1\t3\nstage\t1\t1\t1\t0\t0\nstage\t0\t-1\t-1\t1\t1\ndone\ntree\t1\nbound\t1\t1\t2\ntree\t2\nbound\t1\t2\t1\t3\t-1\nclose\n";
+
 const NOBODY: &[u8] = b"pool\t1\nsize\t1\nend\n";
 
 /// The bundle of two women and two men.
@@ -442,10 +454,46 @@ const CHECK_ROWS: &[(&[&str], &[u8], u8, &[u8], &[u8])] = &[
     (&["check"], FOUR, 3, b"", b"input\t1\t13\n"),
 ];
 
+/// The same of proofs.
+const PROOF_ROWS: &[(&[&str], &[u8], u8, &[u8], &[u8])] = &[
+    (&["verify"], FOUR_PROOF, 0, b"valid\n", b""),
+    (&["verify"], COUPLE_PROOF, 0, b"valid\tnone\n", b""),
+    (
+        &["verify"],
+        DOUBLED_PROOF,
+        11,
+        b"refused\t1\t12\t20\n",
+        b"",
+    ),
+    (&["verify"], FOUR_BUNDLE, 3, b"", b"input\t1\t21\n"),
+    (&["bundle"], FOUR_PROOF, 0, FOUR_BUNDLE, b""),
+    (&["bundle"], DOUBLED_PROOF, 0, FOUR_BUNDLE, b""),
+    (&["bundle"], COUPLE_PROOF, 6, b"", b"rule\tNoLottery\n"),
+    (&["bundle"], FOUR, 3, b"", b"input\t1\t21\n"),
+];
+
+/// The same of made pools, for which the source holds what isn't read.
+const MAKE_ROWS: &[(&[&str], &[u8], u8, &[u8], &[u8])] = &[
+    (
+        &["make", "--seed", "0", "--volunteers", "1"],
+        FOUR,
+        0,
+        b"volunteers\t1\nclasses\t1\nsize\t1\npanels\t1\ncolumns\t1\npivots\t1\nstages\t1\ntotal\t1\nleast\t1/1\ngreatest\t1/1\nseal\t42a989ebb9ad8b143532060ee2116956486a49d8fc9d685b034dec49596366e8\n",
+        b"",
+    ),
+    (
+        &["make", "--seed=0", "--volunteers=1", "--pivots", "0"],
+        b"",
+        5,
+        b"",
+        b"spent\tpivots\t0\t1\t1\t0\n",
+    ),
+];
+
 #[test]
 fn calls_are_answered(rt: HostRuntime) -> Result<(), AllocError> {
     let alloc = rt.alloc();
-    for rows in [ROWS, BUNDLE_ROWS, CHECK_ROWS] {
+    for rows in [ROWS, BUNDLE_ROWS, CHECK_ROWS, PROOF_ROWS, MAKE_ROWS] {
         for (words, text, status, out, errs) in rows {
             let told = answer_of(&rt, alloc, &asking(words, text))?;
             assert_eq!(rt; told.status, *status, "{words:?}");
@@ -455,7 +503,7 @@ fn calls_are_answered(rt: HostRuntime) -> Result<(), AllocError> {
     }
     let told = answer_of(&rt, alloc, &asking(&["lottery"], REPLACED))?;
     assert!(rt; told.status == 0 && told.out.written().ends_with(REPLACED_ANSWER));
-    let refused = answer_of(&rt, alloc, &asking(&["bundle"], FOUR))?;
+    let refused = answer_of(&rt, alloc, &asking(&["bundles"], FOUR))?;
     assert!(rt;
         refused.status == 2
             && refused.out.written().is_empty()
@@ -464,7 +512,25 @@ fn calls_are_answered(rt: HostRuntime) -> Result<(), AllocError> {
     Ok(())
 }
 
-/// A text that is cut off runs out before its end, after as many lines as are whole; and `out` may fail at each line of a bundle.
+/// A made pool is answered in the same way each time.
+#[test]
+fn made_pools_are_answered_alike(rt: HostRuntime) -> Result<(), AllocError> {
+    let alloc = rt.alloc();
+    for words in [
+        ["make", "--seed=7", "--volunteers=20", "--pivots=300", "--nodes=20000"].as_slice(),
+        &["make", "--seed=7", "--volunteers=200"],
+    ] {
+        let first = answer_of(&rt, alloc, &asking(words, b""))?;
+        let second = answer_of(&rt, alloc, &asking(words, b""))?;
+        assert_eq!(rt; first.status, 0, "{words:?}");
+        assert!(rt;
+            second.status == 0 && second.out.written() == first.out.written(),
+            "{words:?}"
+        );
+    }
+    Ok(())
+}
+
 #[test]
 fn the_third_worker_starts_while_two_are_held(rt: HostRuntime) -> Result<(), AllocError> {
     let watch = Holding {
@@ -478,6 +544,7 @@ fn the_third_worker_starts_while_two_are_held(rt: HostRuntime) -> Result<(), All
     Ok(())
 }
 
+/// A text that is cut off runs out before its end, after as many lines as are whole; and `out` may fail at each line of a bundle.
 #[test]
 fn each_cut_is_told(rt: HostRuntime) -> Result<(), AllocError> {
     let alloc = rt.alloc();
