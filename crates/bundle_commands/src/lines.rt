@@ -89,8 +89,8 @@ pub(crate) fn number_rule_line(
     Ok(line)
 }
 
-/// The line of a certificate that holds.
-pub(crate) fn valid_line(alloc: Global) -> Result<Vec<u8>, AllocError>
+/// The line of a certificate that holds, or of a proof that is valid.
+pub fn valid_line(alloc: Global) -> Result<Vec<u8>, AllocError>
     ensures { IfOk result (λ line. line.items ≡ words_of_line (codes "valid" ∷ [])) }
 {
     let mut line = Vec::new(alloc);
@@ -98,8 +98,9 @@ pub(crate) fn valid_line(alloc: Global) -> Result<Vec<u8>, AllocError>
     Ok(line)
 }
 
-/// The line of a certificate that is refused: the stage, the reason, and the numbers of the volunteers who show it.
-pub(crate) fn refused_line(alloc: Global, refusal: &Refusal) -> Result<Vec<u8>, AllocError>
+/// The line of a certificate, or of a proof, that is refused: the stage, the reason, and the numbers of the volunteers who show it, or for the
+/// reasons 11 and 12 the number of a line of the text of the proof.
+pub fn refused_line(alloc: Global, refusal: &Refusal) -> Result<Vec<u8>, AllocError>
     ensures { IfOk result (λ line. line.items ≡ words_of_refused refusal.now) }
 {
     let mut line = Vec::new(alloc);

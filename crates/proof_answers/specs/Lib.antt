@@ -1,0 +1,3 @@
+pub mod OfProof
+pub mod Verify
+pub mod ItsBundle
