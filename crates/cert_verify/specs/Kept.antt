@@ -1,0 +1,15 @@
+-- What is kept of the constraints, from stage to stage.
+use Rattle.std.specs.Prelude.{◌≡◌, ℕ, ◌+◌, List, ◌∷◌, length}
+use Rattle.std.specs.List.{enumerate_from, flat_map}
+use Rattle.pool_definitions.specs.Certificate.{Stage}
+use Rattle.pool_definitions.specs.Pool.{Pool}
+use Rattle.addition_definitions.specs.Constraints.{Constraint, category_constraints, constraints, size_constraint}
+
+-- the constraints that stand before those of stages: the size, and each value
+abbrev pub fixed_constraints : Pool → List Constraint
+fixed_constraints pool = size_constraint pool ∷ flat_map (category_constraints pool) (enumerate_from 0 pool.categories)
+
+-- the constraints of the stage after earlier ones, and the place behind those of earlier stages
+pub record AreOf (pool : Pool) (earlier : List Stage) (rows : List Constraint) (next : ℕ) : Type 0 where
+  pub rows : rows ≡ constraints pool earlier
+  pub next : next ≡ length (fixed_constraints pool) + length earlier
