@@ -11,5 +11,5 @@ fixed_constraints pool = size_constraint pool ∷ flat_map (category_constraints
 
 -- the constraints of the stage after earlier ones, and the place behind those of earlier stages
 pub record AreOf (pool : Pool) (earlier : List Stage) (rows : List Constraint) (next : ℕ) : Type 0 where
-  pub rows : rows ≡ constraints pool earlier
-  pub next : next ≡ length (fixed_constraints pool) + length earlier
+  pub all : rows ≡ constraints pool earlier
+  pub behind : next ≡ length (fixed_constraints pool) + length earlier

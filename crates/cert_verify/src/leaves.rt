@@ -2,7 +2,7 @@
 //! tested for its width on the way, since none passes 128 bits where the problem is within reach and the leaf keeps its ranges.
 
 ghost use Rattle.std.specs.Prelude.{◌≡◌, ◌^◌, ◌<◌, ◌*ℤ◌, ◌+ℤ◌, IsTrue, length, pos, unsigned_abs};
-ghost use Rattle.addition_definitions.specs.Constraints.{signed_sum};
+ghost use Rattle.addition_definitions.specs.Constraints.{coefficient as coefficient_of, constraint_at, signed_sum};
 ghost use Rattle.addition_definitions.specs.LeafSums.{is_problem_in_reach};
 ghost use Rattle.addition_definitions.specs.Leaves.{charge as charge_of, has_constraints as has_constraints_of, leaf_shows as shows, rest as rest_of, rest_charge as rest_charge_of, total_charge as total_charge_of};
 ghost use Rattle.addition_definitions.specs.TreeRanges.{is_leaf};
@@ -33,6 +33,13 @@ impl<'a> Problem<'a> {
         ensures { result ≡ record { constraints = constraints.now; stage = stage.now } }
     {
         Problem { constraints, stage }
+    }
+
+    fn constraint(&self, number: usize) -> &Constraint
+        requires { number < length self.now.constraints }
+        ensures { result.now ≡ constraint_at self.now.constraints number }
+    {
+        &self.constraints[number]
     }
 }
 
@@ -99,7 +106,7 @@ fn charge(problem: &Problem, multiplier: &Multiplier) -> i128
     requires narrow { unsigned_abs (charge_of problem.now.constraints multiplier.now) < 2 ^ 127 }
     ensures { result ≡ charge_of problem.now.constraints multiplier.now }
 {
-    let constraint = &problem.constraints[multiplier.number()];
+    let constraint = problem.constraint(multiplier.number());
     let factor = multiplier.factor();
     if 0 < factor {
         factor * constraint.upper()
@@ -137,7 +144,7 @@ fn rest(problem: &Problem, leaf: &Leaf, i: usize) -> i128
 {
     let mut rest = leaf.scale() as i128 * weight_of(problem.stage, i);
     for multiplier in leaf.multipliers() {
-        let constraint = &problem.constraints[multiplier.number()];
+        let constraint = problem.constraint(multiplier.number());
         rest -= multiplier.factor() * constraint.coefficient(i);
     }
     rest
