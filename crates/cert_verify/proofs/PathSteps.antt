@@ -1,7 +1,7 @@
 -- Decisions that are added to a path and undone, and the lines of a tree one after another.
-use Rattle.std.proofs.Common.{◌≡◌, ℕ, zero, suc, ◌+◌, ◌<◌, Bool, true, false, cond, ◌&&◌, List, [], ◌∷◌, ◌++◌, length, set, reverse, Option, Some, None, Result, Ok, Err, refl, sym, ap, ◌∙◌, subst, arith}
+use Rattle.std.proofs.Common.{◌≡◌, ℕ, zero, suc, ◌+◌, ◌<◌, Bool, true, false, cond, ◌&&◌, List, [], ◌∷◌, ◌++◌, length, set, get_or, drop, reverse, Option, Some, None, Result, Ok, Err, refl, sym, ap, ◌∙◌, subst, arith}
 use Rattle.std.proofs.lemmas.Bool.{and_from, and_parts, false≢true}
-use Rattle.std.proofs.lemmas.List.{length-set, reverse-append}
+use Rattle.std.proofs.lemmas.List.{drop_more, length-set, reverse-append}
 use Rattle.pool_definitions.specs.declared.Standing.{Standing}
 use Rattle.pool_definitions.specs.declared.Standing.TheVariants.{Open}
 use Rattle.pool_definitions.specs.Pool.{Pool}
@@ -94,3 +94,15 @@ module _ (problem : Problem) (all : List Standing) (number : ℕ) where
 
   pub refused_here : (place : Option (List Decision)) (reason : ℕ) (line : TreeLine) (later : List TreeLine) → next problem all place line ≡ Err reason → fault_from problem all number place (line ∷ later) ≡ fault number reason
   refused_here place reason line later e = by_step place line later ∙ ap (λ step. along step later) e
+
+-- the line of a place is passed
+pub line_passed : (problem : Problem) (pool at : Pool) (number k : ℕ) (lines : List TreeLine) (line : TreeLine) (here there : Option (List Decision)) (whole : Option TreeFault) → at ≡ pool → k < length lines →
+    line ≡ get_or lines k line → next problem (standings at) here line ≡ Ok there → whole ≡ fault_from problem (standings pool) (number + k) here (drop k lines) →
+    whole ≡ fault_from problem (standings pool) (number + (k + 1)) there (drop (k + 1) lines)
+line_passed problem pool at number k lines line here there whole same below is step e =
+    let all = standings pool in
+    let later = drop (k + 1) lines in
+    let counted : number + k + 1 ≡ number + (k + 1) = omega arith in
+    e ∙ ap (fault_from problem all (number + k) here) (drop_more lines k line below ∙ ap (λ one. one ∷ later) (sym is))
+    ∙ goes_on problem all (number + k) here there line later (subst (λ (at : Pool). next problem (standings at) here line ≡ Ok there) same step)
+    ∙ ap (λ n. fault_from problem all n there later) counted

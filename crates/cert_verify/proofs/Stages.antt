@@ -1,13 +1,15 @@
 -- How a check of a proof goes from one stage to the next.
-use Rattle.std.proofs.Common.{◌≡◌, ℕ, zero, suc, ◌+◌, ◌<◌, Bool, true, false, leb, List, [], ◌∷◌, length, get_or, drop, Option, Some, None, refl, sym, ap, ap₂, ◌∙◌, subst, arith}
-use Rattle.std.specs.List.{list_all}
-use Rattle.std.proofs.lemmas.Bool.{false≢true}
-use Rattle.std.proofs.Math.Seq.{drop-cons}
-use Rattle.pool_definitions.specs.Certificate.{Stage}
-use Rattle.pool_definitions.specs.Lottery.{Lottery}
-use Rattle.pool_definitions.specs.Pool.{Pool}
-use Rattle.bundle_definitions.specs.Ranges.{reach}
-use Rattle.check_definitions.specs.Reasons.{Refused, Valid, Verdict, first_reason, nobody_unless, reason, reasons_before_cap}
+use Rattle.std.proofs.Common.{◌≡◌, ℕ, zero, suc, ◌+◌, ◌<◌, ◌^◌, Bool, true, false, not, eqb, leb, List, [], ◌∷◌, length, get_or, drop, Option, Some, None, refl, sym, ap, ap₂, ◌∙◌, subst, arith}
+use Rattle.std.specs.Prelude.{sum_by}
+use Rattle.std.specs.List.{find, list_all}
+use Rattle.std.proofs.lemmas.Bool.{and_parts, eqb-true, false≢true}
+use Rattle.std.proofs.lemmas.List.{drop_more, get_or-drop}
+use Rattle.basic_laws.proofs.Each.{list_all_implies}
+use Rattle.pool_definitions.specs.Certificate.{Answer, Stage}
+use Rattle.pool_definitions.specs.Lottery.{Lottery, TotalAgrees}
+use Rattle.pool_definitions.specs.Pool.{Pool, is_quota_panel}
+use Rattle.bundle_definitions.specs.Ranges.{IsInRanges, is_group, is_row, is_weight, reach}
+use Rattle.check_definitions.specs.Reasons.{Refused, Valid, Verdict, first_reason, first_repeated, listed as listed_panels, lottery_reasons, nobody_unless, reason, reasons_before_cap}
 use Rattle.certificate_reasons.specs.Sayings.{holds}
 use Rattle.addition_definitions.specs.LeafSums.{is_stage_in_reach}
 use Rattle.addition_definitions.specs.Leaves.{stage_problem, standings}
@@ -94,3 +96,24 @@ module _ (pool : Pool) (lottery : Lottery) (earlier later : List Stage) (stage :
 
   pub goes_on_after : (verdict : Verdict) → verdict ≡ of_stage pool lottery earlier stage line (first_tree trees) → holds verdict ≡ true → verdict_from pool lottery earlier (stage ∷ later) line trees ≡ rest
   goes_on_after verdict e h = by_first ∙ ap (λ said. or_next said rest) (sym e ∙ is_valid verdict h)
+
+-- ---- the lottery
+
+-- where no reason of the lottery stands, its weights sum to the total
+pub total_agrees : (pool : Pool) (answer : Answer) (lottery : Lottery) (said : Verdict) → IsInRanges pool answer → lottery ≡ answer.lottery → said ≡ first_reason (lottery_reasons pool lottery) → holds said ≡ true →
+    TotalAgrees answer.lottery
+total_agrees pool answer lottery said ranges same e h =
+    let own = answer.lottery in
+    let valid : first_reason (lottery_reasons pool own) ≡ Valid = ap (λ lottery. first_reason (lottery_reasons pool lottery)) (sym same) ∙ sym e ∙ is_valid said h in
+    record {
+      weights = list_all_implies (is_row (length pool.volunteers)) (λ row. leb 1 row.weight)
+          (λ row h. (and_parts (leb 1 row.weight) (leb row.weight (10 ^ 38)) (and_parts (is_weight row.weight) (is_group (length pool.volunteers) row.panel) h).0).0) own.rows ranges.rows;
+      total = eqb-true own.total (sum_by (λ row. row.weight) own.rows)
+          (last (find (λ panel. not (is_quota_panel pool panel)) (listed_panels own)) (first_repeated [] (listed_panels own)) (eqb own.total (sum_by (λ row. row.weight) own.rows)) valid);
+    }
+  where
+    last : (first second : Option (List ℕ)) (third : Bool) → first_reason (reason 0 1 first ∷ reason 0 2 second ∷ reason 0 3 (nobody_unless third) ∷ []) ≡ Valid → third ≡ true
+    last (Some who) second third e = absurd cc
+    last None (Some who) third e = absurd cc
+    last None None true e = refl
+    last None None false e = absurd cc

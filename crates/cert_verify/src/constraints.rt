@@ -7,7 +7,7 @@ ghost use Rattle.addition_definitions.specs.Constraints.{category_constraints, c
 ghost use Rattle.pool_definitions.specs.Pool.{everybody, share_household as share, volunteer};
 ghost use Rattle.search_definitions.specs.Classes.{shared_household as shared};
 ghost use Rattle.search_definitions.specs.Compositions.{is_of_household as is_of};
-ghost use Rattle.cert_verify.specs.Kept.{AreOf};
+ghost use Rattle.cert_verify.specs.Kept.{AreOf, household_row};
 
 use pool_model::{BoundedValue, Category, Pool, Stage, Volunteer, share_household};
 use std::alloc::{AllocError, Global};

@@ -2,7 +2,7 @@
 //! tested for its width on the way, since none passes 128 bits where the problem is within reach and the leaf keeps its ranges.
 
 ghost use Rattle.std.specs.Prelude.{◌≡◌, ◌^◌, ◌<◌, ◌*ℤ◌, ◌+ℤ◌, IsTrue, length, pos, unsigned_abs};
-ghost use Rattle.addition_definitions.specs.Constraints.{coefficient as coefficient_of, constraint_at, signed_sum};
+ghost use Rattle.addition_definitions.specs.Constraints.{constraint_at, signed_sum};
 ghost use Rattle.addition_definitions.specs.LeafSums.{is_problem_in_reach};
 ghost use Rattle.addition_definitions.specs.Leaves.{charge as charge_of, has_constraints as has_constraints_of, leaf_shows as shows, rest as rest_of, rest_charge as rest_charge_of, total_charge as total_charge_of};
 ghost use Rattle.addition_definitions.specs.TreeRanges.{is_leaf};
@@ -39,8 +39,15 @@ impl<'a> Problem<'a> {
         requires { number < length self.now.constraints }
         ensures { result.now ≡ constraint_at self.now.constraints number }
     {
-        &self.constraints[number]
+        constraint_of(self.constraints, number)
     }
+}
+
+fn constraint_of(constraints: &[Constraint], number: usize) -> &Constraint
+    requires { number < length constraints.now }
+    ensures { result.now ≡ constraint_at constraints.now number }
+{
+    &constraints[number]
 }
 
 /// Does the leaf show it of the panels that keep these standings?

@@ -1,13 +1,13 @@
 //! A path of decisions in a tree, with the standings of all volunteers where it leads. They are set as the path goes on, and set back as
 //! it goes back.
 
-ghost use Rattle.std.specs.Prelude.{◌≡◌, [], IfOk, IsTrue, OnOk};
+ghost use Rattle.std.specs.Prelude.{◌≡◌, [], IfOk, IsTrue, OnOk, map};
 ghost use Rattle.addition_definitions.specs.Trees.{is_open as is_open_one, is_undecided as is_undecided_of};
 ghost use Rattle.addition_definitions.specs.TreeLines.{decided_standing as decided, path_behind};
 ghost use Rattle.cert_verify.specs.Paths.{Undoes, reached, with_decision};
 ghost use Rattle.cert_verify.specs.Steps.{place};
 
-use pool_model::{Pool, Standing};
+use pool_model::{Pool, Standing, Volunteer};
 use std::alloc::{AllocError, Global};
 use std::marker::Model;
 
@@ -70,14 +70,10 @@ impl<'a> Path<'a> {
     pub(crate) fn begin(alloc: Global, pool: &'a Pool) -> Result<Path<'a>, AllocError>
         ensures { IfOk result (λ path. path ≡ record { pool = pool.now; decisions = [] }) }
     {
-        let volunteers = pool.volunteers();
         Ok(Path {
             pool,
             decisions: Vec::new(alloc),
-            standings: volunteers
-                .iter()
-                .map(|volunteer| volunteer.standing())
-                .collect(alloc)?,
+            standings: first_standings(alloc, pool.volunteers())?,
         })
     }
 
@@ -130,6 +126,15 @@ impl<'a> Path<'a> {
         }
         Ok(false)
     }
+}
+
+fn first_standings(alloc: Global, volunteers: &[Volunteer]) -> Result<Vec<Standing>, AllocError>
+    ensures { IfOk result (λ first. first.items ≡ map (λ volunteer. volunteer.standing) volunteers.now) }
+{
+    volunteers
+        .iter()
+        .map(|volunteer| volunteer.standing())
+        .collect(alloc)
 }
 
 fn is_open(standing: Standing) -> bool

@@ -1,7 +1,7 @@
 //! The check of a proof, reason by reason: those of the lottery, then stage by stage those before the cap, that its numbers reach too far,
 //! those of its tree, and those of the listed panels.
 
-ghost use Rattle.std.specs.Prelude.{◌≡◌, ◌∷◌, [], IfOk, IsTrue, List, length};
+ghost use Rattle.std.specs.Prelude.{◌≡◌, ◌∷◌, [], IfOk, IsTrue, List, length, map, pos};
 ghost use Rattle.std.specs.List.{list_all};
 ghost use Rattle.addition_definitions.specs.LeafSums.{is_stage_in_reach};
 ghost use Rattle.addition_definitions.specs.Leaves.{no_panel as no_panel_of};
@@ -22,7 +22,7 @@ use crate::first_lines::{after, bundle_line_count, pool_line_count};
 use crate::leaves::Problem;
 use crate::trees::{Fault, tree_fault};
 use certificate_reasons::{Course, Verdict, lottery_verdict};
-use pool_model::{Answer, Pool, Stage};
+use pool_model::{Answer, Pool, Stage, Volunteer};
 use proof_model::{Parts, Proof, TreeLine, TreeLines};
 use std::alloc::{AllocError, Global};
 
@@ -171,7 +171,11 @@ fn of_no_panel(alloc: Global, pool: &Pool, lines: &[TreeLine]) -> Result<Verdict
 fn no_panel(alloc: Global, pool: &Pool) -> Result<Stage, AllocError>
     ensures { IfOk result (λ stage. stage ≡ no_panel_of pool.now) }
 {
-    let volunteers = pool.volunteers();
-    let weights = volunteers.iter().map(|_volunteer| 0).collect(alloc)?;
-    Ok(Stage::new(weights, -1))
+    Ok(Stage::new(zeros(alloc, pool.volunteers())?, -1))
+}
+
+fn zeros(alloc: Global, volunteers: &[Volunteer]) -> Result<Vec<i128>, AllocError>
+    ensures { IfOk result (λ zeros. zeros.items ≡ map (λ volunteer. pos 0) volunteers.now) }
+{
+    volunteers.iter().map(|_volunteer| 0).collect(alloc)
 }
