@@ -127,25 +127,25 @@ module _ (problem : Problem) (leaf : Leaf) (standings : List Standing) where
   total_ends k h =
       ap (λ places. charges +ℤ signed_sum of_rest places) (take_all k (enumerate_from 0 standings) (let many = length-enumerate_from 0 standings in omega (arith, many)))
 
-  -- one volunteer more
-  pub total_more : (k : ℕ) (standing : Standing) → k < length standings → standing ≡ get_or standings k standing →
-      charges_and_rests problem standings (k + 1) leaf ≡ charges_and_rests problem standings k leaf +ℤ rest_charge standing (rest problem leaf k)
-  total_more k standing below at =
-      let places = enumerate_from 0 standings in
-      let sum = signed_sum of_rest (take k places) in
-      let many = length-enumerate_from 0 standings in
-      let zeroth : 0 + k ≡ k = omega arith in
-      ap (λ s. charges +ℤ s)
-      (fold_more (λ sum pair. sum +ℤ of_rest pair) (pos 0) places k (k, standing) (omega (arith, many))
-      ∙ ap (λ pair. sum +ℤ of_rest pair) (get_or-enumerate_from 0 standings k (k, standing) standing below)
-      ∙ ap (λ i. sum +ℤ rest_charge (get_or standings k standing) (rest problem leaf i)) zeroth
-      ∙ ap (λ one. sum +ℤ rest_charge one (rest problem leaf k)) (sym at))
-      ∙ more_along charges sum (rest_charge standing (rest problem leaf k))
+  module _ (k : ℕ) (standing d : Standing) (below : k < length standings) (at : standing ≡ get_or standings k d) where
+    -- one volunteer more
+    pub total_more : charges_and_rests problem standings (k + 1) leaf ≡ charges_and_rests problem standings k leaf +ℤ rest_charge standing (rest problem leaf k)
+    total_more =
+        let places = enumerate_from 0 standings in
+        let sum = signed_sum of_rest (take k places) in
+        let many = length-enumerate_from 0 standings in
+        let zeroth : 0 + k ≡ k = omega arith in
+        ap (λ s. charges +ℤ s)
+        (fold_more (λ sum pair. sum +ℤ of_rest pair) (pos 0) places k (k, d) (omega (arith, many))
+        ∙ ap (λ pair. sum +ℤ of_rest pair) (get_or-enumerate_from 0 standings k (k, d) d below)
+        ∙ ap (λ i. sum +ℤ rest_charge (get_or standings k d) (rest problem leaf i)) zeroth
+        ∙ ap (λ one. sum +ℤ rest_charge one (rest problem leaf k)) (sym at))
+        ∙ more_along charges sum (rest_charge standing (rest problem leaf k))
 
-  module _ (near : is_problem_in_reach problem ≡ true) (is : is_leaf leaf ≡ true) (k : ℕ) (standing : Standing) (below : k < length standings) (at : standing ≡ get_or standings k standing) where
-    pub total_fits : (sum one : ℤ) → sum ≡ charges_and_rests problem standings k leaf → one ≡ rest_charge standing (rest problem leaf k) → FitsSigned w128 (sum +ℤ one)
-    total_fits sum one e f =
-        fits_where (sum +ℤ one) (charges_and_rests problem standings (k + 1) leaf) (ap₂ (λ a b. a +ℤ b) e f ∙ sym (total_more k standing below at)) (total_narrow problem near leaf is standings (k + 1))
+    module _ (near : is_problem_in_reach problem ≡ true) (is : is_leaf leaf ≡ true) where
+      pub total_fits : (sum one : ℤ) → sum ≡ charges_and_rests problem standings k leaf → one ≡ rest_charge standing (rest problem leaf k) → FitsSigned w128 (sum +ℤ one)
+      total_fits sum one e f =
+          fits_where (sum +ℤ one) (charges_and_rests problem standings (k + 1) leaf) (ap₂ (λ a b. a +ℤ b) e f ∙ sym total_more) (total_narrow problem near leaf is standings (k + 1))
 
-    pub total_next : (sum one : ℤ) → sum ≡ charges_and_rests problem standings k leaf → one ≡ rest_charge standing (rest problem leaf k) → to_z w128 (of_z w128 (sum +ℤ one)) ≡ charges_and_rests problem standings (k + 1) leaf
-    total_next sum one e f = stored (sum +ℤ one) (charges_and_rests problem standings (k + 1) leaf) (total_fits sum one e f) (ap₂ (λ a b. a +ℤ b) e f ∙ sym (total_more k standing below at))
+      pub total_next : (sum one : ℤ) → sum ≡ charges_and_rests problem standings k leaf → one ≡ rest_charge standing (rest problem leaf k) → to_z w128 (of_z w128 (sum +ℤ one)) ≡ charges_and_rests problem standings (k + 1) leaf
+      total_next sum one e f = stored (sum +ℤ one) (charges_and_rests problem standings (k + 1) leaf) (total_fits sum one e f) (ap₂ (λ a b. a +ℤ b) e f ∙ sym total_more)

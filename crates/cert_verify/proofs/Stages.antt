@@ -3,7 +3,7 @@ use Rattle.std.proofs.Common.{◌≡◌, ℕ, zero, suc, ◌+◌, ◌<◌, ◌^�
 use Rattle.std.specs.Prelude.{sum_by}
 use Rattle.std.specs.List.{find, list_all}
 use Rattle.std.proofs.lemmas.Bool.{and_parts, eqb-true, false≢true}
-use Rattle.std.proofs.lemmas.List.{drop_more, get_or-drop}
+use Rattle.std.proofs.lemmas.List.{drop_more}
 use Rattle.basic_laws.proofs.Each.{list_all_implies}
 use Rattle.pool_definitions.specs.Certificate.{Answer, Stage}
 use Rattle.pool_definitions.specs.Lottery.{Lottery, TotalAgrees}
@@ -31,16 +31,16 @@ stops (Refused refusal) next e = refl
 -- ---- the verdict on one stage
 
 module _ (pool : Pool) (lottery : Lottery) (earlier : List Stage) (stage : Stage) (line : ℕ) where
-  abbrev before : Verdict
+  abbrev pub before : Verdict
   before = first_reason (reasons_before_cap pool lottery earlier stage)
 
-  abbrev listed : Verdict
+  abbrev pub listed : Verdict
   listed = first_reason (listed_reasons lottery earlier stage)
 
-  abbrev of_tree : List TreeLine → Verdict
+  abbrev pub of_tree : List TreeLine → Verdict
   of_tree lines = first_reason (tree_reasons pool earlier stage line lines)
 
-  abbrev of_stage : List TreeLine → Verdict
+  abbrev pub of_stage : List TreeLine → Verdict
   of_stage lines = or_next before (or_next (of_tree lines) listed)
 
   abbrev of_lines : Bool → Option TreeFault → Verdict
@@ -96,6 +96,30 @@ module _ (pool : Pool) (lottery : Lottery) (earlier later : List Stage) (stage :
 
   pub goes_on_after : (verdict : Verdict) → verdict ≡ of_stage pool lottery earlier stage line (first_tree trees) → holds verdict ≡ true → verdict_from pool lottery earlier (stage ∷ later) line trees ≡ rest
   goes_on_after verdict e h = by_first ∙ ap (λ said. or_next said rest) (sym e ∙ is_valid verdict h)
+
+module _ (pool : Pool) (lottery : Lottery) (stages : List Stage) (trees : List (List TreeLine)) (j : ℕ) (earlier : List Stage) (stage : Stage) (lines : List TreeLine) (number : ℕ)
+    (within : j < length stages) (is_stage : stage ≡ get_or stages j stage) (has_tree : j < length trees) (is_tree : lines ≡ get_or trees j lines)
+    (whole : Verdict) (same : whole ≡ verdict_from pool lottery earlier (drop j stages) number (drop j trees)) where
+  abbrev next_stages : List Stage
+  next_stages = drop (j + 1) stages
+
+  abbrev next_trees : List (List TreeLine)
+  next_trees = drop (j + 1) trees
+
+  pub stages_from : drop j stages ≡ stage ∷ next_stages
+  stages_from = drop_more stages j stage within ∙ ap (λ it. it ∷ next_stages) (sym is_stage)
+
+  from_here : whole ≡ verdict_from pool lottery earlier (stage ∷ next_stages) number (lines ∷ next_trees)
+  from_here = same ∙ ap₂ (λ those trees. verdict_from pool lottery earlier those number trees) stages_from (drop_more trees j lines has_tree ∙ ap (λ it. it ∷ next_trees) (sym is_tree))
+
+  pub refusing : (verdict : Verdict) → verdict ≡ of_stage pool lottery earlier stage number lines → holds verdict ≡ false → verdict ≡ whole
+  refusing verdict e h = refused_at pool lottery earlier next_stages stage number (lines ∷ next_trees) verdict e h ∙ sym from_here
+
+  pub going_on : (verdict : Verdict) (next : ℕ) → verdict ≡ of_stage pool lottery earlier stage number lines → holds verdict ≡ true → next ≡ number + length lines + 1 →
+      whole ≡ verdict_from pool lottery (stage ∷ earlier) next_stages next next_trees
+  going_on verdict next e h f =
+      from_here ∙ goes_on_after pool lottery earlier next_stages stage number (lines ∷ next_trees) verdict e h
+      ∙ ap (λ n. verdict_from pool lottery (stage ∷ earlier) next_stages n next_trees) (sym f)
 
 -- ---- the lottery
 
