@@ -458,13 +458,7 @@ const CHECK_ROWS: &[(&[&str], &[u8], u8, &[u8], &[u8])] = &[
 const PROOF_ROWS: &[(&[&str], &[u8], u8, &[u8], &[u8])] = &[
     (&["verify"], FOUR_PROOF, 0, b"valid\n", b""),
     (&["verify"], COUPLE_PROOF, 0, b"valid\tnone\n", b""),
-    (
-        &["verify"],
-        DOUBLED_PROOF,
-        11,
-        b"refused\t1\t12\t20\n",
-        b"",
-    ),
+    (&["verify"], DOUBLED_PROOF, 11, b"refused\t1\t12\t20\n", b""),
     (&["verify"], FOUR_BUNDLE, 3, b"", b"input\t1\t21\n"),
     (&["bundle"], FOUR_PROOF, 0, FOUR_BUNDLE, b""),
     (&["bundle"], DOUBLED_PROOF, 0, FOUR_BUNDLE, b""),
@@ -517,7 +511,14 @@ fn calls_are_answered(rt: HostRuntime) -> Result<(), AllocError> {
 fn made_pools_are_answered_alike(rt: HostRuntime) -> Result<(), AllocError> {
     let alloc = rt.alloc();
     for words in [
-        ["make", "--seed=7", "--volunteers=20", "--pivots=300", "--nodes=20000"].as_slice(),
+        [
+            "make",
+            "--seed=7",
+            "--volunteers=20",
+            "--pivots=300",
+            "--nodes=20000",
+        ]
+        .as_slice(),
         &["make", "--seed=7", "--volunteers=200"],
     ] {
         let first = answer_of(&rt, alloc, &asking(words, b""))?;

@@ -16,7 +16,7 @@ returns-in-Ok g c = λ source untouched.
       empty = refl;
       no_fault = refl;
       call = answer_is_right (g.C.TextMeaning.means c.args.command.now) nothing _ _ _ (g.C.TextMeaning.answers_once c.args.command.now)
-      [] (refl, refl) (search rules) refl _ means c.tell.ensures;
+          [] (refl, refl) (search rules) refl _ means c.tell.ensures;
     }
 
 pub returns-in-Err : goal.returns-in-Err
