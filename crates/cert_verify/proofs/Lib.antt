@@ -1,0 +1,7 @@
+pub mod KeptRows
+pub mod LeafSteps
+pub mod LineCounts
+pub mod PathSteps
+pub mod Rows
+pub mod Shown
+pub mod Stages

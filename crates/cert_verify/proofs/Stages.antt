@@ -1,0 +1,143 @@
+-- How a check of a proof goes from one stage to the next.
+use Rattle.std.proofs.Common.{◌≡◌, ℕ, zero, suc, ◌+◌, ◌<◌, ◌^◌, Bool, true, false, not, eqb, leb, List, [], ◌∷◌, length, get_or, drop, Option, Some, None, refl, sym, ap, ap₂, ◌∙◌, subst, arith}
+use Rattle.std.specs.Prelude.{sum_by}
+use Rattle.std.specs.List.{find, list_all}
+use Rattle.std.proofs.lemmas.Bool.{and_parts, eqb-true, false≢true}
+use Rattle.std.proofs.lemmas.List.{drop_more}
+use Rattle.basic_laws.proofs.Each.{list_all_implies}
+use Rattle.pool_definitions.specs.Certificate.{Answer, Stage}
+use Rattle.pool_definitions.specs.Lottery.{Lottery, TotalAgrees}
+use Rattle.pool_definitions.specs.Pool.{Pool, is_quota_panel}
+use Rattle.bundle_definitions.specs.Ranges.{IsInRanges, is_group, is_row, is_weight, reach}
+use Rattle.check_definitions.specs.Reasons.{Refused, Valid, Verdict, first_reason, first_repeated, listed as listed_panels, lottery_reasons, nobody_unless, reason, reasons_before_cap}
+use Rattle.certificate_reasons.specs.Sayings.{holds}
+use Rattle.addition_definitions.specs.LeafSums.{is_stage_in_reach}
+use Rattle.addition_definitions.specs.Leaves.{stage_problem, standings}
+use Rattle.addition_definitions.specs.ProofSteps.{or_next, verdict_from}
+use Rattle.addition_definitions.specs.ProofVerdict.{first_tree, later_trees, line_reason, listed_reasons, tree_reasons}
+use Rattle.addition_definitions.specs.TreeLines.{TreeFault, TreeLine, tree_fault}
+use Rattle.addition_definitions.specs.TreeRanges.{number_limit}
+use Rattle.addition_definitions.proofs.StepByStep.{goes_on_by_stages}
+
+pub is_valid : (verdict : Verdict) → holds verdict ≡ true → verdict ≡ Valid
+is_valid Valid e = refl
+is_valid (Refused refusal) e = absurd (false≢true e)
+
+-- a refusal is what is said, whatever comes next
+pub stops : (verdict next : Verdict) → holds verdict ≡ false → or_next verdict next ≡ verdict
+stops Valid next e = absurd (false≢true (sym e))
+stops (Refused refusal) next e = refl
+
+-- ---- the verdict on one stage
+
+module _ (pool : Pool) (lottery : Lottery) (earlier : List Stage) (stage : Stage) (line : ℕ) where
+  abbrev pub before : Verdict
+  before = first_reason (reasons_before_cap pool lottery earlier stage)
+
+  abbrev pub listed : Verdict
+  listed = first_reason (listed_reasons lottery earlier stage)
+
+  abbrev pub of_tree : List TreeLine → Verdict
+  of_tree lines = first_reason (tree_reasons pool earlier stage line lines)
+
+  abbrev pub of_stage : List TreeLine → Verdict
+  of_stage lines = or_next before (or_next (of_tree lines) listed)
+
+  abbrev of_lines : Bool → Option TreeFault → Verdict
+  of_lines within fault = first_reason (reason (length earlier + 1) 13 (nobody_unless within) ∷ line_reason (length earlier + 1) fault ∷ [])
+
+  too_far : (within : Bool) (fault : Option TreeFault) → within ≡ false → of_lines within fault ≡ Refused (record { stage = length earlier + 1; reason = 13; who = [] })
+  too_far true fault e = absurd (false≢true (sym e))
+  too_far false fault e = refl
+
+  -- it is refused where its numbers reach too far
+  pub refused_far : (lines : List TreeLine) → holds before ≡ true → is_stage_in_reach stage ≡ false → of_stage lines ≡ Refused (record { stage = length earlier + 1; reason = 13; who = [] })
+  refused_far lines valid far =
+      ap₂ (λ first second. or_next first (or_next second listed)) (is_valid before valid)
+      (too_far (leb (reach stage) number_limit) (tree_fault (stage_problem pool earlier stage) (standings pool) line lines) far)
+
+  -- for a line, where one has a fault, and else for a listed panel
+  pub of_fault : (lines : List TreeLine) (fault : Option TreeFault) → holds before ≡ true → is_stage_in_reach stage ≡ true →
+      fault ≡ tree_fault (stage_problem pool earlier stage) (standings pool) line lines →
+      of_stage lines ≡ or_next (first_reason (line_reason (length earlier + 1) fault ∷ [])) listed
+  of_fault lines fault valid within e =
+      ap (λ first. or_next first (or_next (of_tree lines) listed)) (is_valid before valid)
+      ∙ ap₂ (λ within fault. or_next (of_lines within fault) listed) within (sym e)
+
+  -- a stage that isn't refused is within reach
+  pub reaches_so_far : (lines : List TreeLine) → holds (of_stage lines) ≡ true → is_stage_in_reach stage ≡ true
+  reaches_so_far lines valid = by before (leb (reach stage) number_limit) refl refl valid
+    where
+      fault : Option TreeFault
+      fault = tree_fault (stage_problem pool earlier stage) (standings pool) line lines
+
+      by : (first : Verdict) (within : Bool) → before ≡ first → leb (reach stage) number_limit ≡ within → holds (or_next first (or_next (of_lines within fault) listed)) ≡ true → leb (reach stage) number_limit ≡ true
+      by (Refused refusal) within e f h = absurd (false≢true h)
+      by Valid true e f h = f
+      by Valid false e f h = absurd (false≢true h)
+
+-- ---- from stage to stage
+
+module _ (pool : Pool) (lottery : Lottery) (earlier later : List Stage) (stage : Stage) (line : ℕ) (trees : List (List TreeLine)) where
+  abbrev rest : Verdict
+  rest = verdict_from pool lottery (stage ∷ earlier) later (line + length (first_tree trees) + 1) (later_trees trees)
+
+  by_first : verdict_from pool lottery earlier (stage ∷ later) line trees ≡ or_next (of_stage pool lottery earlier stage line (first_tree trees)) rest
+  by_first = goes_on_by_stages pool lottery earlier later stage line trees
+      ∙ joined (before pool lottery earlier stage line) (of_tree pool lottery earlier stage line (first_tree trees)) (listed pool lottery earlier stage line)
+    where
+      joined : (first second third : Verdict) → or_next first (or_next second (or_next third rest)) ≡ or_next (or_next first (or_next second third)) rest
+      joined Valid Valid third = refl
+      joined Valid (Refused refusal) third = refl
+      joined (Refused refusal) second third = refl
+
+  pub refused_at : (verdict : Verdict) → verdict ≡ of_stage pool lottery earlier stage line (first_tree trees) → holds verdict ≡ false → verdict ≡ verdict_from pool lottery earlier (stage ∷ later) line trees
+  refused_at verdict e h = sym (by_first ∙ ap (λ said. or_next said rest) (sym e) ∙ stops verdict rest h)
+
+  pub goes_on_after : (verdict : Verdict) → verdict ≡ of_stage pool lottery earlier stage line (first_tree trees) → holds verdict ≡ true → verdict_from pool lottery earlier (stage ∷ later) line trees ≡ rest
+  goes_on_after verdict e h = by_first ∙ ap (λ said. or_next said rest) (sym e ∙ is_valid verdict h)
+
+module _ (pool : Pool) (lottery : Lottery) (stages : List Stage) (trees : List (List TreeLine)) (j : ℕ) (earlier : List Stage) (stage : Stage) (lines : List TreeLine) (number : ℕ)
+    (within : j < length stages) (is_stage : stage ≡ get_or stages j stage) (has_tree : j < length trees) (is_tree : lines ≡ get_or trees j lines)
+    (whole : Verdict) (same : whole ≡ verdict_from pool lottery earlier (drop j stages) number (drop j trees)) where
+  abbrev next_stages : List Stage
+  next_stages = drop (j + 1) stages
+
+  abbrev next_trees : List (List TreeLine)
+  next_trees = drop (j + 1) trees
+
+  pub stages_from : drop j stages ≡ stage ∷ next_stages
+  stages_from = drop_more stages j stage within ∙ ap (λ it. it ∷ next_stages) (sym is_stage)
+
+  from_here : whole ≡ verdict_from pool lottery earlier (stage ∷ next_stages) number (lines ∷ next_trees)
+  from_here = same ∙ ap₂ (λ those trees. verdict_from pool lottery earlier those number trees) stages_from (drop_more trees j lines has_tree ∙ ap (λ it. it ∷ next_trees) (sym is_tree))
+
+  pub refusing : (verdict : Verdict) → verdict ≡ of_stage pool lottery earlier stage number lines → holds verdict ≡ false → verdict ≡ whole
+  refusing verdict e h = refused_at pool lottery earlier next_stages stage number (lines ∷ next_trees) verdict e h ∙ sym from_here
+
+  pub going_on : (verdict : Verdict) (next : ℕ) → verdict ≡ of_stage pool lottery earlier stage number lines → holds verdict ≡ true → next ≡ number + length lines + 1 →
+      whole ≡ verdict_from pool lottery (stage ∷ earlier) next_stages next next_trees
+  going_on verdict next e h f =
+      from_here ∙ goes_on_after pool lottery earlier next_stages stage number (lines ∷ next_trees) verdict e h
+      ∙ ap (λ n. verdict_from pool lottery (stage ∷ earlier) next_stages n next_trees) (sym f)
+
+-- ---- the lottery
+
+-- where no reason of the lottery stands, its weights sum to the total
+pub total_agrees : (pool : Pool) (answer : Answer) (lottery : Lottery) (said : Verdict) → IsInRanges pool answer → lottery ≡ answer.lottery → said ≡ first_reason (lottery_reasons pool lottery) → holds said ≡ true →
+    TotalAgrees answer.lottery
+total_agrees pool answer lottery said ranges same e h =
+    let own = answer.lottery in
+    let valid : first_reason (lottery_reasons pool own) ≡ Valid = ap (λ lottery. first_reason (lottery_reasons pool lottery)) (sym same) ∙ sym e ∙ is_valid said h in
+    record {
+      weights = list_all_implies (is_row (length pool.volunteers)) (λ row. leb 1 row.weight)
+          (λ row h. (and_parts (leb 1 row.weight) (leb row.weight (10 ^ 38)) (and_parts (is_weight row.weight) (is_group (length pool.volunteers) row.panel) h).0).0) own.rows ranges.rows;
+      total = eqb-true own.total (sum_by (λ row. row.weight) own.rows)
+          (last (find (λ panel. not (is_quota_panel pool panel)) (listed_panels own)) (first_repeated [] (listed_panels own)) (eqb own.total (sum_by (λ row. row.weight) own.rows)) valid);
+    }
+  where
+    last : (first second : Option (List ℕ)) (third : Bool) → first_reason (reason 0 1 first ∷ reason 0 2 second ∷ reason 0 3 (nobody_unless third) ∷ []) ≡ Valid → third ≡ true
+    last (Some who) second third e = absurd cc
+    last None (Some who) third e = absurd cc
+    last None None true e = refl
+    last None None false e = absurd cc

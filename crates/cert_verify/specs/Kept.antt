@@ -1,0 +1,24 @@
+-- What is kept of the constraints, from stage to stage.
+use Rattle.std.specs.Prelude.{◌≡◌, ℕ, ◌+◌, if◌then◌else◌, List, ◌∷◌, map, length, Option, pos}
+use Rattle.std.specs.List.{enumerate_from, flat_map}
+use Rattle.pool_definitions.specs.Certificate.{Stage}
+use Rattle.pool_definitions.specs.Pool.{Pool}
+use Rattle.search_definitions.specs.Compositions.{is_of_household}
+use Rattle.addition_definitions.specs.Constraints.{Constraint, category_constraints, constraints, size_constraint}
+
+-- the constraints that stand before those of stages: the size, and each value
+abbrev pub fixed_constraints : Pool → List Constraint
+fixed_constraints pool = size_constraint pool ∷ flat_map (category_constraints pool) (enumerate_from 0 pool.categories)
+
+-- the constraints of the stage after earlier ones, and the place behind those of earlier stages
+pub record AreOf (pool : Pool) (earlier : List Stage) (rows : List Constraint) (next : ℕ) : Type 0 where
+  pub all : rows ≡ constraints pool earlier
+  pub behind : next ≡ length (fixed_constraints pool) + length earlier
+
+-- the constraint of a household, by the number of each volunteer's shared household
+abbrev pub household_row : List (Option ℕ) → ℕ → Constraint
+household_row households number = record {
+  coefficients = map (λ household. if is_of_household number household then pos 1 else pos 0) households;
+  lower = pos 0;
+  upper = pos 1;
+}
