@@ -1,15 +1,15 @@
 -- The constraints that are kept, as a stage is passed.
-use Rattle.std.proofs.Common.{◌≡◌, ℕ, ◌+◌, ◌-◌, ◌≤◌, true, List, [], ◌∷◌, ◌++◌, map, length, reverse, refl, sym, ap, ap₂, ◌∙◌, subst, arith}
+use Rattle.std.proofs.Common.{◌≡◌, ℕ, ◌+◌, ◌-◌, ◌≤◌, true, List, [], ◌∷◌, ◌++◌, map, length, reverse, refl, sym, ap, ◌∙◌, subst, arith}
 use Rattle.std.specs.List.{enumerate_from, flat_map, insert, list_all}
 use Rattle.std.proofs.lemmas.Bool.{and_from}
 use Rattle.std.proofs.lemmas.List.{append-nil, append_assoc, length-append, length-map, length-reverse, map-append, reverse-append}
 use Rattle.std.proofs.lemmas.List.Edits.{insert-append_right}
 use Rattle.pool_definitions.specs.Certificate.{Stage}
 use Rattle.pool_definitions.specs.Pool.{IsPool, Pool}
-use Rattle.addition_definitions.specs.Constraints.{Constraint, category_constraints, constraints, first_members, household_constraint, size_constraint, stage_constraint}
+use Rattle.addition_definitions.specs.Constraints.{Constraint, category_constraints, first_members, household_constraint, size_constraint, stage_constraint}
 use Rattle.addition_definitions.specs.LeafSums.{is_in_reach, is_problem_in_reach, is_stage_in_reach}
-use Rattle.addition_definitions.specs.Leaves.{Problem, no_panel}
-use Rattle.addition_definitions.proofs.Reaches.{all_in_reach, no_panel_in_reach}
+use Rattle.addition_definitions.specs.Leaves.{Problem}
+use Rattle.addition_definitions.proofs.Reaches.{all_in_reach}
 use Rattle.cert_verify.specs.Kept.{AreOf, fixed_constraints}
 
 insert_first : {X : Type 0} (xs : List X) (y : X) → insert xs 0 y ≡ y ∷ xs

@@ -1,5 +1,5 @@
 -- Constraints that are added one after another.
-use Rattle.std.proofs.Common.{◌≡◌, ℕ, suc, ◌+◌, ◌<◌, ◌≤◌, Bool, true, false, cond, List, [], ◌∷◌, ◌++◌, map, filter, length, get_or, take, Option, None, ℤ, pos, refl, sym, ap, ap₂, ◌∙◌, arith}
+use Rattle.std.proofs.Common.{◌≡◌, ℕ, ◌+◌, ◌<◌, ◌≤◌, Bool, cond, List, [], ◌∷◌, ◌++◌, map, filter, length, get_or, take, Option, None, ℤ, pos, refl, sym, ap, ap₂, ◌∙◌, arith}
 use Rattle.std.specs.List.{AllByRecursion, enumerate_from, flat_map, range_with_len}
 use Rattle.std.proofs.lemmas.Grind.{flat_map-append}
 use Rattle.std.proofs.lemmas.List.{append-nil, append_assoc, map_more, take_all, take_more}
@@ -9,7 +9,7 @@ use Rattle.basic_laws.proofs.Lists.{get_or-enumerate_from, length-enumerate_from
 use Rattle.pool_definitions.specs.Pool.{Pool, everybody}
 use Rattle.search_definitions.specs.Classes.{shared_household}
 use Rattle.search_definitions.specs.Compositions.{is_of_household}
-use Rattle.addition_definitions.specs.Constraints.{Constraint, first_members, household_constraint}
+use Rattle.addition_definitions.specs.Constraints.{first_members, household_constraint}
 use Rattle.cert_verify.specs.Kept.{household_row}
 use Rattle.cert_verify.proofs.LeafSteps.{at_item}
 

@@ -4,7 +4,7 @@
 ghost use Rattle.std.specs.Prelude.{◌≡◌, ◌==◌, ◌++◌, ◌≤◌, ◌+◌, [], filter, IfOk, OnOk, if◌then◌else◌, insert, length, map, pos, slice_index, slice_index_or};
 ghost use Rattle.std.specs.List.{count_by, enumerate_from, find, flat_map, range_with_len};
 ghost use Rattle.addition_definitions.specs.Constraints.{category_constraints, coefficient as coefficient_of, first_members as first_members_of, household_constraint as household_constraint_of, size_constraint as size_constraint_of, stage_constraint as stage_constraint_of, value_constraint as value_constraint_of};
-ghost use Rattle.pool_definitions.specs.Pool.{everybody, share_household as share, volunteer};
+ghost use Rattle.pool_definitions.specs.Pool.{share_household as share, volunteer};
 ghost use Rattle.search_definitions.specs.Classes.{shared_household as shared};
 ghost use Rattle.search_definitions.specs.Compositions.{is_of_household as is_of};
 ghost use Rattle.cert_verify.specs.Kept.{AreOf, household_row};
@@ -208,11 +208,7 @@ fn household_constraint(
     households: &[Option<usize>],
     number: usize,
 ) -> Result<Constraint, AllocError>
-    ensures { IfOk result (λ constraint. constraint ≡ record {
-      coefficients = map (λ household. if is_of number household then pos 1 else pos 0) households.now;
-      lower = pos 0;
-      upper = pos 1;
-    }) }
+    ensures { IfOk result (λ constraint. constraint ≡ household_row households.now number) }
 {
     Ok(Constraint {
         coefficients: ones_of(alloc, households, number)?,

@@ -1,6 +1,6 @@
 //! The lines of a tree, one after another: the first that isn't the next line of a tree, or whose multipliers don't show the cap.
 
-ghost use Rattle.std.specs.Prelude.{◌≡◌, ◌+◌, IfOk, IsTrue, OnOk, length, true, Ok, Err};
+ghost use Rattle.std.specs.Prelude.{◌≡◌, IfOk, IsTrue, OnOk, length, true, Ok, Err};
 ghost use Rattle.std.specs.List.{list_all};
 ghost use Rattle.addition_definitions.specs.LeafSums.{is_problem_in_reach};
 ghost use Rattle.addition_definitions.specs.Leaves.{standings};

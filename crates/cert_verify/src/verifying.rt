@@ -9,7 +9,7 @@ ghost use Rattle.addition_definitions.specs.ProofSteps.{or_next, verdict_from};
 ghost use Rattle.addition_definitions.specs.ProofVerdict.{OfLottery, OfNoPanel, listed_reasons, tree_reasons, verdict as verdict_of};
 ghost use Rattle.addition_definitions.specs.TreeLines.{TreeLine as SeenLine};
 ghost use Rattle.addition_definitions.specs.TreeRanges.{is_tree_line};
-ghost use Rattle.bundle_definitions.specs.Ranges.{IsInRanges, is_stage, reach as reach_of};
+ghost use Rattle.bundle_definitions.specs.Ranges.{is_stage};
 ghost use Rattle.check_definitions.specs.Reasons.{Refused, Valid, first_reason, reasons_before_cap};
 ghost use Rattle.pool_definitions.specs.Certificate.{Answer as SeenAnswer, Certifies};
 ghost use Rattle.pool_definitions.specs.Lottery.{LeximinGreatest};

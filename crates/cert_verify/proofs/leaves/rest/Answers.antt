@@ -1,7 +1,6 @@
-use Rattle.std.proofs.Common.{◌≡◌, ◌*ℤ◌, FitsSigned, to_z, of_z, ap, ap₂, ◌∙◌, rules}
+use Rattle.std.proofs.Common.{◌*ℤ◌, to_z, of_z, ap, ap₂, ◌∙◌, rules}
 use Rattle.std.specs.Int.{w128}
 use Rattle.addition_definitions.specs.Constraints.{Constraint, coefficient, constraint_at}
-use Rattle.addition_definitions.specs.Leaves.{multiplied}
 use Rattle.cert_verify.proofs.LeafSteps.{at_item, product_fits, rest_fits, rest_next, stored}
 use Rattle.cert_verify.proofs.leaves.rest.Goals as goal
 

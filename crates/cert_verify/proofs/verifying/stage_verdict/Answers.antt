@@ -1,5 +1,4 @@
 use Rattle.std.proofs.Common.{sym, ap, ◌∙◌}
-use Rattle.addition_definitions.specs.Leaves.{Problem}
 use Rattle.cert_verify.proofs.KeptRows.{near}
 use Rattle.cert_verify.proofs.verifying.stage_verdict.Goals as goal
 

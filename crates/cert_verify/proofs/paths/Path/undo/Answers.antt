@@ -1,4 +1,4 @@
-use Rattle.std.proofs.Common.{◌≡◌, ◌++◌, ◌∷◌, [], reverse, set, sym, subst}
+use Rattle.std.proofs.Common.{reverse, set, sym, subst}
 use Rattle.pool_definitions.specs.declared.Standing.TheVariants.{Open}
 use Rattle.cert_verify.specs.Paths.{Keeps}
 use Rattle.cert_verify.proofs.PathSteps.{keeps_less}
