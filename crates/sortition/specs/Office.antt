@@ -11,7 +11,7 @@ use Rattle.bundle_answers.specs.Check.{CheckMeans}
 use Rattle.pool_answers.specs.Lottery.{LotteryIsRight}
 use Rattle.pool_answers.specs.Make.{MakeMeans}
 use Rattle.pool_answers.specs.Panel.{PanelIsRight}
-use Rattle.proof_answers.specs.Bundle.{BundleMeans}
+use Rattle.proof_answers.specs.ItsBundle.{BundleMeans}
 use Rattle.proof_answers.specs.OfProof.{OfProof}
 use Rattle.proof_answers.specs.Verify.{VerifyMeans}
 
