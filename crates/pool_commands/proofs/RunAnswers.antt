@@ -17,7 +17,7 @@ use Rattle.pool_answers.specs.Make.{MakeMeans, sizes_of, summary_of}
 use Rattle.pool_commands.specs.Found.{TellsStop}
 
 -- an answer that tells an end of the run, in the place of a bundle and of a summary
-record StopEnds (limits : Limits) (pool : Pool) (answer : Saying) : Type 0 where
+pub record StopEnds (limits : Limits) (pool : Pool) (answer : Saying) : Type 0 where
   pub ending : Ending
   pub ends : RunEnds pool limits ending
   pub says : SaysOf limits pool ending

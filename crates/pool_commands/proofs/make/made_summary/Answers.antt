@@ -5,6 +5,7 @@ use Rattle.search_definitions.specs.Classes.{are_alike}
 use Rattle.search_definitions.proofs.AlikeClasses.{alike_makes}
 use Rattle.command_shell.specs.declared.status.Printed.TheVariants as printed
 use Rattle.command_shell.specs.Answers.{Prints, saying}
+use Rattle.pool_answers.specs.Lottery.{FindsGreatest, FindsNone}
 use Rattle.pool_commands.proofs.RunAnswers.{made_means, sizes_are, stop_ends}
 use Rattle.pool_commands.proofs.make.made_summary.Goals as goal
 
@@ -14,7 +15,7 @@ returns-in-Ok-Found g c =
     let certified = rw c.in-Ok-Found.field-0-is at c.in-Ok-Found.ensures.certified in
     let pool = c.in_ok-pool.pool in
     let answer = c.in-Ok-Found.answer in
-    let says = record { ends = (run.0, run.2); certified = certified.0; greatest = certified.1 } in
+    let says : FindsGreatest c.args.made.limits pool answer = record { ends = (run.0, run.2); certified = certified.0; greatest = certified.1 } in
     let text = c.into_bytes.ensures.value ∙ c.in_ok-run_summary-in-Ok-Found.ensures in
     made_means c.args.made.seed c.args.made.volunteers c.args.made.limits pool c.in_ok-pool.ensures (Ending.Found run.0 answer) run.2 says _
     (ap (Prints printed.Done) (text ∙ sizes_are pool answer c.in-Ok-Found.sizes run.0 run.1))
@@ -23,7 +24,7 @@ pub returns-in-Ok-NoPanel : goal.returns-in-Ok-NoPanel
 returns-in-Ok-NoPanel g c =
     let ends = rw c.in-Ok-NoPanel.field-0-is at c.in-Ok-NoPanel.ensures.run in
     let pool = c.in_ok-pool.pool in
-    let says = record {
+    let says : FindsNone c.args.made.limits pool = record {
       ends = ends;
       none = rw c.in-Ok-NoPanel.field-0-is at c.in-Ok-NoPanel.ensures.certified;
       within = c.no_panel_where_none.ensures.within pool (are_alike pool) (alike_makes pool) (run_limits c.args.made.limits) ends;
