@@ -16,9 +16,9 @@ returns-in-Ok-Found g c =
     let pool = c.in_ok-pool.pool in
     let answer = c.in-Ok-Found.answer in
     let says : FindsGreatest c.args.made.limits pool answer = record { ends = (run.0, run.2); certified = certified.0; greatest = certified.1 } in
-    let text = c.into_bytes.ensures.value ∙ c.in_ok-run_summary-in-Ok-Found.ensures in
+    let text = c.in_ok-run_summary-in-Ok-Found.ensures ∙ sizes_are pool answer c.in-Ok-Found.sizes run.0 run.1 in
     made_means c.args.made.seed c.args.made.volunteers c.args.made.limits pool c.in_ok-pool.ensures (Ending.Found run.0 answer) run.2 says _
-    (ap (Prints printed.Done) (text ∙ sizes_are pool answer c.in-Ok-Found.sizes run.0 run.1))
+    (rw c.into_bytes.ensures.value (ap (Prints printed.Done) text))
 
 pub returns-in-Ok-NoPanel : goal.returns-in-Ok-NoPanel
 returns-in-Ok-NoPanel g c =
