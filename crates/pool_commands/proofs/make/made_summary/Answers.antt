@@ -16,7 +16,8 @@ returns-in-Ok-Found g c =
     let pool = c.in_ok-pool.pool in
     let answer = c.in-Ok-Found.answer in
     let says : FindsGreatest c.args.made.limits pool answer = record { ends = (run.0, run.2); certified = certified.0; greatest = certified.1 } in
-    let text = c.in_ok-run_summary-in-Ok-Found.ensures ∙ sizes_are pool answer c.in-Ok-Found.sizes run.0 run.1 in
+    let told = rw c.in-Ok-Found.field-0-is at c.in_ok-run_summary-in-Ok-Found.ensures in
+    let text = told ∙ sizes_are pool answer c.in-Ok-Found.sizes run.0 run.1 in
     made_means c.args.made.seed c.args.made.volunteers c.args.made.limits pool c.in_ok-pool.ensures (Ending.Found run.0 answer) run.2 says _
     (rw c.into_bytes.ensures.value (ap (Prints printed.Done) text))
 
