@@ -5,7 +5,7 @@ ghost use Rattle.bundle_definitions.specs.BundleText.{Bundle as BundleWords, bun
 ghost use Rattle.command_shell.specs.Answers.{AnswersOnce, Saying, saying};
 
 use bundle_text::{Bundle, ReadBundle, read_bundle};
-use command_shell::{Answer, Cause, TextCommand, TextMeaning, input_line};
+use command_shell::{Answer, Cause, OneAnswer, TextCommand, TextMeaning, input_line};
 use std::alloc::{AllocError, Global};
 
 /// A command about a bundle, with its arguments, as far as its answers go.
@@ -31,9 +31,12 @@ pub struct OfBundle<C>(pub C);
 
 impl<C: BundleMeaning> TextMeaning for OfBundle<C> {
     ghost use Rattle.bundle_answers.specs.OfBundle.{OfBundle as about};
-    ghost use Rattle.bundle_answers.proofs.BundleLaws.{of_bundle_once};
 
     ghost means = { λ command. about (C.means command.0) };
+}
+
+impl<C: BundleMeaning> OneAnswer for OfBundle<C> {
+    ghost use Rattle.bundle_answers.proofs.BundleLaws.{of_bundle_once};
 
     ghost answers_once = { λ command. of_bundle_once (C.means command.0) (C.answers_once command.0) };
 }

@@ -31,7 +31,7 @@ impl Refusal {
         self.stage
     }
 
-    /// The number of the reason, from 1 to 10.
+    /// The number of the reason: from 1 to 10 of a certificate, and 1 to 7 and 9 to 13 of a proof.
     pub fn reason(&self) -> u8
         ensures { result ≡ self.now.reason }
     {

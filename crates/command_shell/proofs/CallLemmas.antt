@@ -1,6 +1,6 @@
 -- Calls of a command that are right, whatever it means.
 use Rattle.std.proofs.Common.{◌≡◌, ◌≤◌, ℕ, List, length, Option, Some, None, ⊎_elim, subst, arith, rules}
-use Rattle.std.specs.Prelude.{IfSome}
+use Rattle.std.specs.Prelude.{◌≢◌, IfSome}
 use Rattle.outside.specs.Content.{ReadsAll}
 use Rattle.command_shell.specs.declared.status.Printed.{Printed}
 use Rattle.command_shell.specs.declared.status.Printed.TheVariants.{Done, NoPanel, Refused}
@@ -9,7 +9,7 @@ use Rattle.command_shell.specs.declared.status.Cause.TheVariants.{Input, Wide, S
 use Rattle.command_shell.specs.Told.{Bytes, Told, told, HasNoFault, HeldAll}
 use Rattle.command_shell.specs.Answers.{AnswersOnce, Saying, Prints, Stops, cause_number, printed_number, status_of}
 use Rattle.command_shell.specs.Lines.{input_limit}
-use Rattle.command_shell.specs.Calls.{CallIsRight, IsAnswer, IsDue, TellsStop, TellsText, TellsWriteFault}
+use Rattle.command_shell.specs.Calls.{CallIsRight, IsAnswer, IsDue, TellsByStatus, TellsStop, TellsText, TellsWriteFault}
 use Rattle.command_shell.specs.Telling.{IsCutOff, IsPrinted, IsTold}
 
 -- the one answer about some bytes
@@ -30,33 +30,49 @@ module _ (Means : List ℕ → Saying → Type 0) (source out errs : Bytes) (sta
   abbrev this : Told
   this = told status source out errs
 
-  abbrev IsDueHere : Type 0
-  IsDueHere = IfSome source.before (λ bytes. IsDue Means bytes status)
+  printed_by_status : (printed : Printed) → status ≡ printed_number printed → TellsText Means printed this → TellsByStatus Means this
+  printed_by_status Done s tells = search rules
+  printed_by_status NoPanel s tells = search rules
+  printed_by_status Refused s tells = search rules
 
-  printed_is_right : (printed : Printed) → status ≡ printed_number printed → TellsText Means printed this → IsDueHere → CallIsRight Means this
-  printed_is_right Done s tells due = search rules
-  printed_is_right NoPanel s tells due = search rules
-  printed_is_right Refused s tells due = search rules
+  cut_off_by_status : status ≡ 8 → TellsWriteFault Means this → TellsByStatus Means this
+  cut_off_by_status s tells = search rules
 
-  cut_off_is_right : status ≡ 8 → TellsWriteFault Means this → CallIsRight Means this
-  cut_off_is_right s tells = search rules
+  stopped_by_status : (cause : Cause) → status ≡ cause_number cause → TellsStop Means cause this → TellsByStatus Means this
+  stopped_by_status Input s tells = search rules
+  stopped_by_status Wide s tells = search rules
+  stopped_by_status Spent s tells = search rules
+  stopped_by_status Rule s tells = search rules
 
-  stopped_is_right : (cause : Cause) → status ≡ cause_number cause → TellsStop Means cause this → IsDueHere → CallIsRight Means this
-  stopped_is_right Input s tells due = search rules
-  stopped_is_right Wide s tells due = search rules
-  stopped_is_right Spent s tells due = search rules
-  stopped_is_right Rule s tells due = search rules
+  -- an answer that is right about all bytes of the source was told
+  pub record TellsAnswer (bytes : List ℕ) (answer : Saying) : Type 0 where
+    pub held : HeldAll source bytes
+    pub within : length bytes ≤ input_limit
+    pub no_fault : HasNoFault source
+    pub means : Means bytes answer
+    pub told : IsTold answer status out errs
 
-  pub answer_is_right : AnswersOnce Means → (bytes : List ℕ) → HeldAll source bytes → length bytes ≤ input_limit → HasNoFault source →
-      (answer : Saying) → Means bytes answer → IsTold answer status out errs → CallIsRight Means this
-  answer_is_right once bytes held within clear (Prints printed text) means tells =
-      let answer : IsAnswer Means source (Prints printed text) = record { bytes = bytes; held = held; within = within; no_fault = clear; means = means } in
+  is_answer : (bytes : List ℕ) (answer : Saying) → TellsAnswer bytes answer → IsAnswer Means source answer
+  is_answer bytes answer t = record { bytes = bytes; held = t.held; within = t.within; no_fault = t.no_fault; means = t.means }
+
+  pub answer_by_status : (bytes : List ℕ) (answer : Saying) → TellsAnswer bytes answer → TellsByStatus Means this
+  answer_by_status bytes (Prints printed text) t =
+      let answer = is_answer bytes (Prints printed text) t in
       ⊎_elim (λ (whole : IsPrinted printed text status out errs).
-      let due = due_of Means source.before source.after bytes status held (one_answer Means once bytes (Prints printed text) status within means whole.due) in
-      printed_is_right printed whole.due (record { text = text; answer = answer; out = whole.whole; no_fault = whole.no_fault; errs = whole.quiet }) due)
+      printed_by_status printed whole.due (record { text = text; answer = answer; out = whole.whole; no_fault = whole.no_fault; errs = whole.quiet }))
       (λ (cut : IsCutOff text status out errs).
-      cut_off_is_right cut.due (record { printed = printed; text = text; answer = answer; faulted = cut.faulted; out = cut.part; errs = cut.line })) tells
-  answer_is_right once bytes held within clear (Stops cause line) means tells =
-      let answer : IsAnswer Means source (Stops cause line) = record { bytes = bytes; held = held; within = within; no_fault = clear; means = means } in
-      let due = due_of Means source.before source.after bytes status held (one_answer Means once bytes (Stops cause line) status within means tells.0) in
-      stopped_is_right cause tells.0 (record { line = line; answer = answer; out = tells.1; errs = tells.2 }) due
+      cut_off_by_status cut.due (record { printed = printed; text = text; answer = answer; faulted = cut.faulted; out = cut.part; errs = cut.line })) t.told
+  answer_by_status bytes (Stops cause line) t =
+      stopped_by_status cause t.told.0 (record { line = line; answer = is_answer bytes (Stops cause line) t; out = t.told.1; errs = t.told.2 })
+
+  -- an answer that was not cut off has its status
+  its_status : (answer : Saying) → IsTold answer status out errs → status ≢ 8 → status ≡ status_of answer
+  its_status (Prints printed text) told not_cut = ⊎_elim (λ (whole : IsPrinted printed text status out errs). whole.due) (λ (cut : IsCutOff text status out errs). absurd (not_cut cut.due)) told
+  its_status (Stops cause line) told not_cut = told.0
+
+  pub answer_is_right : AnswersOnce Means → (bytes : List ℕ) (answer : Saying) → TellsAnswer bytes answer → CallIsRight Means this
+  answer_is_right once bytes answer t = record {
+    by_status = answer_by_status bytes answer t;
+    complete = λ clear not_cut not_want.
+        due_of Means source.before source.after bytes status t.held (one_answer Means once bytes answer status t.within t.means (its_status answer t.told not_cut));
+  }

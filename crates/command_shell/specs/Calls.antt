@@ -71,7 +71,8 @@ pub record IsDue (Means : List ℕ → Saying → Type 0) (bytes : List ℕ) (st
   pub too_long : input_limit < length bytes → status ≡ 3
   pub within : length bytes ≤ input_limit → IsOneAnswer Means bytes status
 
-pub record CallIsRight (Means : List ℕ → Saying → Type 0) (told : Told) : Type 0 where
+-- what each status says of a call
+pub record TellsByStatus (Means : List ℕ → Saying → Type 0) (told : Told) : Type 0 where
   -- 0: the text that the command is for
   pub done : told.status ≡ 0 → TellsText Means Done told
   -- 1: no quota panel exists
@@ -93,6 +94,10 @@ pub record CallIsRight (Means : List ℕ → Saying → Type 0) (told : Told) : 
   pub want_of_memory : told.status ≡ 12 → TellsWant told
   -- no other status
   pub no_other : told.status ≢ 0 → told.status ≢ 1 → told.status ≢ 3 → told.status ≢ 4 → told.status ≢ 5 → told.status ≢ 6 → told.status ≢ 7 → told.status ≢ 8 → told.status ≢ 11 → told.status ≡ 12
+
+-- the same, and the status is the one that the bytes ask for
+pub record CallIsRight (Means : List ℕ → Saying → Type 0) (told : Told) : Type 0 where
+  pub by_status : TellsByStatus Means told
   -- where the source counted no fault, the status is the one that its bytes ask for, but for 8 and 12
   pub complete : (HasFaulted told.source → ⊥) → told.status ≢ 8 → told.status ≢ 12 → IfSome told.source.before (λ bytes. IsDue Means bytes told.status)
 

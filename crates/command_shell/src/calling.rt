@@ -3,11 +3,11 @@
 ghost use Rattle.std.specs.Fn.{FnOnceReturns, FnOnceReturnsAt};
 ghost use Rattle.std.specs.Prelude.{ℕ, List, [], IfOk};
 ghost use Rattle.command_shell.specs.Told.{Bytes, IsUntouched, object, told};
-ghost use Rattle.command_shell.specs.Answers.{number_of, saying};
-ghost use Rattle.command_shell.specs.Calls.{CallIsRight, ReadsNothing};
+ghost use Rattle.command_shell.specs.Answers.{AnswersOnce, number_of, saying};
+ghost use Rattle.command_shell.specs.Calls.{CallIsRight, ReadsNothing, TellsByStatus};
 
 use crate::answer::Answer;
-use crate::command::{TextCommand, TextMeaning};
+use crate::command::{OneAnswer, TextCommand, TextMeaning};
 use crate::status::Status;
 use crate::telling::{read_fault, tell, too_long, want_memory};
 use outside::{ReadStop, Sink, Source, read_all};
@@ -43,7 +43,7 @@ pub fn call<C: TextCommand, S: Source, O: Sink, E: Sink>(
 }
 
 /// The same of a command that a function answers, which is right about each text. So a command can be handed what no trait's method may
-/// be, as whoever starts threads.
+/// be, as whoever starts threads. Where each text has one right answer, the status is the one that the text asks for.
 pub fn call_answered_by<
     C: TextMeaning,
     F: FnOnce(&[u8]) -> Result<Answer, AllocError>,
@@ -53,7 +53,11 @@ pub fn call_answered_by<
 >(alloc: Global, command: &C, answer: F, source: &mut S, out: &mut O, errs: &mut E) -> Status
     requires callable { F.IsAlwaysCallable answer }
     requires right { (bytes : List ℕ) (answered : _) → FnOnceReturnsAt F.FnOnce answer bytes answered → IfOk answered (λ it. C.means command.now bytes (saying it)) }
-    ensures { CallIsRight (C.means command.now) (told (number_of result)
+    ensures by_status { TellsByStatus (C.means command.now) (told (number_of result)
+        (object (S.left source.old) (S.left source.new) (S.faults source.old) (S.faults source.new))
+        (object (O.written out.old) (O.written out.new) (O.faults out.old) (O.faults out.new))
+        (object (E.written errs.old) (E.written errs.new) (E.faults errs.old) (E.faults errs.new))) }
+    ensures one { AnswersOnce (C.means command.now) → CallIsRight (C.means command.now) (told (number_of result)
         (object (S.left source.old) (S.left source.new) (S.faults source.old) (S.faults source.new))
         (object (O.written out.old) (O.written out.new) (O.faults out.old) (O.faults out.new))
         (object (E.written errs.old) (E.written errs.new) (E.faults errs.old) (E.faults errs.new))) }
@@ -71,7 +75,7 @@ pub fn call_answered_by<
 
 /// One call of a command that reads nothing, and that a function answers which is right about a text without bytes. The source is left alone.
 pub fn call_without_input<
-    C: TextMeaning,
+    C: OneAnswer,
     F: FnOnce() -> Result<Answer, AllocError>,
     O: Sink,
     E: Sink,

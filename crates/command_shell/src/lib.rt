@@ -14,7 +14,7 @@ mod tests;
 
 pub use answer::Answer;
 pub use calling::{call, call_answered_by, call_without_input};
-pub use command::{TextCommand, TextMeaning};
+pub use command::{OneAnswer, TextCommand, TextMeaning};
 pub use lines::{input_line, no_panel};
 pub use status::{Cause, Printed, Status};
 pub use telling::{refuse_words, want_memory};

@@ -1,6 +1,6 @@
 //! Calls of small commands over the forms in memory: what is told where the source, `out` or `errs` fails.
 
-use crate::{Answer, Cause, Printed, TextCommand, TextMeaning, call};
+use crate::{Answer, Cause, OneAnswer, Printed, TextCommand, TextMeaning, call};
 use outside::{MemSink, MemSource};
 use std::alloc::{AllocError, Global};
 use std::test::Fail;
@@ -11,10 +11,13 @@ struct Echo(Printed);
 
 impl TextMeaning for Echo {
     ghost use Rattle.std.specs.Prelude.{◌≡◌};
-    ghost use Rattle.std.proofs.Common.{◌∙◌, sym};
     ghost use Rattle.command_shell.specs.Answers.{Prints};
 
     ghost means = { λ command bytes answer. answer ≡ Prints command.0 bytes };
+}
+
+impl OneAnswer for Echo {
+    ghost use Rattle.std.proofs.Common.{◌∙◌, sym};
 
     ghost answers_once = { λ command bytes first second is also. is ∙ sym also };
 }
@@ -33,11 +36,14 @@ impl TextCommand for Echo {
 struct Halt(Cause);
 
 impl TextMeaning for Halt {
-    ghost use Rattle.std.specs.Prelude.{◌≡◌, [], ◌∷◌, codes};
-    ghost use Rattle.std.proofs.Common.{◌∙◌, sym};
+    ghost use Rattle.std.specs.Prelude.{◌≡◌, codes};
     ghost use Rattle.command_shell.specs.Answers.{Stops};
 
     ghost means = { λ command bytes answer. answer ≡ Stops command.0 (codes "stopped\n") };
+}
+
+impl OneAnswer for Halt {
+    ghost use Rattle.std.proofs.Common.{◌∙◌, sym};
 
     ghost answers_once = { λ command bytes first second is also. is ∙ sym also };
 }

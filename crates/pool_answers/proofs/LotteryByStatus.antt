@@ -133,14 +133,14 @@ module _ (limits : Limits) (told : Told) where
 
   pub by_status : CallIsRight Means told → LotteryIsRight limits told
   by_status right = record {
-    done = λ s. bundle_is_told (right.done s);
-    no_panel = λ s. none_is_told (right.no_panel s);
-    text = λ s. ⊎_elim (λ t. inl (fault_is_told (LotteryMeans limits) (λ pool line means. of_run limits pool (Stops cause.Input line) means) told t)) (λ t. inr t) (right.input s);
-    wide = λ s. refusal_is_told cause.Wide (λ line other e. absurd (cc)) s (right.wide s);
-    spent = λ s. refusal_is_told cause.Spent (λ line other e. absurd (cc)) s (right.spent s);
-    read_fault = right.read_fault;
-    write_fault = λ s. part_is_told (right.write_fault s);
-    want_of_memory = right.want_of_memory;
-    no_other = λ n0 n1 n3 n4 n5 n7 n8. right.no_other n0 n1 n3 n4 n5 (λ s. never_rule (right.rule s)) n7 n8 (λ s. never_refused (right.refused s));
+    done = λ s. bundle_is_told (right.by_status.done s);
+    no_panel = λ s. none_is_told (right.by_status.no_panel s);
+    text = λ s. ⊎_elim (λ t. inl (fault_is_told (LotteryMeans limits) (λ pool line means. of_run limits pool (Stops cause.Input line) means) told t)) (λ t. inr t) (right.by_status.input s);
+    wide = λ s. refusal_is_told cause.Wide (λ line other e. absurd (cc)) s (right.by_status.wide s);
+    spent = λ s. refusal_is_told cause.Spent (λ line other e. absurd (cc)) s (right.by_status.spent s);
+    read_fault = right.by_status.read_fault;
+    write_fault = λ s. part_is_told (right.by_status.write_fault s);
+    want_of_memory = right.by_status.want_of_memory;
+    no_other = λ n0 n1 n3 n4 n5 n7 n8. right.by_status.no_other n0 n1 n3 n4 n5 (λ s. never_rule (right.by_status.rule s)) n7 n8 (λ s. never_refused (right.by_status.refused s));
     complete = λ clear n8 n12. due_of_input (LotteryMeans limits) (RunIsDue limits) told.status (λ s. s) (λ bytes answer. run_of_text bytes answer told.status) told.source.before (right.complete clear n8 n12);
   }

@@ -115,15 +115,15 @@ module _ (nodes : ℕ) (told : Told) where
 
   pub by_status : CallIsRight Means told → PanelIsRight nodes told
   by_status right = record {
-    done = λ s. panel_is_told (right.done s);
-    no_panel = λ s. none_is_told (right.no_panel s);
-    text = λ s. ⊎_elim (λ t. inl (fault_is_told (PanelMeans nodes) never_input told t)) (λ t. inr t) (right.input s);
-    spent = λ s. spent_is_told (right.spent s);
-    read_fault = right.read_fault;
-    write_fault = λ s. part_is_told (right.write_fault s);
-    want_of_memory = right.want_of_memory;
-    no_other = λ n0 n1 n3 n5 n7 n8. right.no_other n0 n1 n3
-        (λ s. never_stops cause.Wide (λ line other e. absurd (cc)) (λ e. absurd (cc)) (λ e. absurd (cc)) (λ e. absurd (cc)) (right.wide s)) n5
-        (λ s. never_stops cause.Rule (λ line other e. absurd (cc)) (λ e. absurd (cc)) (λ e. absurd (cc)) (λ e. absurd (cc)) (right.rule s)) n7 n8 (λ s. never_refused (right.refused s));
+    done = λ s. panel_is_told (right.by_status.done s);
+    no_panel = λ s. none_is_told (right.by_status.no_panel s);
+    text = λ s. ⊎_elim (λ t. inl (fault_is_told (PanelMeans nodes) never_input told t)) (λ t. inr t) (right.by_status.input s);
+    spent = λ s. spent_is_told (right.by_status.spent s);
+    read_fault = right.by_status.read_fault;
+    write_fault = λ s. part_is_told (right.by_status.write_fault s);
+    want_of_memory = right.by_status.want_of_memory;
+    no_other = λ n0 n1 n3 n5 n7 n8. right.by_status.no_other n0 n1 n3
+        (λ s. never_stops cause.Wide (λ line other e. absurd (cc)) (λ e. absurd (cc)) (λ e. absurd (cc)) (λ e. absurd (cc)) (right.by_status.wide s)) n5
+        (λ s. never_stops cause.Rule (λ line other e. absurd (cc)) (λ e. absurd (cc)) (λ e. absurd (cc)) (λ e. absurd (cc)) (right.by_status.rule s)) n7 n8 (λ s. never_refused (right.by_status.refused s));
     complete = λ clear n8 n12. due_of_input (PanelMeans nodes) (λ input status. status ≡ status_due nodes input) told.status (λ s. s) (text_is_due nodes told.status) told.source.before (right.complete clear n8 n12);
   }

@@ -15,6 +15,7 @@ use bundle_text::write_bundle;
 use command_shell::{Answer, Cause, Printed, Status, call_answered_by, no_panel};
 use leximin_run::{Limits, Solved, Stop, solve};
 use outside::{Sink, Source, Watch};
+use pool_answers::lottery_answers_once;
 use pool_model::Pool;
 use run_laws::no_panel_where_none;
 use run_limits::Workers;
@@ -55,6 +56,7 @@ pub fn call_lottery<R: Threads + Sync, W: Watch + Sync, S: Source, O: Sink, E: S
         (object (O.written out.old) (O.written out.new) (O.faults out.old) (O.faults out.new))
         (object (E.written errs.old) (E.written errs.new) (E.faults errs.old) (E.faults errs.new))) }
 {
+    lottery_answers_once();
     call_answered_by(
         alloc,
         &OfPool(PoolLottery { limits }),

@@ -8,7 +8,9 @@ ghost use Rattle.command_shell.specs.Told.{Bytes, IsUntouched, object, told};
 ghost use Rattle.pool_answers.specs.Make.{MakeMeans};
 
 use crate::lottery::stopped;
-use command_shell::{Answer, Printed, Status, TextMeaning, call_without_input, no_panel};
+use command_shell::{
+    Answer, OneAnswer, Printed, Status, TextMeaning, call_without_input, no_panel,
+};
 use leximin_run::{Limits, SolvedSized, solve_sized};
 use office_reports::{made_pool, run_summary};
 use outside::{Sink, Watch};
@@ -31,9 +33,12 @@ pub struct MadeRun {
 
 impl TextMeaning for MadeRun {
     ghost use Rattle.pool_answers.specs.Make.{MakeMeans};
-    ghost use Rattle.pool_answers.proofs.MakeLaws.{make_once};
 
     ghost means = { λ command. MakeMeans command.seed command.volunteers command.limits };
+}
+
+impl OneAnswer for MadeRun {
+    ghost use Rattle.pool_answers.proofs.MakeLaws.{make_once};
 
     ghost answers_once = { λ command. make_once command.seed command.volunteers command.limits };
 }

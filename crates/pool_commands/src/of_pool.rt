@@ -9,7 +9,7 @@ ghost use Rattle.command_shell.specs.declared.status.Cause.TheVariants.{Input};
 ghost use Rattle.command_shell.specs.Lines.{input_line as words_of_input_line};
 ghost use Rattle.command_shell.specs.Answers.{AnswersOnce, Saying, Stops, saying};
 
-use command_shell::{Answer, Cause, TextCommand, TextMeaning, input_line};
+use command_shell::{Answer, Cause, OneAnswer, TextCommand, TextMeaning, input_line};
 use pool_model::Pool;
 use pool_text::{PoolFault, ReadPool, read_pool};
 use std::alloc::{AllocError, Global};
@@ -36,9 +36,12 @@ pub struct OfPool<C>(pub C);
 
 impl<C: PoolMeaning> TextMeaning for OfPool<C> {
     ghost use Rattle.pool_answers.specs.OfPool.{OfPool as about};
-    ghost use Rattle.pool_answers.proofs.OfPoolLaws.{of_pool_once};
 
     ghost means = { λ command. about (C.means command.0) };
+}
+
+impl<C: PoolMeaning> OneAnswer for OfPool<C> {
+    ghost use Rattle.pool_answers.proofs.OfPoolLaws.{of_pool_once};
 
     ghost answers_once = { λ command. of_pool_once (C.means command.0) (C.answers_once command.0) };
 }

@@ -4,7 +4,7 @@ ghost use Rattle.std.specs.Prelude.{IfOk};
 ghost use Rattle.addition_definitions.specs.ProofVerdict.{Proof as ProofWords};
 ghost use Rattle.command_shell.specs.Answers.{AnswersOnce, Saying, saying};
 
-use command_shell::{Answer, Cause, TextCommand, TextMeaning, input_line};
+use command_shell::{Answer, Cause, OneAnswer, TextCommand, TextMeaning, input_line};
 use proof_model::Proof;
 use proof_text::{ReadProof, read_proof};
 use std::alloc::{AllocError, Global};
@@ -31,9 +31,12 @@ pub struct OfProof<C>(pub C);
 
 impl<C: ProofMeaning> TextMeaning for OfProof<C> {
     ghost use Rattle.proof_answers.specs.OfProof.{OfProof as about};
-    ghost use Rattle.proof_answers.proofs.ProofLaws.{of_proof_once};
 
     ghost means = { λ command. about (C.means command.0) };
+}
+
+impl<C: ProofMeaning> OneAnswer for OfProof<C> {
+    ghost use Rattle.proof_answers.proofs.ProofLaws.{of_proof_once};
 
     ghost answers_once = { λ command. of_proof_once (C.means command.0) (C.answers_once command.0) };
 }

@@ -15,8 +15,8 @@ returns-in-Ok g c = λ source untouched.
       nothing = nothing;
       empty = refl;
       no_fault = refl;
-      call = answer_is_right (g.C.TextMeaning.means c.args.command.now) nothing _ _ _ (g.C.TextMeaning.answers_once c.args.command.now)
-          [] (refl, refl) (search rules) refl _ means c.tell.ensures;
+      call = answer_is_right (g.C.TextMeaning.means c.args.command.now) nothing _ _ _ (g.met.C.OneAnswer.answers_once c.args.command.now)
+          [] _ (record { held = (refl, refl); within = search rules; no_fault = refl; means = means; told = c.tell.ensures });
     }
 
 pub returns-in-Err : goal.returns-in-Err
