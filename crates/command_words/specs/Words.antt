@@ -32,6 +32,8 @@ pub data Order : Type 0 where
   Draw : Text → Text → Order
   -- the verdict on the certificate of a bundle, by searches of at most so many visits at each stage
   Check : ℕ → Order
+  -- the lottery of a pool or of a bundle with its proof, by a run of at most so many pivots and nodes
+  Prove : ℕ → ℕ → Order
   -- the verdict on a proof
   Verify : Order
   -- the bundle of a proof
@@ -44,6 +46,7 @@ order (asked_for.Make made limits workers) = Make made limits workers
 order asked_for.Seal = Seal
 order (asked_for.Draw seal digits) = Draw seal.now digits.now
 order (asked_for.Check nodes) = Check nodes
+order (asked_for.Prove pivots nodes) = Prove pivots nodes
 order asked_for.Verify = Verify
 order asked_for.Bundle = Bundle
 
@@ -112,6 +115,15 @@ draw_app = with_rule (with_rule (new_app (codes "draw")) seal_rule) digits_rule
 abbrev pub check_app : App
 check_app = with_rule (new_app (codes "check")) nodes_rule
 
+abbrev pub run_pivots_rule : Rule
+run_pivots_rule = number_rule (codes "pivots") 0 MOST_PIVOTS (codes "1000000")
+
+abbrev pub run_nodes_rule : Rule
+run_nodes_rule = number_rule (codes "nodes") 0 MOST_NODES (codes "200000")
+
+abbrev pub prove_app : App
+prove_app = with_rule (with_rule (new_app (codes "prove")) run_pivots_rule) run_nodes_rule
+
 abbrev pub verify_app : App
 verify_app = new_app (codes "verify")
 
@@ -132,7 +144,7 @@ program_of_bundles = with_subcommand (with_subcommand (with_subcommand program_o
 
 -- and with those about a proof
 abbrev pub program_app : App
-program_app = with_subcommand (with_subcommand program_of_bundles verify_app.top) bundle_app.top
+program_app = with_subcommand (with_subcommand (with_subcommand program_of_bundles prove_app.top) verify_app.top) bundle_app.top
 
 -- some digits of a number below 2 ^ 64
 abbrev pub is_number : Text → Bool
@@ -193,6 +205,10 @@ draw_asked rows = option_and_then (λ seal. option_map (Draw seal) (first_of (co
 abbrev pub check_asked : List Row → Option Order
 check_asked rows = option_map Check (number_within (codes "nodes") 0 MOST_NODES rows)
 
+abbrev pub prove_asked : List Row → Option Order
+prove_asked rows =
+    option_and_then (λ pivots. option_map (Prove pivots) (number_within (codes "nodes") 0 MOST_NODES rows)) (number_within (codes "pivots") 0 MOST_PIVOTS rows)
+
 -- the command of a subcommand's name, with its values
 abbrev pub asked_named : Text → List Row → Option Order
 asked_named name rows =
@@ -202,6 +218,7 @@ asked_named name rows =
     else if bytes_eq name (codes "seal") then Some Seal
     else if bytes_eq name (codes "draw") then draw_asked rows
     else if bytes_eq name (codes "check") then check_asked rows
+    else if bytes_eq name (codes "prove") then prove_asked rows
     else if bytes_eq name (codes "verify") then Some Verify
     else if bytes_eq name (codes "bundle") then Some Bundle
     else None

@@ -102,6 +102,13 @@ pub enum Asked<'a> {
         /// From 0 to 1,000,000,000,000.
         nodes: u64,
     },
+    /// The lottery of a pool or of a bundle with its proof, by a run under a budget.
+    Prove {
+        /// The most pivots of the whole run, from 0 to 1,000,000,000.
+        pivots: u64,
+        /// The most nodes of the whole run, from 0 to 1,000,000,000,000.
+        nodes: u64,
+    },
     /// The verdict on a proof.
     Verify,
     /// The bundle of a proof.

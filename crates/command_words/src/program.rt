@@ -19,6 +19,9 @@ ghost use Rattle.command_words.specs.Words.{
   program_app,
   program_of_bundles as words_of_program_of_bundles,
   program_of_pools as words_of_program_of_pools,
+  prove_app,
+  run_nodes_rule,
+  run_pivots_rule,
   seal_app,
   seal_rule,
   seed_rule,
@@ -37,6 +40,7 @@ pub(crate) fn program<'a>(alloc: Global) -> Result<Command<'a>, AllocError>
     ensures { IfOk result (λ program. app_of program ≡ program_app) }
 {
     program_of_bundles(alloc)?
+        .subcommand(prove(alloc)?)?
         .subcommand(verify(alloc))?
         .subcommand(bundle(alloc))
 }
@@ -135,6 +139,15 @@ fn check<'a>(alloc: Global) -> Result<Command<'a>, AllocError>
         .arg(nodes_option(alloc))
 }
 
+fn prove<'a>(alloc: Global) -> Result<Command<'a>, AllocError>
+    ensures { IfOk result (λ prove. (app_of prove ≡ prove_app) × ((out-Command prove).has_globals ≡ false)) }
+{
+    Command::new(alloc, "prove")
+        .about("Prints the lottery of the pool or of the bundle on standard input, with a proof")
+        .arg(run_pivots_option(alloc))?
+        .arg(run_nodes_option(alloc))
+}
+
 fn verify<'a>(alloc: Global) -> Command<'a>
     ensures app { app_of result ≡ verify_app }
     ensures local { (out-Command result).has_globals ≡ false }
@@ -222,6 +235,28 @@ fn nodes_option<'a>(alloc: Global) -> Arg<'a>
         .help("The most visits that a search may make")
         .value_parser(value_parser!(u64).range(0..=MOST_NODES as i64))
         .default_value("50000000")
+}
+
+fn run_pivots_option<'a>(alloc: Global) -> Arg<'a>
+    ensures rule { rule_of result ≡ run_pivots_rule }
+    ensures local { result.global ≡ false }
+{
+    Arg::new(alloc, "pivots")
+        .long("pivots")
+        .help("The most pivots that the run may make")
+        .value_parser(value_parser!(u64).range(0..=MOST_PIVOTS as i64))
+        .default_value("1000000")
+}
+
+fn run_nodes_option<'a>(alloc: Global) -> Arg<'a>
+    ensures rule { rule_of result ≡ run_nodes_rule }
+    ensures local { result.global ≡ false }
+{
+    Arg::new(alloc, "nodes")
+        .long("nodes")
+        .help("The most nodes that the run's searches may look at together")
+        .value_parser(value_parser!(u64).range(0..=MOST_NODES as i64))
+        .default_value("200000")
 }
 
 fn workers_option<'a>(alloc: Global) -> Arg<'a>

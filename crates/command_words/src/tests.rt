@@ -65,6 +65,11 @@ const WORDS: &[(&[&str], &str)] = &[
     ),
     (&["check"], "Check { nodes: 50000000 }"),
     (&["check", "--nodes", "7"], "Check { nodes: 7 }"),
+    (&["prove"], "Prove { pivots: 1000000, nodes: 200000 }"),
+    (
+        &["prove", "--nodes", "1000000000000", "--pivots=0"],
+        "Prove { pivots: 0, nodes: 1000000000000 }",
+    ),
     (&["verify"], "Verify"),
     (&["bundle"], "Bundle"),
     (&[], USAGE),
@@ -111,6 +116,8 @@ const WORDS: &[(&[&str], &str)] = &[
         &["make", "--seed", "9223372036854775808", "--volunteers", "1"],
         USAGE,
     ),
+    (&["prove", "--pivots", "1000000001"], USAGE),
+    (&["prove", "--workers", "1"], USAGE),
     (&["verify", "--nodes", "1"], USAGE),
     (&["bundle", "x"], USAGE),
 ];
@@ -119,7 +126,7 @@ const WORDS: &[(&[&str], &str)] = &[
 const TEXTS: &[(&[&str], &str)] = &[
     (
         &[],
-        "error: 'sortition' requires a subcommand but one was not provided\n  [subcommands: panel, lottery, make, seal, draw, check, verify, bundle, help]\n\nUsage: sortition <COMMAND>\n\nFor more information, try '--help'.\n",
+        "error: 'sortition' requires a subcommand but one was not provided\n  [subcommands: panel, lottery, make, seal, draw, check, prove, verify, bundle, help]\n\nUsage: sortition <COMMAND>\n\nFor more information, try '--help'.\n",
     ),
     (
         &["panel", "--nodes", "x"],

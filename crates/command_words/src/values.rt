@@ -14,6 +14,7 @@ ghost use Rattle.command_words.specs.Words.{
   number_within as number_said_within,
   order,
   panel_asked,
+  prove_asked,
   workers_asked,
 };
 
@@ -34,6 +35,7 @@ pub(crate) fn asked_by<'a>(matches: &ArgMatches<'a>) -> Option<Asked<'a>>
         Some(("seal", _)) => Some(Asked::Seal),
         Some(("draw", own)) => draw_of(own),
         Some(("check", own)) => check_of(own),
+        Some(("prove", own)) => prove_of(own),
         Some(("verify", _)) => Some(Asked::Verify),
         Some(("bundle", _)) => Some(Asked::Bundle),
         _ => None,
@@ -81,6 +83,14 @@ fn check_of<'a>(matches: &ArgMatches<'a>) -> Option<Asked<'a>>
 {
     let nodes = number_within(matches, "nodes", 0, MOST_NODES)?;
     Some(Asked::Check { nodes })
+}
+
+fn prove_of<'a>(matches: &ArgMatches<'a>) -> Option<Asked<'a>>
+    ensures { option_map order result ≡ prove_asked (rows_of (found_of matches.now)) }
+{
+    let pivots = number_within(matches, "pivots", 0, MOST_PIVOTS)?;
+    let nodes = number_within(matches, "nodes", 0, MOST_NODES)?;
+    Some(Asked::Prove { pivots, nodes })
 }
 
 /// The text that an option has.
