@@ -1,0 +1,41 @@
+-- What a search for a point of whole numbers finds, what it spends, and why it stops.
+use Rattle.std.specs.Prelude.{◌≡◌, ℕ, ◌+◌, ◌<◌, ◌≤◌, ◌^◌, List, length, slice_index_or, ℤ, ◌≤ℤ◌}
+use Rattle.box_table.specs.Sizes.{Sizes}
+use Rattle.proof_limits.specs.Budgets.{Left}
+use Rattle.proof_limits.specs.Spans.{Ends}
+use Rattle.proof_limits.specs.declared.stops.Limit.TheVariants.{Pivots, Nodes, Lottery}
+use Rattle.proof_limits.specs.declared.stops.Stop.{Stop}
+use Rattle.proof_limits.specs.declared.stops.Stop.TheVariants.{Wide, Limited, Spent, Lost, OutOfMemory}
+use Rattle.branch_search.specs.declared.searching.Found.{Found}
+use Rattle.branch_search.specs.declared.searching.Found.TheVariants.{Point, Nothing, Doubt}
+
+-- the numbers of so many columns lie in their spans
+abbrev pub LieWithin : List Ends → List ℤ → ℕ → Type 0
+LieWithin spans point many = (k : ℕ) (d : Ends) (e : ℤ) → k < many →
+    ((slice_index_or spans k d).least ≤ℤ slice_index_or point k e) × (slice_index_or point k e ≤ℤ (slice_index_or spans k d).greatest)
+
+-- a number for each span, which lies in it
+pub record IsWithin (spans : List Ends) (point : List ℤ) : Type 0 where
+  pub one_each : length point ≡ length spans
+  pub inside : LieWithin spans point (length spans)
+
+-- a point lies in the spans; in doubt is only who looked at the most nodes, and then had one more to look at
+abbrev pub IsFound : List Ends → ℕ → Left → Left → Found → Type 0
+IsFound spans most old new (Point point) = IsWithin spans point.items
+IsFound spans most old new Nothing = Unit {0}
+IsFound spans most old new Doubt = old.nodes ≡ new.nodes + (most + 1)
+
+-- pivots and nodes are spent
+pub record SearchSpends (old new : Left) : Type 0 where
+  pub pivots : new.pivots ≤ old.pivots
+  pub nodes : new.nodes ≤ old.nodes
+
+-- a stop of a search: as of a run of the table; or no node is left; or the table was wrong
+abbrev pub SearchStops : Sizes → Left → Stop → Type 0
+SearchStops table left (Wide pass) = Unit {0}
+SearchStops table left Limited = table.limit < 2 ^ 62
+SearchStops table left (Spent Pivots) = left.pivots ≡ 0
+SearchStops table left (Spent Nodes) = left.nodes ≡ 0
+SearchStops table left (Spent Lottery) = ⊥
+SearchStops table left Lost = Unit {0}
+SearchStops table left OutOfMemory = Unit {0}

@@ -1,0 +1,84 @@
+//! Finding compositions that weigh enough.
+
+use box_table::Table;
+use branch_search::{Found, search};
+use proof_limits::{Budget, Narrow, Span, Stop, narrow_add, times, wide_add};
+use quota_program::Program;
+use relaxed_stages::{row_spans, table_of};
+use std::alloc::Global;
+
+/// Finds compositions that meet the quotas and attain the caps of the stages that were closed.
+#[derive(Drop)]
+pub(crate) struct Finder<'a> {
+    alloc: Global,
+    program: &'a Program,
+    table: Table,
+    rows: Vec<Span>,
+}
+
+impl<'a> Finder<'a> {
+    pub(crate) fn new(alloc: Global, program: &'a Program) -> Result<Finder<'a>, Stop> {
+        let mut table = table_of(alloc, program)?;
+        table.aim(&[], 1)?;
+        let rows = row_spans(alloc, program, Narrow::ONE)?;
+        Ok(Finder {
+            alloc,
+            program,
+            table,
+            rows,
+        })
+    }
+
+    /// A composition, if there is one.
+    pub(crate) fn any(&mut self, budget: &mut Budget) -> Result<Option<Vec<Narrow>>, Stop> {
+        let spans = self.program.spans();
+        let found = search(self.alloc, &mut self.table, spans, &self.rows, u64::MAX, budget)?;
+        point_of(found)
+    }
+
+    /// A composition that weighs at least so much, if there is one.
+    pub(crate) fn beating(
+        &mut self,
+        weights: &[Narrow],
+        need: Narrow,
+        budget: &mut Budget,
+    ) -> Result<Option<Vec<Narrow>>, Stop> {
+        let reach = reach(self.program, weights)?;
+        let mut rows = Vec::from_slice(self.alloc, &self.rows)?;
+        rows.push(Span::reaching(need, reach))?;
+        let mut goal = Vec::new(self.alloc);
+        for weight in weights {
+            goal.push(weight.get())?;
+        }
+        self.table.add_row(weights)?;
+        self.table.aim(&goal, 1)?;
+        let spans = self.program.spans();
+        let found = search(self.alloc, &mut self.table, spans, &rows, u64::MAX, budget)?;
+        self.table.drop_last_row(budget)?;
+        point_of(found)
+    }
+
+    /// Closes a stage: from now on compositions weigh its cap.
+    pub(crate) fn close(&mut self, weights: &[Narrow], cap: Narrow) -> Result<(), Stop> {
+        self.table.add_row(weights)?;
+        self.rows.push(Span::point(cap))?;
+        Ok(())
+    }
+}
+
+fn point_of(found: Found) -> Result<Option<Vec<Narrow>>, Stop> {
+    match found {
+        Found::Point(point) => Ok(Some(point)),
+        Found::Nothing => Ok(None),
+        Found::Doubt => Err(Stop::Lost),
+    }
+}
+
+/// The most that a point of the columns' spans may weigh, without signs.
+fn reach(program: &Program, weights: &[Narrow]) -> Result<Narrow, Stop> {
+    let mut reach = 0;
+    for (weight, span) in weights.iter().zip(program.spans()) {
+        reach = wide_add(reach, times(weight.abs(), span.greatest()))?;
+    }
+    narrow_add(reach, 0)
+}

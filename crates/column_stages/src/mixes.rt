@@ -1,0 +1,113 @@
+//! The program of the compositions that were found.
+
+use box_table::Table;
+use proof_limits::{Budget, Narrow, Span, Stop, narrow_add, times, wide_add};
+use std::alloc::Global;
+
+const MULTIPLIER: u64 = 6_364_136_223_846_793_005;
+
+const INCREMENT: u64 = 1_442_695_040_888_963_407;
+
+/// A composition, and whether it weighs less than the cap of a stage that was closed.
+#[derive(Debug, Drop)]
+struct Known {
+    counts: Vec<Narrow>,
+    is_lighter: bool,
+}
+
+/// The compositions that were found, and their program: a row for each column of the quotas, and one for the total.
+#[derive(Drop)]
+pub(crate) struct Mix {
+    alloc: Global,
+    table: Table,
+    known: Vec<Known>,
+    dice: u64,
+}
+
+impl Mix {
+    /// No composition of so many columns.
+    pub(crate) fn new(alloc: Global, columns: usize) -> Result<Mix, Stop> {
+        let mut table = Table::new(alloc, 0)?;
+        for _ in 0..columns {
+            table.add_row(&[])?;
+        }
+        table.add_row(&[])?;
+        Ok(Mix {
+            alloc,
+            table,
+            known: Vec::new(alloc),
+            dice: 1,
+        })
+    }
+
+    pub(crate) fn knows(&self, counts: &[Narrow]) -> bool {
+        self.known.iter().any(|known| known.counts.as_slice() == counts)
+    }
+
+    /// Adds a composition.
+    pub(crate) fn join(&mut self, counts: Vec<Narrow>) -> Result<(), Stop> {
+        let mut column = Vec::from_slice(self.alloc, &counts)?;
+        column.push(Narrow::ONE)?;
+        self.dice = self.dice.wrapping_mul(MULTIPLIER).wrapping_add(INCREMENT);
+        let face = (self.dice >> 33) % 64;
+        self.table.add_column(&column, -(face as i64 + 1))?;
+        self.known.push(Known {
+            counts,
+            is_lighter: false,
+        })?;
+        Ok(())
+    }
+
+    /// Whether compositions that attain the closed caps mix to sums within these spans, which sum up to a total.
+    pub(crate) fn has_point(
+        &mut self,
+        boxes: &[Span],
+        total: Narrow,
+        budget: &mut Budget,
+    ) -> Result<bool, Stop> {
+        let mut columns = Vec::new(self.alloc);
+        for known in &self.known {
+            let most = if known.is_lighter { Narrow::ZERO } else { total };
+            columns.push(Span::reaching(Narrow::ZERO, most))?;
+        }
+        let mut rows = Vec::from_slice(self.alloc, boxes)?;
+        rows.push(Span::point(total))?;
+        self.table.run(&columns, &rows, budget)
+    }
+
+    /// The multipliers of the rows by which there is no such point.
+    pub(crate) fn multipliers(&self) -> Result<Vec<Narrow>, Stop> {
+        self.table.refutation(self.alloc)
+    }
+
+    /// The most that a composition weighs that attains the closed caps.
+    pub(crate) fn most(&self, weights: &[Narrow]) -> Result<Narrow, Stop> {
+        let mut most = None;
+        for known in &self.known {
+            if !known.is_lighter {
+                let weight = weight_of(weights, &known.counts)?;
+                most = Some(most.map_or(weight, |most: Narrow| most.max(weight)));
+            }
+        }
+        most.ok_or(Stop::Lost)
+    }
+
+    /// Marks the compositions that weigh less than a cap.
+    pub(crate) fn close(&mut self, weights: &[Narrow], cap: Narrow) -> Result<(), Stop> {
+        for known in self.known.iter_mut() {
+            if weight_of(weights, &known.counts)? < cap {
+                known.is_lighter = true;
+            }
+        }
+        Ok(())
+    }
+}
+
+/// What a composition weighs.
+pub(crate) fn weight_of(weights: &[Narrow], counts: &[Narrow]) -> Result<Narrow, Stop> {
+    let mut sum = 0;
+    for (weight, count) in weights.iter().zip(counts) {
+        sum = wide_add(sum, times(*weight, *count))?;
+    }
+    narrow_add(sum, 0)
+}

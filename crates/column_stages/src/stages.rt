@@ -1,0 +1,169 @@
+//! Stage after stage, over compositions.
+
+use crate::finders::Finder;
+use crate::mixes::{Mix, weight_of};
+use frac128::gcd;
+use proof_limits::{Budget, Narrow, Stop, narrow_add, narrow_div, wide_add, wide_mul};
+use quota_program::Program;
+use relaxed_stages::{Chances, KindStage, Level, Share, level_of, settle};
+use std::alloc::Global;
+
+/// What the compositions say of a pool.
+#[derive(Debug, Drop)]
+pub enum Columned {
+    /// There is no composition, so there is no quota panel.
+    Empty,
+    /// The stages, and each column's chance.
+    Settled(Vec<KindStage>, Chances),
+}
+
+/// The stages of a pool over its compositions.
+pub fn column_stages(
+    alloc: Global,
+    program: &Program,
+    budget: &mut Budget,
+) -> Result<Columned, Stop> {
+    let mut finder = Finder::new(alloc, program)?;
+    let Some(first) = finder.any(budget)? else {
+        return Ok(Columned::Empty);
+    };
+    let mut mix = Mix::new(alloc, program.columns())?;
+    mix.join(first)?;
+    let mut chances = Chances::unsettled(alloc, program.columns())?;
+    let mut stages = Vec::new(alloc);
+    // each stage settles some column
+    for _ in 0..=program.columns() {
+        if chances.are_settled() {
+            return Ok(Columned::Settled(stages, chances));
+        }
+        let (stage, share) = stage(alloc, program, &chances, &mut mix, &mut finder, budget)?;
+        settle(&mut chances, &stage.weights, share)?;
+        mix.close(&stage.weights, stage.cap)?;
+        finder.close(&stage.weights, stage.cap)?;
+        stages.push(stage)?;
+    }
+    Err(Stop::Lost)
+}
+
+/// The next stage, and the chance of those whom it settles.
+fn stage(
+    alloc: Global,
+    program: &Program,
+    chances: &Chances,
+    mix: &mut Mix,
+    finder: &mut Finder<'_>,
+    budget: &mut Budget,
+) -> Result<(KindStage, Share), Stop> {
+    let mut share = Share::ONE;
+    let mut last = None;
+    loop {
+        let total = chances.common_with(share)?;
+        let boxes = chances.boxes(alloc, program, share, total, true)?;
+        if mix.has_point(&boxes, total, budget)? {
+            break;
+        }
+        let weights = weights_of(alloc, program, chances, &mix.multipliers()?)?;
+        let own = level_of(program, chances, &weights)?;
+        let need = need(own, share, chances.common())?;
+        if let Some(counts) = finder.beating(&weights, need, budget)? {
+            if mix.knows(&counts) {
+                return Err(Stop::Lost);
+            }
+            mix.join(counts)?;
+            continue;
+        }
+        let cap = raised_cap(mix, finder, &weights, budget)?;
+        let lower = own.share(cap, chances.common())?;
+        if !lower.is_below(share) {
+            return Err(Stop::Lost);
+        }
+        share = lower;
+        last = Some((weights, cap));
+    }
+    let (weights, cap) = match last {
+        Some(found) => found,
+        None => everybody_left(alloc, program, chances)?,
+    };
+    let stage = KindStage {
+        weights,
+        cap,
+        leaf: None,
+    };
+    Ok((stage, share))
+}
+
+/// The most that any composition weighs.
+fn raised_cap(
+    mix: &mut Mix,
+    finder: &mut Finder<'_>,
+    weights: &[Narrow],
+    budget: &mut Budget,
+) -> Result<Narrow, Stop> {
+    let mut cap = mix.most(weights)?;
+    loop {
+        let need = narrow_add(cap.wide(), 1)?;
+        let Some(counts) = finder.beating(weights, need, budget)? else {
+            return Ok(cap);
+        };
+        cap = weight_of(weights, &counts)?;
+        if !mix.knows(&counts) {
+            mix.join(counts)?;
+        }
+    }
+}
+
+/// The weights that multipliers give, in lowest terms: of an unsettled column none below 0, and none where somebody is seated.
+fn weights_of(
+    alloc: Global,
+    program: &Program,
+    chances: &Chances,
+    multipliers: &[Narrow],
+) -> Result<Vec<Narrow>, Stop> {
+    let mut weights = vec![in alloc; Narrow::ZERO; program.columns()]?;
+    let mut divisor = 0;
+    for (column, (weight, span)) in weights.iter_mut().zip(program.spans()).enumerate() {
+        let own = multipliers.get(column).copied().unwrap_or(Narrow::ZERO);
+        let is_kept = span.least().is_zero() && own.get() < 0;
+        if chances.share(column).is_some() || is_kept {
+            *weight = -own;
+        }
+        divisor = gcd(divisor, weight.abs().wide());
+    }
+    for weight in weights.iter_mut() {
+        *weight = narrow_div(weight.wide(), divisor.max(1))?;
+    }
+    Ok(weights)
+}
+
+/// What a composition weighs at least that passes the level of a share.
+fn need(own: Level, share: Share, common: Narrow) -> Result<Narrow, Stop> {
+    let settled = wide_mul(own.settled, share.den().wide())?;
+    let unsettled = wide_mul(
+        wide_mul(share.num().wide(), own.unsettled.wide())?,
+        common.wide(),
+    )?;
+    let sum = wide_add(settled, unsettled)?;
+    let divisor = wide_mul(common.wide(), share.den().wide())?;
+    let Some(quotient) = sum.checked_div_euclid(divisor) else {
+        return Err(Stop::Lost);
+    };
+    let is_whole = sum.checked_rem_euclid(divisor) == Some(0);
+    narrow_add(quotient, if is_whole { 0 } else { 1 })
+}
+
+/// A weight of 1 for each unsettled column, and as a cap the most that they may have together.
+fn everybody_left(
+    alloc: Global,
+    program: &Program,
+    chances: &Chances,
+) -> Result<(Vec<Narrow>, Narrow), Stop> {
+    let mut weights = vec![in alloc; Narrow::ZERO; program.columns()]?;
+    let mut cap = Narrow::ZERO;
+    for (column, (weight, span)) in weights.iter_mut().zip(program.spans()).enumerate() {
+        if chances.share(column).is_none() {
+            *weight = Narrow::ONE;
+            cap = narrow_add(cap.wide(), span.greatest().wide())?;
+        }
+    }
+    Ok((weights, cap))
+}

@@ -1,0 +1,287 @@
+//! The lottery of a point: peeling in turns, and tails where peeling is stuck.
+
+ghost use Rattle.std.specs.Prelude.{◌≡◌, length, IfOk, OnOk};
+ghost use Rattle.panel_peeling.specs.Shapes.{HasTable, IsRun};
+
+use crate::peels::{Turn, peel};
+use crate::rests::Rest;
+use crate::rows::PanelRows;
+use crate::seen::Seen;
+use crate::tails::{Tail, tail_of};
+use box_table::Table;
+use proof_limits::{Budget, Narrow, Stop, wide_mul};
+use quota_program::Program;
+use relaxed_stages::Chances;
+use std::alloc::Global;
+
+/// How many tries a round has, in which each panel may be put back, beside the one before.
+const SHARES: [u64; 4] = [1, 1, 4, 8];
+
+const TRIES: u64 = 12;
+
+/// How far dice may shift a wish in a further turn.
+const WILDNESS: u32 = 40;
+
+/// Up to which whole a rest may be doubled: 2^56.
+const MOST_DOUBLED: i64 = 72_057_594_037_927_936;
+
+/// The width of a tail before the last one, in bits.
+const TAIL_BITS: u32 = 46;
+
+/// A panel with its weight: the numbers of its members, rising.
+#[derive(Debug, Drop)]
+pub struct Part {
+    /// How often the panel stands in the lottery.
+    pub weight: i128,
+    /// The numbers of its members, rising.
+    pub members: Vec<usize>,
+}
+
+/// What is found for a point.
+#[derive(Debug, Drop)]
+pub enum Lottery {
+    /// Panels with weights, each perhaps more than once.
+    Found(Vec<Part>),
+    /// The point is no mix of panels.
+    Outside,
+    /// The tries ended without an answer.
+    Doubt,
+}
+
+/// The run that makes the lottery of a point.
+#[derive(Drop)]
+struct Run<'a> {
+    alloc: Global,
+    program: &'a Program,
+    rows: &'a PanelRows,
+    table: Table,
+    seen: Seen,
+    rest: Rest,
+    best: Option<Rest>,
+}
+
+/// The lottery of the point that chances of columns give, over panels of a size that meet the rows.
+pub fn lottery_of(
+    alloc: Global,
+    program: &Program,
+    rows: &PanelRows,
+    kinds: &Program,
+    chances: &Chances,
+    size: usize,
+    budget: &mut Budget,
+) -> Result<Lottery, Stop> {
+    let rest = rest_of(alloc, kinds, chances)?;
+    if rest.parts.len() != program.columns() {
+        return Err(Stop::Lost);
+    }
+    let mut run = Run {
+        alloc,
+        program,
+        rows,
+        table: loaded(alloc, program, rows)?,
+        seen: Seen::new(alloc, size),
+        rest,
+        best: None,
+    };
+    run.answer(budget)
+}
+
+/// The width of a tail before the last one.
+fn tail_width() -> Narrow {
+    match Narrow::new(1 << TAIL_BITS) {
+        Some(width) => width,
+        None => Narrow::GREATEST,
+    }
+}
+
+/// A table of the rows over volunteers.
+fn loaded(alloc: Global, program: &Program, rows: &PanelRows) -> Result<Table, Stop>
+    ensures columns { IfOk result (λ table. table.columns ≡ length program.now.firsts) }
+    ensures rows { IfOk result (λ table. table.rows ≡ length rows.now.rows.items) }
+{
+    let mut table = Table::new(alloc, program.columns())?;
+    for row in 0..rows.rows.len() {
+        let coefficients = &rows.rows[row].coefficients;
+        if coefficients.len() != program.columns() {
+            return Err(Stop::Lost);
+        }
+        table.add_row(coefficients)?;
+    }
+    Ok(table)
+}
+
+/// Each volunteer's chance times the common denominator.
+fn rest_of(alloc: Global, kinds: &Program, chances: &Chances) -> Result<Rest, Stop> {
+    let total = chances.common();
+    let mut parts = Vec::new(alloc);
+    for i in 0..kinds.volunteers() {
+        let share = chances.share(kinds.column_of(i)).ok_or(Stop::Lost)?;
+        parts.push(share.scaled(total)?)?;
+    }
+    Ok(Rest {
+        parts,
+        total,
+        whole: total,
+        taken: Vec::new(alloc),
+    })
+}
+
+impl Run<'_> {
+    fn answer(&mut self, budget: &mut Budget) -> Result<Lottery, Stop>
+        requires run { IsRun self.old }
+        requires table { HasTable self.old }
+    {
+        let mut is_done = self.peel(0, 0, budget)?;
+        let mut turn: u64 = 0;
+        for (round, share) in SHARES.iter().enumerate() {
+            for _ in 0..share.saturating_mul(TRIES) {
+                if is_done {
+                    break;
+                }
+                turn = turn.saturating_add(1);
+                self.begin_turn(turn)?;
+                is_done = self.peel(turn, WILDNESS, budget)?;
+            }
+            if is_done {
+                return self.found(&[], Narrow::ONE);
+            }
+            let is_last = round + 1 == SHARES.len();
+            self.go_to_best()?;
+            match self.tails(is_last, budget) {
+                Err(Stop::Wide(_) | Stop::Limited) if !is_last => self.begin_anew()?,
+                answer => return answer,
+            }
+        }
+        Ok(Lottery::Doubt)
+    }
+
+    fn peel(&mut self, number: u64, wildness: u32, budget: &mut Budget) -> Result<bool, Stop>
+        requires run { IsRun self.old }
+        requires table { HasTable self.old }
+        ensures run { IsRun self.new }
+        ensures table { HasTable self.new }
+    {
+        let turn = Turn { number, wildness };
+        peel(
+            self.alloc,
+            &mut self.table,
+            &self.rows.rows,
+            &mut self.seen,
+            &mut self.rest,
+            turn,
+            budget,
+        )
+    }
+
+    /// Keeps the rest where less is left than of the best one, goes back to the best one, and puts some panels back.
+    fn begin_turn(&mut self, turn: u64) -> Result<(), Stop>
+        requires run { IsRun self.old }
+        requires table { HasTable self.old }
+        ensures run { IsRun self.new }
+        ensures table { HasTable self.new }
+    {
+        let is_better = match &self.best {
+            Some(best) => self.rest.is_less_than(best),
+            None => true,
+        };
+        if is_better {
+            self.best = Some(self.rest.copy(self.alloc)?);
+        } else {
+            self.return_to_best()?;
+        }
+        let count = 2 + 2 * (turn % 8) + turn / 8 % 8 * 4;
+        self.rest.put_back(&self.seen, count)?;
+        if turn % 4 == 0 && self.rest.whole.get() < MOST_DOUBLED {
+            self.rest.double()?;
+        }
+        Ok(())
+    }
+
+    /// Goes back to the best rest where less of it is left, and keeps this one else.
+    fn go_to_best(&mut self) -> Result<(), Stop>
+        requires run { IsRun self.old }
+        requires table { HasTable self.old }
+        ensures run { IsRun self.new }
+        ensures table { HasTable self.new }
+    {
+        let is_worse = match &self.best {
+            Some(best) => best.is_less_than(&self.rest),
+            None => false,
+        };
+        if is_worse {
+            return self.return_to_best();
+        }
+        self.best = Some(self.rest.copy(self.alloc)?);
+        Ok(())
+    }
+
+    fn return_to_best(&mut self) -> Result<(), Stop>
+        requires { IsRun self.old }
+        ensures run { IsRun self.new }
+        ensures table { self.new.table ≡ self.old.table }
+    {
+        if let Some(best) = &self.best {
+            self.rest = best.copy(self.alloc)?;
+        }
+        Ok(())
+    }
+
+    /// A table from nothing, since a change of basis that was refused leaves it half done; and the best rest.
+    fn begin_anew(&mut self) -> Result<(), Stop>
+        requires { IsRun self.old }
+        ensures run { IsRun self.new }
+        ensures table { OnOk result (HasTable self.new) }
+    {
+        self.table = loaded(self.alloc, self.program, self.rows)?;
+        self.return_to_best()
+    }
+
+    /// Tails of the rest, with twice as many panels put back each time where it is no mix of panels.
+    fn tails(&mut self, is_last: bool, budget: &mut Budget) -> Result<Lottery, Stop>
+        requires run { IsRun self.old }
+        requires table { HasTable self.old }
+        ensures { IsRun self.new }
+    {
+        let width = if is_last {
+            Narrow::GREATEST
+        } else {
+            tail_width()
+        };
+        for doublings in 1..64 {
+            let answer = tail_of(
+                self.alloc,
+                &mut self.table,
+                &self.rows.rows,
+                &mut self.seen,
+                &self.rest,
+                width,
+                budget,
+            )?;
+            match answer {
+                Tail::Inside(weights, denominator) => return self.found(&weights, denominator),
+                Tail::Outside if self.rest.taken.is_empty() => return Ok(Lottery::Outside),
+                Tail::Doubt if self.rest.taken.is_empty() => return Ok(Lottery::Doubt),
+                _ => self.rest.put_back(&self.seen, 1 << doublings)?,
+            }
+        }
+        Err(Stop::Lost)
+    }
+
+    /// The panels that were taken off, and those of a tail, whose weights are parts of a denominator.
+    fn found(&self, tail: &[(i128, usize)], denominator: Narrow) -> Result<Lottery, Stop> {
+        let mut parts = Vec::new(self.alloc);
+        for taken in &self.rest.taken {
+            let weight = wide_mul(taken.weight.wide(), denominator.wide())?;
+            parts.push(self.part(weight, taken.panel)?)?;
+        }
+        for (weight, panel) in tail {
+            parts.push(self.part(*weight, *panel)?)?;
+        }
+        Ok(Lottery::Found(parts))
+    }
+
+    fn part(&self, weight: i128, panel: usize) -> Result<Part, Stop> {
+        let members = Vec::from_slice(self.alloc, self.seen.members(panel))?;
+        Ok(Part { weight, members })
+    }
+}

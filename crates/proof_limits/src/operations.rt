@@ -1,0 +1,119 @@
+//! Exact operations on whole numbers, refused where their result passes a width.
+
+ghost use Rattle.std.specs.Prelude.{◌≡◌, ◌≤◌, ◌^◌, pos, ◌*ℤ◌, ◌≢◌, unsigned_abs, IfOk, IfErr, SomeIff, FitsSigned};
+ghost use Rattle.std.specs.Int.{w128};
+ghost use Rattle.proof_limits.specs.Operations.{outcome, IsNarrow};
+ghost use Rattle.proof_limits.specs.Stops.{IsWideOrMemory};
+ghost use Rattle.proof_limits.specs.Widths.{narrowed, IsWidened};
+
+use crate::narrow::Narrow;
+use crate::passes::{Op, Pass};
+use crate::stops::Stop;
+
+/// The product of two narrow numbers, which is never refused.
+#[inline(always)]
+pub fn times(x: Narrow, y: Narrow) -> i128
+    ensures value { result ≡ x *ℤ y }
+    ensures small { unsigned_abs result ≤ 2 ^ 124 }
+{
+    x.wide() * y.wide()
+}
+
+// An operation's result as a narrow number, where None is one that does not fit 128 bits.
+#[inline]
+fn narrowed(op: Op, x: i128, y: i128, made: Option<i128>) -> Result<Narrow, Stop>
+    requires { SomeIff made (FitsSigned w128 (outcome op x y)) (outcome op x y) }
+    ensures value { result ≡ narrowed op x y }
+    ensures narrow { IfOk result IsNarrow }
+    ensures stops { IfErr result IsWideOrMemory }
+{
+    match made.and_then(narrow_of) {
+        Some(number) => Ok(number),
+        None => Err(Stop::Wide(Pass::new(op, x, y))),
+    }
+}
+
+/// The sum, refused exactly where it is above 2^62 by absolute value.
+pub fn narrow_add(x: i128, y: i128) -> Result<Narrow, Stop>
+    ensures value { result ≡ narrowed Op.Add x y }
+    ensures narrow { IfOk result IsNarrow }
+    ensures stops { IfErr result IsWideOrMemory }
+{
+    narrowed(Op::Add, x, y, x.checked_add(y))
+}
+
+/// The first less the second, refused exactly where that is above 2^62 by absolute value.
+pub fn narrow_sub(x: i128, y: i128) -> Result<Narrow, Stop>
+    ensures value { result ≡ narrowed Op.Sub x y }
+    ensures narrow { IfOk result IsNarrow }
+    ensures stops { IfErr result IsWideOrMemory }
+{
+    narrowed(Op::Sub, x, y, x.checked_sub(y))
+}
+
+/// The product, refused exactly where it is above 2^62 by absolute value.
+pub fn narrow_mul(x: i128, y: i128) -> Result<Narrow, Stop>
+    ensures value { result ≡ narrowed Op.Mul x y }
+    ensures narrow { IfOk result IsNarrow }
+    ensures stops { IfErr result IsWideOrMemory }
+{
+    narrowed(Op::Mul, x, y, x.checked_mul(y))
+}
+
+/// The quotient by a number that isn't 0, rounded towards 0, refused exactly where it is above 2^62 by absolute value.
+pub fn narrow_div(x: i128, y: i128) -> Result<Narrow, Stop>
+    requires { y ≢ pos 0 }
+    ensures value { result ≡ narrowed Op.Div x y }
+    ensures narrow { IfOk result IsNarrow }
+    ensures stops { IfErr result IsWideOrMemory }
+{
+    narrowed(Op::Div, x, y, x.checked_div(y))
+}
+
+// An operation's result, where None is one that does not fit 128 bits.
+#[inline]
+fn widened(op: Op, x: i128, y: i128, made: Option<i128>) -> Result<i128, Stop>
+    requires { SomeIff made (FitsSigned w128 (outcome op x y)) (outcome op x y) }
+    ensures value { IsWidened op x y result }
+    ensures stops { IfErr result IsWideOrMemory }
+{
+    match made {
+        Some(number) => Ok(number),
+        None => Err(Stop::Wide(Pass::new(op, x, y))),
+    }
+}
+
+/// The sum, refused exactly where it does not fit 128 bits.
+pub fn wide_add(x: i128, y: i128) -> Result<i128, Stop>
+    ensures value { IsWidened Op.Add x y result }
+    ensures stops { IfErr result IsWideOrMemory }
+{
+    widened(Op::Add, x, y, x.checked_add(y))
+}
+
+/// The first less the second, refused exactly where that does not fit 128 bits.
+pub fn wide_sub(x: i128, y: i128) -> Result<i128, Stop>
+    ensures value { IsWidened Op.Sub x y result }
+    ensures stops { IfErr result IsWideOrMemory }
+{
+    widened(Op::Sub, x, y, x.checked_sub(y))
+}
+
+/// The product, refused exactly where it does not fit 128 bits.
+pub fn wide_mul(x: i128, y: i128) -> Result<i128, Stop>
+    ensures value { IsWidened Op.Mul x y result }
+    ensures stops { IfErr result IsWideOrMemory }
+{
+    widened(Op::Mul, x, y, x.checked_mul(y))
+}
+
+// The number as a narrow one.
+#[inline]
+fn narrow_of(number: i128) -> Option<Narrow>
+    ensures { SomeIff result (unsigned_abs number ≤ 2 ^ 62) number }
+{
+    match i64::try_from(number) {
+        Ok(value) => Narrow::new(value),
+        Err(_) => None,
+    }
+}

@@ -1,0 +1,73 @@
+//! Operations on two whole numbers whose exact result is above 2^62 by absolute value.
+
+ghost use Rattle.std.specs.Prelude.{◌≡◌};
+ghost use Rattle.proof_limits.specs.Operations.{Passes};
+
+use std::marker::Model;
+
+/// An operation on two whole numbers.
+#[derive(Clone, Copy, Debug, PartialEq, Eq)]
+pub enum Op {
+    /// The product.
+    Mul,
+    /// The sum.
+    Add,
+    /// The first less the second.
+    Sub,
+    /// The first divided by the second, which isn't 0, and rounded towards 0.
+    Div,
+}
+
+/// An operation on two whole numbers whose exact result is above 2^62 by absolute value.
+#[derive(Clone, Copy, Debug, PartialEq, Eq)]
+pub struct Pass {
+    op: Op,
+    x: i128,
+    y: i128,
+}
+
+impl Model for Pass {
+    ghost use Rattle.proof_limits.specs.Operations.{Operation, Passes};
+
+    ghost Value = { Operation };
+
+    ghost view = { λ p. record { op = p.op; x = p.x; y = p.y } };
+
+    ghost invariant = { λ p. Passes (record { op = p.op; x = p.x; y = p.y }) };
+
+    ghost inverse = { λ p. record { op = p.op; x = p.x; y = p.y } };
+}
+
+impl Pass {
+    // The operation on these numbers.
+    pub(crate) fn new(op: Op, x: i128, y: i128) -> Pass
+        requires { Passes (record { op = op; x = x; y = y }) }
+        ensures { result ≡ record { op = op; x = x; y = y } }
+    {
+        Pass { op, x, y }
+    }
+
+    /// The operation.
+    pub fn op(self) -> Op
+        ensures value { result ≡ self.op }
+        ensures passes { Passes self }
+    {
+        self.op
+    }
+
+    /// Its first number.
+    pub fn x(self) -> i128
+        ensures value { result ≡ self.x }
+        ensures passes { Passes self }
+    {
+        self.x
+    }
+
+    /// Its second number.
+    pub fn y(self) -> i128
+        ensures value { result ≡ self.y }
+        ensures passes { Passes self }
+    {
+        self.y
+    }
+}

@@ -1,0 +1,101 @@
+//! The whole run.
+
+use crate::answers::answer_of;
+use crate::trees::{stage_trees, tree_of_none};
+use bundle_text::Bundle;
+use column_stages::{Columned, column_stages};
+use panel_peeling::{Lottery, PanelRows, Part, lottery_of};
+use pool_model::Pool;
+use proof_limits::{Budget, Limit, Stop};
+use proof_model::Proof;
+use quota_program::Program;
+use relaxed_stages::{Chances, KindStage, Relaxed, relaxed_stages};
+use std::alloc::Global;
+
+/// The programs of a pool, over kinds of alike volunteers and over volunteers.
+#[derive(Debug, Drop)]
+pub(crate) struct Programs {
+    pub(crate) kinds: Program,
+    pub(crate) single: Program,
+}
+
+/// A proof of a lottery over a pool's quota panels, or that there is none, by a run under a budget.
+pub fn make_proof(alloc: Global, pool: &Pool, budget: &mut Budget) -> Result<Proof, Stop> {
+    let programs = Programs {
+        kinds: Program::by_kind(alloc, pool)?,
+        single: Program::by_volunteer(alloc, pool)?,
+    };
+    match relaxed_stages(alloc, &programs.kinds, budget)? {
+        Relaxed::Empty => of_no_panel(alloc, pool, &programs, budget),
+        Relaxed::Settled(stages, chances, is_tight) => {
+            if is_tight {
+                let rows = PanelRows::new(alloc, &programs.single, &programs.kinds, &[])?;
+                let found = point_lottery(alloc, pool, &programs, &rows, &chances, budget)?;
+                if let Lottery::Found(parts) = found {
+                    return of_lottery(alloc, pool, &programs, stages, &parts, budget);
+                }
+            }
+            by_columns(alloc, pool, &programs, budget)
+        }
+    }
+}
+
+/// The same where the relaxation's point is no mix of panels.
+fn by_columns(
+    alloc: Global,
+    pool: &Pool,
+    programs: &Programs,
+    budget: &mut Budget,
+) -> Result<Proof, Stop> {
+    match column_stages(alloc, &programs.kinds, budget)? {
+        Columned::Empty => of_no_panel(alloc, pool, programs, budget),
+        Columned::Settled(stages, chances) => {
+            let rows = PanelRows::new(alloc, &programs.single, &programs.kinds, &stages)?;
+            match point_lottery(alloc, pool, programs, &rows, &chances, budget)? {
+                Lottery::Found(parts) => {
+                    of_lottery(alloc, pool, programs, stages, &parts, budget)
+                }
+                _ => Err(Stop::Spent(Limit::Lottery)),
+            }
+        }
+    }
+}
+
+/// The lottery of the point that chances give, over panels that meet rows.
+fn point_lottery(
+    alloc: Global,
+    pool: &Pool,
+    programs: &Programs,
+    rows: &PanelRows,
+    chances: &Chances,
+    budget: &mut Budget,
+) -> Result<Lottery, Stop> {
+    let (single, kinds) = (&programs.single, &programs.kinds);
+    lottery_of(alloc, single, rows, kinds, chances, pool.size(), budget)
+}
+
+/// The proof of a lottery with its stages.
+fn of_lottery(
+    alloc: Global,
+    pool: &Pool,
+    programs: &Programs,
+    stages: Vec<KindStage>,
+    parts: &[Part],
+    budget: &mut Budget,
+) -> Result<Proof, Stop> {
+    let answer = answer_of(alloc, &programs.kinds, &stages, parts)?;
+    let trees = stage_trees(alloc, pool, programs, stages, budget)?;
+    let bundle = Bundle::new(pool.copy()?, answer).ok_or(Stop::Lost)?;
+    Proof::of_lottery(bundle, trees).ok_or(Stop::Lost)
+}
+
+/// The proof that there is no quota panel.
+fn of_no_panel(
+    alloc: Global,
+    pool: &Pool,
+    programs: &Programs,
+    budget: &mut Budget,
+) -> Result<Proof, Stop> {
+    let lines = tree_of_none(alloc, programs, budget)?;
+    Proof::of_no_panel(pool.copy()?, lines).ok_or(Stop::Lost)
+}

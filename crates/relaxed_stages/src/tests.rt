@@ -1,0 +1,54 @@
+//! Small pools.
+
+use crate::{Relaxed, relaxed_stages};
+use pool_model::{BuildStop, Name, Pool};
+use proof_limits::Budget;
+use quota_program::Program;
+use std::alloc::Global;
+use std::test::Fail;
+
+/// Values with their bounds, a size, and how many volunteers have each value.
+type Rows = (usize, &'static [(&'static str, usize, usize, usize)]);
+
+/// A pool with one category.
+fn pool(alloc: Global, rows: Rows) -> Result<Pool, BuildStop> {
+    let mut pool = Pool::new(alloc, rows.0)?;
+    pool.add_category("one")?;
+    for (name, lower, upper, _) in rows.1 {
+        pool.add_value(name, *lower, *upper)?;
+    }
+    let mut number = 0;
+    for (name, _, _, count) in rows.1 {
+        for _ in 0..*count {
+            let id = format!(in alloc; "v{number}")?;
+            pool.add_volunteer(id.as_str(), &[Name::new(alloc, name)?])?;
+            number += 1;
+        }
+    }
+    Ok(pool)
+}
+
+/// Pools, and their stages: the cap and the weights of each, and the chances.
+const ROWS: &[(Rows, &str)] = &[
+    ((2, &[("x", 1, 1, 2), ("y", 1, 1, 2)]), ""),
+    ((2, &[("x", 1, 1, 3), ("y", 1, 1, 2)]), ""),
+    ((1, &[("x", 0, 0, 1), ("y", 0, 1, 2)]), ""),
+    ((2, &[("x", 2, 2, 1), ("y", 0, 2, 2)]), ""),
+];
+
+#[test]
+fn pools_have_stages(rt: HostRuntime) -> Result<(), Fail> {
+    let alloc = rt.alloc();
+    for (rows, wanted) in ROWS {
+        let program = Program::by_kind(alloc, &pool(alloc, *rows)?)?;
+        let mut budget = Budget::new(1000, 1000);
+        let said = match relaxed_stages(alloc, &program, &mut budget)? {
+            Relaxed::Empty => String::from_str(alloc, "empty")?,
+            Relaxed::Settled(stages, chances, is_tight) => {
+                format!(in alloc; "{stages:?} {chances:?} {is_tight}")?
+            }
+        };
+        assert_eq!(rt; said.as_str(), *wanted);
+    }
+    Ok(())
+}
