@@ -1,3 +1,4 @@
 pub mod OfProof
 pub mod Verify
 pub mod ItsBundle
+pub mod Prove

@@ -1,4 +1,4 @@
-//! What the commands about a proof answer: `verify` and `bundle`. Their words stand in `specs/`, over those of the shell, of proofs, of
+//! What the commands about a proof answer: `verify`, `bundle` and `prove`. Their words stand in `specs/`, over those of the shell, of proofs, of
 //! bundles and of what is answered about these. The functions here have no body: their contracts are laws.
 #![tactic(auto)]
 

@@ -1,0 +1,56 @@
+-- What is told of a proof that was verified is right about the subject that it is about.
+use Rattle.std.proofs.Common.{◌≡◌, ◌∙◌, ℕ, List, [], Option, None, Some, refl, sym, ap, subst}
+use Rattle.addition_definitions.specs.ProofVerdict.{OfLottery, OfNoPanel, Proof, verdict}
+use Rattle.addition_definitions.specs.TreeLines.{TreeLine}
+use Rattle.bundle_answers.specs.Check.{refused_line}
+use Rattle.bundle_definitions.specs.BundleText.{Bundle}
+use Rattle.check_definitions.specs.Reasons.{Refusal, Refused, Valid, Verdict}
+use Rattle.command_shell.specs.declared.status.Printed.TheVariants as printed
+use Rattle.command_shell.specs.Answers.{Saying, Prints}
+use Rattle.pool_definitions.specs.Certificate.{Answer, Certifies}
+use Rattle.pool_definitions.specs.Lottery.{LeximinGreatest}
+use Rattle.pool_definitions.specs.Pool.{Pool, panels}
+use Rattle.proof_answers.specs.Prove.{IsGiven, IsNone, IsProved, IsRefused, ProveMeans, Subject, of_bundle, of_pool}
+use Rattle.proof_run.specs.Made.{IsOfBundle, IsOfPool}
+use Rattle.prove_command.specs.Proved.{proof_said}
+
+-- what verifying says of a valid proof of a lottery, and of one that there is no panel
+abbrev pub SaysGreatest : Proof → Type 0
+SaysGreatest proof = (pool : Pool) (its : Answer) (trees : List (List TreeLine)) → proof ≡ OfLottery pool its trees →
+    LeximinGreatest pool its.lottery × Certifies pool its.lottery its.stages
+
+abbrev pub SaysNone : Proof → Type 0
+SaysNone proof = (pool : Pool) (lines : List TreeLine) → proof ≡ OfNoPanel pool lines → panels pool ≡ []
+
+module _ (pivots nodes : ℕ) (answer : Saying) where
+  lottery_proved : (pool : Pool) (given : Option Answer) (its : Answer) → IsGiven given its → (trees : List (List TreeLine)) →
+      verdict (OfLottery pool its trees) ≡ Valid → SaysGreatest (OfLottery pool its trees) → answer ≡ proof_said (OfLottery pool its trees) →
+      ProveMeans pivots nodes (record { pool = pool; given = given }) answer
+  lottery_proved pool given its is trees valid greatest tells =
+      let shown = greatest pool its trees refl in IsProved its is trees valid (record { certified = shown.1; greatest = shown.0 }) tells
+
+  pub pool_proved : (pool : Pool) (proof : Proof) → IsOfPool pool proof → verdict proof ≡ Valid → SaysGreatest proof → SaysNone proof →
+      answer ≡ proof_said proof → ProveMeans pivots nodes (of_pool pool) answer
+  pool_proved pool (OfLottery own its trees) is valid greatest none tells =
+      subst (λ it. ProveMeans pivots nodes (of_pool it) answer) is (lottery_proved own None its tt trees valid greatest tells)
+  pool_proved pool (OfNoPanel own lines) is valid greatest none tells =
+      subst (λ it. ProveMeans pivots nodes (of_pool it) answer) is (IsNone lines valid (none own lines refl) tells)
+
+  -- a bundle is its pool with the answer
+  of_parts : (bundle : Bundle) (pool : Pool) (its : Answer) → pool ≡ bundle.pool → its ≡ bundle.answer →
+      ProveMeans pivots nodes (record { pool = pool; given = Some its }) answer → ProveMeans pivots nodes (of_bundle bundle) answer
+  of_parts bundle pool its same_pool same_answer means =
+      subst (λ it. ProveMeans pivots nodes (record { pool = it; given = Some bundle.answer }) answer) same_pool
+      (subst (λ it. ProveMeans pivots nodes (record { pool = pool; given = Some it }) answer) same_answer means)
+
+  pub bundle_proved : (bundle : Bundle) (proof : Proof) → IsOfBundle bundle proof → verdict proof ≡ Valid → SaysGreatest proof →
+      answer ≡ proof_said proof → ProveMeans pivots nodes (of_bundle bundle) answer
+  bundle_proved bundle (OfLottery own its trees) is valid greatest tells =
+      of_parts bundle own its is.0 is.1 (lottery_proved own (Some its) its refl trees valid greatest tells)
+  bundle_proved bundle (OfNoPanel own lines) is valid greatest tells = absurd is
+
+  pub bundle_refused : (bundle : Bundle) (proof : Proof) (refusal : Refusal) → IsOfBundle bundle proof → verdict proof ≡ Refused refusal →
+      answer ≡ Prints printed.Refused (refused_line refusal) → ProveMeans pivots nodes (of_bundle bundle) answer
+  bundle_refused bundle (OfLottery own its trees) refusal is refused tells =
+      of_parts bundle own its is.0 is.1 (IsRefused its refl trees refusal refused tells)
+  bundle_refused bundle (OfNoPanel own lines) refusal is refused tells = absurd is

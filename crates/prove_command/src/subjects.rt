@@ -1,0 +1,45 @@
+//! What `prove` reads: the text of a pool or of a bundle.
+
+ghost use Rattle.std.specs.Prelude.{◌≡◌, IfOk};
+ghost use Rattle.command_shell.specs.declared.status.Cause.TheVariants.{Input};
+ghost use Rattle.command_shell.specs.Answers.{Stops, saying};
+ghost use Rattle.command_shell.specs.Lines.{input_line as words_of_input};
+ghost use Rattle.proof_answers.specs.Prove.{OfSubject, ProveMeans};
+
+use crate::proving::{ProofRun, about_bundle, about_pool};
+use bundle_text::{ReadBundle, read_bundle};
+use command_shell::{Answer, Cause, input_line};
+use pool_text::{ReadPool, read_pool};
+use std::alloc::{AllocError, Global};
+
+/// What `prove` answers about a text. One that begins as a bundle's is read as one.
+pub(crate) fn answer_of_text(
+    alloc: Global,
+    run: ProofRun,
+    bytes: &[u8],
+) -> Result<Answer, AllocError>
+    ensures { IfOk result (λ answer. OfSubject (ProveMeans run.pivots run.nodes) bytes.now (saying answer)) }
+{
+    if bytes.starts_with(b"bundle") {
+        match read_bundle(alloc, bytes) {
+            Ok(bundle) => about_bundle(alloc, run, &bundle),
+            Err(ReadBundle::Fault(fault)) => at_fault(alloc, fault.line, fault.kind),
+            Err(ReadBundle::OutOfMemory) => Err(AllocError),
+        }
+    } else {
+        match read_pool(alloc, bytes) {
+            Ok(pool) => about_pool(alloc, run, &pool),
+            Err(ReadPool::Fault(fault)) => at_fault(alloc, fault.line, fault.kind),
+            Err(ReadPool::OutOfMemory) => Err(AllocError),
+        }
+    }
+}
+
+fn at_fault(alloc: Global, line: usize, kind: u8) -> Result<Answer, AllocError>
+    ensures { IfOk result (λ answer. saying answer ≡ Stops Input (words_of_input (record { line = line; kind = kind }))) }
+{
+    Ok(Answer::Stops {
+        cause: Cause::Input,
+        line: input_line(alloc, line, kind)?,
+    })
+}
