@@ -15,5 +15,6 @@ want_is_right (Some (Order.Make made limits workers)) told status line source ou
 want_is_right (Some Order.Seal) told status line source out = search rules
 want_is_right (Some (Order.Draw seal digits)) told status line source out = search rules
 want_is_right (Some (Order.Check nodes)) told status line source out = search rules
+want_is_right (Some (Order.Prove pivots nodes)) told status line source out = search rules
 want_is_right (Some Order.Verify) told status line source out = search rules
 want_is_right (Some Order.Bundle) told status line source out = search rules

@@ -13,6 +13,7 @@ use outside::{Sink, Source, Watch};
 use pool_answers::{lottery_by_status, panel_by_status};
 use pool_commands::{FirstPanel, MadeRun, OfPool, call_lottery, call_make};
 use proof_commands::{OfProof, ProofBundle, ProofVerify};
+use prove_command::{ProofRun, call_prove};
 use std::alloc::Global;
 use std::thread::Threads;
 
@@ -88,6 +89,9 @@ fn run<R: Threads + Sync, S: Source, O: Sink, E: Sink, W: Watch + Sync>(
         }
         Asked::Check { nodes } => {
             call(alloc, &OfBundle(BundleCheck { nodes }), source, out, errs)
+        }
+        Asked::Prove { pivots, nodes } => {
+            call_prove(alloc, ProofRun { pivots, nodes }, source, out, errs)
         }
         Asked::Verify => call(alloc, &OfProof(ProofVerify), source, out, errs),
         Asked::Bundle => call(alloc, &OfProof(ProofBundle), source, out, errs),
