@@ -54,7 +54,10 @@ fn lottery_of(alloc: Global, parts: &[Part]) -> Result<Lottery, Stop> {
 fn merged(alloc: Global, parts: &[Part]) -> Result<Vec<Part>, Stop> {
     let mut merged: Vec<Part> = Vec::new(alloc);
     for part in parts {
-        match merged.iter_mut().find(|known| known.members == part.members) {
+        match merged
+            .iter_mut()
+            .find(|known| known.members == part.members)
+        {
             Some(known) => known.weight = wide_add(known.weight, part.weight)?,
             None => merged.push(Part {
                 weight: part.weight,
