@@ -13,8 +13,8 @@ use proof_model::{TreeLine, TreeLines};
 use std::alloc::Global;
 
 /// Searches all nodes, and writes the lines of their tree: a split where the table has a point that isn't whole, the part below first, and
-/// a leaf where it has none, by the names of the rows. The row of the weights, if there is one, gives a leaf its scale. The search stops as
-/// lost where there is a point of whole numbers.
+/// a leaf where it has none, by the names of the rows. The row of the weights, if there is one, gives a leaf its scale. There are no lines
+/// where a point of whole numbers is met.
 pub fn prove_empty(
     alloc: Global,
     table: &mut Table,
@@ -23,7 +23,7 @@ pub fn prove_empty(
     names: &[usize],
     weight_row: Option<usize>,
     budget: &mut Budget,
-) -> Result<TreeLines, Stop>
+) -> Result<Option<TreeLines>, Stop>
     requires columns { length columns.now ≡ table.old.columns }
     requires rows { length rows.now ≡ table.old.rows }
     requires names { length names.now ≡ table.old.rows }
@@ -39,7 +39,7 @@ pub fn prove_empty(
     'nodes: loop {
         budget.take_node()?;
         match look(alloc, table, columns, path.spans(), rows, budget)? {
-            Node::Whole(_) => return Err(Stop::Lost),
+            Node::Whole(_) => return Ok(None),
             Node::Broken(split) => {
                 lines.add_line(TreeLine::split(split.column))?;
                 path.enter(split.column, split.below, split.above)?;
@@ -49,7 +49,7 @@ pub fn prove_empty(
                 let leaf = leaf_of(alloc, &refutation, names, &order, weight_row)?;
                 lines.add_line(TreeLine::leaf(leaf))?;
                 if !path.turn()? {
-                    return Ok(lines);
+                    return Ok(Some(lines));
                 }
             }
         }

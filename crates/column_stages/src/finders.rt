@@ -1,5 +1,8 @@
 //! Finding compositions that weigh enough.
 
+ghost use Rattle.std.specs.Prelude.{◌≡◌, ◌<◌, IfOk, IfSome, OnOk, length};
+ghost use Rattle.column_stages.specs.Shapes.{IsFinder};
+
 use box_table::Table;
 use branch_search::{Found, search};
 use proof_limits::{Budget, Narrow, Span, Stop, narrow_add, times, wide_add};
@@ -17,7 +20,9 @@ pub(crate) struct Finder<'a> {
 }
 
 impl<'a> Finder<'a> {
-    pub(crate) fn new(alloc: Global, program: &'a Program) -> Result<Finder<'a>, Stop> {
+    pub(crate) fn new(alloc: Global, program: &'a Program) -> Result<Finder<'a>, Stop>
+        ensures { IfOk result (IsFinder (length program.entry.now.firsts)) }
+    {
         let mut table = table_of(alloc, program)?;
         table.aim(&[], 1)?;
         let rows = row_spans(alloc, program, Narrow::ONE)?;
@@ -30,9 +35,20 @@ impl<'a> Finder<'a> {
     }
 
     /// A composition, if there is one.
-    pub(crate) fn any(&mut self, budget: &mut Budget) -> Result<Option<Vec<Narrow>>, Stop> {
+    pub(crate) fn any(&mut self, budget: &mut Budget) -> Result<Option<Vec<Narrow>>, Stop>
+        requires { IsFinder self.old.table.columns self.old }
+        ensures finder { IsFinder self.old.table.columns self.new }
+        ensures counts { IfOk result (λ found. IfSome found (λ counts. length counts.items ≡ self.old.table.columns)) }
+    {
         let spans = self.program.spans();
-        let found = search(self.alloc, &mut self.table, spans, &self.rows, u64::MAX, budget)?;
+        let found = search(
+            self.alloc,
+            &mut self.table,
+            spans,
+            &self.rows,
+            u64::MAX,
+            budget,
+        )?;
         point_of(found)
     }
 
@@ -42,7 +58,13 @@ impl<'a> Finder<'a> {
         weights: &[Narrow],
         need: Narrow,
         budget: &mut Budget,
-    ) -> Result<Option<Vec<Narrow>>, Stop> {
+    ) -> Result<Option<Vec<Narrow>>, Stop>
+        requires finder { IsFinder self.old.table.columns self.old }
+        requires weights { length weights.now ≡ self.old.table.columns }
+        ensures finder { OnOk result (IsFinder self.old.table.columns self.new) }
+        ensures counts { IfOk result (λ found. IfSome found (λ counts. length counts.items ≡ self.old.table.columns)) }
+        ensures nodes { OnOk result (budget.new.nodes < budget.old.nodes) }
+    {
         let reach = reach(self.program, weights)?;
         let mut rows = Vec::from_slice(self.alloc, &self.rows)?;
         rows.push(Span::reaching(need, reach))?;
@@ -59,7 +81,11 @@ impl<'a> Finder<'a> {
     }
 
     /// Closes a stage: from now on compositions weigh its cap.
-    pub(crate) fn close(&mut self, weights: &[Narrow], cap: Narrow) -> Result<(), Stop> {
+    pub(crate) fn close(&mut self, weights: &[Narrow], cap: Narrow) -> Result<(), Stop>
+        requires finder { IsFinder self.old.table.columns self.old }
+        requires weights { length weights.now ≡ self.old.table.columns }
+        ensures { OnOk result (IsFinder self.old.table.columns self.new) }
+    {
         self.table.add_row(weights)?;
         self.rows.push(Span::point(cap))?;
         Ok(())

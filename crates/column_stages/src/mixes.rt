@@ -1,5 +1,8 @@
 //! The program of the compositions that were found.
 
+ghost use Rattle.std.specs.Prelude.{◌≡◌, IfOk, OnOk, length};
+ghost use Rattle.column_stages.specs.Shapes.{IsMix};
+
 use box_table::Table;
 use proof_limits::{Budget, Narrow, Span, Stop, narrow_add, times, wide_add};
 use std::alloc::Global;
@@ -26,7 +29,9 @@ pub(crate) struct Mix {
 
 impl Mix {
     /// No composition of so many columns.
-    pub(crate) fn new(alloc: Global, columns: usize) -> Result<Mix, Stop> {
+    pub(crate) fn new(alloc: Global, columns: usize) -> Result<Mix, Stop>
+        ensures { IfOk result (IsMix columns) }
+    {
         let mut table = Table::new(alloc, 0)?;
         for _ in 0..columns {
             table.add_row(&[])?;
@@ -41,11 +46,16 @@ impl Mix {
     }
 
     pub(crate) fn knows(&self, counts: &[Narrow]) -> bool {
-        self.known.iter().any(|known| known.counts.as_slice() == counts)
+        self.known
+            .iter()
+            .any(|known| known.counts.as_slice() == counts)
     }
 
     /// Adds a composition.
-    pub(crate) fn join(&mut self, counts: Vec<Narrow>) -> Result<(), Stop> {
+    pub(crate) fn join(&mut self, counts: Vec<Narrow>) -> Result<(), Stop>
+        requires { IsMix (length counts.items) self.old }
+        ensures { OnOk result (IsMix (length counts.items) self.new) }
+    {
         let mut column = Vec::from_slice(self.alloc, &counts)?;
         column.push(Narrow::ONE)?;
         self.dice = self.dice.wrapping_mul(MULTIPLIER).wrapping_add(INCREMENT);
@@ -64,10 +74,18 @@ impl Mix {
         boxes: &[Span],
         total: Narrow,
         budget: &mut Budget,
-    ) -> Result<bool, Stop> {
+    ) -> Result<bool, Stop>
+        requires { IsMix (length boxes.now) self.old }
+        ensures mix { IsMix (length boxes.now) self.new }
+        ensures nodes { budget.new.nodes ≡ budget.old.nodes }
+    {
         let mut columns = Vec::new(self.alloc);
-        for known in &self.known {
-            let most = if known.is_lighter { Narrow::ZERO } else { total };
+        for number in 0..self.known.len() {
+            let most = if self.known[number].is_lighter {
+                Narrow::ZERO
+            } else {
+                total
+            };
             columns.push(Span::reaching(Narrow::ZERO, most))?;
         }
         let mut rows = Vec::from_slice(self.alloc, boxes)?;
@@ -93,10 +111,13 @@ impl Mix {
     }
 
     /// Marks the compositions that weigh less than a cap.
-    pub(crate) fn close(&mut self, weights: &[Narrow], cap: Narrow) -> Result<(), Stop> {
-        for known in self.known.iter_mut() {
-            if weight_of(weights, &known.counts)? < cap {
-                known.is_lighter = true;
+    pub(crate) fn close(&mut self, weights: &[Narrow], cap: Narrow) -> Result<(), Stop>
+        requires { IsMix (length weights.now) self.old }
+        ensures { IsMix (length weights.now) self.new }
+    {
+        for number in 0..self.known.len() {
+            if weight_of(weights, &self.known[number].counts)? < cap {
+                self.known[number].is_lighter = true;
             }
         }
         Ok(())

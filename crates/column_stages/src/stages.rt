@@ -1,5 +1,8 @@
 //! Stage after stage, over compositions.
 
+ghost use Rattle.std.specs.Prelude.{◌≡◌, ◌<◌, ◌≤ℤ◌, pos, IfOk, OnOk, length};
+ghost use Rattle.column_stages.specs.Shapes.{IsFinder, IsMix};
+
 use crate::finders::Finder;
 use crate::mixes::{Mix, weight_of};
 use frac128::gcd;
@@ -53,7 +56,13 @@ fn stage(
     mix: &mut Mix,
     finder: &mut Finder<'_>,
     budget: &mut Budget,
-) -> Result<(KindStage, Share), Stop> {
+) -> Result<(KindStage, Share), Stop>
+    requires mix { IsMix (length program.now.firsts) mix.old }
+    requires finder { IsFinder (length program.now.firsts) finder.old }
+    ensures mix { OnOk result (IsMix (length program.now.firsts) mix.new) }
+    ensures finder { OnOk result (IsFinder (length program.now.firsts) finder.new) }
+    ensures weights { IfOk result (λ found. length found.0.weights.items ≡ length program.now.firsts) }
+{
     let mut share = Share::ONE;
     let mut last = None;
     loop {
@@ -98,7 +107,13 @@ fn raised_cap(
     finder: &mut Finder<'_>,
     weights: &[Narrow],
     budget: &mut Budget,
-) -> Result<Narrow, Stop> {
+) -> Result<Narrow, Stop>
+    requires mix { IsMix (length weights.now) mix.old }
+    requires finder { IsFinder (length weights.now) finder.old }
+    ensures mix { OnOk result (IsMix (length weights.now) mix.new) }
+    ensures finder { OnOk result (IsFinder (length weights.now) finder.new) }
+    ensures nodes { OnOk result (budget.new.nodes < budget.old.nodes) }
+{
     let mut cap = mix.most(weights)?;
     loop {
         let need = narrow_add(cap.wide(), 1)?;
@@ -118,21 +133,32 @@ fn weights_of(
     program: &Program,
     chances: &Chances,
     multipliers: &[Narrow],
-) -> Result<Vec<Narrow>, Stop> {
-    let mut weights = vec![in alloc; Narrow::ZERO; program.columns()]?;
+) -> Result<Vec<Narrow>, Stop>
+    ensures { IfOk result (λ weights. length weights.items ≡ length program.now.firsts) }
+{
+    let mut weights = Vec::new(alloc);
     let mut divisor = 0;
-    for (column, (weight, span)) in weights.iter_mut().zip(program.spans()).enumerate() {
+    for column in 0..program.columns() {
         let own = multipliers.get(column).copied().unwrap_or(Narrow::ZERO);
-        let is_kept = span.least().is_zero() && own.get() < 0;
-        if chances.share(column).is_some() || is_kept {
-            *weight = -own;
-        }
+        let is_kept = program.spans()[column].least().is_zero() && own.get() < 0;
+        let is_weighed = chances.share(column).is_some() || is_kept;
+        let weight = if is_weighed { -own } else { Narrow::ZERO };
         divisor = gcd(divisor, weight.abs().wide());
+        weights.push(weight)?;
     }
-    for weight in weights.iter_mut() {
-        *weight = narrow_div(weight.wide(), divisor.max(1))?;
+    divided(alloc, &weights, divisor.max(1))
+}
+
+/// Numbers divided by one of at least 1.
+fn divided(alloc: Global, numbers: &[Narrow], divisor: i128) -> Result<Vec<Narrow>, Stop>
+    requires { pos 1 ≤ℤ divisor }
+    ensures { IfOk result (λ quotients. length quotients.items ≡ length numbers.now) }
+{
+    let mut quotients = Vec::new(alloc);
+    for number in 0..numbers.len() {
+        quotients.push(narrow_div(numbers[number].wide(), divisor)?)?;
     }
-    Ok(weights)
+    Ok(quotients)
 }
 
 /// What a composition weighs at least that passes the level of a share.
@@ -156,14 +182,18 @@ fn everybody_left(
     alloc: Global,
     program: &Program,
     chances: &Chances,
-) -> Result<(Vec<Narrow>, Narrow), Stop> {
-    let mut weights = vec![in alloc; Narrow::ZERO; program.columns()]?;
+) -> Result<(Vec<Narrow>, Narrow), Stop>
+    ensures { IfOk result (λ found. length found.0.items ≡ length program.now.firsts) }
+{
+    let mut weights = Vec::new(alloc);
     let mut cap = Narrow::ZERO;
-    for (column, (weight, span)) in weights.iter_mut().zip(program.spans()).enumerate() {
-        if chances.share(column).is_none() {
-            *weight = Narrow::ONE;
-            cap = narrow_add(cap.wide(), span.greatest().wide())?;
+    for column in 0..program.columns() {
+        let is_left = chances.share(column).is_none();
+        if is_left {
+            let most = program.spans()[column].greatest();
+            cap = narrow_add(cap.wide(), most.wide())?;
         }
+        weights.push(if is_left { Narrow::ONE } else { Narrow::ZERO })?;
     }
     Ok((weights, cap))
 }

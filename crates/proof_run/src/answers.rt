@@ -43,9 +43,15 @@ fn lottery_of(alloc: Global, parts: &[Part]) -> Result<Lottery, Stop> {
     let mut rows = Vec::new(alloc);
     for part in merged {
         let weight = part.weight.checked_div(divisor).ok_or(Stop::Lost)?;
+        if weight < 0 {
+            return Err(Stop::Lost);
+        }
         total = wide_add(total, weight)?;
         let panel = Panel::new(part.members).ok_or(Stop::Lost)?;
         rows.push(LotteryRow::new(panel, weight))?;
+    }
+    if total < 0 {
+        return Err(Stop::Lost);
     }
     Ok(Lottery::new(total, rows))
 }
@@ -54,7 +60,10 @@ fn lottery_of(alloc: Global, parts: &[Part]) -> Result<Lottery, Stop> {
 fn merged(alloc: Global, parts: &[Part]) -> Result<Vec<Part>, Stop> {
     let mut merged: Vec<Part> = Vec::new(alloc);
     for part in parts {
-        match merged.iter_mut().find(|known| known.members == part.members) {
+        match merged
+            .iter_mut()
+            .find(|known| known.members == part.members)
+        {
             Some(known) => known.weight = wide_add(known.weight, part.weight)?,
             None => merged.push(Part {
                 weight: part.weight,

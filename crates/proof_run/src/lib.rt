@@ -4,9 +4,10 @@
 #![tactic(auto)]
 
 mod answers;
+mod caps;
 mod runs;
-mod trees;
 #[cfg(test)]
 mod tests;
+mod trees;
 
-pub use runs::make_proof;
+pub use runs::{make_proof, prove_bundle};

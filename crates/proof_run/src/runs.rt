@@ -1,7 +1,11 @@
 //! The whole run.
 
+ghost use Rattle.std.specs.Prelude.{IfErr, IfOk};
+ghost use Rattle.proof_run.specs.Made.{IsOfBundle, IsOfPool, StopsSo};
+
 use crate::answers::answer_of;
-use crate::trees::{stage_trees, tree_of_none};
+use crate::caps::{CapSearch, tree_of_none};
+use crate::trees::{searched_trees, stage_trees};
 use bundle_text::Bundle;
 use column_stages::{Columned, column_stages};
 use panel_peeling::{Lottery, PanelRows, Part, lottery_of};
@@ -20,7 +24,43 @@ pub(crate) struct Programs {
 }
 
 /// A proof of a lottery over a pool's quota panels, or that there is none, by a run under a budget.
-pub fn make_proof(alloc: Global, pool: &Pool, budget: &mut Budget) -> Result<Proof, Stop> {
+pub fn make_proof(alloc: Global, pool: &Pool, budget: &mut Budget) -> Result<Proof, Stop>
+    ensures about { IfOk result (IsOfPool pool.now) }
+    ensures stops { IfErr result (StopsSo budget.new) }
+{
+    match made(alloc, pool, budget) {
+        Ok(proof) => Ok(proof),
+        Err(stop) => Err(told(stop, budget)),
+    }
+}
+
+/// A proof of a bundle's lottery by its stages, with the trees that a search under a budget finds. From the first stage on above whose cap some
+/// quota panel is, the trees have no lines.
+pub fn prove_bundle(alloc: Global, bundle: &Bundle, budget: &mut Budget) -> Result<Proof, Stop>
+    ensures about { IfOk result (IsOfBundle bundle.now) }
+    ensures stops { IfErr result (StopsSo budget.new) }
+{
+    match searched(alloc, bundle, budget) {
+        Ok(proof) => Ok(proof),
+        Err(stop) => Err(told(stop, budget)),
+    }
+}
+
+/// A stop as it is told: a limit is spent only where nothing of it is left, and no width but 2^62 is told.
+fn told(stop: Stop, budget: &Budget) -> Stop
+    ensures { StopsSo budget.now result }
+{
+    match stop {
+        Stop::Limited => Stop::Lost,
+        Stop::Spent(Limit::Pivots) if budget.pivots() > 0 => Stop::Lost,
+        Stop::Spent(Limit::Nodes) if budget.nodes() > 0 => Stop::Lost,
+        other => other,
+    }
+}
+
+fn made(alloc: Global, pool: &Pool, budget: &mut Budget) -> Result<Proof, Stop>
+    ensures { IfOk result (IsOfPool pool.now) }
+{
     let programs = Programs {
         kinds: Program::by_kind(alloc, pool)?,
         single: Program::by_volunteer(alloc, pool)?,
@@ -46,7 +86,9 @@ fn by_columns(
     pool: &Pool,
     programs: &Programs,
     budget: &mut Budget,
-) -> Result<Proof, Stop> {
+) -> Result<Proof, Stop>
+    ensures { IfOk result (IsOfPool pool.now) }
+{
     match column_stages(alloc, &programs.kinds, budget)? {
         Columned::Empty => of_no_panel(alloc, pool, programs, budget),
         Columned::Settled(stages, chances) => {
@@ -82,9 +124,11 @@ fn of_lottery(
     stages: Vec<KindStage>,
     parts: &[Part],
     budget: &mut Budget,
-) -> Result<Proof, Stop> {
+) -> Result<Proof, Stop>
+    ensures { IfOk result (IsOfPool pool.now) }
+{
     let answer = answer_of(alloc, &programs.kinds, &stages, parts)?;
-    let trees = stage_trees(alloc, pool, programs, stages, budget)?;
+    let trees = stage_trees(alloc, programs, quotas_of(pool), stages, budget)?;
     let bundle = Bundle::new(pool.copy()?, answer).ok_or(Stop::Lost)?;
     Proof::of_lottery(bundle, trees).ok_or(Stop::Lost)
 }
@@ -95,7 +139,28 @@ fn of_no_panel(
     pool: &Pool,
     programs: &Programs,
     budget: &mut Budget,
-) -> Result<Proof, Stop> {
-    let lines = tree_of_none(alloc, programs, budget)?;
+) -> Result<Proof, Stop>
+    ensures { IfOk result (IsOfPool pool.now) }
+{
+    let lines = tree_of_none(alloc, &programs.single, budget)?;
     Proof::of_no_panel(pool.copy()?, lines).ok_or(Stop::Lost)
+}
+
+fn searched(alloc: Global, bundle: &Bundle, budget: &mut Budget) -> Result<Proof, Stop>
+    ensures { IfOk result (IsOfBundle bundle.now) }
+{
+    let program = Program::by_volunteer(alloc, bundle.pool())?;
+    let search = CapSearch::new(alloc, &program, quotas_of(bundle.pool()))?;
+    let stages = bundle.answer().certificate().stages();
+    let trees = searched_trees(alloc, search, stages, budget)?;
+    Proof::of_lottery(bundle.copy()?, trees).ok_or(Stop::Lost)
+}
+
+/// How many constraints stand before those of stages: the size, and each value.
+fn quotas_of(pool: &Pool) -> usize {
+    let mut quotas: usize = 1;
+    for category in pool.categories() {
+        quotas = quotas.saturating_add(category.values().len());
+    }
+    quotas
 }

@@ -1,136 +1,77 @@
 //! The trees of a proof.
 
-use crate::runs::Programs;
-use box_table::Table;
-use branch_search::prove_empty;
-use panel_peeling::weights_of;
-use pool_model::Pool;
-use proof_limits::{Budget, Narrow, Span, Stop, narrow_add};
-use proof_model::{TreeLine, TreeLines};
-use quota_program::Program;
-use relaxed_stages::{KindStage, row_spans, table_of};
-use std::alloc::Global;
+ghost use Rattle.proof_run.specs.Shapes.{IsCapSearch};
 
-/// The tree that shows that there is no quota panel.
-pub(crate) fn tree_of_none(
-    alloc: Global,
-    programs: &Programs,
-    budget: &mut Budget,
-) -> Result<TreeLines, Stop> {
-    let program = &programs.single;
-    let mut table = table_of(alloc, program)?;
-    table.aim(&[], 1)?;
-    let rows = row_spans(alloc, program, Narrow::ONE)?;
-    let numbers = numbers_after(alloc, program, 0)?;
-    prove_empty(alloc, &mut table, program.spans(), &rows, &numbers, None, budget)
-}
+use crate::caps::CapSearch;
+use crate::runs::Programs;
+use panel_peeling::weights_of;
+use pool_model::Stage;
+use proof_limits::{Budget, Narrow, Stop, narrow_add};
+use proof_model::{Leaf, TreeLine, TreeLines};
+use relaxed_stages::KindStage;
+use std::alloc::{AllocError, Global};
 
 /// A tree for each stage: its leaf where it has one, and else the tree of a search for a panel above its cap.
 pub(crate) fn stage_trees(
     alloc: Global,
-    pool: &Pool,
     programs: &Programs,
+    quotas: usize,
     stages: Vec<KindStage>,
     budget: &mut Budget,
 ) -> Result<Vec<TreeLines>, Stop> {
-    let mut search = CapSearch::new(alloc, pool, programs)?;
+    let mut search = CapSearch::new(alloc, &programs.single, quotas)?;
     let mut trees = Vec::new(alloc);
     for stage in stages {
         let tree = match stage.leaf {
-            Some(leaf) => {
-                let mut lines = TreeLines::new(Vec::new(alloc));
-                lines.add_line(TreeLine::leaf(leaf))?;
-                lines
+            Some(leaf) => tree_of_leaf(alloc, leaf)?,
+            None => {
+                let weights = weights_of(alloc, &programs.kinds, &stage.weights)?;
+                search.tree(&weights, stage.cap, budget)?.ok_or(Stop::Lost)?
             }
-            None => search.tree(programs, &stage.weights, stage.cap, trees.len(), budget)?,
         };
         trees.push(tree)?;
     }
     Ok(trees)
 }
 
-/// The numbers of the rows' constraints behind so many earlier stages.
-fn numbers_after(alloc: Global, program: &Program, stages: usize) -> Result<Vec<usize>, Stop> {
-    let mut numbers = Vec::new(alloc);
-    for row in program.rows() {
-        numbers.push(program.number_after(row, stages))?;
-    }
-    Ok(numbers)
+fn tree_of_leaf(alloc: Global, leaf: Leaf) -> Result<TreeLines, AllocError> {
+    let mut lines = TreeLines::new(Vec::new(alloc));
+    lines.add_line(TreeLine::leaf(leaf))?;
+    Ok(lines)
 }
 
-/// The search for panels above the caps of stages, one after the other.
-#[derive(Drop)]
-struct CapSearch {
+/// A tree for each stage of a certificate, by a search for a panel above its cap. From the first stage on above whose cap some panel is, the
+/// trees have no lines.
+pub(crate) fn searched_trees(
     alloc: Global,
-    table: Table,
-    rows: Vec<Span>,
-    // how many constraints stand before those of stages
-    quotas: usize,
-}
-
-impl CapSearch {
-    fn new(alloc: Global, pool: &Pool, programs: &Programs) -> Result<CapSearch, Stop> {
-        let mut quotas = 1;
-        for category in pool.categories() {
-            quotas += category.values().len();
+    mut search: CapSearch<'_>,
+    stages: &[Stage],
+    budget: &mut Budget,
+) -> Result<Vec<TreeLines>, Stop>
+    requires { IsCapSearch search }
+{
+    let mut trees = Vec::new(alloc);
+    let mut is_shown = true;
+    for stage in stages {
+        let mut tree = None;
+        if is_shown {
+            let weights = narrow_weights(alloc, stage)?;
+            let cap = narrow_add(stage.cap(), 0)?;
+            tree = search.tree(&weights, cap, budget)?;
+            is_shown = tree.is_some();
         }
-        Ok(CapSearch {
-            alloc,
-            table: table_of(alloc, &programs.single)?,
-            rows: row_spans(alloc, &programs.single, Narrow::ONE)?,
-            quotas,
-        })
-    }
-
-    /// The tree of a stage behind so many earlier ones, whose panels attain the cap from now on.
-    fn tree(
-        &mut self,
-        programs: &Programs,
-        weights: &[Narrow],
-        cap: Narrow,
-        earlier: usize,
-        budget: &mut Budget,
-    ) -> Result<TreeLines, Stop> {
-        let weights = weights_of(self.alloc, &programs.kinds, weights)?;
-        let mut numbers = numbers_after(self.alloc, &programs.single, earlier)?;
-        for number in 0..earlier {
-            numbers.push(self.quotas + number)?;
+        match tree {
+            Some(lines) => trees.push(lines)?,
+            None => trees.push(TreeLines::new(Vec::new(alloc)))?,
         }
-        self.table.add_row(&weights)?;
-        self.table.aim(&goal_of(self.alloc, &weights)?, 1)?;
-        self.rows.push(above(&weights, cap)?)?;
-        // the row of the weights has a name too, which is not used
-        numbers.push(self.quotas + earlier)?;
-        let weight_row = Some(self.rows.len() - 1);
-        let spans = programs.single.spans();
-        let lines = prove_empty(
-            self.alloc,
-            &mut self.table,
-            spans,
-            &self.rows,
-            &numbers,
-            weight_row,
-            budget,
-        )?;
-        self.rows.pop();
-        self.rows.push(Span::point(cap))?;
-        Ok(lines)
     }
+    Ok(trees)
 }
 
-fn goal_of(alloc: Global, weights: &[Narrow]) -> Result<Vec<i64>, Stop> {
-    let mut goal = Vec::new(alloc);
-    for weight in weights {
-        goal.push(weight.get())?;
+fn narrow_weights(alloc: Global, stage: &Stage) -> Result<Vec<Narrow>, Stop> {
+    let mut weights = Vec::new(alloc);
+    for weight in stage.weights() {
+        weights.push(narrow_add(*weight, 0)?)?;
     }
-    Ok(goal)
-}
-
-/// The span of what weighs more than a cap.
-fn above(weights: &[Narrow], cap: Narrow) -> Result<Span, Stop> {
-    let mut reach = Narrow::ZERO;
-    for weight in weights {
-        reach = narrow_add(reach.wide(), weight.abs().wide())?;
-    }
-    Ok(Span::reaching(narrow_add(cap.wide(), 1)?, reach))
+    Ok(weights)
 }

@@ -1,0 +1,131 @@
+//! The search for quota panels, and for those above the caps of stages.
+
+ghost use Rattle.std.specs.Prelude.{◌≡◌, ◌<◌, ◌^◌, IfOk, OnOk, length};
+ghost use Rattle.proof_run.specs.Shapes.{IsCapSearch};
+
+use box_table::Table;
+use branch_search::prove_empty;
+use proof_limits::{Budget, Narrow, Span, Stop, narrow_add};
+use proof_model::TreeLines;
+use quota_program::Program;
+use relaxed_stages::{row_spans, table_of};
+use std::alloc::Global;
+
+/// The tree that shows that there is no quota panel.
+pub(crate) fn tree_of_none(
+    alloc: Global,
+    program: &Program,
+    budget: &mut Budget,
+) -> Result<TreeLines, Stop> {
+    let mut table = table_of(alloc, program)?;
+    table.aim(&[], 1)?;
+    let rows = row_spans(alloc, program, Narrow::ONE)?;
+    let numbers = numbers_after(alloc, program, 0)?;
+    let tree = prove_empty(
+        alloc,
+        &mut table,
+        program.spans(),
+        &rows,
+        &numbers,
+        None,
+        budget,
+    )?;
+    tree.ok_or(Stop::Lost)
+}
+
+/// The numbers of the rows' constraints behind so many earlier stages.
+fn numbers_after(alloc: Global, program: &Program, stages: usize) -> Result<Vec<usize>, Stop>
+    requires { stages < 2 ^ 63 }
+    ensures { IfOk result (λ numbers. length numbers.items ≡ length program.now.rows) }
+{
+    let mut numbers = Vec::new(alloc);
+    for row in 0..program.rows().len() {
+        numbers.push(program.number_after(&program.rows()[row], stages))?;
+    }
+    Ok(numbers)
+}
+
+/// The search for panels above the caps of stages, one after the other.
+#[derive(Drop)]
+pub(crate) struct CapSearch<'a> {
+    alloc: Global,
+    program: &'a Program,
+    table: Table,
+    rows: Vec<Span>,
+    // the numbers of the constraints of the stages that were searched
+    stages: Vec<usize>,
+    // how many constraints stand before those of stages
+    quotas: usize,
+}
+
+impl<'a> CapSearch<'a> {
+    /// The search over the volunteers of a program, behind so many constraints.
+    pub(crate) fn new(
+        alloc: Global,
+        program: &'a Program,
+        quotas: usize,
+    ) -> Result<CapSearch<'a>, Stop>
+        ensures { IfOk result IsCapSearch }
+    {
+        Ok(CapSearch {
+            alloc,
+            program,
+            table: table_of(alloc, program)?,
+            rows: row_spans(alloc, program, Narrow::ONE)?,
+            stages: Vec::new(alloc),
+            quotas,
+        })
+    }
+
+    /// The tree of the next stage, whose cap panels attain from now on; none where a panel is above the cap.
+    pub(crate) fn tree(
+        &mut self,
+        weights: &[Narrow],
+        cap: Narrow,
+        budget: &mut Budget,
+    ) -> Result<Option<TreeLines>, Stop>
+        requires { IsCapSearch self.old }
+        ensures { OnOk result (IsCapSearch self.new) }
+    {
+        let earlier = self.stages.len();
+        let mut numbers = numbers_after(self.alloc, self.program, earlier)?;
+        // the row of the weights has a number too, which is not used
+        self.stages.push(self.quotas.saturating_add(earlier))?;
+        numbers.extend_from_slice(&self.stages)?;
+        let weight_row = self.rows.len();
+        if weights.len() != self.program.columns() || numbers.len() != weight_row + 1 {
+            return Err(Stop::Lost);
+        }
+        self.table.add_row(weights)?;
+        self.table.aim(&goal_of(self.alloc, weights)?, 1)?;
+        self.rows.push(above(weights, cap)?)?;
+        let tree = prove_empty(
+            self.alloc,
+            &mut self.table,
+            self.program.spans(),
+            &self.rows,
+            &numbers,
+            Some(weight_row),
+            budget,
+        )?;
+        self.rows[weight_row] = Span::point(cap);
+        Ok(tree)
+    }
+}
+
+fn goal_of(alloc: Global, weights: &[Narrow]) -> Result<Vec<i64>, Stop> {
+    let mut goal = Vec::new(alloc);
+    for weight in weights {
+        goal.push(weight.get())?;
+    }
+    Ok(goal)
+}
+
+/// The span of what weighs more than a cap.
+fn above(weights: &[Narrow], cap: Narrow) -> Result<Span, Stop> {
+    let mut reach = Narrow::ZERO;
+    for weight in weights {
+        reach = narrow_add(reach.wide(), weight.abs().wide())?;
+    }
+    Ok(Span::reaching(narrow_add(cap.wide(), 1)?, reach))
+}
