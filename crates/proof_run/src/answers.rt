@@ -43,9 +43,15 @@ fn lottery_of(alloc: Global, parts: &[Part]) -> Result<Lottery, Stop> {
     let mut rows = Vec::new(alloc);
     for part in merged {
         let weight = part.weight.checked_div(divisor).ok_or(Stop::Lost)?;
+        if weight < 0 {
+            return Err(Stop::Lost);
+        }
         total = wide_add(total, weight)?;
         let panel = Panel::new(part.members).ok_or(Stop::Lost)?;
         rows.push(LotteryRow::new(panel, weight))?;
+    }
+    if total < 0 {
+        return Err(Stop::Lost);
     }
     Ok(Lottery::new(total, rows))
 }

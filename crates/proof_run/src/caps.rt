@@ -1,5 +1,8 @@
 //! The search for quota panels, and for those above the caps of stages.
 
+ghost use Rattle.std.specs.Prelude.{◌≡◌, ◌<◌, ◌^◌, IfOk, OnOk, length};
+ghost use Rattle.proof_run.specs.Shapes.{IsCapSearch};
+
 use box_table::Table;
 use branch_search::prove_empty;
 use proof_limits::{Budget, Narrow, Span, Stop, narrow_add};
@@ -61,7 +64,9 @@ impl<'a> CapSearch<'a> {
         alloc: Global,
         program: &'a Program,
         quotas: usize,
-    ) -> Result<CapSearch<'a>, Stop> {
+    ) -> Result<CapSearch<'a>, Stop>
+        ensures { IfOk result IsCapSearch }
+    {
         Ok(CapSearch {
             alloc,
             program,
@@ -78,7 +83,10 @@ impl<'a> CapSearch<'a> {
         weights: &[Narrow],
         cap: Narrow,
         budget: &mut Budget,
-    ) -> Result<Option<TreeLines>, Stop> {
+    ) -> Result<Option<TreeLines>, Stop>
+        requires { IsCapSearch self.old }
+        ensures { OnOk result (IsCapSearch self.new) }
+    {
         let earlier = self.stages.len();
         let mut numbers = numbers_after(self.alloc, self.program, earlier)?;
         // the row of the weights has a number too, which is not used

@@ -1,5 +1,7 @@
 //! The trees of a proof.
 
+ghost use Rattle.proof_run.specs.Shapes.{IsCapSearch};
+
 use crate::caps::CapSearch;
 use crate::runs::Programs;
 use panel_peeling::weights_of;
@@ -45,7 +47,9 @@ pub(crate) fn searched_trees(
     mut search: CapSearch<'_>,
     stages: &[Stage],
     budget: &mut Budget,
-) -> Result<Vec<TreeLines>, Stop> {
+) -> Result<Vec<TreeLines>, Stop>
+    requires { IsCapSearch search }
+{
     let mut trees = Vec::new(alloc);
     let mut is_shown = true;
     for stage in stages {

@@ -1,0 +1,5 @@
+use Rattle.proof_run.specs.Shapes.{IsCapSearch}
+use Rattle.proof_run.proofs.trees.stage_trees.Given as goal
+
+abbrev pub invariant-loop-stage : goal.invariant-loop-stage
+invariant-loop-stage l = IsCapSearch l.search

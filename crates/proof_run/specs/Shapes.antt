@@ -1,0 +1,8 @@
+-- How long the lists of a search for panels above caps are.
+use Rattle.std.specs.Prelude.{◌≡◌, length}
+use Rattle.proof_run.specs.declared.caps.CapSearch.{CapSearch}
+
+-- the table has the program's columns, and a span for each row
+pub record IsCapSearch (search : CapSearch) : Type 0 where
+  pub columns : search.table.columns ≡ length search.program.now.firsts
+  pub rows : length search.rows.items ≡ search.table.rows
