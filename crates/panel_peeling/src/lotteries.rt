@@ -191,8 +191,23 @@ impl Run<'_> {
         )
     }
 
-    /// Keeps the rest where less is left than of the best one, goes back to the best one, and puts some panels back.
+    /// Keeps the rest or goes back to the best one, puts some panels back, and doubles each fourth time.
     fn begin_turn(&mut self, turn: u64) -> Result<(), Stop>
+        requires run { IsRun self.old }
+        requires table { HasTable self.old }
+        ensures run { IsRun self.new }
+        ensures table { HasTable self.new }
+    {
+        self.keep_or_return()?;
+        self.put_back(2 + 2 * (turn % 8) + turn / 8 % 8 * 4)?;
+        if turn % 4 != 0 {
+            return Ok(());
+        }
+        self.double()
+    }
+
+    /// Keeps the rest where less is left than of the best one, and goes back to the best one else.
+    fn keep_or_return(&mut self) -> Result<(), Stop>
         requires run { IsRun self.old }
         requires table { HasTable self.old }
         ensures run { IsRun self.new }
@@ -202,17 +217,34 @@ impl Run<'_> {
             Some(best) => self.rest.is_less_than(best),
             None => true,
         };
-        if is_better {
-            self.best = Some(self.rest.copy(self.alloc)?);
-        } else {
-            self.return_to_best()?;
+        if !is_better {
+            return self.return_to_best();
         }
-        let count = 2 + 2 * (turn % 8) + turn / 8 % 8 * 4;
-        self.rest.put_back(&self.seen, count)?;
-        if turn % 4 == 0 && self.rest.whole.get() < MOST_DOUBLED {
-            self.rest.double()?;
-        }
+        self.best = Some(self.rest.copy(self.alloc)?);
         Ok(())
+    }
+
+    /// Puts so many panels back.
+    fn put_back(&mut self, count: u64) -> Result<(), Stop>
+        requires run { IsRun self.old }
+        requires table { HasTable self.old }
+        ensures run { IsRun self.new }
+        ensures table { HasTable self.new }
+    {
+        self.rest.put_back(&self.seen, count)
+    }
+
+    /// Doubles the rest, up to a whole.
+    fn double(&mut self) -> Result<(), Stop>
+        requires run { IsRun self.old }
+        requires table { HasTable self.old }
+        ensures run { IsRun self.new }
+        ensures table { HasTable self.new }
+    {
+        if self.rest.whole.get() >= MOST_DOUBLED {
+            return Ok(());
+        }
+        self.rest.double()
     }
 
     /// Goes back to the best rest where less of it is left, and keeps this one else.
@@ -284,7 +316,7 @@ impl Run<'_> {
                 _ => {}
             }
             count = count.saturating_mul(2);
-            self.rest.put_back(&self.seen, count)?;
+            self.put_back(count)?;
         }
         Err(Stop::Lost)
     }

@@ -5,4 +5,4 @@ abbrev pub invariant-loop-i : goal.invariant-loop-i
 invariant-loop-i l = length l.rows.items ≡ length l.moving.items
 
 abbrev pub invariant-rows : goal.invariant-rows
-invariant-rows l = (l.table.columns ≡ 0) × (l.table.rows ≡ l.done)
+invariant-rows l = (l.table.columns ≡ 0) × (l.table.rows ≡ l.counter)
