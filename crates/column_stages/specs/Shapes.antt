@@ -5,11 +5,11 @@ use Rattle.column_stages.specs.declared.mixes.Mix.{Mix}
 
 -- the table of a finder over so many columns has a span for each row
 pub record IsFinder (columns : ℕ) (finder : Finder) : Type 0 where
-  pub program : length finder.program.now.firsts ≡ columns
-  pub columns : finder.table.columns ≡ columns
+  pub of_program : length finder.program.now.firsts ≡ columns
+  pub of_table : finder.table.columns ≡ columns
   pub rows : length finder.rows.items ≡ finder.table.rows
 
 -- the program of the compositions that were found has a column for each, a row for each of so many columns, and one for the total
 pub record IsMix (columns : ℕ) (mix : Mix) : Type 0 where
-  pub columns : length mix.known.items ≡ mix.table.columns
+  pub compositions : length mix.known.items ≡ mix.table.columns
   pub rows : mix.table.rows ≡ columns + 1

@@ -49,7 +49,7 @@ impl<'a> Finder<'a> {
             u64::MAX,
             budget,
         )?;
-        point_of(found)
+        point_of(found, self.program.columns())
     }
 
     /// A composition that weighs at least so much, if there is one.
@@ -77,7 +77,7 @@ impl<'a> Finder<'a> {
         let spans = self.program.spans();
         let found = search(self.alloc, &mut self.table, spans, &rows, u64::MAX, budget)?;
         self.table.drop_last_row(budget)?;
-        point_of(found)
+        point_of(found, self.program.columns())
     }
 
     /// Closes a stage: from now on compositions weigh its cap.
@@ -92,11 +92,14 @@ impl<'a> Finder<'a> {
     }
 }
 
-fn point_of(found: Found) -> Result<Option<Vec<Narrow>>, Stop> {
+/// The point over so many columns that was found.
+fn point_of(found: Found, columns: usize) -> Result<Option<Vec<Narrow>>, Stop>
+    ensures { IfOk result (λ found. IfSome found (λ counts. length counts.items ≡ columns)) }
+{
     match found {
-        Found::Point(point) => Ok(Some(point)),
+        Found::Point(point) if point.len() == columns => Ok(Some(point)),
         Found::Nothing => Ok(None),
-        Found::Doubt => Err(Stop::Lost),
+        Found::Point(_) | Found::Doubt => Err(Stop::Lost),
     }
 }
 

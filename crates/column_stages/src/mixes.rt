@@ -33,7 +33,7 @@ impl Mix {
         ensures { IfOk result (IsMix columns) }
     {
         let mut table = Table::new(alloc, 0)?;
-        for _ in 0..columns {
+        while table.rows() < columns {
             table.add_row(&[])?;
         }
         table.add_row(&[])?;

@@ -1,5 +1,5 @@
 -- How long the lists of a run are.
-use Rattle.std.specs.Prelude.{◌≡◌, ℕ, length, IfSome}
+use Rattle.std.specs.Prelude.{◌≡◌, ◌+◌, length, IfSome}
 use Rattle.panel_peeling.specs.declared.lotteries.Run.{Run}
 use Rattle.panel_peeling.specs.declared.tails.Mix.{Mix}
 
@@ -7,7 +7,7 @@ use Rattle.panel_peeling.specs.declared.tails.Mix.{Mix}
 pub record IsMix (mix : Mix) : Type 0 where
   pub columns : length mix.columns.items ≡ mix.table.columns
   pub rows : length mix.rows.items ≡ mix.table.rows
-  pub moving : mix.table.rows ≡ suc (length mix.moving.items)
+  pub moving : mix.table.rows ≡ length mix.moving.items + 1
 
 -- a rest has a part for each volunteer
 pub record IsRun (run : Run) : Type 0 where

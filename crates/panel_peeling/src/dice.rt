@@ -1,5 +1,7 @@
 //! Dice that are the same each time.
 
+ghost use Rattle.std.specs.Prelude.{◌<◌};
+
 const MULTIPLIER: u64 = 6_364_136_223_846_793_005;
 
 const INCREMENT: u64 = 1_442_695_040_888_963_407;
@@ -16,15 +18,18 @@ impl Dice {
     }
 
     /// A number below the faces, of which there are some.
-    pub(crate) fn throw(&mut self, faces: u64) -> u64 {
+    pub(crate) fn throw(&mut self, faces: u64) -> u64
+        requires { 0 < faces }
+        ensures { result < faces }
+    {
         self.state = self.state.wrapping_mul(MULTIPLIER).wrapping_add(INCREMENT);
-        (self.state >> 33).checked_rem(faces).unwrap_or(0)
+        (self.state >> 33) % faces
     }
 
-    /// A number from the negative of a bound below 2^31 to it.
+    /// A number from the negative of a bound below 2^30 to it.
     pub(crate) fn shift(&mut self, bound: u32) -> i64 {
-        let bound = i64::from(bound);
-        let faces = bound.saturating_mul(2).saturating_add(1);
-        (self.throw(faces.unsigned_abs()) as i64).saturating_sub(bound)
+        let faces = u64::from(bound) * 2 + 1;
+        let face = self.throw(faces) as i64;
+        face - i64::from(bound)
     }
 }

@@ -23,13 +23,14 @@ impl Face {
         ensures rows { IfOk result (λ face. length face.rows.items ≡ length rows.now) }
     {
         let mut columns = Vec::new(alloc);
-        for i in 0..rest.parts.len() {
-            columns.push(column_span(rest.parts[i], rest.total))?;
+        for column in 0..rest.parts.len() {
+            columns.push(column_span(rest.parts[column], rest.total))?;
         }
-        let (mut spans, mut sums) = (Vec::new(alloc), Vec::new(alloc));
-        for i in 0..rows.len() {
-            let sum = rows[i].sum(&rest.parts)?;
-            spans.push(row_span(rows[i].span, sum, rest.total))?;
+        let mut spans = Vec::new(alloc);
+        let mut sums = Vec::new(alloc);
+        for row in 0..rows.len() {
+            let sum = rows[row].sum(&rest.parts)?;
+            spans.push(row_span(rows[row].span, sum, rest.total))?;
             sums.push(sum)?;
         }
         Ok(Face {

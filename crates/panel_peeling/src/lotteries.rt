@@ -25,8 +25,8 @@ const WILDNESS: u32 = 40;
 /// Up to which whole a rest may be doubled: 2^56.
 const MOST_DOUBLED: i64 = 72_057_594_037_927_936;
 
-/// The width of a tail before the last one, in bits.
-const TAIL_BITS: u32 = 46;
+/// The width of a tail before the last one: 2^46.
+const TAIL_WIDTH: i64 = 70_368_744_177_664;
 
 /// A panel with its weight: the numbers of its members, rising.
 #[derive(Debug, Drop)]
@@ -88,7 +88,7 @@ pub fn lottery_of(
 
 /// The width of a tail before the last one.
 fn tail_width() -> Narrow {
-    match Narrow::new(1 << TAIL_BITS) {
+    match Narrow::new(TAIL_WIDTH) {
         Some(width) => width,
         None => Narrow::GREATEST,
     }
@@ -126,33 +126,51 @@ fn rest_of(alloc: Global, kinds: &Program, chances: &Chances) -> Result<Rest, St
     })
 }
 
+/// Whether a tail stopped at its width, or at that of all numbers.
+fn is_too_wide(answer: &Result<Lottery, Stop>) -> bool {
+    matches!(answer, Err(Stop::Wide(_) | Stop::Limited))
+}
+
 impl Run<'_> {
     fn answer(&mut self, budget: &mut Budget) -> Result<Lottery, Stop>
         requires run { IsRun self.old }
         requires table { HasTable self.old }
     {
-        let mut is_done = self.peel(0, 0, budget)?;
-        let mut turn: u64 = 0;
-        for (round, share) in SHARES.iter().enumerate() {
-            for _ in 0..share.saturating_mul(TRIES) {
-                if is_done {
-                    break;
-                }
-                turn = turn.saturating_add(1);
-                self.begin_turn(turn)?;
-                is_done = self.peel(turn, WILDNESS, budget)?;
-            }
-            if is_done {
+        if self.peel(0, 0, budget)? {
+            return self.found(&[], Narrow::ONE);
+        }
+        let mut next: u64 = 1;
+        for round in 0..SHARES.len() {
+            let end = next.saturating_add(SHARES[round].saturating_mul(TRIES));
+            if self.turns(next, end, budget)? {
                 return self.found(&[], Narrow::ONE);
             }
+            next = end;
             let is_last = round + 1 == SHARES.len();
             self.go_to_best()?;
-            match self.tails(is_last, budget) {
-                Err(Stop::Wide(_) | Stop::Limited) if !is_last => self.begin_anew()?,
-                answer => return answer,
+            let answer = self.tails(is_last, budget);
+            if is_last || !is_too_wide(&answer) {
+                return answer;
             }
+            self.begin_anew()?;
         }
         Ok(Lottery::Doubt)
+    }
+
+    /// Peels in turns, from a first one up to an end, until nothing is left. Answers whether nothing is left.
+    fn turns(&mut self, first: u64, end: u64, budget: &mut Budget) -> Result<bool, Stop>
+        requires run { IsRun self.old }
+        requires table { HasTable self.old }
+        ensures run { IsRun self.new }
+        ensures table { HasTable self.new }
+    {
+        for turn in first..end {
+            self.begin_turn(turn)?;
+            if self.peel(turn, WILDNESS, budget)? {
+                return Ok(true);
+            }
+        }
+        Ok(false)
     }
 
     fn peel(&mut self, number: u64, wildness: u32, budget: &mut Budget) -> Result<bool, Stop>
@@ -173,8 +191,23 @@ impl Run<'_> {
         )
     }
 
-    /// Keeps the rest where less is left than of the best one, goes back to the best one, and puts some panels back.
+    /// Keeps the rest or goes back to the best one, puts some panels back, and doubles each fourth time.
     fn begin_turn(&mut self, turn: u64) -> Result<(), Stop>
+        requires run { IsRun self.old }
+        requires table { HasTable self.old }
+        ensures run { IsRun self.new }
+        ensures table { HasTable self.new }
+    {
+        self.keep_or_return()?;
+        self.put_back(2 + 2 * (turn % 8) + turn / 8 % 8 * 4)?;
+        if turn % 4 != 0 {
+            return Ok(());
+        }
+        self.double()
+    }
+
+    /// Keeps the rest where less is left than of the best one, and goes back to the best one else.
+    fn keep_or_return(&mut self) -> Result<(), Stop>
         requires run { IsRun self.old }
         requires table { HasTable self.old }
         ensures run { IsRun self.new }
@@ -184,17 +217,34 @@ impl Run<'_> {
             Some(best) => self.rest.is_less_than(best),
             None => true,
         };
-        if is_better {
-            self.best = Some(self.rest.copy(self.alloc)?);
-        } else {
-            self.return_to_best()?;
+        if !is_better {
+            return self.return_to_best();
         }
-        let count = 2 + 2 * (turn % 8) + turn / 8 % 8 * 4;
-        self.rest.put_back(&self.seen, count)?;
-        if turn % 4 == 0 && self.rest.whole.get() < MOST_DOUBLED {
-            self.rest.double()?;
-        }
+        self.best = Some(self.rest.copy(self.alloc)?);
         Ok(())
+    }
+
+    /// Puts so many panels back.
+    fn put_back(&mut self, count: u64) -> Result<(), Stop>
+        requires run { IsRun self.old }
+        requires table { HasTable self.old }
+        ensures run { IsRun self.new }
+        ensures table { HasTable self.new }
+    {
+        self.rest.put_back(&self.seen, count)
+    }
+
+    /// Doubles the rest, up to a whole.
+    fn double(&mut self) -> Result<(), Stop>
+        requires run { IsRun self.old }
+        requires table { HasTable self.old }
+        ensures run { IsRun self.new }
+        ensures table { HasTable self.new }
+    {
+        if self.rest.whole.get() >= MOST_DOUBLED {
+            return Ok(());
+        }
+        self.rest.double()
     }
 
     /// Goes back to the best rest where less of it is left, and keeps this one else.
@@ -216,9 +266,10 @@ impl Run<'_> {
     }
 
     fn return_to_best(&mut self) -> Result<(), Stop>
-        requires { IsRun self.old }
+        requires run { IsRun self.old }
+        requires table { HasTable self.old }
         ensures run { IsRun self.new }
-        ensures table { self.new.table ≡ self.old.table }
+        ensures table { HasTable self.new }
     {
         if let Some(best) = &self.best {
             self.rest = best.copy(self.alloc)?;
@@ -247,7 +298,8 @@ impl Run<'_> {
         } else {
             tail_width()
         };
-        for doublings in 1..64 {
+        let mut count: u64 = 1;
+        'doublings: for _ in 1..64 {
             let answer = tail_of(
                 self.alloc,
                 &mut self.table,
@@ -261,8 +313,10 @@ impl Run<'_> {
                 Tail::Inside(weights, denominator) => return self.found(&weights, denominator),
                 Tail::Outside if self.rest.taken.is_empty() => return Ok(Lottery::Outside),
                 Tail::Doubt if self.rest.taken.is_empty() => return Ok(Lottery::Doubt),
-                _ => self.rest.put_back(&self.seen, 1 << doublings)?,
+                _ => {}
             }
+            count = count.saturating_mul(2);
+            self.put_back(count)?;
         }
         Err(Stop::Lost)
     }

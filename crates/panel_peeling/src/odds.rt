@@ -8,11 +8,11 @@ pub(crate) fn log(number: Narrow) -> i64 {
         return 0;
     }
     let value = number.get().unsigned_abs();
-    let bits = 64 - value.leading_zeros();
+    let bits = u64::BITS.saturating_sub(value.leading_zeros());
     let behind = if bits >= 5 {
         value >> (bits - 5)
     } else {
         value << (5 - bits)
     };
-    i64::from((bits + 6) * 16) + (behind & 15) as i64
+    i64::from((bits + 6) * 16) + (behind % 16) as i64
 }

@@ -41,9 +41,9 @@ pub(crate) fn peel(
     ensures parts { length rest.new.parts.items ≡ length rest.old.parts.items }
 {
     let mut dice = Dice::new(turn.number.wrapping_mul(7919).wrapping_add(1));
-    while rest.total.get() > 0 {
+    'panels: while rest.total.get() > 0 {
         let face = Face::of(alloc, rest, rows)?;
-        let wishes = wishes(alloc, rest, &face, turn, &mut dice)?;
+        let wishes = wishes_of(alloc, rest, &face, turn, &mut dice)?;
         table.aim(&wishes, rest.total.get().unsigned_abs() % 1024)?;
         let found = search(alloc, table, &face.columns, &face.rows, MOST_NODES, budget)?;
         let Found::Point(point) = found else {
@@ -60,7 +60,7 @@ pub(crate) fn peel(
 }
 
 /// How much each volunteer is wished for: more who has more of the rest, and a little by dice.
-fn wishes(
+fn wishes_of(
     alloc: Global,
     rest: &Rest,
     face: &Face,

@@ -39,11 +39,7 @@ impl Rest {
     pub(crate) fn take(&mut self, seen: &Seen, panel: usize, weight: Narrow) -> Result<(), Stop>
         ensures { length self.new.parts.items ≡ length self.old.parts.items }
     {
-        for member in seen.members(panel) {
-            if let Some(part) = self.parts.get_mut(*member) {
-                *part = narrow_sub(part.wide(), weight.wide())?;
-            }
-        }
+        take_from(&mut self.parts, seen.members(panel), weight)?;
         self.total = narrow_sub(self.total.wide(), weight.wide())?;
         self.taken.push(Taken { weight, panel })?;
         Ok(())
@@ -57,11 +53,7 @@ impl Rest {
             let Some(taken) = self.taken.pop() else {
                 return Ok(());
             };
-            for member in seen.members(taken.panel) {
-                if let Some(part) = self.parts.get_mut(*member) {
-                    *part = narrow_add(part.wide(), taken.weight.wide())?;
-                }
-            }
+            add_to(&mut self.parts, seen.members(taken.panel), taken.weight)?;
             self.total = narrow_add(self.total.wide(), taken.weight.wide())?;
         }
         Ok(())
@@ -71,12 +63,8 @@ impl Rest {
     pub(crate) fn double(&mut self) -> Result<(), Stop>
         ensures { length self.new.parts.items ≡ length self.old.parts.items }
     {
-        for part in self.parts.iter_mut() {
-            *part = doubled(*part)?;
-        }
-        for taken in self.taken.iter_mut() {
-            taken.weight = doubled(taken.weight)?;
-        }
+        double_parts(&mut self.parts)?;
+        double_weights(&mut self.taken)?;
         self.total = doubled(self.total)?;
         self.whole = doubled(self.whole)?;
         Ok(())
@@ -86,6 +74,46 @@ impl Rest {
     pub(crate) fn is_less_than(&self, other: &Rest) -> bool {
         times(self.total, other.whole) < times(other.total, self.whole)
     }
+}
+
+/// Takes a weight from the part of each member.
+fn take_from(parts: &mut [Narrow], members: &[usize], weight: Narrow) -> Result<(), Stop>
+    ensures { length parts.new ≡ length parts.old }
+{
+    for member in members {
+        if let Some(part) = parts.get_mut(*member) {
+            *part = narrow_sub(part.wide(), weight.wide())?;
+        }
+    }
+    Ok(())
+}
+
+/// Adds a weight to the part of each member.
+fn add_to(parts: &mut [Narrow], members: &[usize], weight: Narrow) -> Result<(), Stop>
+    ensures { length parts.new ≡ length parts.old }
+{
+    for member in members {
+        if let Some(part) = parts.get_mut(*member) {
+            *part = narrow_add(part.wide(), weight.wide())?;
+        }
+    }
+    Ok(())
+}
+
+fn double_parts(parts: &mut [Narrow]) -> Result<(), Stop>
+    ensures { length parts.new ≡ length parts.old }
+{
+    for part in parts.iter_mut() {
+        *part = doubled(*part)?;
+    }
+    Ok(())
+}
+
+fn double_weights(panels: &mut [Taken]) -> Result<(), Stop> {
+    for taken in panels.iter_mut() {
+        taken.weight = doubled(taken.weight)?;
+    }
+    Ok(())
 }
 
 fn doubled(number: Narrow) -> Result<Narrow, Stop> {

@@ -46,10 +46,15 @@ impl Seen {
         if members.len() != self.size {
             return Err(Stop::Lost);
         }
-        if let Some(number) = self.panels.iter().position(|panel| panel == &members) {
+        let known = self
+            .panels
+            .iter()
+            .position(|panel| panel.as_slice() == members.as_slice());
+        if let Some(number) = known {
             return Ok(number);
         }
+        let number = self.panels.len();
         self.panels.push(members)?;
-        Ok(self.panels.len() - 1)
+        Ok(number)
     }
 }

@@ -56,10 +56,11 @@ pub(crate) fn tail_of(
 {
     let face = Face::of(alloc, rest, rows)?;
     let mut mix = Mix::new(alloc, rest, &face, width)?;
-    for number in panels_of(alloc, seen, rows, &face)? {
-        mix.join(alloc, seen, number, rest.total)?;
+    let numbers = panels_of(alloc, seen, rows, &face)?;
+    for number in &numbers {
+        mix.join(alloc, seen, *number, rest.total)?;
     }
-    for _ in 0..MOST_STEPS {
+    'steps: for _ in 0..MOST_STEPS {
         if mix.has_point(budget)? {
             return mix.weights(alloc);
         }
@@ -142,19 +143,21 @@ fn beat(
 
 impl Mix {
     fn new(alloc: Global, rest: &Rest, face: &Face, width: Narrow) -> Result<Mix, Stop>
+        requires { length face.now.columns.items ≡ length rest.now.parts.items }
         ensures { IfOk result IsMix }
     {
-        let (mut moving, mut rows) = (Vec::new(alloc), Vec::new(alloc));
-        for (i, (span, part)) in face.columns.iter().zip(&rest.parts).enumerate() {
-            if !span.is_point() {
+        let mut moving = Vec::new(alloc);
+        let mut rows = Vec::new(alloc);
+        for i in 0..face.columns.len() {
+            if !face.columns[i].is_point() {
                 moving.push(i)?;
-                rows.push(Span::point(*part))?;
+                rows.push(Span::point(rest.parts[i]))?;
             }
         }
         rows.push(Span::point(rest.total))?;
         let mut table = Table::new(alloc, 0)?;
         table.limit_to(width);
-        for _ in 0..rows.len() {
+        'rows: for _ in 0..rows.len() {
             table.add_row(&[])?;
         }
         Ok(Mix {
@@ -200,8 +203,9 @@ impl Mix {
 
     /// The panels of the point that was found, with their weights.
     fn weights(&self, alloc: Global) -> Result<Tail, Stop> {
+        let values = self.table.point(alloc)?;
         let mut weights = Vec::new(alloc);
-        for (value, number) in self.table.point(alloc)?.iter().zip(&self.panels) {
+        for (value, number) in values.iter().zip(&self.panels) {
             if *value != 0 {
                 weights.push((*value, *number))?;
             }
@@ -214,8 +218,8 @@ impl Mix {
         ensures { IfOk result (λ wanted. length wanted.0.items ≡ length rest.now.parts.items) }
     {
         let mut wishes = vec![in alloc; Narrow::ZERO; rest.parts.len()]?;
-        let mut sum = 0;
         let multipliers = self.table.refutation(alloc)?;
+        let mut sum = 0;
         for (i, multiplier) in self.moving.iter().zip(&multipliers) {
             if let Some(wish) = wishes.get_mut(*i) {
                 *wish = -*multiplier;

@@ -1,5 +1,5 @@
 -- What a proof that was made is about, and why a run stops.
-use Rattle.std.specs.Prelude.{◌≡◌, ⊥}
+use Rattle.std.specs.Prelude.{◌≡◌}
 use Rattle.addition_definitions.specs.ProofVerdict.{OfLottery, OfNoPanel, Proof}
 use Rattle.bundle_definitions.specs.BundleText.{Bundle}
 use Rattle.pool_definitions.specs.Pool.{Pool}

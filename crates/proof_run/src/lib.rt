@@ -6,8 +6,6 @@
 mod answers;
 mod caps;
 mod runs;
-#[cfg(test)]
-mod tests;
 mod trees;
 
 pub use runs::{make_proof, prove_bundle};

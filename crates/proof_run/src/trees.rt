@@ -22,11 +22,12 @@ pub(crate) fn stage_trees(
     let mut search = CapSearch::new(alloc, &programs.single, quotas)?;
     let mut trees = Vec::new(alloc);
     for stage in stages {
-        let tree = match stage.leaf {
+        let KindStage { weights, cap, leaf } = stage;
+        let tree = match leaf {
             Some(leaf) => tree_of_leaf(alloc, leaf)?,
             None => {
-                let weights = weights_of(alloc, &programs.kinds, &stage.weights)?;
-                search.tree(&weights, stage.cap, budget)?.ok_or(Stop::Lost)?
+                let weights = weights_of(alloc, &programs.kinds, &weights)?;
+                search.tree(&weights, cap, budget)?.ok_or(Stop::Lost)?
             }
         };
         trees.push(tree)?;

@@ -3,8 +3,8 @@
 ghost use Rattle.std.specs.Prelude.{◌≡◌, length};
 
 use crate::chances::Chances;
-use crate::shares::Share;
 use crate::divisors::divisor_of;
+use crate::shares::Share;
 use proof_limits::{Narrow, Stop, narrow_add, narrow_div, wide_add, wide_mul, wide_sub};
 use quota_program::Program;
 

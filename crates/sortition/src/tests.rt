@@ -45,6 +45,18 @@ const FOUR_PROOF: &[u8] =
 const DOUBLED_PROOF: &[u8] =
     b"proof\t1\nbundle\t1\npool\t1\nsize\t2\ncategory\tgender\nvalue\tfemale\t1\t1\nvalue\tmale\t1\t1\nvolunteer\ta\tfemale\nvolunteer\tb\tfemale\nvolunteer\tc\tmale\nvolunteer\td\tmale\nend\ntotal\t2\npanel\t1\t0\t2\npanel\t1\t1\t3\nstage\t1\t1\t1\t0\t0\nstage\t0\t-1\t-1\t1\t1\ndone\ntree\t1\nbound\t1\t1\t2\ntree\t2\nbound\t1\t2\t1\t3\t-1\nclose\n";
 
+/// The proof that `prove` makes for two women and two men.
+const FOUR_PROVED: &[u8] =
+    b"proof\t1\nbundle\t1\npool\t1\nsize\t2\ncategory\tgender\nvalue\tfemale\t1\t1\nvalue\tmale\t1\t1\nvolunteer\ta\tfemale\nvolunteer\tb\tfemale\nvolunteer\tc\tmale\nvolunteer\td\tmale\nend\ntotal\t2\npanel\t1\t0\t3\npanel\t1\t1\t2\nstage\t1\t1\t1\t0\t0\nstage\t1\t0\t0\t1\t1\ndone\ntree\t1\nbound\t1\t1\t1\ntree\t2\nbound\t1\t0\t1\t1\t-1\nclose\n";
+
+/// The proof that it makes of the bundle over them: the size less twice the women is the weight of the second stage.
+const FOUR_BUNDLE_PROVED: &[u8] =
+    b"proof\t1\nbundle\t1\npool\t1\nsize\t2\ncategory\tgender\nvalue\tfemale\t1\t1\nvalue\tmale\t1\t1\nvolunteer\ta\tfemale\nvolunteer\tb\tfemale\nvolunteer\tc\tmale\nvolunteer\td\tmale\nend\ntotal\t2\npanel\t1\t0\t2\npanel\t1\t1\t3\nstage\t1\t1\t1\t0\t0\nstage\t0\t-1\t-1\t1\t1\ndone\ntree\t1\nbound\t1\t1\t1\ntree\t2\nbound\t1\t0\t1\t1\t-2\nclose\n";
+
+/// The proof that it makes where two women are asked for and one is there.
+const SHORT_PROVED: &[u8] =
+    b"proof\t1\npool\t1\nsize\t2\ncategory\tgender\nvalue\tfemale\t2\t2\nvalue\tmale\t0\t2\nvolunteer\ta\tfemale\nvolunteer\tb\tmale\nvolunteer\tc\tmale\nend\nnone\ntree\t0\nbound\t0\t1\t-1\nclose\n";
+
 const NOBODY: &[u8] = b"pool\t1\nsize\t1\nend\n";
 
 /// The bundle of two women and two men.
@@ -466,6 +478,32 @@ const PROOF_ROWS: &[(&[&str], &[u8], u8, &[u8], &[u8])] = &[
     (&["bundle"], FOUR, 3, b"", b"input\t1\t21\n"),
 ];
 
+/// The same of the proofs that are made.
+const PROVE_ROWS: &[(&[&str], &[u8], u8, &[u8], &[u8])] = &[
+    (&["prove"], FOUR, 0, FOUR_PROVED, b""),
+    (&["prove"], SHORT, 1, SHORT_PROVED, b""),
+    (
+        &["prove", "--pivots", "0"],
+        FOUR,
+        5,
+        b"",
+        b"spent\tpivots\t0\n",
+    ),
+    (
+        &["prove", "--nodes", "0"],
+        FOUR,
+        5,
+        b"",
+        b"spent\tnodes\t0\n",
+    ),
+    (&["prove"], FOUR_BUNDLE, 0, FOUR_BUNDLE_PROVED, b""),
+    (&["prove"], PASSED_CAP, 11, b"refused\t1\t11\t20\n", b""),
+    (&["prove"], TOTAL_OF_THREE, 11, b"refused\t0\t3\n", b""),
+    (&["prove"], MEN_LEFT, 11, b"refused\t1\t10\t2\n", b""),
+    (&["prove"], FOUR_PROOF, 3, b"", b"input\t1\t1\n"),
+    (&["prove"], b"bundle\t3\n", 3, b"", b"input\t1\t13\n"),
+];
+
 /// The same of made pools, for which the source holds what isn't read.
 const MAKE_ROWS: &[(&[&str], &[u8], u8, &[u8], &[u8])] = &[
     (
@@ -487,7 +525,14 @@ const MAKE_ROWS: &[(&[&str], &[u8], u8, &[u8], &[u8])] = &[
 #[test]
 fn calls_are_answered(rt: HostRuntime) -> Result<(), AllocError> {
     let alloc = rt.alloc();
-    for rows in [ROWS, BUNDLE_ROWS, CHECK_ROWS, PROOF_ROWS, MAKE_ROWS] {
+    for rows in [
+        ROWS,
+        BUNDLE_ROWS,
+        CHECK_ROWS,
+        PROOF_ROWS,
+        PROVE_ROWS,
+        MAKE_ROWS,
+    ] {
         for (words, text, status, out, errs) in rows {
             let told = answer_of(&rt, alloc, &asking(words, text))?;
             assert_eq!(rt; told.status, *status, "{words:?}");

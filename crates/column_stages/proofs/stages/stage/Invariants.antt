@@ -3,12 +3,12 @@ use Rattle.std.specs.Prelude.{IfSome}
 use Rattle.column_stages.specs.Shapes.{IsFinder, IsMix}
 use Rattle.column_stages.proofs.stages.stage.Given as goal
 
-abbrev pub invariant-loop : goal.invariant-loop
-invariant-loop l = record {
+abbrev pub invariant-loop-last : goal.invariant-loop-last
+invariant-loop-last l = record {
   mix : IsMix (length l.program.firsts) l.mix;
   finder : IsFinder (length l.program.firsts) l.finder;
   last : IfSome l.last (λ last. length last.0.items ≡ length l.program.firsts);
 }
 
-abbrev pub decreases-loop : goal.decreases-loop
-decreases-loop l = l.budget.nodes
+abbrev pub decreases-loop-last : goal.decreases-loop-last
+decreases-loop-last l = l.budget.nodes

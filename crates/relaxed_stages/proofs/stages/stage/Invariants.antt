@@ -3,8 +3,8 @@ use Rattle.std.specs.Prelude.{IfSome}
 use Rattle.box_table.specs.Sizes.{SameSizes}
 use Rattle.relaxed_stages.proofs.stages.stage.Given as goal
 
-abbrev pub invariant-loop : goal.invariant-loop
-invariant-loop l = SameSizes l.initial.table l.table × IfSome l.last (λ last. length last.0.weights.items ≡ length l.program.firsts)
+abbrev pub invariant-loop-last : goal.invariant-loop-last
+invariant-loop-last l = SameSizes l.initial.table l.table × IfSome l.last (λ last. length last.0.weights.items ≡ length l.program.firsts)
 
-abbrev pub decreases-loop : goal.decreases-loop
-decreases-loop l = l.budget.nodes
+abbrev pub decreases-loop-last : goal.decreases-loop-last
+decreases-loop-last l = l.budget.nodes

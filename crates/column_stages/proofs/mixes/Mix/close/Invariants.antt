@@ -1,3 +1,4 @@
+use Rattle.std.proofs.Common.{length}
 use Rattle.column_stages.specs.Shapes.{IsMix}
 use Rattle.column_stages.proofs.mixes.Mix.close.Given as goal
 

@@ -1,0 +1,5 @@
+use Rattle.panel_peeling.specs.Shapes.{HasTable, IsRun}
+use Rattle.panel_peeling.proofs.lotteries.Run.tails.Given as goal
+
+abbrev pub invariant-doublings : goal.invariant-doublings
+invariant-doublings l = IsRun l.self × HasTable l.self

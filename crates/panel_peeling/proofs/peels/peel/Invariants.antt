@@ -1,0 +1,12 @@
+use Rattle.std.proofs.Common.{◌≡◌, length}
+use Rattle.box_table.specs.Sizes.{SameSizes}
+use Rattle.panel_peeling.proofs.peels.peel.Given as goal
+
+abbrev pub invariant-panels : goal.invariant-panels
+invariant-panels l = record {
+  sizes : SameSizes l.fn.table l.table;
+  parts : length l.rest.parts.items ≡ length l.fn.rest.parts.items;
+}
+
+abbrev pub decreases-panels : goal.decreases-panels
+decreases-panels l = l.budget.nodes
