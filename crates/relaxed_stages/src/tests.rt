@@ -1,10 +1,10 @@
 //! Small pools.
 
-use crate::{Relaxed, relaxed_stages};
+use crate::{Chances, Relaxed, relaxed_stages};
 use pool_model::{BuildStop, Name, Pool};
 use proof_limits::Budget;
 use quota_program::Program;
-use std::alloc::Global;
+use std::alloc::{AllocError, Global};
 use std::test::Fail;
 
 /// Values with their bounds, a size, and how many volunteers have each value.
@@ -28,25 +28,35 @@ fn pool(alloc: Global, rows: Rows) -> Result<Pool, BuildStop> {
     Ok(pool)
 }
 
-/// Pools, and their stages: the cap and the weights of each, and the chances.
+/// Pools, and the chances of each value's volunteers.
 const ROWS: &[(Rows, &str)] = &[
-    ((2, &[("x", 1, 1, 2), ("y", 1, 1, 2)]), ""),
-    ((2, &[("x", 1, 1, 3), ("y", 1, 1, 2)]), ""),
-    ((1, &[("x", 0, 0, 1), ("y", 0, 1, 2)]), ""),
-    ((2, &[("x", 2, 2, 1), ("y", 0, 2, 2)]), ""),
+    ((2, &[("x", 1, 1, 2), ("y", 1, 1, 2)]), "1/2 1/2 "),
+    ((2, &[("x", 1, 1, 3), ("y", 1, 1, 2)]), "1/3 1/2 "),
+    ((1, &[("x", 0, 0, 1), ("y", 0, 1, 2)]), "0/1 1/2 "),
+    ((2, &[("x", 2, 2, 1), ("y", 0, 2, 2)]), "empty"),
 ];
 
+/// The chances of columns.
+fn spelled(alloc: Global, program: &Program, chances: &Chances) -> Result<String, AllocError> {
+    let mut text = String::new(alloc);
+    for column in 0..program.columns() {
+        if let Some(share) = chances.share(column) {
+            let own = format!(in alloc; "{}/{} ", share.num().get(), share.den().get())?;
+            text.push_str(own.as_str())?;
+        }
+    }
+    Ok(text)
+}
+
 #[test]
-fn pools_have_stages(rt: HostRuntime) -> Result<(), Fail> {
+fn pools_have_chances(rt: HostRuntime) -> Result<(), Fail> {
     let alloc = rt.alloc();
     for (rows, wanted) in ROWS {
         let program = Program::by_kind(alloc, &pool(alloc, *rows)?)?;
         let mut budget = Budget::new(1000, 1000);
         let said = match relaxed_stages(alloc, &program, &mut budget)? {
             Relaxed::Empty => String::from_str(alloc, "empty")?,
-            Relaxed::Settled(stages, chances, is_tight) => {
-                format!(in alloc; "{stages:?} {chances:?} {is_tight}")?
-            }
+            Relaxed::Settled(_, chances, _) => spelled(alloc, &program, &chances)?,
         };
         assert_eq!(rt; said.as_str(), *wanted);
     }
