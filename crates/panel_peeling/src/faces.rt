@@ -42,7 +42,12 @@ impl Face {
 
     /// Whether a panel's members, by their values of 0 or 1, keep the face.
     pub(crate) fn has(&self, rows: &[PanelRow], point: &[Narrow]) -> Result<bool, Stop> {
-        if !self.columns.iter().zip(point).all(|(span, value)| is_in(*span, value.wide())) {
+        if !self
+            .columns
+            .iter()
+            .zip(point)
+            .all(|(span, value)| is_in(*span, value.wide()))
+        {
             return Ok(false);
         }
         for (span, row) in self.rows.iter().zip(rows) {
@@ -56,8 +61,16 @@ impl Face {
 
 /// Who has nothing of a total is on no panel, who has all of it on each.
 fn column_span(part: Narrow, total: Narrow) -> Span {
-    let least = if part.get() >= total.get() { Narrow::ONE } else { Narrow::ZERO };
-    let greatest = if part.get() > 0 { Narrow::ONE } else { Narrow::ZERO };
+    let least = if part.get() >= total.get() {
+        Narrow::ONE
+    } else {
+        Narrow::ZERO
+    };
+    let greatest = if part.get() > 0 {
+        Narrow::ONE
+    } else {
+        Narrow::ZERO
+    };
     Span::reaching(least, greatest)
 }
 

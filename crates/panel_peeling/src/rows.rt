@@ -68,7 +68,13 @@ impl PanelRow {
     pub(crate) fn sum(&self, values: &[Narrow]) -> Result<i128, Stop> {
         let mut sum = 0;
         for place in &self.places {
-            sum = wide_add(sum, times(value_at(&self.coefficients, *place), value_at(values, *place)))?;
+            sum = wide_add(
+                sum,
+                times(
+                    value_at(&self.coefficients, *place),
+                    value_at(values, *place),
+                ),
+            )?;
         }
         Ok(sum)
     }

@@ -171,13 +171,7 @@ impl Mix {
     }
 
     /// Adds a column for the panel of a number.
-    fn join(
-        &mut self,
-        alloc: Global,
-        seen: &Seen,
-        number: usize,
-        total: Narrow,
-    ) -> Result<(), Stop>
+    fn join(&mut self, alloc: Global, seen: &Seen, number: usize, total: Narrow) -> Result<(), Stop>
         requires { IsMix self.old }
         ensures { OnOk result (IsMix self.new) }
     {

@@ -25,6 +25,9 @@ fn points_have_lotteries(rt: HostRuntime) -> Result<(), Fail> {
     let rows = PanelRows::new(alloc, &single, &kinds, &stages)?;
     let found = lottery_of(alloc, &single, &rows, &kinds, &chances, 1, &mut budget)?;
     let said = format!(in alloc; "{found:?}")?;
-    assert_eq!(rt; said.as_str(), "Found([Part { weight: 1, members: [0] }, Part { weight: 1, members: [1] }])");
+    assert_eq!(rt;
+        said.as_str(),
+        "Found([Part { weight: 1, members: [0] }, Part { weight: 1, members: [1] }])"
+    );
     Ok(())
 }
