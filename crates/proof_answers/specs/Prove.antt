@@ -1,7 +1,6 @@
 -- What the command `prove` answers: a proof over the pool of the input that is valid, or why there is none. The run that makes the proof is no
 -- definition: where it makes none, only the reason is said.
-use Rattle.std.specs.Prelude.{◌≡◌, ◌⊎◌, ℕ, nat_eq, Bool, true, false, List, [], ◌∷◌, codes, Option, None, Some, Ok, Err, ⊤}
-use Rattle.std.specs.List.{starts_with}
+use Rattle.std.specs.Prelude.{◌≡◌, ℕ, Bool, true, false, List, [], ◌∷◌, take, codes, bytes_eq, Option, None, Some, Ok, Err, ⊤}
 use Rattle.std.specs.Fmt.{decimal, signed_decimal}
 use Rattle.addition_definitions.specs.ProofVerdict.{OfLottery, OfNoPanel, verdict}
 use Rattle.addition_definitions.specs.TreeLines.{TreeLine}
@@ -39,7 +38,7 @@ of_bundle bundle = record { pool = bundle.pool; given = Some bundle.answer }
 
 -- a text that begins so is read as that of a bundle
 abbrev pub begins_as_bundle : List ℕ → Bool
-begins_as_bundle bytes = starts_with nat_eq bytes (codes "bundle")
+begins_as_bundle bytes = bytes_eq (codes "bundle") (take 6 bytes)
 
 -- Means says which answers are right about a subject
 pub data OfSubject (Means : Subject → Saying → Type 0) (bytes : List ℕ) (answer : Saying) : Type 0 where
@@ -78,12 +77,14 @@ abbrev pub IsGiven : Option Answer → Answer → Type 0
 IsGiven None its = ⊤
 IsGiven (Some given) its = its ≡ given
 
--- what may be spent: the pivots and the nodes of the whole run, the tries to make a lottery, and nothing where a step of the run led to a state
--- that exact arithmetic never leads to
-abbrev pub IsSpentLine : ℕ → ℕ → List ℕ → Type 0
-IsSpentLine pivots nodes said =
-    (said ≡ spent_line (codes "pivots") pivots) ⊎ (said ≡ spent_line (codes "nodes") nodes)
-    ⊎ (said ≡ spent_line (codes "lottery") lottery_tries) ⊎ (said ≡ spent_line (codes "lost") 0)
+-- the line that tells what is spent
+pub data IsSpentLine (pivots nodes : ℕ) (said : List ℕ) : Type 0 where
+  -- the pivots of the whole run, its nodes, or the tries to make a lottery
+  PivotsSpent : said ≡ spent_line (codes "pivots") pivots → IsSpentLine pivots nodes said
+  NodesSpent : said ≡ spent_line (codes "nodes") nodes → IsSpentLine pivots nodes said
+  LotterySpent : said ≡ spent_line (codes "lottery") lottery_tries → IsSpentLine pivots nodes said
+  -- nothing: a step of the run led to a state that exact arithmetic never leads to, or its proof was refused
+  StepLost : said ≡ spent_line (codes "lost") 0 → IsSpentLine pivots nodes said
 
 pub data ProveMeans (pivots nodes : ℕ) (subject : Subject) (answer : Saying) : Type 0 where
   -- 0: the text of a proof that is valid, so no lottery over the pool's quota panels is above its lottery, which is the given one where one is given

@@ -1,5 +1,5 @@
 -- What is told of a proof that was verified is right about the subject that it is about.
-use Rattle.std.proofs.Common.{◌≡◌, ◌∙◌, ℕ, List, [], Option, None, Some, refl, sym, ap, subst}
+use Rattle.std.proofs.Common.{◌≡◌, ℕ, codes, List, [], Option, None, Some, refl, sym, subst}
 use Rattle.addition_definitions.specs.ProofVerdict.{OfLottery, OfNoPanel, Proof, verdict}
 use Rattle.addition_definitions.specs.TreeLines.{TreeLine}
 use Rattle.bundle_answers.specs.Check.{refused_line}
@@ -10,9 +10,9 @@ use Rattle.command_shell.specs.Answers.{Saying, Prints}
 use Rattle.pool_definitions.specs.Certificate.{Answer, Certifies}
 use Rattle.pool_definitions.specs.Lottery.{LeximinGreatest}
 use Rattle.pool_definitions.specs.Pool.{Pool, panels}
-use Rattle.proof_answers.specs.Prove.{IsGiven, IsNone, IsProved, IsRefused, ProveMeans, Subject, of_bundle, of_pool}
+use Rattle.proof_answers.specs.Prove.{IsGiven, IsNone, IsProved, IsRefused, IsSpent, ProveMeans, StepLost, of_bundle, of_pool, spent_line}
 use Rattle.proof_run.specs.Made.{IsOfBundle, IsOfPool}
-use Rattle.prove_command.specs.Proved.{proof_said}
+use Rattle.prove_command.specs.Proved.{TellsOfBundle, TellsOfPool, proof_said}
 
 -- what verifying says of a valid proof of a lottery, and of one that there is no panel
 abbrev pub SaysGreatest : Proof → Type 0
@@ -29,7 +29,7 @@ module _ (pivots nodes : ℕ) (answer : Saying) where
   lottery_proved pool given its is trees valid greatest tells =
       let shown = greatest pool its trees refl in IsProved its is trees valid (record { certified = shown.1; greatest = shown.0 }) tells
 
-  pub pool_proved : (pool : Pool) (proof : Proof) → IsOfPool pool proof → verdict proof ≡ Valid → SaysGreatest proof → SaysNone proof →
+  pool_proved : (pool : Pool) (proof : Proof) → IsOfPool pool proof → verdict proof ≡ Valid → SaysGreatest proof → SaysNone proof →
       answer ≡ proof_said proof → ProveMeans pivots nodes (of_pool pool) answer
   pool_proved pool (OfLottery own its trees) is valid greatest none tells =
       subst (λ it. ProveMeans pivots nodes (of_pool it) answer) is (lottery_proved own None its tt trees valid greatest tells)
@@ -43,14 +43,24 @@ module _ (pivots nodes : ℕ) (answer : Saying) where
       subst (λ it. ProveMeans pivots nodes (record { pool = it; given = Some bundle.answer }) answer) same_pool
       (subst (λ it. ProveMeans pivots nodes (record { pool = pool; given = Some it }) answer) same_answer means)
 
-  pub bundle_proved : (bundle : Bundle) (proof : Proof) → IsOfBundle bundle proof → verdict proof ≡ Valid → SaysGreatest proof →
+  bundle_proved : (bundle : Bundle) (proof : Proof) → IsOfBundle bundle proof → verdict proof ≡ Valid → SaysGreatest proof →
       answer ≡ proof_said proof → ProveMeans pivots nodes (of_bundle bundle) answer
   bundle_proved bundle (OfLottery own its trees) is valid greatest tells =
       of_parts bundle own its is.0 is.1 (lottery_proved own (Some its) its refl trees valid greatest tells)
   bundle_proved bundle (OfNoPanel own lines) is valid greatest tells = absurd is
 
-  pub bundle_refused : (bundle : Bundle) (proof : Proof) (refusal : Refusal) → IsOfBundle bundle proof → verdict proof ≡ Refused refusal →
+  bundle_refused : (bundle : Bundle) (proof : Proof) (refusal : Refusal) → IsOfBundle bundle proof → verdict proof ≡ Refused refusal →
       answer ≡ Prints printed.Refused (refused_line refusal) → ProveMeans pivots nodes (of_bundle bundle) answer
   bundle_refused bundle (OfLottery own its trees) refusal is refused tells =
       of_parts bundle own its is.0 is.1 (IsRefused its refl trees refusal refused tells)
   bundle_refused bundle (OfNoPanel own lines) refusal is refused tells = absurd is
+
+  pub pool_told : (pool : Pool) (proof : Proof) (said : Verdict) → IsOfPool pool proof → said ≡ verdict proof → (said ≡ Valid → SaysGreatest proof) →
+      (said ≡ Valid → SaysNone proof) → TellsOfPool proof said answer → ProveMeans pivots nodes (of_pool pool) answer
+  pool_told pool proof Valid is says greatest none tells = pool_proved pool proof is (sym says) (greatest refl) (none refl) tells
+  pool_told pool proof (Refused refusal) is says greatest none tells = IsSpent (spent_line (codes "lost") 0) (StepLost refl) tells
+
+  pub bundle_told : (bundle : Bundle) (proof : Proof) (said : Verdict) → IsOfBundle bundle proof → said ≡ verdict proof → (said ≡ Valid → SaysGreatest proof) →
+      TellsOfBundle proof said answer → ProveMeans pivots nodes (of_bundle bundle) answer
+  bundle_told bundle proof Valid is says greatest tells = bundle_proved bundle proof is (sym says) (greatest refl) tells
+  bundle_told bundle proof (Refused refusal) is says greatest tells = bundle_refused bundle proof refusal is (sym says) tells

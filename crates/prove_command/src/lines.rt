@@ -1,9 +1,10 @@
 //! The lines of `prove` where no proof is made.
 
-ghost use Rattle.std.specs.Prelude.{◌≡◌, IfOk};
+ghost use Rattle.std.specs.Prelude.{◌≡◌, codes, IfOk};
 ghost use Rattle.command_shell.specs.declared.status.Cause.TheVariants as cause;
 ghost use Rattle.command_shell.specs.Answers.{Stops, saying};
 ghost use Rattle.proof_answers.specs.Prove.{ProveMeans, Subject, operation as words_of_operation, spent_line as words_of_spent, wide_line as words_of_wide};
+ghost use Rattle.proof_limits.specs.Operations.{Passes};
 
 use crate::proving::ProofRun;
 use command_shell::{Answer, Cause};
@@ -19,16 +20,33 @@ pub(crate) fn stopped(alloc: Global, run: ProofRun, stop: Stop) -> Result<Answer
     ensures { IfOk result (λ answer. (subject : Subject) → ProveMeans run.pivots run.nodes subject (saying answer)) }
 {
     match stop {
-        Stop::Wide(pass) => Ok(Answer::Stops {
-            cause: Cause::Wide,
-            line: wide_line(alloc, pass)?,
-        }),
+        Stop::Wide(pass) => wide(alloc, pass),
         Stop::Spent(Limit::Pivots) => spent(alloc, b"pivots", run.pivots),
         Stop::Spent(Limit::Nodes) => spent(alloc, b"nodes", run.nodes),
         Stop::Spent(Limit::Lottery) => spent(alloc, b"lottery", LOTTERY_TRIES),
-        Stop::Lost | Stop::Limited => spent(alloc, b"lost", 0),
+        Stop::Lost => lost(alloc),
+        Stop::Limited => lost(alloc),
         Stop::OutOfMemory => Err(AllocError),
     }
+}
+
+/// A step of the run was lost, or its proof is refused.
+pub(crate) fn lost(alloc: Global) -> Result<Answer, AllocError>
+    ensures { IfOk result (λ answer. saying answer ≡ Stops cause.Spent (words_of_spent (codes "lost") 0)) }
+{
+    spent(alloc, b"lost", 0)
+}
+
+/// An operation passes 2^62.
+fn wide(alloc: Global, pass: Pass) -> Result<Answer, AllocError>
+    ensures passes { Passes pass }
+    ensures line { IfOk result (λ answer. saying answer ≡ Stops cause.Wide (words_of_wide pass)) }
+{
+    let _ = pass.op();
+    Ok(Answer::Stops {
+        cause: Cause::Wide,
+        line: wide_line(alloc, pass)?,
+    })
 }
 
 /// Nothing is left of what may be spent.
@@ -52,7 +70,7 @@ fn spent_line(alloc: Global, what: &[u8], most: u64) -> Result<Vec<u8>, AllocErr
     Ok(line)
 }
 
-/// An operation passes 2^62.
+/// The operation and its two numbers.
 fn wide_line(alloc: Global, pass: Pass) -> Result<Vec<u8>, AllocError>
     ensures { IfOk result (λ line. line.items ≡ words_of_wide pass) }
 {

@@ -1,21 +1,25 @@
 //! What `prove` answers about a pool and about a bundle.
 
-ghost use Rattle.std.specs.Prelude.{◌≡◌, IfOk};
+ghost use Rattle.std.specs.Prelude.{◌≡◌, ℕ, IfOk};
+ghost use Rattle.bundle_definitions.specs.BundleText.{Bundle as SeenBundle};
 ghost use Rattle.command_shell.specs.Answers.{number_of, saying};
 ghost use Rattle.command_shell.specs.Calls.{TellsByStatus};
 ghost use Rattle.command_shell.specs.Told.{object, told};
 ghost use Rattle.proof_answers.specs.Prove.{OfSubject, ProveMeans, of_bundle, of_pool};
-ghost use Rattle.prove_command.specs.Proved.{proof_said};
+ghost use Rattle.pool_definitions.specs.Pool.{Pool as SeenPool};
+ghost use Rattle.proof_model.specs.Parts.{seen};
+ghost use Rattle.proof_run.specs.Made.{IsOfBundle, IsOfPool};
+ghost use Rattle.prove_command.specs.Proved.{TellsOfBundle, TellsOfPool, ending, proof_said};
 
-use crate::lines::stopped;
+use crate::lines::{lost, stopped};
 use crate::subjects::answer_of_text;
 use bundle_commands::refused_line;
 use bundle_text::Bundle;
-use cert_verify::verify;
+use cert_verify::{Verdict, verify};
 use command_shell::{Answer, Printed, Status, TextMeaning, call_answered_by};
 use outside::{Sink, Source};
 use pool_model::Pool;
-use proof_limits::{Budget, Stop};
+use proof_limits::Budget;
 use proof_model::{Parts, Proof};
 use proof_run::{make_proof, prove_bundle};
 use proof_text::write_proof;
@@ -66,14 +70,9 @@ pub(crate) fn about_pool(alloc: Global, run: ProofRun, pool: &Pool) -> Result<An
     ensures { IfOk result (λ answer. ProveMeans run.pivots run.nodes (of_pool pool.now) (saying answer)) }
 {
     let mut budget = Budget::new(run.pivots, run.nodes);
-    let proof = match make_proof(alloc, pool, &mut budget) {
-        Ok(proof) => proof,
-        Err(stop) => return stopped(alloc, run, stop),
-    };
-    let verdict = verify(alloc, &proof)?;
-    match verdict.refusal() {
-        None => proved(alloc, &proof),
-        Some(_) => stopped(alloc, run, Stop::Lost),
+    match make_proof(alloc, pool, &mut budget) {
+        Ok(proof) => told_of_pool(alloc, &proof),
+        Err(stop) => stopped(alloc, run, stop),
     }
 }
 
@@ -86,13 +85,44 @@ pub(crate) fn about_bundle(
     ensures { IfOk result (λ answer. ProveMeans run.pivots run.nodes (of_bundle bundle.now) (saying answer)) }
 {
     let mut budget = Budget::new(run.pivots, run.nodes);
-    let proof = match prove_bundle(alloc, bundle, &mut budget) {
-        Ok(proof) => proof,
-        Err(stop) => return stopped(alloc, run, stop),
-    };
-    let verdict = verify(alloc, &proof)?;
+    match prove_bundle(alloc, bundle, &mut budget) {
+        Ok(proof) => told_of_bundle(alloc, &proof),
+        Err(stop) => stopped(alloc, run, stop),
+    }
+}
+
+/// What is told of a proof of a pool, which is verified first.
+fn told_of_pool(alloc: Global, proof: &Proof) -> Result<Answer, AllocError>
+    ensures { IfOk result (λ answer. (pivots nodes : ℕ) (pool : SeenPool) → IsOfPool pool proof.now → ProveMeans pivots nodes (of_pool pool) (saying answer)) }
+{
+    let verdict = verify(alloc, proof)?;
+    proof_or_lost(alloc, proof, &verdict)
+}
+
+/// What is told of a proof of a bundle, which is verified first.
+fn told_of_bundle(alloc: Global, proof: &Proof) -> Result<Answer, AllocError>
+    ensures { IfOk result (λ answer. (pivots nodes : ℕ) (bundle : SeenBundle) → IsOfBundle bundle proof.now → ProveMeans pivots nodes (of_bundle bundle) (saying answer)) }
+{
+    let verdict = verify(alloc, proof)?;
+    proof_or_refusal(alloc, proof, &verdict)
+}
+
+/// The text of a valid proof, and else that a step of the run was lost.
+fn proof_or_lost(alloc: Global, proof: &Proof, verdict: &Verdict) -> Result<Answer, AllocError>
+    ensures { IfOk result (λ answer. TellsOfPool proof.now verdict.now (saying answer)) }
+{
     match verdict.refusal() {
-        None => proved(alloc, &proof),
+        None => proof_text(alloc, proof),
+        Some(_) => lost(alloc),
+    }
+}
+
+/// The text of a valid proof, and else why it is refused.
+fn proof_or_refusal(alloc: Global, proof: &Proof, verdict: &Verdict) -> Result<Answer, AllocError>
+    ensures { IfOk result (λ answer. TellsOfBundle proof.now verdict.now (saying answer)) }
+{
+    match verdict.refusal() {
+        None => proof_text(alloc, proof),
         Some(refusal) => Ok(Answer::Prints {
             printed: Printed::Refused,
             text: refused_line(alloc, refusal)?,
@@ -100,15 +130,21 @@ pub(crate) fn about_bundle(
     }
 }
 
-/// The text of a proof.
-fn proved(alloc: Global, proof: &Proof) -> Result<Answer, AllocError>
+fn proof_text(alloc: Global, proof: &Proof) -> Result<Answer, AllocError>
     ensures { IfOk result (λ answer. saying answer ≡ proof_said proof.now) }
 {
     Ok(Answer::Prints {
-        printed: match proof.parts() {
-            Parts::Lottery(_, _) => Printed::Done,
-            Parts::NoPanel(_, _) => Printed::NoPanel,
-        },
+        printed: ending_of(proof.parts()),
         text: write_proof(alloc, proof)?,
     })
+}
+
+/// How the command ends with a proof of these parts.
+fn ending_of(parts: &Parts) -> Printed
+    ensures { result ≡ ending (seen parts.now) }
+{
+    match parts {
+        Parts::Lottery(_, _) => Printed::Done,
+        Parts::NoPanel(_, _) => Printed::NoPanel,
+    }
 }

@@ -1,0 +1,16 @@
+use Rattle.std.proofs.lemmas.Result.{IfOk-weaker}
+use Rattle.bundle_text.specs.Answers.{fault_of}
+use Rattle.proof_answers.specs.Prove.{AboutBundle, AboutBundleFault}
+use Rattle.prove_command.proofs.subjects.answer_of_bundle_text.Goals as goal
+
+pub returns-in-Ok : goal.returns-in-Ok
+returns-in-Ok c =
+    let read = c.in-Ok.ensures in
+    IfOk-weaker c.about_bundle.result _ _
+    (λ answer means. AboutBundle c.in-Ok.bundle (record { is_bundle = read.spelled.0; spelled = read.spelled.1; read = read.exact }) means)
+    c.about_bundle.ensures
+
+pub returns-in-Err-Fault : goal.returns-in-Err-Fault
+returns-in-Err-Fault c =
+    let fails = rw c.in-Err-Fault.field-0-is at c.in-Err-Fault.ensures.exact in
+    IfOk-weaker c.at_fault.result _ _ (λ answer is. AboutBundleFault (fault_of c.in-Err-Fault.fault) c.requires fails is) c.at_fault.ensures

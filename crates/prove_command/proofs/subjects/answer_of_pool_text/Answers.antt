@@ -1,0 +1,16 @@
+use Rattle.std.proofs.lemmas.Result.{IfOk-weaker}
+use Rattle.pool_text.specs.Answers.{fault_of}
+use Rattle.proof_answers.specs.Prove.{AboutPool, AboutPoolFault}
+use Rattle.prove_command.proofs.subjects.answer_of_pool_text.Goals as goal
+
+pub returns-in-Ok : goal.returns-in-Ok
+returns-in-Ok c =
+    let read = c.in-Ok.ensures in
+    IfOk-weaker c.about_pool.result _ _
+    (λ answer means. AboutPool c.in-Ok.pool (record { is_pool = read.spelled.0; spelled = read.spelled.1; read = read.exact }) means)
+    c.about_pool.ensures
+
+pub returns-in-Err-Fault : goal.returns-in-Err-Fault
+returns-in-Err-Fault c =
+    let fails = rw c.in-Err-Fault.field-0-is at c.in-Err-Fault.ensures.exact in
+    IfOk-weaker c.at_fault.result _ _ (λ answer is. AboutPoolFault (fault_of c.in-Err-Fault.fault) c.requires fails is) c.at_fault.ensures
