@@ -17,12 +17,10 @@ fn pool(alloc: Global, rows: Rows) -> Result<Pool, BuildStop> {
     for (name, lower, upper, _) in rows.1 {
         pool.add_value(name, *lower, *upper)?;
     }
-    let mut number = 0;
     for (name, _, _, count) in rows.1 {
         for _ in 0..*count {
-            let id = format!(in alloc; "v{number}")?;
+            let id = format!(in alloc; "v{}", pool.volunteers().len())?;
             pool.add_volunteer(id.as_str(), &[Name::new(alloc, name)?])?;
-            number += 1;
         }
     }
     Ok(pool)
@@ -56,7 +54,7 @@ fn pools_have_chances(rt: HostRuntime) -> Result<(), Fail> {
         let mut budget = Budget::new(1000, 1000);
         let said = match relaxed_stages(alloc, &program, &mut budget)? {
             Relaxed::Empty => String::from_str(alloc, "empty")?,
-            Relaxed::Settled(_, chances, _) => spelled(alloc, &program, &chances)?,
+            Relaxed::Settled(_stages, chances, _is_tight) => { spelled(alloc, &program, &chances)? }
         };
         assert_eq!(rt; said.as_str(), *wanted);
     }
