@@ -16,7 +16,7 @@ use text_lines::{end_line, push_field, push_number, push_signed};
 const LOTTERY_TRIES: u64 = 168;
 
 /// What is answered where a run under limits stops.
-pub(crate) fn stopped(alloc: Global, run: ProofRun, stop: Stop) -> Result<Answer, AllocError>
+pub(crate) fn stopped(alloc: Global, run: ProofRun, stop: &Stop) -> Result<Answer, AllocError>
     ensures { IfOk result (λ answer. (subject : Subject) → ProveMeans run.pivots run.nodes subject (saying answer)) }
 {
     match stop {
@@ -38,14 +38,14 @@ pub(crate) fn lost(alloc: Global) -> Result<Answer, AllocError>
 }
 
 /// An operation passes 2^62.
-fn wide(alloc: Global, pass: Pass) -> Result<Answer, AllocError>
-    ensures passes { Passes pass }
-    ensures line { IfOk result (λ answer. saying answer ≡ Stops cause.Wide (words_of_wide pass)) }
+fn wide(alloc: Global, pass: &Pass) -> Result<Answer, AllocError>
+    ensures passes { Passes pass.now }
+    ensures line { IfOk result (λ answer. saying answer ≡ Stops cause.Wide (words_of_wide pass.now)) }
 {
     let _ = pass.op();
     Ok(Answer::Stops {
         cause: Cause::Wide,
-        line: wide_line(alloc, pass)?,
+        line: wide_line(alloc, *pass)?,
     })
 }
 

@@ -72,7 +72,7 @@ pub(crate) fn about_pool(alloc: Global, run: ProofRun, pool: &Pool) -> Result<An
     let mut budget = Budget::new(run.pivots, run.nodes);
     match make_proof(alloc, pool, &mut budget) {
         Ok(proof) => told_of_pool(alloc, &proof),
-        Err(stop) => stopped(alloc, run, stop),
+        Err(stop) => stopped(alloc, run, &stop),
     }
 }
 
@@ -87,7 +87,7 @@ pub(crate) fn about_bundle(
     let mut budget = Budget::new(run.pivots, run.nodes);
     match prove_bundle(alloc, bundle, &mut budget) {
         Ok(proof) => told_of_bundle(alloc, &proof),
-        Err(stop) => stopped(alloc, run, stop),
+        Err(stop) => stopped(alloc, run, &stop),
     }
 }
 

@@ -1,9 +1,7 @@
 //! What `prove` reads: the text of a pool or of a bundle.
 
 ghost use Rattle.std.specs.Prelude.{◌≡◌, true, false, IfOk};
-ghost use Rattle.command_shell.specs.declared.status.Cause.TheVariants.{Input};
-ghost use Rattle.command_shell.specs.Answers.{Stops, saying};
-ghost use Rattle.command_shell.specs.Lines.{input_line as words_of_input};
+ghost use Rattle.command_shell.specs.Answers.{saying};
 ghost use Rattle.proof_answers.specs.Prove.{OfSubject, ProveMeans, begins_as_bundle};
 
 use crate::proving::{ProofRun, about_bundle, about_pool};
@@ -33,7 +31,10 @@ fn answer_of_bundle_text(alloc: Global, run: ProofRun, bytes: &[u8]) -> Result<A
 {
     match read_bundle(alloc, bytes) {
         Ok(bundle) => about_bundle(alloc, run, &bundle),
-        Err(ReadBundle::Fault(fault)) => at_fault(alloc, fault.line, fault.kind),
+        Err(ReadBundle::Fault(fault)) => Ok(Answer::Stops {
+            cause: Cause::Input,
+            line: input_line(alloc, fault.line, fault.kind)?,
+        }),
         Err(ReadBundle::OutOfMemory) => Err(AllocError),
     }
 }
@@ -44,16 +45,10 @@ fn answer_of_pool_text(alloc: Global, run: ProofRun, bytes: &[u8]) -> Result<Ans
 {
     match read_pool(alloc, bytes) {
         Ok(pool) => about_pool(alloc, run, &pool),
-        Err(ReadPool::Fault(fault)) => at_fault(alloc, fault.line, fault.kind),
+        Err(ReadPool::Fault(fault)) => Ok(Answer::Stops {
+            cause: Cause::Input,
+            line: input_line(alloc, fault.line, fault.kind)?,
+        }),
         Err(ReadPool::OutOfMemory) => Err(AllocError),
     }
-}
-
-fn at_fault(alloc: Global, line: usize, kind: u8) -> Result<Answer, AllocError>
-    ensures { IfOk result (λ answer. saying answer ≡ Stops Input (words_of_input (record { line = line; kind = kind }))) }
-{
-    Ok(Answer::Stops {
-        cause: Cause::Input,
-        line: input_line(alloc, line, kind)?,
-    })
 }

@@ -1,4 +1,7 @@
+use Rattle.std.proofs.Common.{ap}
 use Rattle.std.proofs.lemmas.Result.{IfOk-weaker}
+use Rattle.command_shell.specs.declared.status.Cause.TheVariants.{Input}
+use Rattle.command_shell.specs.Answers.{Stops}
 use Rattle.pool_text.specs.Answers.{fault_of}
 use Rattle.proof_answers.specs.Prove.{AboutPool, AboutPoolFault}
 use Rattle.prove_command.proofs.subjects.answer_of_pool_text.Goals as goal
@@ -10,7 +13,7 @@ returns-in-Ok c =
     (λ answer means. AboutPool c.in-Ok.pool (record { is_pool = read.spelled.0; spelled = read.spelled.1; read = read.exact }) means)
     c.about_pool.ensures
 
-pub returns-in-Err-Fault : goal.returns-in-Err-Fault
-returns-in-Err-Fault c =
+pub returns-in_ok-input_line-in-Err-Fault : goal.returns-in_ok-input_line-in-Err-Fault
+returns-in_ok-input_line-in-Err-Fault c =
     let fails = rw c.in-Err-Fault.field-0-is at c.in-Err-Fault.ensures.exact in
-    IfOk-weaker c.at_fault.result _ _ (λ answer is. AboutPoolFault (fault_of c.in-Err-Fault.fault) c.requires fails is) c.at_fault.ensures
+    AboutPoolFault (fault_of c.in-Err-Fault.fault) c.requires fails (ap (Stops Input) c.in_ok-input_line-in-Err-Fault.ensures)
