@@ -4,7 +4,7 @@ use Rattle.proof_answers.specs.Prove.{IsSpent, IsWide, LotterySpent, NodesSpent,
 use Rattle.prove_command.proofs.lines.stopped.Goals as goal
 
 pub returns-in-Wide : goal.returns-in-Wide
-returns-in-Wide c = IfOk-weaker c.wide.result _ _ (λ answer is. λ subject. IsWide c.in-Wide.pass.now c.wide.ensures.passes is) c.wide.ensures.line
+returns-in-Wide c = IfOk-weaker c.wide.result _ _ (λ answer is. λ subject. IsWide c.in-Wide.pass c.wide.ensures.passes is) c.wide.ensures.line
 
 pub returns-in-Spent-Pivots : goal.returns-in-Spent-Pivots
 returns-in-Spent-Pivots c = IfOk-weaker c.spent.result _ _ (λ answer is. λ subject. IsSpent _ (PivotsSpent refl) is) c.spent.ensures
