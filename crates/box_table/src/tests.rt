@@ -1,5 +1,7 @@
 //! Small programs, each with its point or its refutation tested; growing and shrinking tables; and the stops.
 
+ghost use Rattle.std.specs.Prelude.{◌≡◌, IfOk};
+
 use super::Table;
 use proof_limits::{Budget, Limit, Narrow, Op, Span, Stop};
 use std::alloc::Global;
@@ -155,7 +157,10 @@ fn small_programs(rt: HostRuntime) -> Result<(), Fail> {
 }
 
 // A table of one column and the rows 3 x and 5 x, to which a column is added, so that they are 3 x + 5 y and 5 x - 7 y.
-fn grown(alloc: Global) -> Result<Table, Stop> {
+fn grown(alloc: Global) -> Result<Table, Stop>
+    ensures rows { IfOk result (λ table. table.rows ≡ 2) }
+    ensures columns { IfOk result (λ table. table.columns ≡ 2) }
+{
     let mut table = Table::new(alloc, 1)?;
     table.add_row(&[narrow(3)])?;
     table.add_row(&[narrow(5)])?;
@@ -183,7 +188,8 @@ fn sizes_and_stops(rt: HostRuntime) -> Result<(), Fail> {
     let mut table = grown(alloc)?;
     let mut budget = Budget::new(9, 0);
     assert!(rt; table.columns() == 2 && table.rows() == 2);
-    assert!(rt; !table.run(&[unit, unit], &[span((9, 9)), span((0, 9))], &mut budget)?);
+    let found = table.run(&[unit, unit], &[span((9, 9)), span((0, 9))], &mut budget)?;
+    assert!(rt; !found);
     table.drop_last_row(&mut budget)?;
     assert!(rt; table.columns() == 2 && table.rows() == 1);
     assert!(rt; table.run(&[unit, unit], &[span((8, 8))], &mut budget)?);
