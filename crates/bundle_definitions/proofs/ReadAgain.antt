@@ -1,8 +1,8 @@
 -- The text of a bundle is read again, and gives that bundle.
-use Rattle.std.proofs.Common.{◌≡◌, ℕ, ◌+◌, ◌≤◌, Bool, true, false, not, cond, ltb, List, [], ◌∷◌, ◌++◌, length, drop, map, refl, sym, ◌∙◌, ap, subst, append_assoc, Some, None, unwrap_or}
+use Rattle.std.proofs.Common.{◌≡◌, ℕ, ◌≤◌, Bool, true, false, not, cond, ltb, List, [], ◌∷◌, ◌++◌, length, drop, map, refl, sym, ◌∙◌, ap, subst, append_assoc, Some, None, unwrap_or}
 use Rattle.std.specs.Prelude.{codes, Ok, is_some}
 use Rattle.std.specs.Fmt.{decimal, signed_decimal}
-use Rattle.std.specs.List.{AllByRecursion, list_all}
+use Rattle.std.specs.List.{list_all}
 use Rattle.std.proofs.lemmas.Bool.{and_parts, leb-true, false≢true}
 use Rattle.std.proofs.lemmas.List.{append-nil}
 use Rattle.pool_definitions.specs.Pool.{Pool, IsPool, has_households}
@@ -11,7 +11,7 @@ use Rattle.pool_definitions.specs.Lottery.{Lottery, LotteryRow}
 use Rattle.pool_definitions.specs.Certificate.{Answer, Stage}
 use Rattle.line_definitions.specs.Lines.{line_feed, fields_of}
 use Rattle.line_definitions.proofs.LineByLine as reading
-use Rattle.line_definitions.proofs.LineLemmas.{Lacks, pieces_of-text_of}
+use Rattle.line_definitions.proofs.LineLemmas.{Lacks}
 use Rattle.line_definitions.proofs.FieldLemmas.{plain_field, line_lacks_feed}
 use Rattle.line_definitions.proofs.NumberLemmas.{bytes_same}
 use Rattle.text_definitions.specs.declared.Passed.{Passed}
@@ -20,7 +20,7 @@ use Rattle.text_definitions.specs.PoolReading as pools
 use Rattle.text_definitions.proofs.ReadAgain as pool_again
 use Rattle.bundle_definitions.specs.Ranges.{IsInRanges, is_weight, is_row, is_stage}
 use Rattle.bundle_definitions.specs.BundleText.{Bundle, IsBundle, bundle_line, pool_lines, total_line, panel_line, stage_line, done_line, answer_lines, lines_before_done, bundle_spelling}
-use Rattle.bundle_definitions.specs.BundleReading.{Progress, Begun, InPool, InRows, InStages, Done, AnswerLine, OfRow, OfStage, TheDone, said_of, row_kinds, stage_kinds, line_kind, after_row, after_stage, after_line, read_bundle, reader}
+use Rattle.bundle_definitions.specs.BundleReading.{Progress, Begun, InPool, InRows, InStages, Done, AnswerLine, OfRow, OfStage, TheDone, said_of, row_kinds, stage_kinds, after_row, after_stage, read_bundle, reader}
 use Rattle.bundle_definitions.proofs.AnswerLines.{row_fields, row_again, stage_fields, stage_again, done_again, total_fields, total_again}
 
 -- lines without LF lead from one progress to another with no fault
@@ -148,7 +148,7 @@ module _ (pool : Pool) (few : length pool.volunteers ≤ 400) where
       total_runs lottery.total ((map panel_line lottery.rows ++ map stage_line answer.stages) ++ done_line ∷ []) (Done bundle) is.total all
 
 -- the lines of a bundle lead to its end
-runs : (bundle : Bundle) → IsBundle bundle → Runs Begun (lines_before_done bundle.pool bundle.answer ++ done_line ∷ []) (Done bundle)
+pub runs : (bundle : Bundle) → IsBundle bundle → Runs Begun (lines_before_done bundle.pool bundle.answer ++ done_line ∷ []) (Done bundle)
 runs bundle is =
     let pool = bundle.pool in
     let second = has_households pool in

@@ -1,18 +1,16 @@
 -- Lines that are read without a fault are those of the bundle that is read.
-use Rattle.std.proofs.Common.{◌≡◌, ℕ, ◌+◌, Bool, true, false, not, ◌||◌, ltb, List, [], ◌∷◌, ◌++◌, length, map, refl, sym, ◌∙◌, ap, subst, append_assoc, arith, Option, Some, None, unwrap_or}
+use Rattle.std.proofs.Common.{◌≡◌, ℕ, Bool, true, false, not, ◌||◌, ltb, List, [], ◌∷◌, ◌++◌, length, map, refl, sym, ◌∙◌, ap, subst, append_assoc, arith, Option, Some, None, unwrap_or}
 use Rattle.std.specs.Prelude.{bytes_eq, Ok, is_some}
-use Rattle.std.specs.List.{join_with_byte, list_all}
+use Rattle.std.specs.List.{list_all}
 use Rattle.std.proofs.lemmas.Bool.{not-false, lt-ltb, false≢true}
-use Rattle.std.proofs.lemmas.Grind.{flat_map-append}
 use Rattle.std.proofs.lemmas.List.{append-nil, map-append}
-use Rattle.std.proofs.lemmas.List.Splits.{join_with_byte-slice_split}
 use Rattle.basic_laws.proofs.Each.{list_all-push}
 use Rattle.pool_definitions.specs.Pool.{Pool, IsPool, has_households}
 use Rattle.pool_definitions.specs.Lottery.{Lottery}
 use Rattle.pool_definitions.specs.Certificate.{Answer, Stage}
 use Rattle.pool_definitions.specs.Building.{lowest_kind}
 use Rattle.pool_definitions.proofs.BuildingLemmas.{no_kind}
-use Rattle.line_definitions.specs.Lines.{line_feed, text_of, fields_of, pieces_of}
+use Rattle.line_definitions.specs.Lines.{text_of, fields_of}
 use Rattle.line_definitions.proofs.LineByLine as reading
 use Rattle.line_definitions.proofs.NumberLemmas.{bytes_are}
 use Rattle.text_definitions.specs.declared.Passed.{Passed}

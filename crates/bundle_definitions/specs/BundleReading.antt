@@ -1,5 +1,5 @@
 -- What a list of bytes says as the text of a bundle: the bundle, or the first faulty line and in it the lowest kind.
-use Rattle.std.specs.Prelude.{ℕ, ◌+◌, ◌-◌, ◌^◌, nat_lt, if◌then◌else◌, Bool, true, false, not, ◌||◌, List, [], ◌∷◌, ◌++◌, length, bytes_eq, codes, ℤ, Option, Some, None, Result, Ok, Err, unwrap_or, is_some}
+use Rattle.std.specs.Prelude.{ℕ, ◌-◌, ◌^◌, nat_lt, if◌then◌else◌, Bool, true, false, not, ◌||◌, List, [], ◌∷◌, ◌++◌, length, bytes_eq, codes, ℤ, Option, Some, None, Result, Ok, Err, unwrap_or, is_some}
 use Rattle.pool_definitions.specs.Pool.{Pool}
 use Rattle.pool_definitions.specs.Lottery.{Lottery, LotteryRow}
 use Rattle.pool_definitions.specs.Certificate.{Answer, Stage}

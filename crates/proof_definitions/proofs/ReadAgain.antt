@@ -62,61 +62,6 @@ pool_runs pool is =
 
 -- ---- the lines of a bundle
 
--- the pieces of a bundle's text are lines that lead to its end
-record BundleRuns (number : ℕ) (progress : bundles.Progress) (pieces : List (List ℕ)) (bundle : Bundle) : Type 0 where
-  lines : List (List ℕ)
-  pieces_are : lines ++ [] ∷ [] ≡ pieces
-  runs : bundle_again.Runs progress lines (bundles.Done bundle)
-
-at_end : (number : ℕ) (progress : bundles.Progress) (bytes : List ℕ) (bundle : Bundle) → bundles.at_last number progress bytes ≡ Ok bundle → (progress ≡ bundles.Done bundle) × ([] ≡ bytes)
-at_end number bundles.Begun bytes bundle h = cc
-at_end number (bundles.InPool second progress) bytes bundle h = cc
-at_end number (bundles.InRows pool lottery) bytes bundle h = cc
-at_end number (bundles.InStages pool answer) bytes bundle h = cc
-at_end number (bundles.Done other) (byte ∷ bytes) bundle h = cc
-at_end number (bundles.Done other) [] bundle h = let same : other ≡ bundle = cc in (ap bundles.Done same, refl)
-
-bundle_pieces : (number : ℕ) (progress : bundles.Progress) (pieces : List (List ℕ)) (bundle : Bundle) → AllByRecursion (Lacks line_feed) pieces → (pieces ≡ [] → ⊥) →
-    bundles.read_lines number progress pieces ≡ Ok bundle → BundleRuns number progress pieces bundle
-bundle_pieces number progress [] bundle lack some h = absurd (some refl)
-bundle_pieces number progress (bytes ∷ []) bundle lack some h =
-    let known = at_end number progress bytes bundle h in record { lines = []; pieces_are = ap (λ b. b ∷ []) known.1; runs = known.0 }
-bundle_pieces number progress (line ∷ next ∷ later) bundle lack some h =
-    by (bundles.line_kind progress line) refl h (bundle_pieces (number + 1) (bundles.after_line progress line) (next ∷ later) bundle lack.1 (λ e. cc))
-  where
-    by : (kind : Option ℕ) → bundles.line_kind progress line ≡ kind → bundles.fault_or kind number (bundles.read_lines (number + 1) (bundles.after_line progress line) (next ∷ later)) ≡ Ok bundle →
-        (bundles.read_lines (number + 1) (bundles.after_line progress line) (next ∷ later) ≡ Ok bundle → BundleRuns (number + 1) (bundles.after_line progress line) (next ∷ later) bundle) →
-        BundleRuns number progress (line ∷ next ∷ later) bundle
-    by None e k again =
-        let more = again k in record { lines = line ∷ more.lines; pieces_are = ap (λ ls. line ∷ ls) more.pieces_are; runs = (lack.0, e, more.runs) }
-    by (Some kind) e k again = absurd cc
-
--- lines that are ended and none behind them are joined as their text
-joined : (lines : List (List ℕ)) → join_with_byte line_feed (lines ++ [] ∷ []) ≡ text_of lines
-joined [] = refl
-joined (line ∷ []) = sym (append-nil (line ++ line_feed ∷ []))
-joined (line ∷ next ∷ later) =
-    ap (λ rest. line ++ (line_feed ∷ rest)) (joined (next ∷ later)) ∙ sym (append_assoc line (line_feed ∷ []) (text_of (next ∷ later)))
-
--- lines that lead from a bundle's beginning to its end, and whose text is the bundle's
-record BundleLines (bundle : Bundle) : Type 0 where
-  lines : List (List ℕ)
-  same_text : text_of lines ≡ bundle_spelling bundle
-  runs : bundle_again.Runs bundles.Begun lines (bundles.Done bundle)
-
-lines_of_bundle : (bundle : Bundle) → IsBundle bundle → BundleLines bundle
-lines_of_bundle bundle is =
-    let bytes = bundle_spelling bundle in
-    let all = bundle_pieces 1 bundles.Begun (pieces_of bytes) bundle (pieces_lack bytes) (some (pieces_of bytes) (some_piece bytes)) (bundle_again.spelled_is_read bundle is) in
-    record {
-      lines = all.lines;
-      same_text = sym (joined all.lines) ∙ ap (join_with_byte line_feed) all.pieces_are ∙ join_with_byte-slice_split line_feed bytes;
-      runs = all.runs;
-    }
-  where
-    some : (pieces : List (List ℕ)) → (first : List ℕ) × (later : List (List ℕ)) × (pieces ≡ first ∷ later) → pieces ≡ [] → ⊥
-    some pieces piece e = let f = piece.2 in cc
-
 -- lines of a bundle that lead to its end do so in a proof
 bundle_inside : (progress : bundles.Progress) (lines : List (List ℕ)) (bundle : Bundle) → bundle_again.Runs progress lines (bundles.Done bundle) → Runs (InBundle progress) lines (InBundle (bundles.Done bundle))
 bundle_inside progress [] bundle h = ap InBundle h
@@ -239,18 +184,15 @@ lottery_is_read : (pool : Pool) (answer : Answer) (trees : List (List TreeLine))
 lottery_is_read pool answer trees is =
     let bundle : Bundle = record { pool = pool; answer = answer } in
     let proof = OfLottery pool answer trees in
-    let known = lines_of_bundle bundle is.is_bundle in
+    let lines = bundle_lines pool answer in
     let small = leb-true (length pool.volunteers) 400 is.is_bundle.is_pool.few_volunteers in
     let few = leb-true (length trees) most_trees is.few_trees in
     let rest = trees_from 1 trees ++ close_line ∷ [] in
     let behind = trees_run bundle small trees is.is_bundle.in_ranges.some_stage is.one_each few is.in_ranges in
-    let all = reading.Runs-append reader Opened (InBundle (bundles.Done bundle)) (Closed proof) known.lines rest (bundle_runs known.lines bundle known.runs) behind in
-    let texts : text_of (known.lines ++ rest) ≡ text_of (bundle_lines pool answer ++ rest) =
-    flat_map-append (λ l. l ++ line_feed ∷ []) known.lines rest ∙ ap (λ text. text ++ text_of rest) known.same_text ∙ sym (flat_map-append (λ l. l ++ line_feed ∷ []) (bundle_lines pool answer) rest) in
-    let whole : text_of (proof_line ∷ (known.lines ++ rest)) ≡ proof_spelling proof =
-    ap (λ text. (proof_line ++ line_feed ∷ []) ++ text) texts
-    ∙ ap (λ lines. (proof_line ++ line_feed ∷ []) ++ text_of lines) (sym (append_assoc (bundle_lines pool answer) (trees_from 1 trees) (close_line ∷ []))) in
-    runs_are_read (proof_line ∷ (known.lines ++ rest)) proof (opens (known.lines ++ rest) (Closed proof) all) whole
+    let all = reading.Runs-append reader Opened (InBundle (bundles.Done bundle)) (Closed proof) lines rest (bundle_runs lines bundle (bundle_again.runs bundle is.is_bundle)) behind in
+    let regrouped : proof_line ∷ (lines ++ rest) ≡ lines_before_close proof ++ close_line ∷ [] =
+    ap (λ ls. proof_line ∷ ls) (sym (append_assoc lines (trees_from 1 trees) (close_line ∷ []))) in
+    runs_are_read (proof_line ∷ (lines ++ rest)) proof (opens (lines ++ rest) (Closed proof) all) (ap text_of regrouped)
 
 no_panel_is_read : (pool : Pool) (lines : List TreeLine) → IsNoPanelProof pool lines → read_proof (proof_spelling (OfNoPanel pool lines)) ≡ Ok (OfNoPanel pool lines)
 no_panel_is_read pool lines is =
