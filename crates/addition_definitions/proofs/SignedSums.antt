@@ -6,6 +6,7 @@ use Rattle.std.proofs.lemmas.Int.{ints}
 use Rattle.basic_laws.proofs.Integers.{mul-add, mul-zero}
 use Rattle.basic_laws.proofs.Sums as naturals
 use Rattle.pool_definitions.specs.Lists.{includes, is_increasing}
+use Rattle.pool_definitions.proofs.Weights.{not_held}
 use Rattle.addition_definitions.specs.Constraints.{signed_sum}
 
 -- the sum of a function's values
@@ -80,13 +81,6 @@ one_member f x first (suc count) h k =
       | false ↦ λ e. let apart : (x ≡ first → ⊥) = λ s. true≢false (sym (eq-eqb x first s) ∙ e) in
           let later = one_member f x (first + 1) count (omega arith) (omega arith) in omega (arith, ints, later)
     ]) refl
-
-not_held : (x : ℕ) (xs : List ℕ) → list_all (λ y. ltb x y) xs ≡ true → includes xs x ≡ false
-not_held x [] h = refl
-not_held x (y ∷ ys) h =
-    let parts = and_parts (ltb x y) (list_all (λ y. ltb x y) ys) h in
-    let rest = not_held x ys parts.1 in let lt = ltb-true x y parts.0 in
-    let e : eqb y x ≡ false = ne_eqb y x (λ e. omega arith) in rw e rest
 
 either : (b c : Bool) (v : ℤ) → (b ≡ true → c ≡ false) → cond (b || c) v (pos 0) ≡ cond b v (pos 0) +ℤ cond c v (pos 0)
 either true c v h = let e = h refl in rw e (omega (arith, ints))

@@ -7,6 +7,7 @@ use Rattle.check_definitions.specs.Reasons as check
 use Rattle.check_definitions.specs.Reasons.{Refusal, Valid, Verdict, cap_reasons, first_reason, listed, lottery_reasons, nobody_unless, reason, reasons_before_cap}
 use Rattle.check_definitions.proofs.PassedCaps.{no_panel_where_capped}
 use Rattle.check_definitions.proofs.ReasonsStand as certificates
+use Rattle.check_definitions.proofs.ReasonsStand.{NoneStands, none_from_valid, valid_from_none, reason_none, unless_none}
 use Rattle.pool_definitions.specs.Certificate.{Answer, Certifies, Stage, is_capped}
 use Rattle.pool_definitions.specs.Lottery.{Lottery}
 use Rattle.pool_definitions.specs.Pool.{Pool, panels}
@@ -29,27 +30,6 @@ caps_hold pool earlier (stage ∷ later) trees hold show =
     let here = cap_of_lines pool earlier stage (first_tree trees) hold show.1 in (here, caps_hold pool (stage ∷ earlier) later (later_trees trees) (here, hold) show.2)
 
 -- ---- reasons
-
-abbrev NoneStands : List (Option Refusal) → Type 0
-NoneStands rs = AllByRecursion (λ r. r ≡ None) rs
-
-none_from_valid : (rs : List (Option Refusal)) → first_reason rs ≡ Valid → NoneStands rs
-none_from_valid [] e = tt
-none_from_valid (None ∷ later) e = (refl, none_from_valid later e)
-none_from_valid (Some refusal ∷ later) e = absurd cc
-
-valid_from_none : (rs : List (Option Refusal)) → NoneStands rs → first_reason rs ≡ Valid
-valid_from_none [] h = refl
-valid_from_none (None ∷ later) h = valid_from_none later h.1
-valid_from_none (Some refusal ∷ later) h = let e = h.0 in absurd cc
-
-reason_none : (stage number : ℕ) (who : Option (List ℕ)) → reason stage number who ≡ None → who ≡ None
-reason_none stage number None e = refl
-reason_none stage number (Some who) e = absurd cc
-
-unless_none : (holds : Bool) → nobody_unless holds ≡ None → holds ≡ true
-unless_none true e = refl
-unless_none false e = absurd cc
 
 line_none : (stage : ℕ) (fault : Option TreeFault) → line_reason stage fault ≡ None → fault ≡ None
 line_none stage None e = refl

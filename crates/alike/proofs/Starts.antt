@@ -1,7 +1,7 @@
 -- Where the windows of classes begin, and whom the classes give.
 use Rattle.std.proofs.Common.{◌≡◌, ◌⊎◌, inl, inr, ℕ, zero, suc, ◌+◌, ◌*◌, ◌/◌, ◌≤◌, ◌<◌, Bool, true, false, ◌&&◌, ◌||◌, ltb, List, [], ◌∷◌, ◌++◌, map, filter, take, drop, length, get_or, slice_get, slice_index_or, replicate, Some, refl, sym, ap, ◌∙◌, ⊎_elim, arith, subst, length-append, length-drop, mul-le-mul_right}
 use Rattle.std.specs.Int.{◌∣◌}
-use Rattle.std.specs.List.{range_with_len, AllByRecursion}
+use Rattle.std.specs.List.{range_with_len}
 use Rattle.std.proofs.lemmas.Bool.{and_parts, and_from, cases_lt, lt-ltb, ltb-true, false≢true}
 use Rattle.std.proofs.lemmas.List.{length-take, length-replicate, take-append-drop, take_all}
 use Rattle.std.proofs.lemmas.List.FromFn.{length-map-range_with_len}
@@ -51,11 +51,6 @@ any_start class count j i e within = by (whole_or_none count (length class.membe
     by (inr all) = all_of 0 count class.members (omega arith) all ∙ sym (all_of j count class.members within all)
 
 -- ---- classes at places of a list
-
-pub each_at : {X : Type 0} (P : X → Type 0) (xs : List X) (k : ℕ) (x : X) → AllByRecursion P xs → k < length xs → x ≡ get_or xs k x → P x
-each_at P [] k x each l e = absurd (omega arith)
-each_at P (y ∷ xs) zero x each l e = subst P (sym e) each.0
-each_at P (y ∷ xs) (suc k) x each l e = each_at P xs k x each.1 (omega arith) e
 
 slice_get-at : {X : Type 0} (xs : List X) (k : ℕ) (x : X) → k < length xs → x ≡ get_or xs k x → slice_get xs k ≡ Some x
 slice_get-at [] k x l e = absurd (omega arith)

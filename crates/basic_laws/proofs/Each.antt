@@ -16,6 +16,12 @@ pub each_everywhere : {X : Type 0} (P : X → Type 0) → ((x : X) → P x) → 
 each_everywhere P f [] = tt
 each_everywhere P f (x ∷ xs) = (f x, each_everywhere P f xs)
 
+-- so of the element at a place
+pub each_at : {X : Type 0} (P : X → Type 0) (xs : List X) (k : ℕ) (x : X) → AllByRecursion P xs → k < length xs → x ≡ get_or xs k x → P x
+each_at P [] k x each l e = absurd (omega arith)
+each_at P (y ∷ xs) zero x each l e = subst P (sym e) each.0
+each_at P (y ∷ xs) (suc k) x each l e = each_at P xs k x each.1 (omega arith) e
+
 -- ---- tests of all elements
 
 pub each_from_list_all : {X : Type 0} (p : X → Bool) (xs : List X) → list_all p xs ≡ true → AllByRecursion (λ x. p x ≡ true) xs

@@ -1,5 +1,5 @@
 -- What is found in a list.
-use Rattle.std.proofs.Common.{◌≡◌, ◌⊎◌, inl, inr, refl, ℕ, ◌<◌, ◌≤◌, Bool, true, false, cond, List, [], ◌∷◌, Some, None, length, get_or, sym, arith, ap, ◌∙◌, subst}
+use Rattle.std.proofs.Common.{◌≡◌, ◌⊎◌, inl, inr, refl, ℕ, ◌<◌, ◌≤◌, Bool, true, false, cond, List, [], ◌∷◌, Some, None, length, get_or, sym, arith, ap, ap₂, ◌∙◌, subst}
 use Rattle.std.specs.List.{AllByRecursion, find, position, position_or_len}
 use Rattle.std.proofs.lemmas.Bool.{cases_lt, lt-ltb}
 use Rattle.std.proofs.lemmas.List.Sums.{fails_before_first}
@@ -29,6 +29,11 @@ find-none p (y ∷ ys) e = by (p y) refl e (λ f. find-none p ys f)
     by : (b : Bool) → p y ≡ b → cond b (Some y) (find p ys) ≡ None → (find p ys ≡ None → AllByRecursion (λ x. p x ≡ false) ys) → (p y ≡ false) × AllByRecursion (λ x. p x ≡ false) ys
     by true t f rest = absurd cc
     by false t f rest = (t, rest f)
+
+-- tests that agree on each element find the same
+pub find_same : {X : Type 0} (p q : X → Bool) (xs : List X) → AllByRecursion (λ x. p x ≡ q x) xs → find p xs ≡ find q xs
+find_same p q [] h = refl
+find_same p q (x ∷ xs) h = ap₂ (λ b found. cond b (Some x) found) h.0 (find_same p q xs h.1)
 
 -- where no place is found, no element passes
 pub position-None : {X : Type 0} (p : X → Bool) (xs : List X) (k : ℕ) (d : X) → position p xs ≡ None → k < length xs → p (get_or xs k d) ≡ false

@@ -1,8 +1,8 @@
 -- The text of a bundle is read again, and gives that bundle.
-use Rattle.std.proofs.Common.{◌≡◌, ℕ, ◌+◌, ◌≤◌, Bool, true, false, not, cond, ltb, List, [], ◌∷◌, ◌++◌, length, drop, map, refl, sym, ◌∙◌, ap, subst, append_assoc, Some, None, unwrap_or}
+use Rattle.std.proofs.Common.{◌≡◌, ℕ, ◌≤◌, Bool, true, false, not, cond, ltb, List, [], ◌∷◌, ◌++◌, length, drop, map, refl, sym, ◌∙◌, ap, subst, append_assoc, Some, None, unwrap_or}
 use Rattle.std.specs.Prelude.{codes, Ok, is_some}
 use Rattle.std.specs.Fmt.{decimal, signed_decimal}
-use Rattle.std.specs.List.{AllByRecursion, list_all}
+use Rattle.std.specs.List.{list_all}
 use Rattle.std.proofs.lemmas.Bool.{and_parts, leb-true, false≢true}
 use Rattle.std.proofs.lemmas.List.{append-nil}
 use Rattle.pool_definitions.specs.Pool.{Pool, IsPool, has_households}
@@ -10,7 +10,8 @@ use Rattle.pool_definitions.specs.Building.{lowest_kind}
 use Rattle.pool_definitions.specs.Lottery.{Lottery, LotteryRow}
 use Rattle.pool_definitions.specs.Certificate.{Answer, Stage}
 use Rattle.line_definitions.specs.Lines.{line_feed, fields_of}
-use Rattle.line_definitions.proofs.LineLemmas.{Lacks, pieces_of-text_of}
+use Rattle.line_definitions.proofs.LineByLine as reading
+use Rattle.line_definitions.proofs.LineLemmas.{Lacks}
 use Rattle.line_definitions.proofs.FieldLemmas.{plain_field, line_lacks_feed}
 use Rattle.line_definitions.proofs.NumberLemmas.{bytes_same}
 use Rattle.text_definitions.specs.declared.Passed.{Passed}
@@ -19,29 +20,12 @@ use Rattle.text_definitions.specs.PoolReading as pools
 use Rattle.text_definitions.proofs.ReadAgain as pool_again
 use Rattle.bundle_definitions.specs.Ranges.{IsInRanges, is_weight, is_row, is_stage}
 use Rattle.bundle_definitions.specs.BundleText.{Bundle, IsBundle, bundle_line, pool_lines, total_line, panel_line, stage_line, done_line, answer_lines, lines_before_done, bundle_spelling}
-use Rattle.bundle_definitions.specs.BundleReading.{Progress, Begun, InPool, InRows, InStages, Done, AnswerLine, OfRow, OfStage, TheDone, said_of, row_kinds, stage_kinds, line_kind, after_row, after_stage, after_line, at_last, fault_or, read_lines, read_bundle}
+use Rattle.bundle_definitions.specs.BundleReading.{Progress, Begun, InPool, InRows, InStages, Done, AnswerLine, OfRow, OfStage, TheDone, said_of, row_kinds, stage_kinds, after_row, after_stage, read_bundle, reader}
 use Rattle.bundle_definitions.proofs.AnswerLines.{row_fields, row_again, stage_fields, stage_again, done_again, total_fields, total_again}
 
 -- lines without LF lead from one progress to another with no fault
 abbrev pub Runs : Progress → List (List ℕ) → Progress → Type 0
-Runs before [] after = before ≡ after
-Runs before (line ∷ lines) after = Lacks line_feed line × (line_kind before line ≡ None) × Runs (after_line before line) lines after
-
-Runs-append : (before between after : Progress) (xs ys : List (List ℕ)) → Runs before xs between → Runs between ys after → Runs before (xs ++ ys) after
-Runs-append before between after [] ys h k = subst (λ progress. Runs progress ys after) (sym h) k
-Runs-append before between after (x ∷ xs) ys h k = (h.0, h.1, Runs-append (after_line before x) between after xs ys h.2 k)
-
-no_feeds : (before after : Progress) (lines : List (List ℕ)) → Runs before lines after → AllByRecursion (Lacks line_feed) lines
-no_feeds before after [] h = tt
-no_feeds before after (line ∷ lines) h = (h.0, no_feeds (after_line before line) after lines h.2)
-
-read_to_end : (number : ℕ) (before : Progress) (lines : List (List ℕ)) (bundle : Bundle) → Runs before lines (Done bundle) → read_lines number before (lines ++ [] ∷ []) ≡ Ok bundle
-read_to_end number before [] bundle h = ap (λ progress. at_last number progress []) h
-read_to_end number before (line ∷ []) bundle h =
-    ap (λ kind. fault_or kind number (read_lines (number + 1) (after_line before line) ([] ∷ []))) h.1 ∙ read_to_end (number + 1) (after_line before line) [] bundle h.2
-read_to_end number before (line ∷ next ∷ later) bundle h =
-    ap (λ kind. fault_or kind number (read_lines (number + 1) (after_line before line) (next ∷ (later ++ [] ∷ [])))) h.1
-    ∙ read_to_end (number + 1) (after_line before line) (next ∷ later) bundle h.2
+Runs = reading.Runs reader
 
 -- ---- the pool's lines
 
@@ -158,19 +142,19 @@ module _ (pool : Pool) (few : length pool.volunteers ≤ 400) where
       let bundle : Bundle = record { pool = pool; answer = answer } in
       let rows = rows_run lottery.total [] lottery.rows is.rows in
       let stages = all_stages_run lottery answer.stages is.some_row is.some_stage is.stages in
-      let both = Runs-append (InRows pool (record { total = lottery.total; rows = [] })) (InRows pool lottery) (InStages pool answer) (map panel_line lottery.rows) (map stage_line answer.stages) rows stages in
+      let both = reading.Runs-append reader (InRows pool (record { total = lottery.total; rows = [] })) (InRows pool lottery) (InStages pool answer) (map panel_line lottery.rows) (map stage_line answer.stages) rows stages in
       let last = run_stage answer done_line TheDone [] (Done bundle) (plain_field (codes "done") refl).no_feed (done_again (length pool.volunteers)) refl refl in
-      let all = Runs-append (InRows pool (record { total = lottery.total; rows = [] })) (InStages pool answer) (Done bundle) (map panel_line lottery.rows ++ map stage_line answer.stages) (done_line ∷ []) both last in
+      let all = reading.Runs-append reader (InRows pool (record { total = lottery.total; rows = [] })) (InStages pool answer) (Done bundle) (map panel_line lottery.rows ++ map stage_line answer.stages) (done_line ∷ []) both last in
       total_runs lottery.total ((map panel_line lottery.rows ++ map stage_line answer.stages) ++ done_line ∷ []) (Done bundle) is.total all
 
 -- the lines of a bundle lead to its end
-runs : (bundle : Bundle) → IsBundle bundle → Runs Begun (lines_before_done bundle.pool bundle.answer ++ done_line ∷ []) (Done bundle)
+pub runs : (bundle : Bundle) → IsBundle bundle → Runs Begun (lines_before_done bundle.pool bundle.answer ++ done_line ∷ []) (Done bundle)
 runs bundle is =
     let pool = bundle.pool in
     let second = has_households pool in
     let few = leb-true (length pool.volunteers) 400 is.is_pool.few_volunteers in
     let answer = answer_runs pool few bundle.answer is.in_ranges in
-    let all = Runs-append (InPool second pools.Begun) (InPool second (pools.Ended pool)) (Done bundle) (pool_lines pool) (answer_lines bundle.answer ++ done_line ∷ []) (pool_runs pool is.is_pool) answer in
+    let all = reading.Runs-append reader (InPool second pools.Begun) (InPool second (pools.Ended pool)) (Done bundle) (pool_lines pool) (answer_lines bundle.answer ++ done_line ∷ []) (pool_runs pool is.is_pool) answer in
     bundle_runs second ((pool_lines pool ++ answer_lines bundle.answer) ++ done_line ∷ []) (Done bundle)
     (subst (λ lines. Runs (InPool second pools.Begun) lines (Done bundle)) (sym (append_assoc (pool_lines pool) (answer_lines bundle.answer) (done_line ∷ []))) all)
 
@@ -179,4 +163,4 @@ pub spelled_is_read : (bundle : Bundle) → IsBundle bundle → read_bundle (bun
 spelled_is_read bundle is =
     let lines = lines_before_done bundle.pool bundle.answer ++ done_line ∷ [] in
     let all = runs bundle is in
-    ap (read_lines 1 Begun) (pieces_of-text_of lines (no_feeds Begun (Done bundle) lines all)) ∙ read_to_end 1 Begun lines bundle all
+    reading.text_is_read reader (Done bundle) bundle (λ number. refl) 1 Begun lines all

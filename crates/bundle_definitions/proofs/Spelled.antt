@@ -1,18 +1,17 @@
 -- Lines that are read without a fault are those of the bundle that is read.
-use Rattle.std.proofs.Common.{◌≡◌, ℕ, ◌+◌, Bool, true, false, not, ◌||◌, ltb, List, [], ◌∷◌, ◌++◌, length, map, refl, sym, ◌∙◌, ap, subst, append_assoc, arith, Option, Some, None, unwrap_or}
+use Rattle.std.proofs.Common.{◌≡◌, ℕ, Bool, true, false, not, ◌||◌, ltb, List, [], ◌∷◌, ◌++◌, length, map, refl, sym, ◌∙◌, ap, subst, append_assoc, arith, Option, Some, None, unwrap_or}
 use Rattle.std.specs.Prelude.{bytes_eq, Ok, is_some}
-use Rattle.std.specs.List.{join_with_byte, list_all}
+use Rattle.std.specs.List.{list_all}
 use Rattle.std.proofs.lemmas.Bool.{not-false, lt-ltb, false≢true}
-use Rattle.std.proofs.lemmas.Grind.{flat_map-append}
 use Rattle.std.proofs.lemmas.List.{append-nil, map-append}
-use Rattle.std.proofs.lemmas.List.Splits.{join_with_byte-slice_split}
 use Rattle.basic_laws.proofs.Each.{list_all-push}
 use Rattle.pool_definitions.specs.Pool.{Pool, IsPool, has_households}
 use Rattle.pool_definitions.specs.Lottery.{Lottery}
 use Rattle.pool_definitions.specs.Certificate.{Answer, Stage}
 use Rattle.pool_definitions.specs.Building.{lowest_kind}
 use Rattle.pool_definitions.proofs.BuildingLemmas.{no_kind}
-use Rattle.line_definitions.specs.Lines.{line_feed, text_of, fields_of, pieces_of}
+use Rattle.line_definitions.specs.Lines.{text_of, fields_of}
+use Rattle.line_definitions.proofs.LineByLine as reading
 use Rattle.line_definitions.proofs.NumberLemmas.{bytes_are}
 use Rattle.text_definitions.specs.declared.Passed.{Passed}
 use Rattle.text_definitions.specs.PoolText.{version_line}
@@ -22,7 +21,7 @@ use Rattle.text_definitions.proofs.Spelled as pool_lines_read
 use Rattle.text_definitions.proofs.Spelled.{neither, own_version}
 use Rattle.bundle_definitions.specs.Ranges.{is_weight, is_row, is_stage}
 use Rattle.bundle_definitions.specs.BundleText.{Bundle, IsBundle, bundle_line, pool_lines, total_line, panel_line, stage_line, done_line, lines_before_done, bundle_spelling}
-use Rattle.bundle_definitions.specs.BundleReading.{Progress, Begun, InPool, InRows, InStages, Done, AnswerLine, OfRow, OfStage, FaultyStage, TheDone, Unknown, total_of, said_of, row_kinds, stage_kinds, line_kind, after_row, after_stage, after_line, at_last, fault_or, read_lines, read_bundle}
+use Rattle.bundle_definitions.specs.BundleReading.{Progress, Begun, InPool, InRows, InStages, Done, AnswerLine, OfRow, OfStage, FaultyStage, TheDone, Unknown, total_of, said_of, row_kinds, stage_kinds, line_kind, after_row, after_stage, after_line, at_last, read_bundle, reader}
 use Rattle.bundle_definitions.proofs.AnswerLines.{IsSpelled, answer_spelled, total_spelled}
 
 -- the pool's lines are those of a version
@@ -194,27 +193,6 @@ last_is_spelled number (Done other) [] bundle right h =
     let same : other ≡ bundle = cc in
     (subst IsBundle same right, append-nil (bundle_spelling other) ∙ ap bundle_spelling same)
 
--- what the pieces say, after right lines: the lines up to now and the pieces are the text of the bundle that is read
-rest_is_spelled : (number : ℕ) (progress : Progress) (pieces : List (List ℕ)) (bundle : Bundle) → IsRight progress → read_lines number progress pieces ≡ Ok bundle →
-    IsBundle bundle × (text_of (lines_so_far progress) ++ join_with_byte line_feed pieces ≡ bundle_spelling bundle)
-rest_is_spelled number progress [] bundle right h = last_is_spelled number progress [] bundle right h
-rest_is_spelled number progress (bytes ∷ []) bundle right h = last_is_spelled number progress bytes bundle right h
-rest_is_spelled number progress (line ∷ next ∷ later) bundle right h =
-    let rest = read_lines (number + 1) (after_line progress line) (next ∷ later) in
-    let behind = join_with_byte line_feed (next ∷ later) in
-    let stood = lines_so_far progress in
-    (elim (line_kind progress line) as (λ k. line_kind progress line ≡ k → fault_or k number rest ≡ Ok bundle → IsBundle bundle × (text_of stood ++ (line ++ (line_feed ∷ behind)) ≡ bundle_spelling bundle)) [
-      | Some kind ↦ λ e k. cc
-      | None ↦ λ e k.
-          let step = line_adds progress line right e in
-          let later_on = rest_is_spelled (number + 1) (after_line progress line) (next ∷ later) bundle step.0 k in
-          let grown : text_of (lines_so_far (after_line progress line)) ≡ text_of stood ++ ((line ++ line_feed ∷ []) ++ []) = ap text_of step.1 ∙ flat_map-append (λ l. l ++ line_feed ∷ []) stood (line ∷ []) in
-          let regrouped : (text_of stood ++ ((line ++ line_feed ∷ []) ++ [])) ++ behind ≡ text_of stood ++ (line ++ (line_feed ∷ behind)) = simp (append_assoc, append-nil) in
-          (later_on.0, sym regrouped ∙ (ap (λ text. text ++ behind) (sym grown) ∙ later_on.1))
-    ]) refl h
-
 -- what is read is spelled so, each byte of it
 pub read_is_spelled : (bytes : List ℕ) (bundle : Bundle) → read_bundle bytes ≡ Ok bundle → IsBundle bundle × (bytes ≡ bundle_spelling bundle)
-read_is_spelled bytes bundle h =
-    let all = rest_is_spelled 1 Begun (pieces_of bytes) bundle tt h in
-    (all.0, sym (join_with_byte-slice_split line_feed bytes) ∙ all.1)
+read_is_spelled bytes bundle h = reading.read_is_spelled reader IsRight lines_so_far IsBundle bundle_spelling line_adds last_is_spelled 1 Begun tt refl bytes bundle h

@@ -1,11 +1,12 @@
 -- What a list of bytes says as the text of a bundle: the bundle, or the first faulty line and in it the lowest kind.
-use Rattle.std.specs.Prelude.{ℕ, ◌+◌, ◌-◌, ◌^◌, nat_lt, if◌then◌else◌, Bool, true, false, not, ◌||◌, List, [], ◌∷◌, ◌++◌, length, bytes_eq, codes, ℤ, Option, Some, None, Result, Ok, Err, unwrap_or, is_some}
+use Rattle.std.specs.Prelude.{ℕ, ◌-◌, ◌^◌, nat_lt, if◌then◌else◌, Bool, true, false, not, ◌||◌, List, [], ◌∷◌, ◌++◌, length, bytes_eq, codes, ℤ, Option, Some, None, Result, Ok, Err, unwrap_or, is_some}
 use Rattle.pool_definitions.specs.Pool.{Pool}
 use Rattle.pool_definitions.specs.Lottery.{Lottery, LotteryRow}
 use Rattle.pool_definitions.specs.Certificate.{Answer, Stage}
 use Rattle.pool_definitions.specs.Building.{lowest_kind}
 use Rattle.line_definitions.specs.Lines.{Fault, fields_of, pieces_of}
 use Rattle.line_definitions.specs.Numbers.{number_up_to, signed_up_to}
+use Rattle.line_definitions.specs.Reading.{Reader, read_lines}
 use Rattle.text_definitions.specs.PoolText.{version_line}
 use Rattle.text_definitions.specs.PoolReading as pools
 use Rattle.bundle_definitions.specs.Ranges.{is_weight, is_row, is_stage}
@@ -189,18 +190,10 @@ abbrev pub at_last : ℕ → Progress → List ℕ → Result Bundle Fault
 at_last number (Done bundle) [] = Ok bundle
 at_last number progress bytes = Err (record { line = number; kind = missing_kind progress })
 
--- a fault in the line of a number, or what comes of the later lines
-abbrev pub fault_or : Option ℕ → ℕ → Result Bundle Fault → Result Bundle Fault
-fault_or None number later = later
-fault_or (Some kind) number later = Err (record { line = number; kind = kind })
-
--- the first line that has a fault, counting from a number, or the bundle
-abbrev pub read_lines : ℕ → Progress → List (List ℕ) → Result Bundle Fault
-read_lines number progress [] = at_last number progress []
-read_lines number progress (bytes ∷ []) = at_last number progress bytes
-read_lines number progress (line ∷ next ∷ later) =
-    fault_or (line_kind progress line) number (read_lines (number + 1) (after_line progress line) (next ∷ later))
+-- how the lines of a bundle's text are read
+abbrev pub reader : Reader Progress Bundle
+reader = record { line_kind = line_kind; after_line = after_line; at_last = at_last }
 
 -- the bundle that the bytes spell, or their first fault
 abbrev pub read_bundle : List ℕ → Result Bundle Fault
-read_bundle bytes = read_lines 1 Begun (pieces_of bytes)
+read_bundle bytes = read_lines reader 1 Begun (pieces_of bytes)

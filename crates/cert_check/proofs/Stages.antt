@@ -97,36 +97,12 @@ goes_on_after pool lottery nodes earlier later stage verdict e h =
     by_first pool lottery nodes earlier later stage
     ∙ ap (λ said. then said (answer_from pool lottery nodes (stage ∷ earlier) later)) (e ∙ ap Ok (is_valid verdict h))
 
--- ---- the lottery
-
--- where no reason of the lottery stands, its weights sum to the total
-pub total_agrees : (pool : Pool) (answer : Answer) (said : Verdict) (lottery : Lottery) → IsInRanges pool answer → lottery ≡ answer.lottery → said ≡ first_reason (lottery_reasons pool lottery) → holds said ≡ true →
-    TotalAgrees answer.lottery
-total_agrees pool answer said lottery ranges same e h =
-    let own = answer.lottery in
-    let valid : first_reason (lottery_reasons pool own) ≡ Valid = ap (λ lottery. first_reason (lottery_reasons pool lottery)) (sym same) ∙ sym e ∙ is_valid said h in
-    record {
-      weights = list_all_implies (is_row (length pool.volunteers)) (λ row. leb 1 row.weight)
-          (λ row h. (and_parts (leb 1 row.weight) (leb row.weight (10 ^ 38)) (and_parts (is_weight row.weight) (is_group (length pool.volunteers) row.panel) h).0).0) own.rows ranges.rows;
-      total = eqb-true own.total (sum_by (λ row. row.weight) own.rows)
-          (last (find (λ panel. not (is_quota_panel pool panel)) (listed own)) (first_repeated [] (listed own)) (eqb own.total (sum_by (λ row. row.weight) own.rows)) valid);
-    }
-  where
-    differ : (refusal : Refusal) → Refused refusal ≡ Valid → ⊥
-    differ refusal e = cc
-
-    last : (first second : Option (List ℕ)) (third : Bool) → first_reason (reason 0 1 first ∷ reason 0 2 second ∷ reason 0 3 (nobody_unless third) ∷ []) ≡ Valid → third ≡ true
-    last (Some who) second third e = absurd (differ _ e)
-    last None (Some who) third e = absurd (differ _ e)
-    last None None true e = refl
-    last None None false e = absurd (differ _ e)
+-- ---- the loop over the stages
 
 pub same_answers : (pool given : Pool) (answer other : Answer) (nodes : ℕ) (result : Result Verdict CheckStop) → given ≡ pool → other ≡ answer → Answers (check_answer given other nodes) result → Answers (check_answer pool answer nodes) result
 same_answers pool given answer other nodes result e f h =
     let P : Result Verdict ℕ → Type 0 = λ wanted. Answers wanted result in
     subst P (ap₂ (λ pool answer. check_answer pool answer nodes) e f) h
-
--- ---- the loop over the stages
 
 module _ (pool : Pool) (lottery : Lottery) (nodes : ℕ) (stages : List Stage) (j : ℕ) (course : Course) (stage : Stage) (below : j < length stages) (is : stage ≡ get_or stages j stage) (later : course.later ≡ drop j stages) where
   abbrev all : Result Verdict ℕ

@@ -7,7 +7,7 @@ use Rattle.std.specs.Int.{w128}
 use Rattle.std.proofs.lemmas.Int.{fits_signed_from_abs, ints, to_z-of_z}
 use Rattle.std.proofs.lemmas.List.{take_all}
 use Rattle.std.proofs.lemmas.List.Sums.{fold_more}
-use Rattle.basic_laws.proofs.Each.{each_from_list_all}
+use Rattle.basic_laws.proofs.Each.{each_at, each_from_list_all}
 use Rattle.basic_laws.proofs.Lists.{get_or-enumerate_from, length-enumerate_from}
 use Rattle.pool_definitions.specs.Certificate.{weight_of}
 use Rattle.pool_definitions.specs.declared.Standing.{Standing}
@@ -16,11 +16,6 @@ use Rattle.addition_definitions.specs.LeafSums.{charges_and_rests, first_charges
 use Rattle.addition_definitions.specs.Leaves.{Leaf, Multiplier, Problem, charge, has_constraints, multiplied, rest, rest_charge, total_charge}
 use Rattle.addition_definitions.specs.TreeRanges.{is_leaf}
 use Rattle.addition_definitions.proofs.NarrowSums.{charges_narrow, products_narrow, rest_narrow, total_narrow}
-
-pub each_at : {X : Type 0} (P : X → Type 0) (xs : List X) (k : ℕ) (d : X) → AllByRecursion P xs → k < length xs → P (get_or xs k d)
-each_at P [] k d h l = absurd (omega arith)
-each_at P (x ∷ xs) zero d h l = h.0
-each_at P (x ∷ xs) (suc k) d h l = each_at P xs k d h.1 (omega arith)
 
 -- an element of equal lists
 pub at_item : {X : Type 0} (items xs : List X) (k : ℕ) (x : X) → items ≡ xs → k < length items → x ≡ get_or items k x → (k < length xs) × (x ≡ get_or xs k x)
@@ -63,14 +58,14 @@ module _ (problem : Problem) (leaf : Leaf) where
     known_at known =
         let P : Multiplier → Type 0 = λ it. ltb it.number (length problem.constraints) ≡ true in
         ltb-true m.number (length problem.constraints)
-        (subst P (sym at) (each_at P leaf.multipliers k m (each_from_list_all (λ it. ltb it.number (length problem.constraints)) leaf.multipliers known) below))
+        (each_at P leaf.multipliers k m (each_from_list_all (λ it. ltb it.number (length problem.constraints)) leaf.multipliers known) below at)
 
     -- and its products fit
     pub narrow_at : (i : ℕ) → is_problem_in_reach problem ≡ true → is_leaf leaf ≡ true →
         (unsigned_abs (multiplied problem.constraints i m) < 2 ^ 127) × (unsigned_abs (charge problem.constraints m) < 2 ^ 127)
     narrow_at i near is =
         let P : Multiplier → Type 0 = λ it. (unsigned_abs (multiplied problem.constraints i it) < 2 ^ 127) × (unsigned_abs (charge problem.constraints it) < 2 ^ 127) in
-        subst P (sym at) (each_at P leaf.multipliers k m (products_narrow problem near leaf is i) below)
+        each_at P leaf.multipliers k m (products_narrow problem near leaf is i) below at
 
     -- one multiplier more
     pub charges_more : first_charges problem (k + 1) leaf ≡ first_charges problem k leaf +ℤ charge problem.constraints m

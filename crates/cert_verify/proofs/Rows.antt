@@ -5,7 +5,7 @@ use Rattle.std.proofs.lemmas.Grind.{flat_map-append}
 use Rattle.std.proofs.lemmas.List.{append-nil, append_assoc, map_more, take_all, take_more}
 use Rattle.std.proofs.lemmas.List.FromFn.{get_or-map-range_with_len, length-map-range_with_len}
 use Rattle.basic_laws.proofs.Each.{each_everywhere, each_range}
-use Rattle.basic_laws.proofs.Lists.{get_or-enumerate_from, length-enumerate_from, map-map, map_same}
+use Rattle.basic_laws.proofs.Lists.{filter_same, get_or-enumerate_from, length-enumerate_from, map-map, map_same}
 use Rattle.pool_definitions.specs.Pool.{Pool, everybody}
 use Rattle.search_definitions.specs.Classes.{shared_household}
 use Rattle.search_definitions.specs.Compositions.{is_of_household}
@@ -57,10 +57,6 @@ module _ {X Y : Type 0} (before : List Y) (items xs : List X) (e : items ≡ xs)
   all_several f rows h so_far = so_far ∙ ap (λ those. before ++ flat_map f those) (numbered_all items xs k e h)
 
 -- ---- households
-
-filter_same : {X : Type 0} (p q : X → Bool) (xs : List X) → AllByRecursion (λ x. p x ≡ q x) xs → filter p xs ≡ filter q xs
-filter_same p q [] h = refl
-filter_same p q (x ∷ xs) h = ap₂ (λ b rest. cond b (x ∷ rest) rest) h.0 (filter_same p q xs h.1)
 
 module _ (pool : Pool) (households : List (Option ℕ)) (are : households ≡ map (shared_household pool.volunteers) (everybody pool)) where
   row_is : (number : ℕ) → household_row households number ≡ household_constraint pool number

@@ -120,24 +120,3 @@ module _ (pool : Pool) (lottery : Lottery) (stages : List Stage) (trees : List (
   going_on verdict next e h f =
       from_here ∙ goes_on_after pool lottery earlier next_stages stage number (lines ∷ next_trees) verdict e h
       ∙ ap (λ n. verdict_from pool lottery (stage ∷ earlier) next_stages n next_trees) (sym f)
-
--- ---- the lottery
-
--- where no reason of the lottery stands, its weights sum to the total
-pub total_agrees : (pool : Pool) (answer : Answer) (lottery : Lottery) (said : Verdict) → IsInRanges pool answer → lottery ≡ answer.lottery → said ≡ first_reason (lottery_reasons pool lottery) → holds said ≡ true →
-    TotalAgrees answer.lottery
-total_agrees pool answer lottery said ranges same e h =
-    let own = answer.lottery in
-    let valid : first_reason (lottery_reasons pool own) ≡ Valid = ap (λ lottery. first_reason (lottery_reasons pool lottery)) (sym same) ∙ sym e ∙ is_valid said h in
-    record {
-      weights = list_all_implies (is_row (length pool.volunteers)) (λ row. leb 1 row.weight)
-          (λ row h. (and_parts (leb 1 row.weight) (leb row.weight (10 ^ 38)) (and_parts (is_weight row.weight) (is_group (length pool.volunteers) row.panel) h).0).0) own.rows ranges.rows;
-      total = eqb-true own.total (sum_by (λ row. row.weight) own.rows)
-          (last (find (λ panel. not (is_quota_panel pool panel)) (listed_panels own)) (first_repeated [] (listed_panels own)) (eqb own.total (sum_by (λ row. row.weight) own.rows)) valid);
-    }
-  where
-    last : (first second : Option (List ℕ)) (third : Bool) → first_reason (reason 0 1 first ∷ reason 0 2 second ∷ reason 0 3 (nobody_unless third) ∷ []) ≡ Valid → third ≡ true
-    last (Some who) second third e = absurd cc
-    last None (Some who) third e = absurd cc
-    last None None true e = refl
-    last None None false e = absurd cc

@@ -5,8 +5,8 @@ use Rattle.std.specs.List.{find, list_all, list_any, AllByRecursion, range_with_
 use Rattle.std.proofs.lemmas.Bool.{and_parts, eqb-true, eq-eqb, ltb-true, lt-ltb, leb-true, le-leb, false≢true, false_from_ne_true}
 use Rattle.std.proofs.lemmas.List.FromFn.{get_or-map-range_with_len, length-map-range_with_len}
 use Rattle.std.proofs.lemmas.Slice.Eq.{bytes_eq-Decides}
-use Rattle.basic_laws.proofs.Each.{each_from_list_all, each_map, each_mapped, each_range, list_all_from_each, range_each}
-use Rattle.basic_laws.proofs.Found.{find-each, find-none, find-passes}
+use Rattle.basic_laws.proofs.Each.{each_everywhere, each_from_list_all, each_map, each_mapped, each_range, list_all_from_each, range_each}
+use Rattle.basic_laws.proofs.Found.{find-each, find-none, find-passes, find_same}
 use Rattle.basic_laws.proofs.Lists.{map_same}
 use Rattle.basic_laws.proofs.Sums.{total, total-zero, total_eq, one_if, count_by-total}
 use Rattle.pool_definitions.specs.Lists.{includes, is_increasing}
@@ -18,10 +18,6 @@ same_name : (a b : Option (List ℕ)) → is_same_household a b ≡ true → a �
 same_name None b h = absurd (false≢true h)
 same_name (Some name) None h = absurd (false≢true h)
 same_name (Some name) (Some other) h = ap Some ((bytes_eq-Decides name other).0 h)
-
-find_same : (p q : ℕ → Bool) → ((k : ℕ) → p k ≡ q k) → (xs : List ℕ) → find p xs ≡ find q xs
-find_same p q e [] = refl
-find_same p q e (x ∷ xs) = let here = e x in let rest = find_same p q e xs in rw (here, rest) refl
 
 or_cases : (a b : Bool) → (a || b) ≡ true → (a ≡ true) ⊎ (b ≡ true)
 or_cases true b e = inl refl
@@ -97,7 +93,8 @@ module _ (volunteers : List Volunteer) where
   number_same i j below h = by (find (tested i) everybody) refl
     where
       same : find (tested i) everybody ≡ find (tested j) everybody
-      same = find_same (tested i) (tested j) (λ k. tested_is i (itself i j h) k ∙ share_along i j k h ∙ sym (tested_is j (itself j i (back i j h)) k)) everybody
+      same = find_same (tested i) (tested j) everybody
+          (each_everywhere (λ k. tested i k ≡ tested j k) (λ k. tested_is i (itself i j h) k ∙ share_along i j k h ∙ sym (tested_is j (itself j i (back i j h)) k)) everybody)
 
       by : (found : Option ℕ) → find (tested i) everybody ≡ found → number i ≡ number j
       by None e = absurd (is_found i below e)

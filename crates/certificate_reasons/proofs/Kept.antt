@@ -9,22 +9,15 @@ use Rattle.std.proofs.lemmas.Int.{ints}
 use Rattle.std.proofs.lemmas.List.{length-reverse, length-take-le, take_more, reverse-append}
 use Rattle.std.proofs.lemmas.List.FromFn.{fill_by_all, get_or-map-range_with_len, length-map-range_with_len}
 use Rattle.basic_laws.proofs.Each.{each_filter, each_map, each_range}
+use Rattle.basic_laws.proofs.Found.{find_same}
 use Rattle.basic_laws.proofs.Integers.{eq-tested, lt-tested, same_pos, tested-lt}
-use Rattle.basic_laws.proofs.Lists.{map-map}
+use Rattle.basic_laws.proofs.Lists.{filter_same, map-map}
 use Rattle.pool_definitions.specs.Certificate.{Stage, is_positive, is_settled, settling, unsettled}
 use Rattle.pool_definitions.specs.Lottery.{Lottery, count, counts}
 use Rattle.pool_definitions.specs.Pool.{Pool, everybody}
 use Rattle.check_definitions.specs.Reasons.{first_count as first_count_of, first_reason, one, reason, reasons_before_cap, reasons_from}
 use Rattle.certificate_reasons.proofs.HouseholdNumbers.{same_tests}
 use Rattle.certificate_reasons.specs.Courses.{Course, Keeps, count_at, first_count, kept_reasons}
-
-filter_same : (p q : ℕ → Bool) (xs : List ℕ) → AllByRecursion (λ x. p x ≡ q x) xs → filter p xs ≡ filter q xs
-filter_same p q [] h = refl
-filter_same p q (x ∷ xs) h = let here = h.0 in let rest = filter_same p q xs h.1 in rw (here, rest) refl
-
-find_same : (p q : ℕ → Bool) (xs : List ℕ) → AllByRecursion (λ x. p x ≡ q x) xs → find p xs ≡ find q xs
-find_same p q [] h = refl
-find_same p q (x ∷ xs) h = let here = h.0 in let rest = find_same p q xs h.1 in rw (here, rest) refl
 
 -- tests of counts as numbers with a sign
 same_eq : (a b : ℕ) → int_eq (pos a) (pos b) ≡ eqb a b

@@ -8,7 +8,7 @@ use borrow.Author.Differences.{le-true, lt-false, lt-true, true_is_le}
 use Rattle.basic_laws.proofs.Each.{each_append, each_from_list_all, each_left, each_map, each_right, list_all_from_each, list_all_implies}
 use Rattle.basic_laws.proofs.Found.{find-none}
 use Rattle.pool_definitions.specs.Certificate.{Answer, Certifies, Stage, StageHolds, StagesHold, is_settled, panel_weight, settling, unsettled, weight_of}
-use Rattle.pool_definitions.specs.Lottery.{IsLottery, Lottery, LotteryRow, count}
+use Rattle.pool_definitions.specs.Lottery.{IsLottery, Lottery, LotteryRow, TotalAgrees, count}
 use Rattle.pool_definitions.specs.Pool.{Pool, everybody, is_quota_panel}
 use Rattle.bundle_definitions.specs.Ranges.{IsInRanges, is_group, is_row, is_stage, is_weight, reach}
 use Rattle.check_definitions.specs.Caps.{first_above_cap}
@@ -18,20 +18,20 @@ use Rattle.check_definitions.proofs.Repeated.{all_different_where_none, none_whe
 
 -- ---- reasons
 
-abbrev NoneStands : List (Option Refusal) → Type 0
+abbrev pub NoneStands : List (Option Refusal) → Type 0
 NoneStands rs = AllByRecursion (λ r. r ≡ None) rs
 
-none_from_valid : (rs : List (Option Refusal)) → first_reason rs ≡ Valid → NoneStands rs
+pub none_from_valid : (rs : List (Option Refusal)) → first_reason rs ≡ Valid → NoneStands rs
 none_from_valid [] e = tt
 none_from_valid (None ∷ later) e = (refl, none_from_valid later e)
 none_from_valid (Some refusal ∷ later) e = absurd cc
 
-valid_from_none : (rs : List (Option Refusal)) → NoneStands rs → first_reason rs ≡ Valid
+pub valid_from_none : (rs : List (Option Refusal)) → NoneStands rs → first_reason rs ≡ Valid
 valid_from_none [] h = refl
 valid_from_none (None ∷ later) h = valid_from_none later h.1
 valid_from_none (Some refusal ∷ later) h = let e = h.0 in absurd cc
 
-reason_none : (stage number : ℕ) (who : Option (List ℕ)) → reason stage number who ≡ None → who ≡ None
+pub reason_none : (stage number : ℕ) (who : Option (List ℕ)) → reason stage number who ≡ None → who ≡ None
 reason_none stage number None e = refl
 reason_none stage number (Some who) e = absurd cc
 
@@ -42,7 +42,7 @@ one_none : (volunteer : Option ℕ) → one volunteer ≡ None → volunteer ≡
 one_none None e = refl
 one_none (Some i) e = absurd cc
 
-unless_none : (holds : Bool) → nobody_unless holds ≡ None → holds ≡ true
+pub unless_none : (holds : Bool) → nobody_unless holds ≡ None → holds ≡ true
 unless_none true e = refl
 unless_none false e = absurd cc
 
@@ -92,6 +92,11 @@ lottery_holds pool answer ranges none =
             (unless_none (eqb lottery.total (sum_by (λ row. row.weight) lottery.rows)) (reason_none 0 3 (nobody_unless (eqb lottery.total (sum_by (λ row. row.weight) lottery.rows))) none.1.1.0));
       };
     }
+
+-- where the verdict on the lottery is valid, its weights sum to the total
+pub total_agrees : (pool : Pool) (answer : Answer) (lottery : Lottery) → IsInRanges pool answer → lottery ≡ answer.lottery → first_reason (lottery_reasons pool lottery) ≡ Valid → TotalAgrees answer.lottery
+total_agrees pool answer lottery ranges same valid =
+    (lottery_holds pool answer ranges (none_from_valid (lottery_reasons pool answer.lottery) (ap (λ lottery. first_reason (lottery_reasons pool lottery)) (sym same) ∙ valid))).total_agrees
 
 lottery_stands : (pool : Pool) (lottery : Lottery) → IsLottery pool lottery → NoneStands (lottery_reasons pool lottery)
 lottery_stands pool lottery is =

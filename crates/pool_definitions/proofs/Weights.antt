@@ -22,7 +22,8 @@ one_member f x first (suc count) h k =
           omega (arith, one_member f x (first + 1) count (omega arith) (omega arith))
     ]) refl
 
-not_held : (x : ℕ) (xs : List ℕ) → list_all (λ y. ltb x y) xs ≡ true → includes xs x ≡ false
+-- a number below each of a list is none of them
+pub not_held : (x : ℕ) (xs : List ℕ) → list_all (λ y. ltb x y) xs ≡ true → includes xs x ≡ false
 not_held x [] h = refl
 not_held x (y ∷ ys) h =
     let parts = and_parts (ltb x y) (list_all (λ y. ltb x y) ys) h in

@@ -10,6 +10,7 @@ use Rattle.pool_definitions.specs.Building.{lowest_kind}
 use Rattle.pool_definitions.specs.Certificate.{Answer}
 use Rattle.pool_definitions.specs.Pool.{IsPool, Pool, has_households}
 use Rattle.line_definitions.specs.Lines.{line_feed, pieces_of, text_of}
+use Rattle.line_definitions.proofs.LineByLine as reading
 use Rattle.line_definitions.proofs.LineLemmas.{Lacks, pieces_lack, pieces_of-text_of, some_piece}
 use Rattle.line_definitions.proofs.FieldLemmas.{line_lacks_feed, plain_field}
 use Rattle.line_definitions.proofs.NumberLemmas.{bytes_same}
@@ -23,30 +24,13 @@ use Rattle.addition_definitions.specs.ProofVerdict.{OfLottery, OfNoPanel, Proof}
 use Rattle.addition_definitions.specs.TreeLines.{TreeLine}
 use Rattle.addition_definitions.specs.TreeRanges.{is_tree_line}
 use Rattle.proof_definitions.specs.ProofText.{IsLotteryProof, IsNoPanelProof, IsProof, bundle_lines, close_line, lines_before_close, most_trees, node_line, none_line, proof_line, proof_spelling, tree_line, tree_lines, trees_from}
-use Rattle.proof_definitions.specs.ProofReading.{Begun, Closed, InBundle, InNoPanel, InPool, InTrees, LineInTree, NextTree, OfNode, Opened, Progress, TheClose, after_line, after_no_panel, after_tree, at_last, begins_bundle, begins_pool, fault_or, line_in_tree, line_kind, read_lines, read_proof, said_in_no_panel, said_in_trees, tree_kinds}
+use Rattle.proof_definitions.specs.ProofReading.{Begun, Closed, InBundle, InNoPanel, InPool, InTrees, LineInTree, NextTree, OfNode, Opened, Progress, TheClose, after_line, after_no_panel, after_tree, begins_bundle, begins_pool, line_in_tree, line_kind, read_proof, said_in_no_panel, said_in_trees, tree_kinds, reader}
 use Rattle.proof_definitions.proofs.NodeLines.{close_again, next_again, node_again, node_lacks_feed, tree_lacks_feed}
 use Rattle.proof_definitions.proofs.Spelled.{keep_ranges}
 
 -- lines without LF lead from one progress to another with no fault
-abbrev Runs : Progress → List (List ℕ) → Progress → Type 0
-Runs before [] after = before ≡ after
-Runs before (line ∷ lines) after = Lacks line_feed line × (line_kind before line ≡ None) × Runs (after_line before line) lines after
-
-Runs-append : (before between after : Progress) (xs ys : List (List ℕ)) → Runs before xs between → Runs between ys after → Runs before (xs ++ ys) after
-Runs-append before between after [] ys h k = subst (λ progress. Runs progress ys after) (sym h) k
-Runs-append before between after (x ∷ xs) ys h k = (h.0, h.1, Runs-append (after_line before x) between after xs ys h.2 k)
-
-no_feeds : (before after : Progress) (lines : List (List ℕ)) → Runs before lines after → AllByRecursion (Lacks line_feed) lines
-no_feeds before after [] h = tt
-no_feeds before after (line ∷ lines) h = (h.0, no_feeds (after_line before line) after lines h.2)
-
-read_to_end : (number : ℕ) (before : Progress) (lines : List (List ℕ)) (proof : Proof) → Runs before lines (Closed proof) → read_lines number before (lines ++ [] ∷ []) ≡ Ok proof
-read_to_end number before [] proof h = ap (λ progress. at_last number progress []) h
-read_to_end number before (line ∷ []) proof h =
-    ap (λ kind. fault_or kind number (read_lines (number + 1) (after_line before line) ([] ∷ []))) h.1 ∙ read_to_end (number + 1) (after_line before line) [] proof h.2
-read_to_end number before (line ∷ next ∷ later) proof h =
-    ap (λ kind. fault_or kind number (read_lines (number + 1) (after_line before line) (next ∷ (later ++ [] ∷ [])))) h.1
-    ∙ read_to_end (number + 1) (after_line before line) (next ∷ later) proof h.2
+abbrev pub Runs : Progress → List (List ℕ) → Progress → Type 0
+Runs = reading.Runs reader
 
 -- ---- the lines of a pool
 
@@ -77,61 +61,6 @@ pool_runs pool is =
     )
 
 -- ---- the lines of a bundle
-
--- the pieces of a bundle's text are lines that lead to its end
-record BundleRuns (number : ℕ) (progress : bundles.Progress) (pieces : List (List ℕ)) (bundle : Bundle) : Type 0 where
-  lines : List (List ℕ)
-  pieces_are : lines ++ [] ∷ [] ≡ pieces
-  runs : bundle_again.Runs progress lines (bundles.Done bundle)
-
-at_end : (number : ℕ) (progress : bundles.Progress) (bytes : List ℕ) (bundle : Bundle) → bundles.at_last number progress bytes ≡ Ok bundle → (progress ≡ bundles.Done bundle) × ([] ≡ bytes)
-at_end number bundles.Begun bytes bundle h = cc
-at_end number (bundles.InPool second progress) bytes bundle h = cc
-at_end number (bundles.InRows pool lottery) bytes bundle h = cc
-at_end number (bundles.InStages pool answer) bytes bundle h = cc
-at_end number (bundles.Done other) (byte ∷ bytes) bundle h = cc
-at_end number (bundles.Done other) [] bundle h = let same : other ≡ bundle = cc in (ap bundles.Done same, refl)
-
-bundle_pieces : (number : ℕ) (progress : bundles.Progress) (pieces : List (List ℕ)) (bundle : Bundle) → AllByRecursion (Lacks line_feed) pieces → (pieces ≡ [] → ⊥) →
-    bundles.read_lines number progress pieces ≡ Ok bundle → BundleRuns number progress pieces bundle
-bundle_pieces number progress [] bundle lack some h = absurd (some refl)
-bundle_pieces number progress (bytes ∷ []) bundle lack some h =
-    let known = at_end number progress bytes bundle h in record { lines = []; pieces_are = ap (λ b. b ∷ []) known.1; runs = known.0 }
-bundle_pieces number progress (line ∷ next ∷ later) bundle lack some h =
-    by (bundles.line_kind progress line) refl h (bundle_pieces (number + 1) (bundles.after_line progress line) (next ∷ later) bundle lack.1 (λ e. cc))
-  where
-    by : (kind : Option ℕ) → bundles.line_kind progress line ≡ kind → bundles.fault_or kind number (bundles.read_lines (number + 1) (bundles.after_line progress line) (next ∷ later)) ≡ Ok bundle →
-        (bundles.read_lines (number + 1) (bundles.after_line progress line) (next ∷ later) ≡ Ok bundle → BundleRuns (number + 1) (bundles.after_line progress line) (next ∷ later) bundle) →
-        BundleRuns number progress (line ∷ next ∷ later) bundle
-    by None e k again =
-        let more = again k in record { lines = line ∷ more.lines; pieces_are = ap (λ ls. line ∷ ls) more.pieces_are; runs = (lack.0, e, more.runs) }
-    by (Some kind) e k again = absurd cc
-
--- lines that are ended and none behind them are joined as their text
-joined : (lines : List (List ℕ)) → join_with_byte line_feed (lines ++ [] ∷ []) ≡ text_of lines
-joined [] = refl
-joined (line ∷ []) = sym (append-nil (line ++ line_feed ∷ []))
-joined (line ∷ next ∷ later) =
-    ap (λ rest. line ++ (line_feed ∷ rest)) (joined (next ∷ later)) ∙ sym (append_assoc line (line_feed ∷ []) (text_of (next ∷ later)))
-
--- lines that lead from a bundle's beginning to its end, and whose text is the bundle's
-record BundleLines (bundle : Bundle) : Type 0 where
-  lines : List (List ℕ)
-  same_text : text_of lines ≡ bundle_spelling bundle
-  runs : bundle_again.Runs bundles.Begun lines (bundles.Done bundle)
-
-lines_of_bundle : (bundle : Bundle) → IsBundle bundle → BundleLines bundle
-lines_of_bundle bundle is =
-    let bytes = bundle_spelling bundle in
-    let all = bundle_pieces 1 bundles.Begun (pieces_of bytes) bundle (pieces_lack bytes) (some (pieces_of bytes) (some_piece bytes)) (bundle_again.spelled_is_read bundle is) in
-    record {
-      lines = all.lines;
-      same_text = sym (joined all.lines) ∙ ap (join_with_byte line_feed) all.pieces_are ∙ join_with_byte-slice_split line_feed bytes;
-      runs = all.runs;
-    }
-  where
-    some : (pieces : List (List ℕ)) → (first : List ℕ) × (later : List (List ℕ)) × (pieces ≡ first ∷ later) → pieces ≡ [] → ⊥
-    some pieces piece e = let f = piece.2 in cc
 
 -- lines of a bundle that lead to its end do so in a proof
 bundle_inside : (progress : bundles.Progress) (lines : List (List ℕ)) (bundle : Bundle) → bundle_again.Runs progress lines (bundles.Done bundle) → Runs (InBundle progress) lines (InBundle (bundles.Done bundle))
@@ -195,7 +124,7 @@ module _ (bundle : Bundle) (small : length bundle.pool.volunteers ≤ 400) where
       let same : (length more + 1) + 1 ≡ number + 1 = omega (arith, size) in
       let rest = later_run more tree later (omega (arith, size, many)) (omega (arith, size, few)) parts.1 in
       let numbered = subst (λ k. Runs (InTrees bundle more tree) (trees_from k later ++ close_line ∷ []) (Closed (OfLottery bundle.pool bundle.answer (more ++ tree ∷ later)))) same rest in
-      let all = Runs-append (InTrees bundle more []) (InTrees bundle more tree) (Closed (OfLottery bundle.pool bundle.answer (more ++ tree ∷ later)))
+      let all = reading.Runs-append reader (InTrees bundle more []) (InTrees bundle more tree) (Closed (OfLottery bundle.pool bundle.answer (more ++ tree ∷ later)))
       (map node_line tree) (trees_from (number + 1) later ++ close_line ∷ []) (nodes_run more [] tree parts.0) numbered in
       let regrouped = subst (λ ls. Runs (InTrees bundle more []) ls (Closed (OfLottery bundle.pool bundle.answer (more ++ tree ∷ later)))) (sym (append_assoc (map node_line tree) (trees_from (number + 1) later) (close_line ∷ []))) all in
       run_tree whole lines (tree_line number) NextTree ((map node_line tree ++ trees_from (number + 1) later) ++ close_line ∷ []) (Closed (OfLottery bundle.pool bundle.answer (whole ++ lines ∷ tree ∷ later)))
@@ -210,7 +139,7 @@ module _ (bundle : Bundle) (small : length bundle.pool.volunteers ≤ 400) where
       let parts = and_parts (list_all (is_tree_line n) tree) (keep_ranges n later) are in
       let closed = Closed (OfLottery bundle.pool bundle.answer (tree ∷ later)) in
       let rest = later_run [] tree later (omega (arith, many)) (omega (arith, few)) parts.1 in
-      let all = Runs-append (InTrees bundle [] []) (InTrees bundle [] tree) closed (map node_line tree) (trees_from 2 later ++ close_line ∷ []) (nodes_run [] [] tree parts.0) rest in (
+      let all = reading.Runs-append reader (InTrees bundle [] []) (InTrees bundle [] tree) closed (map node_line tree) (trees_from 2 later ++ close_line ∷ []) (nodes_run [] [] tree parts.0) rest in (
         tree_lacks_feed 1 (omega arith),
         expected (tree_line 1),
         subst (λ ls. Runs (InTrees bundle [] []) ls closed) (sym (append_assoc (map node_line tree) (trees_from 2 later) (close_line ∷ []))) all,
@@ -249,31 +178,28 @@ opens lines after runs = (line_lacks_feed (codes "proof" ∷ codes "1" ∷ []) (
 -- what lines with these texts lead to is read
 runs_are_read : (lines : List (List ℕ)) (proof : Proof) → Runs Begun lines (Closed proof) → text_of lines ≡ proof_spelling proof → read_proof (proof_spelling proof) ≡ Ok proof
 runs_are_read lines proof runs same =
-    ap read_proof (sym same) ∙ ap (read_lines 1 Begun) (pieces_of-text_of lines (no_feeds Begun (Closed proof) lines runs)) ∙ read_to_end 1 Begun lines proof runs
+    ap read_proof (sym same) ∙ reading.text_is_read reader (Closed proof) proof (λ number. refl) 1 Begun lines runs
 
 lottery_is_read : (pool : Pool) (answer : Answer) (trees : List (List TreeLine)) → IsLotteryProof pool answer trees → read_proof (proof_spelling (OfLottery pool answer trees)) ≡ Ok (OfLottery pool answer trees)
 lottery_is_read pool answer trees is =
     let bundle : Bundle = record { pool = pool; answer = answer } in
     let proof = OfLottery pool answer trees in
-    let known = lines_of_bundle bundle is.is_bundle in
+    let lines = bundle_lines pool answer in
     let small = leb-true (length pool.volunteers) 400 is.is_bundle.is_pool.few_volunteers in
     let few = leb-true (length trees) most_trees is.few_trees in
     let rest = trees_from 1 trees ++ close_line ∷ [] in
     let behind = trees_run bundle small trees is.is_bundle.in_ranges.some_stage is.one_each few is.in_ranges in
-    let all = Runs-append Opened (InBundle (bundles.Done bundle)) (Closed proof) known.lines rest (bundle_runs known.lines bundle known.runs) behind in
-    let texts : text_of (known.lines ++ rest) ≡ text_of (bundle_lines pool answer ++ rest) =
-    flat_map-append (λ l. l ++ line_feed ∷ []) known.lines rest ∙ ap (λ text. text ++ text_of rest) known.same_text ∙ sym (flat_map-append (λ l. l ++ line_feed ∷ []) (bundle_lines pool answer) rest) in
-    let whole : text_of (proof_line ∷ (known.lines ++ rest)) ≡ proof_spelling proof =
-    ap (λ text. (proof_line ++ line_feed ∷ []) ++ text) texts
-    ∙ ap (λ lines. (proof_line ++ line_feed ∷ []) ++ text_of lines) (sym (append_assoc (bundle_lines pool answer) (trees_from 1 trees) (close_line ∷ []))) in
-    runs_are_read (proof_line ∷ (known.lines ++ rest)) proof (opens (known.lines ++ rest) (Closed proof) all) whole
+    let all = reading.Runs-append reader Opened (InBundle (bundles.Done bundle)) (Closed proof) lines rest (bundle_runs lines bundle (bundle_again.runs bundle is.is_bundle)) behind in
+    let regrouped : proof_line ∷ (lines ++ rest) ≡ lines_before_close proof ++ close_line ∷ [] =
+    ap (λ ls. proof_line ∷ ls) (sym (append_assoc lines (trees_from 1 trees) (close_line ∷ []))) in
+    runs_are_read (proof_line ∷ (lines ++ rest)) proof (opens (lines ++ rest) (Closed proof) all) (ap text_of regrouped)
 
 no_panel_is_read : (pool : Pool) (lines : List TreeLine) → IsNoPanelProof pool lines → read_proof (proof_spelling (OfNoPanel pool lines)) ≡ Ok (OfNoPanel pool lines)
 no_panel_is_read pool lines is =
     let proof = OfNoPanel pool lines in
     let small = leb-true (length pool.volunteers) 400 is.is_pool.few_volunteers in
     let rest = (none_line ∷ tree_lines 0 lines) ++ close_line ∷ [] in
-    let all = Runs-append Opened (InPool (pools.Ended pool)) (Closed proof) (pool_lines pool) rest (pool_runs pool is.is_pool) (no_panel_runs pool small lines is.in_ranges) in
+    let all = reading.Runs-append reader Opened (InPool (pools.Ended pool)) (Closed proof) (pool_lines pool) rest (pool_runs pool is.is_pool) (no_panel_runs pool small lines is.in_ranges) in
     let regrouped : proof_line ∷ (pool_lines pool ++ rest) ≡ lines_before_close proof ++ close_line ∷ [] =
     ap (λ ls. proof_line ∷ ls) (sym (append_assoc (pool_lines pool) (none_line ∷ tree_lines 0 lines) (close_line ∷ []))) in
     runs_are_read (proof_line ∷ (pool_lines pool ++ rest)) proof (opens (pool_lines pool ++ rest) (Closed proof) all) (ap text_of regrouped)

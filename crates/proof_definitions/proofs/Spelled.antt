@@ -12,6 +12,7 @@ use Rattle.pool_definitions.specs.Pool.{IsPool, Pool}
 use Rattle.pool_definitions.specs.Certificate.{Answer}
 use Rattle.pool_definitions.proofs.BuildingLemmas.{no_kind}
 use Rattle.line_definitions.specs.Lines.{line_feed, pieces_of, text_of}
+use Rattle.line_definitions.proofs.LineByLine as reading
 use Rattle.line_definitions.proofs.NumberLemmas.{bytes_are}
 use Rattle.text_definitions.specs.PoolReading as pools
 use Rattle.text_definitions.proofs.Spelled as pool_read
@@ -22,7 +23,7 @@ use Rattle.addition_definitions.specs.ProofVerdict.{OfLottery, OfNoPanel, Proof}
 use Rattle.addition_definitions.specs.TreeLines.{TreeLine}
 use Rattle.addition_definitions.specs.TreeRanges.{is_tree_line}
 use Rattle.proof_definitions.specs.ProofText.{IsNoPanelProof, IsProof, bundle_lines, close_line, lines_before_close, most_trees, node_line, none_line, proof_line, proof_spelling, tree_line, tree_lines, trees_from}
-use Rattle.proof_definitions.specs.ProofReading.{Begun, Closed, InBundle, InNoPanel, InPool, InTrees, LineInTree, NextTree, OfNode, Opened, Progress, TheClose, Unknown, WithoutPanel, after_line, after_no_panel, after_tree, at_last, begins_bundle, begins_pool, fault_or, line_kind, read_lines, read_proof, said_in_no_panel, said_in_trees, tree_kinds}
+use Rattle.proof_definitions.specs.ProofReading.{Begun, Closed, InBundle, InNoPanel, InPool, InTrees, LineInTree, NextTree, OfNode, Opened, Progress, TheClose, Unknown, WithoutPanel, after_line, after_no_panel, after_tree, at_last, begins_bundle, begins_pool, line_kind, read_proof, said_in_no_panel, said_in_trees, tree_kinds, reader}
 use Rattle.proof_definitions.proofs.NodeLines.{IsSpelled, line_spelled}
 
 -- trees of so many volunteers keep their ranges
@@ -235,27 +236,6 @@ last_is_spelled number (Closed other) [] proof right h =
     let same : other ≡ proof = cc in
     (subst IsProof same right, append-nil (proof_spelling other) ∙ ap proof_spelling same)
 
--- what the pieces say, after right lines: the lines up to now and the pieces are the text of the proof that is read
-rest_is_spelled : (number : ℕ) (progress : Progress) (pieces : List (List ℕ)) (proof : Proof) → IsRight progress → read_lines number progress pieces ≡ Ok proof →
-    IsProof proof × (text_of (lines_so_far progress) ++ join_with_byte line_feed pieces ≡ proof_spelling proof)
-rest_is_spelled number progress [] proof right h = last_is_spelled number progress [] proof right h
-rest_is_spelled number progress (bytes ∷ []) proof right h = last_is_spelled number progress bytes proof right h
-rest_is_spelled number progress (line ∷ next ∷ later) proof right h =
-    let rest = read_lines (number + 1) (after_line progress line) (next ∷ later) in
-    let behind = join_with_byte line_feed (next ∷ later) in
-    let stood = lines_so_far progress in
-    (elim (line_kind progress line) as (λ k. line_kind progress line ≡ k → fault_or k number rest ≡ Ok proof → IsProof proof × (text_of stood ++ (line ++ (line_feed ∷ behind)) ≡ proof_spelling proof)) [
-      | Some kind ↦ λ e k. cc
-      | None ↦ λ e k.
-          let step = line_adds progress line right e in
-          let later_on = rest_is_spelled (number + 1) (after_line progress line) (next ∷ later) proof step.0 k in
-          let grown : text_of (lines_so_far (after_line progress line)) ≡ text_of stood ++ ((line ++ line_feed ∷ []) ++ []) = ap text_of step.1 ∙ flat_map-append (λ l. l ++ line_feed ∷ []) stood (line ∷ []) in
-          let regrouped : (text_of stood ++ ((line ++ line_feed ∷ []) ++ [])) ++ behind ≡ text_of stood ++ (line ++ (line_feed ∷ behind)) = simp (append_assoc, append-nil) in
-          (later_on.0, sym regrouped ∙ (ap (λ text. text ++ behind) (sym grown) ∙ later_on.1))
-    ]) refl h
-
 -- what is read is spelled so, each byte of it
 pub read_is_spelled : (bytes : List ℕ) (proof : Proof) → read_proof bytes ≡ Ok proof → IsProof proof × (bytes ≡ proof_spelling proof)
-read_is_spelled bytes proof h =
-    let all = rest_is_spelled 1 Begun (pieces_of bytes) proof tt h in
-    (all.0, sym (join_with_byte-slice_split line_feed bytes) ∙ all.1)
+read_is_spelled bytes proof h = reading.read_is_spelled reader IsRight lines_so_far IsProof proof_spelling line_adds last_is_spelled 1 Begun tt refl bytes proof h

@@ -4,6 +4,7 @@ use Rattle.pool_definitions.specs.Building.{lowest_kind}
 use Rattle.pool_definitions.specs.Pool.{Pool}
 use Rattle.line_definitions.specs.Lines.{Fault, fields_of, pieces_of}
 use Rattle.line_definitions.specs.Numbers.{number_up_to, signed_up_to}
+use Rattle.line_definitions.specs.Reading.{Reader, read_lines}
 use Rattle.text_definitions.specs.PoolReading as pools
 use Rattle.bundle_definitions.specs.BundleReading as bundles
 use Rattle.bundle_definitions.specs.BundleReading.{with_number}
@@ -207,18 +208,10 @@ abbrev pub at_last : ℕ → Progress → List ℕ → Result Proof Fault
 at_last number (Closed proof) [] = Ok proof
 at_last number progress bytes = Err (record { line = number; kind = missing_kind progress })
 
--- a fault in the line of a number, or what comes of the later lines
-abbrev pub fault_or : Option ℕ → ℕ → Result Proof Fault → Result Proof Fault
-fault_or None number later = later
-fault_or (Some kind) number later = Err (record { line = number; kind = kind })
-
--- the first line that has a fault, counting from a number, or the proof
-abbrev pub read_lines : ℕ → Progress → List (List ℕ) → Result Proof Fault
-read_lines number progress [] = at_last number progress []
-read_lines number progress (bytes ∷ []) = at_last number progress bytes
-read_lines number progress (line ∷ next ∷ later) =
-    fault_or (line_kind progress line) number (read_lines (number + 1) (after_line progress line) (next ∷ later))
+-- how the lines of a proof's text are read
+abbrev pub reader : Reader Progress Proof
+reader = record { line_kind = line_kind; after_line = after_line; at_last = at_last }
 
 -- the proof that the bytes spell, or their first fault
 abbrev pub read_proof : List ℕ → Result Proof Fault
-read_proof bytes = read_lines 1 Begun (pieces_of bytes)
+read_proof bytes = read_lines reader 1 Begun (pieces_of bytes)

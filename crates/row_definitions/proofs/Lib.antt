@@ -12,6 +12,7 @@ pub mod Entered
 pub mod Ratios
 pub mod Spans
 pub mod Leaving
+pub mod RowsStay
 pub mod Keeps
 pub mod StepsKeep
 pub mod Starts

@@ -1,5 +1,5 @@
 -- Entering a stage, adding a column and closing a stage keep a table in order.
-use Rattle.std.proofs.Common.{◌≡◌, ◌≢◌, ℕ, zero, suc, ◌+◌, ◌-◌, ◌<◌, ◌≤◌, Bool, true, false, cond, not, ◌&&◌, List, [], ◌∷◌, ◌++◌, length, map, get_or, Option, Some, None, ℤ, pos, ◌-ℤ◌, ◌≤ℤ◌, ◌<ℤ◌, refl, sym, ap, ◌∙◌, subst, arith, inl, inr, ◌⊎◌, ⊎_elim}
+use Rattle.std.proofs.Common.{◌≡◌, ◌≢◌, ℕ, zero, suc, ◌+◌, ◌-◌, ◌<◌, ◌≤◌, Bool, true, false, cond, not, ◌&&◌, List, [], ◌∷◌, ◌++◌, length, map, get_or, Option, Some, None, ℤ, pos, ◌≤ℤ◌, ◌<ℤ◌, refl, sym, ap, ◌∙◌, subst, arith, inl, inr, ◌⊎◌, ⊎_elim}
 use Rattle.std.specs.Prelude.{int_lt, slice_index, slice_index_or, count_by, unwrap_or}
 use Rattle.std.specs.Ordering.{int_eq}
 use Rattle.std.proofs.lemmas.Int.{ints}
@@ -12,71 +12,26 @@ use Rattle.basic_laws.proofs.Each.{list_all_from_each}
 use Rattle.basic_laws.proofs.Found.{find-none}
 use Rattle.basic_laws.proofs.Integers.{product-not_positive}
 use Rattle.row_definitions.specs.declared.Var.{Var}
-use Rattle.row_definitions.specs.declared.Var.TheVariants.{Slack, Stage, Column}
-use Rattle.row_definitions.specs.Row.{Row, entry, sum_of_products}
-use Rattle.row_definitions.specs.Table.{Table, coefficient, coefficient_at, row_at, basic_at, stage_variable, sizes_where, variables}
+use Rattle.row_definitions.specs.declared.Var.TheVariants.{Slack, Stage}
+use Rattle.row_definitions.specs.Row.{entry, sum_of_products}
+use Rattle.row_definitions.specs.Table.{Table, coefficient_at, row_at, basic_at, stage_variable, sizes_where, variables}
 use Rattle.row_definitions.specs.Choice.{basic_row, is_eligible, entering, entering_from, choice}
 use Rattle.row_definitions.specs.Steps.{enter_stage, open_row, settled_by, closed_by, close_stage, add_column}
-use Rattle.row_definitions.specs.InOrder.{IsKnown, IsUnsettled, IsInOrder, settled_count}
-use Rattle.row_definitions.proofs.CoefficientLaws.{coefficient-Slack, coefficient-Stage, coefficient-Column}
+use Rattle.row_definitions.specs.InOrder.{IsUnsettled, IsInOrder, settled_count}
+use Rattle.row_definitions.proofs.CoefficientLaws.{coefficient-Slack, coefficient-Stage}
 use Rattle.row_definitions.proofs.Chosen.{each_slack}
 use Rattle.row_definitions.proofs.Entered.{place_of, marks_now, stages_are}
 use Rattle.row_definitions.proofs.Leaving.{entering-none}
+use Rattle.row_definitions.proofs.RowsStay.{as_before, as_itself, columns_stand, rows_stay, stages_stand}
 
 ones : Bool → ℕ
 ones b = cond b 1 0
-
--- ---- a known variable's coefficient does not change as stages and columns come
-later_stage : (table : Table) (marks : List Bool) (row : Row) (x : Var) → IsKnown table x → coefficient (record table { stages = table.stages ++ marks ∷ []; in_stage = true }) row x ≡ coefficient table row x
-unfolding coefficient
-later_stage table marks row (Slack t) k = refl
-later_stage table marks row (Stage r) k = ap (λ m. sum_of_products (sizes_where m table.sizes) row.a) (get_or_append_left table.stages (marks ∷ []) [] r k)
-later_stage table marks row (Column c) k = refl
-
-later_column : (table : Table) (counts : List ℕ) (row : Row) (x : Var) → IsKnown table x → coefficient (record table { columns = table.columns ++ counts ∷ [] }) row x ≡ coefficient table row x
-unfolding coefficient
-later_column table counts row (Slack t) k = refl
-later_column table counts row (Stage r) k = refl
-later_column table counts row (Column c) k = ap (λ m. row.b -ℤ sum_of_products m row.a) (get_or_append_left table.columns (counts ∷ []) [] c k)
-
-known_later : (table : Table) (marks : List Bool) (x : Var) → IsKnown table x → IsKnown (record table { stages = table.stages ++ marks ∷ []; in_stage = true }) x
-known_later table marks (Slack t) k = k
-known_later table marks (Stage r) k = omega (arith, length_push table.stages marks)
-known_later table marks (Column c) k = k
-
-known_wider : (table : Table) (counts : List ℕ) (x : Var) → IsKnown table x → IsKnown (record table { columns = table.columns ++ counts ∷ [] }) x
-known_wider table counts (Slack t) k = k
-known_wider table counts (Stage r) k = k
-known_wider table counts (Column c) k = omega (arith, length_push table.columns counts)
-
--- a row's basic variable is known
-basic_is_known : (table : Table) → IsInOrder table → (i : ℕ) → i < length table.rows → IsKnown table (basic_at table i)
-basic_is_known table h i l = h.basic_known i (Slack (length table.sizes)) (omega (arith, h.basic_count, h.row_count))
 
 pub enter-keeps : (table : Table) → IsInOrder table → table.in_stage ≡ false → settled_count table < length table.sizes → IsInOrder (enter_stage table)
 unfolding enter_stage ones
 enter-keeps table h shut some =
     let marks = map not table.settled in
-    record {
-      some_class = h.some_class;
-      sizes = h.sizes;
-      few = h.few;
-      some_bits = h.some_bits;
-      few_bits = h.few_bits;
-      row_count = h.row_count;
-      basic_count = h.basic_count;
-      entry_count = h.entry_count;
-      divisor_one = h.divisor_one;
-      within_width = h.within_width;
-      sides = h.sides;
-      basic_known = λ k d l. known_later table marks (get_or table.basic k d) (h.basic_known k d l);
-      basic_different = h.basic_different;
-      basic_own = λ i l. subst (λ z. pos 0 <ℤ z) (sym (later_stage table marks (row_at table i) (basic_at table i) (basic_is_known table h i l))) (h.basic_own i l);
-      basic_others = λ i j l m n. later_stage table marks (row_at table i) (basic_at table j) (basic_is_known table h j m) ∙ h.basic_others i j l m n;
-      units = h.units;
-      columns_different = h.columns_different;
-      count_each = h.count_each;
-      count_bound = h.count_bound;
+    rows_stay table h table.columns (table.stages ++ marks ∷ []) (as_itself [] table.columns) (as_before [] table.stages marks) table.closed table.settled true table.pivots (columns_stand table h) (record {
       settled_each = h.settled_each;
       stage_each = All-push (λ m. length m ≡ length table.sizes) table.stages marks h.stage_each (length-map table.settled not ∙ h.settled_each);
       stage_count = length_push table.stages marks ∙ (let n : length table.stages + 1 ≡ length table.closed + 1 = omega (arith, h.stage_count, ap ones shut) in n);
@@ -86,42 +41,18 @@ enter-keeps table h shut some =
       closed_few = h.closed_few;
       open_unsettled = λ e. some;
       open_same = λ e. get_or_push table.stages marks [] (length table.closed) (omega (arith, h.stage_count, ap ones shut));
-    }
+    })
 
 -- ---- a new column
 pub add-keeps : (table : Table) (counts : List ℕ) → IsInOrder table → length counts ≡ length table.sizes → ((t : ℕ) → t < length table.sizes → slice_index counts t ≤ slice_index table.sizes t) →
     ((c : ℕ) → c < length table.columns → slice_index_or table.columns c [] ≢ counts) → IsInOrder (add_column table counts)
 unfolding add_column
-add-keeps table counts h long bound fresh = record {
-  some_class = h.some_class;
-  sizes = h.sizes;
-  few = h.few;
-  some_bits = h.some_bits;
-  few_bits = h.few_bits;
-  row_count = h.row_count;
-  basic_count = h.basic_count;
-  entry_count = h.entry_count;
-  divisor_one = h.divisor_one;
-  within_width = h.within_width;
-  sides = h.sides;
-  basic_known = λ k d l. known_wider table counts (get_or table.basic k d) (h.basic_known k d l);
-  basic_different = h.basic_different;
-  basic_own = λ i l. subst (λ z. pos 0 <ℤ z) (sym (later_column table counts (row_at table i) (basic_at table i) (basic_is_known table h i l))) (h.basic_own i l);
-  basic_others = λ i j l m n. later_column table counts (row_at table i) (basic_at table j) (basic_is_known table h j m) ∙ h.basic_others i j l m n;
-  units = h.units;
-  columns_different = λ c d l m e. different c d l m (cases_lt d (length table.columns)) e;
-  count_each = All-push (λ c. length c ≡ length table.sizes) table.columns counts h.count_each long;
-  count_bound = λ c t l m. bounded c t l m (cases_lt c (length table.columns));
-  settled_each = h.settled_each;
-  stage_each = h.stage_each;
-  stage_count = h.stage_count;
-  closed_known = h.closed_known;
-  closed_basic = h.closed_basic;
-  closed_entries = h.closed_entries;
-  closed_few = h.closed_few;
-  open_unsettled = h.open_unsettled;
-  open_same = h.open_same;
-}
+add-keeps table counts h long bound fresh =
+    rows_stay table h (table.columns ++ counts ∷ []) table.stages (as_before [] table.columns counts) (as_itself [] table.stages) table.closed table.settled table.in_stage table.pivots (record {
+      columns_different = λ c d l m e. different c d l m (cases_lt d (length table.columns)) e;
+      count_each = All-push (λ c. length c ≡ length table.sizes) table.columns counts h.count_each long;
+      count_bound = λ c t l m. bounded c t l m (cases_lt c (length table.columns));
+    }) (stages_stand table h)
   where
     columns : List (List ℕ)
     columns = table.columns ++ counts ∷ []
@@ -267,47 +198,19 @@ module _ (table : Table) (h : IsInOrder table) (open_now : table.in_stage ≡ tr
 
   closed_keeps : IsInOrder (closed_by open_found.0 (row_at table open_found.0).a table)
   unfolding closed_by
-  closed_keeps = record {
-    some_class = h.some_class;
-    sizes = h.sizes;
-    few = h.few;
-    some_bits = h.some_bits;
-    few_bits = h.few_bits;
-    row_count = h.row_count;
-    basic_count = h.basic_count;
-    entry_count = h.entry_count;
-    divisor_one = h.divisor_one;
-    within_width = h.within_width;
-    sides = h.sides;
-    basic_known = λ k d l. known_shut (get_or table.basic k d) (h.basic_known k d l);
-    basic_different = h.basic_different;
-    basic_own = λ i l. subst (λ z. pos 0 <ℤ z) (sym (shut (row_at table i) (basic_at table i))) (h.basic_own i l);
-    basic_others = λ i j l m n. shut (row_at table i) (basic_at table j) ∙ h.basic_others i j l m n;
-    units = h.units;
-    columns_different = h.columns_different;
-    count_each = h.count_each;
-    count_bound = h.count_bound;
-    settled_each = length-settled_by (row_at table open_found.0).a table.settled ∙ h.settled_each;
-    stage_each = h.stage_each;
-    stage_count = omega (arith, stages_are table h open_now, length_push table.closed open_found.0);
-    closed_known = All-push (λ i. i < length table.rows) table.closed open_found.0 h.closed_known in_rows;
-    closed_basic = λ k l. basics k l (cases_lt k (length table.closed));
-    closed_entries = λ k t l u. zeros k t l u (cases_lt k (length table.closed));
-    closed_few = omega (arith, length_push table.closed open_found.0, h.closed_few, settled-lt (row_at table open_found.0).a table.settled somebody.0 (was_unsettled somebody.0 somebody.1) somebody.2);
-    open_unsettled = λ e. absurd cc;
-    open_same = λ e. absurd cc;
-  }
+  closed_keeps =
+      rows_stay table h table.columns table.stages (as_itself [] table.columns) (as_itself [] table.stages) (table.closed ++ open_found.0 ∷ []) (settled_by (row_at table open_found.0).a table.settled) false table.pivots (columns_stand table h) (record {
+        settled_each = length-settled_by (row_at table open_found.0).a table.settled ∙ h.settled_each;
+        stage_each = h.stage_each;
+        stage_count = omega (arith, stages_are table h open_now, length_push table.closed open_found.0);
+        closed_known = All-push (λ i. i < length table.rows) table.closed open_found.0 h.closed_known in_rows;
+        closed_basic = λ k l. basics k l (cases_lt k (length table.closed));
+        closed_entries = λ k t l u. zeros k t l u (cases_lt k (length table.closed));
+        closed_few = omega (arith, length_push table.closed open_found.0, h.closed_few, settled-lt (row_at table open_found.0).a table.settled somebody.0 (was_unsettled somebody.0 somebody.1) somebody.2);
+        open_unsettled = λ e. absurd cc;
+        open_same = λ e. absurd cc;
+      })
     where
-      shut : (row : Row) (x : Var) → coefficient (closed_by open_found.0 (row_at table open_found.0).a table) row x ≡ coefficient table row x
-      shut row (Slack t) = coefficient-Slack (closed_by open_found.0 (row_at table open_found.0).a table) row t ∙ sym (coefficient-Slack table row t)
-      shut row (Stage r) = coefficient-Stage (closed_by open_found.0 (row_at table open_found.0).a table) row r ∙ sym (coefficient-Stage table row r)
-      shut row (Column c) = coefficient-Column (closed_by open_found.0 (row_at table open_found.0).a table) row c ∙ sym (coefficient-Column table row c)
-
-      known_shut : (x : Var) → IsKnown table x → IsKnown (closed_by open_found.0 (row_at table open_found.0).a table) x
-      known_shut (Slack t) k = k
-      known_shut (Stage r) k = k
-      known_shut (Column c) k = k
-
       last : (k : ℕ) → k < length (table.closed ++ open_found.0 ∷ []) → length table.closed ≤ k → slice_index (table.closed ++ open_found.0 ∷ []) k ≡ open_found.0
       last k l m = get_or_push table.closed open_found.0 0 k (omega (arith, length_push table.closed open_found.0))
 

@@ -23,7 +23,7 @@ record StandsFirst (weight : List ℕ → ℤ) (floor : ℤ) (xs : List (List �
   no_heavier : AllByRecursion (λ x. int_lt (weight counts) (weight x) ≡ false) after
 
 -- where nothing is found, nothing is above the floor
-none_above : (weight : List ℕ → ℤ) (floor : ℤ) (xs : List (List ℕ)) → first_greatest weight floor xs ≡ None → AllByRecursion (λ x. int_lt floor (weight x) ≡ false) xs
+pub none_above : (weight : List ℕ → ℤ) (floor : ℤ) (xs : List (List ℕ)) → first_greatest weight floor xs ≡ None → AllByRecursion (λ x. int_lt floor (weight x) ≡ false) xs
 none_above weight floor [] n = tt
 none_above weight floor (x ∷ xs) n = by (int_lt floor (weight x)) refl (λ s. none_above weight floor xs s) n
   where

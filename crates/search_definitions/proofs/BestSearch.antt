@@ -99,7 +99,7 @@ Kept = ℤ × Option (List ℕ)
 abbrev pub keep : (List ℕ → ℤ) → Kept → List ℕ → Kept
 keep weight now counts = cond (int_lt now.0 (weight counts)) (weight counts, Some counts) now
 
-keep_none : (weight : List ℕ → ℤ) (floor : ℤ) (kept : Option (List ℕ)) (xs : List (List ℕ)) → AllByRecursion (λ counts. int_lt floor (weight counts) ≡ false) xs → fold (keep weight) (floor, kept) xs ≡ (floor, kept)
+pub keep_none : (weight : List ℕ → ℤ) (floor : ℤ) (kept : Option (List ℕ)) (xs : List (List ℕ)) → AllByRecursion (λ counts. int_lt floor (weight counts) ≡ false) xs → fold (keep weight) (floor, kept) xs ≡ (floor, kept)
 keep_none weight floor kept [] h = refl
 keep_none weight floor kept (x ∷ xs) h = let e = h.0 in rw e (keep_none weight floor kept xs h.1)
 
@@ -120,10 +120,18 @@ keeps_greatest weight floor kept (x ∷ xs) =
     later None = refl
     later (Some y) = refl
 
+-- from nothing on, the first of greatest weight above the floor is kept
+pub keeps_first_greatest : (weight : List ℕ → ℤ) (floor : ℤ) (xs : List (List ℕ)) → (fold (keep weight) (floor, None) xs).1 ≡ first_greatest weight floor xs
+keeps_first_greatest weight floor xs = keeps_greatest weight floor None xs ∙ none_kept (first_greatest weight floor xs)
+  where
+    none_kept : (o : Option (List ℕ)) → or_kept o None ≡ o
+    none_kept None = refl
+    none_kept (Some x) = refl
+
 -- ---- the search
 
 -- what a search has kept, with its floor
-abbrev told : Pricing → Kept
+abbrev pub told : Pricing → Kept
 told now = (now.floor, now.kept)
 
 pub filter-flat_map : (p : List ℕ → Bool) (L : ℕ → List (List ℕ)) (cs : List ℕ) → flat_map (λ c. filter p (L c)) cs ≡ filter p (flat_map L cs)
@@ -149,11 +157,12 @@ children_keep enter live L weight enters dead (c ∷ cs) now =
     ]) refl in
     rest ∙ ap (λ begun. fold (keep weight) begun (flat_map L cs)) here ∙ sym (fold-append (keep weight) (told now) (L c) (flat_map L cs))
 
--- the compositions that a front goes on to and that attain the closed rows
-abbrev sought : Classes → List Row → List ℕ → List Class → List (List ℕ)
+-- the compositions that a front goes on to, where these classes come after it, and that attain the closed rows
+abbrev pub sought : Classes → List Row → List ℕ → List Class → List (List ℕ)
 sought all closed front later = filter (attains closed) (completions all front later)
 
-none_better : (all : Classes) (closed : List Row) (row : Row) (floor : ℤ) (pre later : List Class) (front : List ℕ) → Split all pre later front → InOrder later → HaveEntries all (row ∷ closed) →
+-- where a front isn't live above a floor, none of them weighs more
+pub none_better : (all : Classes) (closed : List Row) (row : Row) (floor : ℤ) (pre later : List Class) (front : List ℕ) → Split all pre later front → InOrder later → HaveEntries all (row ∷ closed) →
     is_live_above all closed row floor front ≡ false → AllByRecursion (λ counts. int_lt floor (weight_in row.a counts) ≡ false) (sought all closed front later)
 none_better all closed row floor pre later front split order entries dead =
     each_filter (λ counts. int_lt floor (weight_in row.a counts) ≡ false) (attains closed) (completions all front later)
@@ -164,7 +173,14 @@ none_better all closed row floor pre later front split order entries dead =
     (λ above. false≢true (sym dead ∙ live_from_better all closed row floor pre later front counts split gives entries composes attained above)))
     (all_counts later) (all_counts_give later order))))
 
-enter_best_keeps : (all : Classes) (closed : List Row) (row : Row) (pre later : List Class) (front : List ℕ) (so_far : Pricing) → Split all pre later front → InOrder later → HaveEntries all (row ∷ closed) →
+-- those of a front are those of its children, one after the other
+pub sought_by_child : (all : Classes) (closed : List Row) (front : List ℕ) (class : Class) (later : List Class) →
+    flat_map (λ c. sought all closed (front ++ c ∷ []) later) (counts_of class) ≡ sought all closed front (class ∷ later)
+sought_by_child all closed front class later =
+    filter-flat_map (attains closed) (λ c. completions all (front ++ c ∷ []) later) (counts_of class)
+    ∙ ap (filter (attains closed)) (flat_map-map (λ child. completions all child later) (λ c. front ++ c ∷ []) (counts_of class) ∙ of_children all front later (counts_of class))
+
+pub enter_best_keeps : (all : Classes) (closed : List Row) (row : Row) (pre later : List Class) (front : List ℕ) (so_far : Pricing) → Split all pre later front → InOrder later → HaveEntries all (row ∷ closed) →
     is_live_above all closed row so_far.floor front ≡ true → told (enter_best all closed row later front so_far) ≡ fold (keep (weight_in row.a)) (told so_far) (sought all closed front later)
 enter_best_keeps all closed row pre [] front so_far split order entries live =
     let whole = whole_from_live all closed row so_far.floor pre front split live in
@@ -179,13 +195,7 @@ enter_best_keeps all closed row pre (class ∷ later) front so_far split order e
     (λ c now dead. keep_none (weight_in row.a) now.floor now.kept (sought all closed (front ++ c ∷ []) later)
     (none_better all closed row now.floor (pre ++ class ∷ []) later (front ++ c ∷ []) (child_splits all pre later class front c split) order.1 entries dead))
     (counts_of class) (record so_far { visits = so_far.visits + 1 })
-    ∙ ap (fold (keep (weight_in row.a)) (told so_far))
-    (filter-flat_map (attains closed) (λ c. completions all (front ++ c ∷ []) later) (counts_of class)
-    ∙ ap (filter (attains closed)) (flat_map-map (λ child. completions all child later) (λ c. front ++ c ∷ []) (counts_of class) ∙ of_children all front later (counts_of class)))
-
-none_kept : (o : Option (List ℕ)) → or_kept o None ≡ o
-none_kept None = refl
-none_kept (Some x) = refl
+    ∙ ap (fold (keep (weight_in row.a)) (told so_far)) (sought_by_child all closed front class later)
 
 pub search_keeps_price : (all : Classes) (closed : List Row) (row : Row) → IsSearchable all → HaveEntries all (row ∷ closed) → (best_search all closed row).kept ≡ price all closed row
 search_keeps_price all closed row searchable entries =
@@ -193,8 +203,7 @@ search_keeps_price all closed row searchable entries =
     let whole = completions_of_none all in
     let kept : (fold (keep (weight_in row.a)) (row.b, None) (sought all closed [] all.classes)).1 ≡ price all closed row =
     ap (λ xs. (fold (keep (weight_in row.a)) (row.b, None) (filter (attains closed) xs)).1) whole
-    ∙ keeps_greatest (weight_in row.a) row.b None (filter (attains closed) (compositions all))
-    ∙ none_kept (price all closed row) in
+    ∙ keeps_first_greatest (weight_in row.a) row.b (filter (attains closed) (compositions all)) in
     (elim (is_live_above all closed row row.b []) as (λ b. is_live_above all closed row row.b [] ≡ b → (cond b (enter_best all closed row all.classes [] begun) (record begun { visits = 1 })).kept ≡ price all closed row) [
       | true ↦ λ live. ap (λ (now : Kept). now.1) (enter_best_keeps all closed row [] all.classes [] begun (empty_splits all) searchable.in_order entries live) ∙ kept
       | false ↦ λ dead. ap (λ (now : Kept). now.1) (sym (keep_none (weight_in row.a) row.b None (sought all closed [] all.classes) (none_better all closed row row.b [] all.classes [] (empty_splits all) searchable.in_order entries dead))) ∙ kept

@@ -14,10 +14,11 @@ use Rattle.pool_definitions.specs.Pool.{Pool, IsPool}
 use Rattle.pool_definitions.specs.Building.{empty_pool}
 use Rattle.pool_definitions.proofs.BuildingLemmas.{IsPool-empty_pool}
 use Rattle.line_definitions.specs.Lines.{Fault, line_feed, pieces_of, text_of}
+use Rattle.line_definitions.specs.Reading.{fault_or, read_lines}
 use Rattle.line_definitions.proofs.LineLemmas.{Lacks, pieces_lack, some_piece, pieces_of-text_of_then}
 use Rattle.text_definitions.specs.PoolText.{version_line, size_line, end_line, lines_in, lines_before_end, spelling}
 use Rattle.text_definitions.specs.declared.Passed.{Passed}
-use Rattle.text_definitions.specs.PoolReading.{Progress, Begun, Versioned, Inside, Ended, awaits_household, line_kind, line_kinds, after_line, at_last, fault_or, read_lines, read}
+use Rattle.text_definitions.specs.PoolReading.{Progress, Begun, Versioned, Inside, Ended, awaits_household, line_kind, line_kinds, after_line, at_last, read, reader}
 use Rattle.text_definitions.specs.FirstFault.{IsPoolText, BeginsPoolText, AwaitsHousehold, lines_before, lines_up_to, IsLowest, after_lines, kinds_at}
 use Rattle.text_definitions.proofs.LowestKinds.{not_the_end, lowest_is, line_kinds_rise}
 use Rattle.text_definitions.proofs.ReadAgain.{spelled_is_read}
@@ -114,10 +115,10 @@ last_stops number (Inside pool stood) bytes fault h = subst (Stops number (Insid
 last_stops number (Ended pool) [] fault h = cc
 last_stops number (Ended pool) (byte ∷ bytes) fault h = subst (Stops number (Ended pool) ((byte ∷ bytes) ∷ [])) (same_fault _ _ fault refl h) (fails_here number (Ended pool) (byte ∷ bytes) [] 1 refl)
 
-stops : (number : ℕ) (progress : Progress) (line : List ℕ) (later : List (List ℕ)) (fault : Fault) → read_lines number progress (line ∷ later) ≡ Err fault → Stops number progress (line ∷ later) fault
+stops : (number : ℕ) (progress : Progress) (line : List ℕ) (later : List (List ℕ)) (fault : Fault) → read_lines reader number progress (line ∷ later) ≡ Err fault → Stops number progress (line ∷ later) fault
 stops number progress line [] fault h = last_stops number progress line fault h
 stops number progress line (next ∷ later) fault h =
-    (elim (line_kind progress line) as (λ k. line_kind progress line ≡ k → fault_or k number (read_lines (number + 1) (after_line progress line) (next ∷ later)) ≡ Err fault → Stops number progress (line ∷ next ∷ later) fault) [
+    (elim (line_kind progress line) as (λ k. line_kind progress line ≡ k → fault_or k number (read_lines reader (number + 1) (after_line progress line) (next ∷ later)) ≡ Err fault → Stops number progress (line ∷ next ∷ later) fault) [
       | Some kind ↦ λ e k. subst (Stops number progress (line ∷ next ∷ later)) (same_fault _ _ fault refl k) (fails_here number progress line (next ∷ later) kind e)
       | None ↦ λ e k.
           let rest = stops (number + 1) (after_line progress line) next later fault k in
@@ -136,7 +137,7 @@ stops number progress line (next ∷ later) fault h =
 stops_at : (bytes : List ℕ) (fault : Fault) → read bytes ≡ Err fault → Stops 1 Begun (pieces_of bytes) fault
 stops_at bytes fault h =
     let some = some_piece bytes in
-    subst (λ pieces. Stops 1 Begun pieces fault) (sym some.2) (stops 1 Begun some.0 some.1 fault (ap (read_lines 1 Begun) (sym some.2) ∙ h))
+    subst (λ pieces. Stops 1 Begun pieces fault) (sym some.2) (stops 1 Begun some.0 some.1 fault (ap (read_lines reader 1 Begun) (sym some.2) ∙ h))
 
 -- the lines before the faulty one, and those up to it
 before_is : (bytes : List ℕ) (fault : Fault) (at : Stops 1 Begun (pieces_of bytes) fault) → lines_before fault bytes ≡ at.before
@@ -170,15 +171,15 @@ before_is_closed bytes fault h third =
 
 -- lines with a fault have it before any others
 fault_again : (number : ℕ) (progress : Progress) (before : List (List ℕ)) (line next : List ℕ) (later : List (List ℕ)) (kind : ℕ) → Passes progress before → line_kind (after_lines progress before) line ≡ Some kind →
-    (fault : Fault) × (read_lines number progress (before ++ line ∷ next ∷ later) ≡ Err fault)
+    (fault : Fault) × (read_lines reader number progress (before ++ line ∷ next ∷ later) ≡ Err fault)
 fault_again number progress [] line next later kind h k =
-    (record { line = number; kind = kind }, ap (λ o. fault_or o number (read_lines (number + 1) (after_line progress line) (next ∷ later))) k)
+    (record { line = number; kind = kind }, ap (λ o. fault_or o number (read_lines reader (number + 1) (after_line progress line) (next ∷ later))) k)
 fault_again number progress (first ∷ []) line next later kind h k =
     let rest = fault_again (number + 1) (after_line progress first) [] line next later kind h.1 k in
-    (rest.0, ap (λ o. fault_or o number (read_lines (number + 1) (after_line progress first) (line ∷ next ∷ later))) h.0 ∙ rest.1)
+    (rest.0, ap (λ o. fault_or o number (read_lines reader (number + 1) (after_line progress first) (line ∷ next ∷ later))) h.0 ∙ rest.1)
 fault_again number progress (first ∷ second ∷ before) line next later kind h k =
     let rest = fault_again (number + 1) (after_line progress first) (second ∷ before) line next later kind h.1 k in
-    (rest.0, ap (λ o. fault_or o number (read_lines (number + 1) (after_line progress first) (second ∷ (before ++ line ∷ next ∷ later)))) h.0 ∙ rest.1)
+    (rest.0, ap (λ o. fault_or o number (read_lines reader (number + 1) (after_line progress first) (second ∷ (before ++ line ∷ next ∷ later)))) h.0 ∙ rest.1)
 
 front : (P : List ℕ → Type 0) (xs ys : List (List ℕ)) → AllByRecursion P (xs ++ ys) → AllByRecursion P xs
 front P [] ys h = tt
@@ -202,7 +203,7 @@ none_begins bytes fault h other text =
     (elim at.stop as (λ _. ⊥) [
       | inl kind ↦
           let again = fault_again 1 Begun at.before at.line some.0 some.1 fault.kind at.passes kind in
-          not_both (read (spelling pool)) pool again.0 read_so (ap (read_lines 1 Begun) pieces ∙ again.1)
+          not_both (read (spelling pool)) pool again.0 read_so (ap (read_lines reader 1 Begun) pieces ∙ again.1)
       | inr last ↦ other last.0
     ])
 

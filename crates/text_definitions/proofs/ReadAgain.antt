@@ -18,11 +18,12 @@ use Rattle.pool_definitions.specs.Pool.{BoundedValue, Category, Volunteer, Pool,
 use Rattle.pool_definitions.specs.Building.{category_names, value_names, ids, last_values, with_value, place_of, places_of, are_known, empty_pool, size_kind, category_kind, value_kind, volunteer_kind, volunteer_added, with_standing, with_household, household_kind}
 use Rattle.pool_definitions.proofs.BuildingLemmas.{same_bytes_comm}
 use Rattle.basic_laws.proofs.Each.{each_map}
-use Rattle.line_definitions.specs.Lines.{tab, line_feed, line_of, fields_of}
+use Rattle.line_definitions.specs.Lines.{tab, line_of, fields_of}
 use Rattle.text_definitions.specs.PoolText.{version_line, size_line, value_line, category_lines, names_at, volunteer_line, household_line, household_lines, standing_line, standing_lines, end_line, lines_before_end, spelling}
 use Rattle.text_definitions.specs.declared.Passed.{Passed}
-use Rattle.text_definitions.specs.PoolReading.{Progress, Begun, Versioned, Inside, Ended, Entry, OfCategory, OfValue, OfVolunteer, OfHousehold, OfStanding, TheEnd, bound_of, entry_of, number_of, is_ahead, entry_kind, size_of, line_kind, none_passed, after_household, after_standing, after_entry, after_line, at_last, fault_or, read_lines, read}
-use Rattle.line_definitions.proofs.LineLemmas.{Lacks, fields_of-line_of, line_is_utf8, pieces_of-text_of}
+use Rattle.text_definitions.specs.PoolReading.{Progress, Begun, Versioned, Inside, Ended, Entry, OfCategory, OfValue, OfVolunteer, OfHousehold, OfStanding, TheEnd, bound_of, entry_of, number_of, is_ahead, entry_kind, size_of, none_passed, after_household, after_standing, after_entry, read, reader}
+use Rattle.line_definitions.proofs.LineByLine as reading
+use Rattle.line_definitions.proofs.LineLemmas.{Lacks, fields_of-line_of, line_is_utf8}
 use Rattle.line_definitions.proofs.FieldLemmas.{IsField, plain_field, decimal_field, line_lacks_feed}
 use Rattle.line_definitions.proofs.NumberLemmas.{bytes_same, number_again}
 use Rattle.text_definitions.proofs.NameFields.{name_field}
@@ -30,24 +31,7 @@ use Rattle.text_definitions.proofs.LowestKinds.{kind_or, encoding_kind, line_kin
 
 -- lines without LF lead from one progress to another with no fault
 abbrev pub Runs : Progress → List (List ℕ) → Progress → Type 0
-Runs before [] after = before ≡ after
-Runs before (line ∷ lines) after = Lacks line_feed line × (line_kind before line ≡ None) × Runs (after_line before line) lines after
-
-Runs-append : (before between after : Progress) (xs ys : List (List ℕ)) → Runs before xs between → Runs between ys after → Runs before (xs ++ ys) after
-Runs-append before between after [] ys h k = subst (λ progress. Runs progress ys after) (sym h) k
-Runs-append before between after (x ∷ xs) ys h k = (h.0, h.1, Runs-append (after_line before x) between after xs ys h.2 k)
-
-no_feeds : (before after : Progress) (lines : List (List ℕ)) → Runs before lines after → AllByRecursion (Lacks line_feed) lines
-no_feeds before after [] h = tt
-no_feeds before after (line ∷ lines) h = (h.0, no_feeds (after_line before line) after lines h.2)
-
-read_to_end : (number : ℕ) (before : Progress) (lines : List (List ℕ)) (pool : Pool) → Runs before lines (Ended pool) → read_lines number before (lines ++ [] ∷ []) ≡ Ok pool
-read_to_end number before [] pool h = ap (λ progress. at_last number progress []) h
-read_to_end number before (line ∷ []) pool h =
-    ap (λ kind. fault_or kind number (read_lines (number + 1) (after_line before line) ([] ∷ []))) h.1 ∙ read_to_end (number + 1) (after_line before line) [] pool h.2
-read_to_end number before (line ∷ next ∷ later) pool h =
-    ap (λ kind. fault_or kind number (read_lines (number + 1) (after_line before line) (next ∷ (later ++ [] ∷ [])))) h.1
-    ∙ read_to_end (number + 1) (after_line before line) (next ∷ later) pool h.2
+Runs = reading.Runs reader
 
 -- a line of fields that say a right entry, and lines that go on from there
 run_entry : (pool : Pool) (passed : Passed) (field : List ℕ) (fields : List (List ℕ)) (entry : Entry) (lines : List (List ℕ)) (after : Progress) → AllByRecursion IsField (field ∷ fields) →
@@ -164,7 +148,7 @@ categories_run second size done (category ∷ todo) are different few =
     let values = values_run second size done category.name [] category.values is.values is.different is.few in
     let rest = categories_run second size (done ++ category ∷ []) todo parts.1 (ap (λ categories. all_different (category_names categories)) regrouped ∙ different) (subst (λ categories. length categories ≤ 20) (sym regrouped) few) in
     let rest_to = subst (λ categories. Runs (Inside (made size (done ++ category ∷ []) []) (none_passed second)) (flat_map category_lines todo) (Inside (made size categories []) (none_passed second))) regrouped rest in
-    let all = Runs-append (Inside (made size (done ++ named category.name [] ∷ []) []) (none_passed second)) (Inside (made size (done ++ category ∷ []) []) (none_passed second)) after (map value_line category.values) (flat_map category_lines todo) values rest_to in
+    let all = reading.Runs-append reader (Inside (made size (done ++ named category.name [] ∷ []) []) (none_passed second)) (Inside (made size (done ++ category ∷ []) []) (none_passed second)) after (map value_line category.values) (flat_map category_lines todo) values rest_to in
     run_entry (made size done []) (none_passed second) (codes "category") (category.name ∷ []) (OfCategory category.name) (map value_line category.values ++ flat_map category_lines todo) after
     (plain_field (codes "category") refl, (name_field category.name is.name, tt)) refl (category_is_new size done category.name new is.name (omega (arith, sizes))) all
 
@@ -509,11 +493,11 @@ pool_runs pool is =
     let all_open : Progress = Inside (made size pool.categories (map opened pool.volunteers)) (none_passed second) in
     let all_housed : Progress = Inside (made size pool.categories (map lodged pool.volunteers)) (record { second = second; households = houses.0; standings = 0 }) in
     let ending : Passed = record { second = second; households = houses.0; standings = standings.0 } in
-    let two = Runs-append empty (Inside (made size pool.categories []) (none_passed second)) all_open (flat_map category_lines pool.categories) (map (volunteer_line pool.categories) pool.volunteers) categories volunteers in
-    let three = Runs-append empty all_open all_housed listed housed two houses.2 in
-    let four = Runs-append empty all_housed (Inside pool ending) (listed ++ housed) stood three standings.1 in
+    let two = reading.Runs-append reader empty (Inside (made size pool.categories []) (none_passed second)) all_open (flat_map category_lines pool.categories) (map (volunteer_line pool.categories) pool.volunteers) categories volunteers in
+    let three = reading.Runs-append reader empty all_open all_housed listed housed two houses.2 in
+    let four = reading.Runs-append reader empty all_housed (Inside pool ending) (listed ++ housed) stood three standings.1 in
     let last = run_entry pool ending (codes "end") [] TheEnd [] (Ended pool) (plain_field (codes "end") refl, tt) refl (ap (λ b. cond b (Some 1) None) houses.1) refl in
-    let all = Runs-append empty (Inside pool ending) (Ended pool) ((listed ++ housed) ++ stood) (end_line ∷ []) four last in
+    let all = reading.Runs-append reader empty (Inside pool ending) (Ended pool) ((listed ++ housed) ++ stood) (end_line ∷ []) four last in
     let entries = ((listed ++ housed) ++ stood) ++ end_line ∷ [] in
     version_runs second (size_line size ∷ entries) (Ended pool) (
       line_lacks_feed (codes "size" ∷ decimal size ∷ []) size_fields,
@@ -526,4 +510,4 @@ pub spelled_is_read : (pool : Pool) → IsPool pool → read (spelling pool) ≡
 spelled_is_read pool right =
     let lines = lines_before_end pool ++ end_line ∷ [] in
     let runs = pool_runs pool right in
-    ap (read_lines 1 Begun) (pieces_of-text_of lines (no_feeds Begun (Ended pool) lines runs)) ∙ read_to_end 1 Begun lines pool runs
+    reading.text_is_read reader (Ended pool) pool (λ number. refl) 1 Begun lines runs

@@ -2,7 +2,7 @@
 use Rattle.std.proofs.Common.{◌≡◌, ℕ, zero, suc, ◌+◌, ◌<◌, ◌≤◌, Bool, true, false, not, cond, ltb, leb, eqb, ◌&&◌, ◌||◌, List, [], ◌∷◌, ◌++◌, length, get_or, drop, map, refl, sym, ◌∙◌, ap, subst, arith, add-one, append_assoc, Option, Some, None, unwrap_or}
 use Rattle.std.specs.Prelude.{bytes_eq, codes, Ok, is_some}
 use Rattle.std.specs.Fmt.{decimal}
-use Rattle.std.specs.List.{AllByRecursion, flat_map, join_with_byte, list_all, list_any}
+use Rattle.std.specs.List.{AllByRecursion, flat_map, list_all, list_any}
 use Rattle.std.specs.Str.{is_utf8}
 use Rattle.std.proofs.lemmas.Bool.{and_parts, cond_both, leb-true, ltb-false, lt-ltb, not-false, or_parts, or_from, or_right, false≢true}
 use Rattle.std.proofs.lemmas.Grind.{flat_map-append}
@@ -12,18 +12,18 @@ use Rattle.std.proofs.lemmas.List.Folds.{list_any-append}
 use Rattle.pool_definitions.specs.Pool.{Pool, BoundedValue, Category, Volunteer, are_bounds, IsPool, has_households}
 use Rattle.pool_definitions.specs.Lists.{includes_list}
 use Rattle.pool_definitions.specs.Building.{value_names, size_kind, with_value, place_of, places_of, are_known, volunteer_kind, with_standing, standing_set, with_household, household_set, household_kind}
-use Rattle.line_definitions.specs.Lines.{line_feed, line_of, text_of, fields_of, pieces_of}
+use Rattle.line_definitions.specs.Lines.{line_of, text_of, fields_of}
 use Rattle.line_definitions.specs.Numbers.{number_up_to}
 use Rattle.text_definitions.specs.PoolText.{version_line, size_line, value_line, category_lines, names_at, volunteer_line, household_line, household_lines, standing_line, standing_lines, end_line, lines_in, lines_before_end, spelling}
 use Rattle.text_definitions.specs.declared.Passed.{Passed}
-use Rattle.text_definitions.specs.PoolReading.{Progress, Begun, Versioned, Inside, Ended, Entry, OfCategory, OfValue, OfVolunteer, OfHousehold, OfStanding, TheEnd, Unknown, Word, CategoryWord, ValueWord, VolunteerWord, HouseholdWord, StandingWord, EndWord, words, word_among, bound_of, entry_of_word, entry_behind, entry_of, number_of, is_ahead, awaits_household, entry_kind, size_of, line_kind, after_entry, after_line, at_last, fault_or, read_lines, read}
+use Rattle.text_definitions.specs.PoolReading.{Progress, Begun, Versioned, Inside, Ended, Entry, OfCategory, OfValue, OfVolunteer, OfHousehold, OfStanding, TheEnd, Unknown, Word, CategoryWord, ValueWord, VolunteerWord, HouseholdWord, StandingWord, EndWord, words, word_among, bound_of, entry_of_word, entry_behind, entry_of, number_of, is_ahead, awaits_household, entry_kind, size_of, line_kind, after_entry, after_line, at_last, read, reader}
 use Rattle.pool_definitions.specs.declared.Standing.{Standing}
 use Rattle.pool_definitions.specs.declared.Standing.TheVariants.{Open, Seated, Gone}
 use Rattle.std.specs.Str.{IsUtf8}
 use Rattle.std.proofs.lemmas.Str.{IsUtf8-from_is_utf8}
-use Rattle.std.proofs.lemmas.List.Splits.{join_with_byte-slice_split}
 use Rattle.basic_laws.proofs.Each.{list_all-push}
 use Rattle.pool_definitions.proofs.BuildingLemmas.{no_kind, category_fits, value_fits, volunteer_fits, place_at, IsPool-empty_pool, IsPool-category_added, IsPool-value_added, IsPool-volunteer_added, IsPool-standing_set, IsPool-household_set}
+use Rattle.line_definitions.proofs.LineByLine as reading
 use Rattle.line_definitions.proofs.LineLemmas.{each_field_is_utf8, line_of-fields_of}
 use Rattle.line_definitions.proofs.NumberLemmas.{bytes_are, number_spelled}
 use Rattle.text_definitions.proofs.LowestKinds.{kind_or, encoding_kind, line_kind_of}
@@ -595,27 +595,6 @@ last_is_spelled number (Ended other) [] pool right h =
     let same : other ≡ pool = cc in
     (subst IsPool same right, append-nil (spelling other) ∙ ap spelling same)
 
--- what the pieces say, after right lines: the lines up to now and the pieces are the text of the pool that is read
-pub rest_is_spelled : (number : ℕ) (progress : Progress) (pieces : List (List ℕ)) (pool : Pool) → IsRight progress → read_lines number progress pieces ≡ Ok pool →
-    IsPool pool × (text_of (lines_so_far progress) ++ join_with_byte line_feed pieces ≡ spelling pool)
-rest_is_spelled number progress [] pool right h = last_is_spelled number progress [] pool right h
-rest_is_spelled number progress (bytes ∷ []) pool right h = last_is_spelled number progress bytes pool right h
-rest_is_spelled number progress (line ∷ next ∷ later) pool right h =
-    let rest = read_lines (number + 1) (after_line progress line) (next ∷ later) in
-    let behind = join_with_byte line_feed (next ∷ later) in
-    let stood = lines_so_far progress in
-    (elim (line_kind progress line) as (λ k. line_kind progress line ≡ k → fault_or k number rest ≡ Ok pool → IsPool pool × (text_of stood ++ (line ++ (line_feed ∷ behind)) ≡ spelling pool)) [
-      | Some kind ↦ λ e k. cc
-      | None ↦ λ e k.
-          let step = line_adds progress line right e in
-          let later_on = rest_is_spelled (number + 1) (after_line progress line) (next ∷ later) pool step.0 k in
-          let grown : text_of (lines_so_far (after_line progress line)) ≡ text_of stood ++ ((line ++ line_feed ∷ []) ++ []) = ap text_of step.1 ∙ flat_map-append (λ l. l ++ line_feed ∷ []) stood (line ∷ []) in
-          let regrouped : (text_of stood ++ ((line ++ line_feed ∷ []) ++ [])) ++ behind ≡ text_of stood ++ (line ++ (line_feed ∷ behind)) = simp (append_assoc, append-nil) in
-          (later_on.0, sym regrouped ∙ (ap (λ text. text ++ behind) (sym grown) ∙ later_on.1))
-    ]) refl h
-
 -- what is read is spelled so, each byte of it
 pub read_is_spelled : (bytes : List ℕ) (pool : Pool) → read bytes ≡ Ok pool → IsPool pool × (bytes ≡ spelling pool)
-read_is_spelled bytes pool h =
-    let all = rest_is_spelled 1 Begun (pieces_of bytes) pool tt h in
-    (all.0, sym (join_with_byte-slice_split line_feed bytes) ∙ all.1)
+read_is_spelled bytes pool h = reading.read_is_spelled reader IsRight lines_so_far IsPool spelling line_adds last_is_spelled 1 Begun tt refl bytes pool h

@@ -7,6 +7,7 @@ use Rattle.pool_definitions.specs.Pool.{Pool, BoundedValue, Volunteer}
 use Rattle.pool_definitions.specs.Building.{lowest_kind, size_kinds, empty_pool, category_kinds, category_added, value_kinds, value_added, volunteer_kinds, volunteer_added, standing_set, household_set, household_kinds}
 use Rattle.line_definitions.specs.Lines.{Fault, fields_of, pieces_of}
 use Rattle.line_definitions.specs.Numbers.{number_up_to}
+use Rattle.line_definitions.specs.Reading.{Reader, read_lines}
 use Rattle.text_definitions.specs.declared.Passed.{Passed}
 use Rattle.text_definitions.specs.PoolText.{version_line}
 
@@ -159,18 +160,10 @@ at_last number (Ended pool) [] = Ok pool
 at_last number (Ended pool) (byte ∷ bytes) = Err (record { line = number; kind = 1 })
 at_last number _ bytes = Err (record { line = number; kind = 12 })
 
--- a fault in the line of a number, or what comes of the later lines
-abbrev pub fault_or : Option ℕ → ℕ → Result Pool Fault → Result Pool Fault
-fault_or None number later = later
-fault_or (Some kind) number later = Err (record { line = number; kind = kind })
-
--- the first line that has a fault, counting from a number, or the pool
-abbrev pub read_lines : ℕ → Progress → List (List ℕ) → Result Pool Fault
-read_lines number progress [] = at_last number progress []
-read_lines number progress (bytes ∷ []) = at_last number progress bytes
-read_lines number progress (line ∷ next ∷ later) =
-    fault_or (line_kind progress line) number (read_lines (number + 1) (after_line progress line) (next ∷ later))
+-- how the lines of a pool's text are read
+abbrev pub reader : Reader Progress Pool
+reader = record { line_kind = line_kind; after_line = after_line; at_last = at_last }
 
 -- the pool that the bytes spell, or their first fault
 abbrev pub read : List ℕ → Result Pool Fault
-read bytes = read_lines 1 Begun (pieces_of bytes)
+read bytes = read_lines reader 1 Begun (pieces_of bytes)

@@ -3,7 +3,7 @@ use Rattle.std.proofs.Common.{◌≡◌, ℕ, zero, suc, ◌+◌, ◌-◌, ◌�
 use Rattle.std.specs.Prelude.{int_lt, nat_le, not, slice_index}
 use Rattle.std.specs.List.{flat_map, All, AllByRecursion, position_or_len, range_with_len}
 use Rattle.std.proofs.lemmas.Grind.{flat_map-append}
-use Rattle.std.proofs.lemmas.List.{append-nil, length-take-le}
+use Rattle.std.proofs.lemmas.List.{append-nil, length-take-le, take-append-drop}
 use Rattle.std.proofs.lemmas.List.FromFn.{length-range_with_len}
 use Rattle.std.proofs.lemmas.List.Sums.{fold-append, prefix_len-le-length}
 use borrow.Author.Differences.{lt-true, lt-false}
@@ -13,10 +13,9 @@ use Rattle.search_definitions.specs.Classes.{Class, Classes, KeepsLimits}
 use Rattle.search_definitions.specs.Compositions.{counts_of, counts_down, weight_in}
 use Rattle.search_definitions.specs.Fronts.{HaveEntries, is_live_above}
 use Rattle.search_definitions.proofs.FirstSearch.{InOrder, Split, child_splits}
-use Rattle.search_definitions.proofs.BestSearch.{Kept, keep}
+use Rattle.search_definitions.proofs.BestSearch.{Kept, keep, keep_none, sought, none_better, sought_by_child}
 use Rattle.wave_definitions.specs.Below.{IsFront}
 use Rattle.wave_definitions.specs.Waves.{Pieces, lists_of, piece_depth, together, pieces_below, pieces}
-use Rattle.wave_definitions.proofs.Below.{keep_none, sought, none_better, sought_by_child, halves}
 
 -- ---- a floor that has risen
 
@@ -208,7 +207,7 @@ pieces_within all closed row limits =
     elim (is_live_above all closed row row.b []) as (λ b. AllByRecursion (IsFront all) (cond b (pieces_below all closed row firsts []) (record { visits = 1; fronts = [] })).fronts) [
       | true ↦ each_map (Fit all.classes) (IsFront all) (λ front fit. record { few = fit_few all.classes front fit; within = λ t l. fit_at all.classes front t fit l })
           (pieces_below all closed row firsts []).fronts
-          (pieces_fit all closed row [] firsts (drop (piece_depth all) all.classes) [] (halves (piece_depth all) all.classes) refl
-          (each_left InSize firsts (drop (piece_depth all) all.classes) (subst (AllByRecursion InSize) (halves (piece_depth all) all.classes) sizes)) (fit_none all.classes))
+          (pieces_fit all closed row [] firsts (drop (piece_depth all) all.classes) [] (sym (take-append-drop (piece_depth all) all.classes)) refl
+          (each_left InSize firsts (drop (piece_depth all) all.classes) (subst (AllByRecursion InSize) (sym (take-append-drop (piece_depth all) all.classes)) sizes)) (fit_none all.classes))
       | false ↦ tt
     ]

@@ -3,7 +3,7 @@ use Rattle.std.proofs.Common.{◌≡◌, ℕ, zero, suc, ◌+◌, ◌*◌, ◌/�
 use Rattle.std.specs.Prelude.{int_lt, unwrap_or}
 use Rattle.std.specs.List.{flat_map, AllByRecursion, range_with_len}
 use Rattle.std.proofs.lemmas.Grind.{flat_map-append}
-use Rattle.std.proofs.lemmas.List.{drop-drop, drop-take, take-take, take_all}
+use Rattle.std.proofs.lemmas.List.{drop-drop, drop-take, take-append-drop, take-take, take_all}
 use Rattle.std.proofs.Math.Nat.{mul-add, mul-suc}
 use Rattle.std.proofs.lemmas.List.Sums.{fold-append}
 use borrow.Author.Differences.{lt-true, true_is_lt}
@@ -14,10 +14,10 @@ use Rattle.search_definitions.specs.Compositions.{compositions, weight_in, attai
 use Rattle.search_definitions.specs.Fronts.{HaveEntries, is_live_above, later_than}
 use Rattle.search_definitions.specs.Visits.{Pricing}
 use Rattle.search_definitions.proofs.FirstSearch.{InOrder, Split, completions_of_none}
-use Rattle.search_definitions.proofs.BestSearch.{Kept, keep}
+use Rattle.search_definitions.proofs.BestSearch.{Kept, keep, keep_none, keeps_first_greatest, told, sought, none_better}
 use Rattle.wave_definitions.specs.Below.{below, search_from}
 use Rattle.wave_definitions.specs.Waves.{best_in_waves, keep_heavier, piece_depth, pieces, pieces_below, take_piece, wave, waves}
-use Rattle.wave_definitions.proofs.Below.{keep_none, keeps_first_greatest, told, sought, none_better, halves, finds_best}
+use Rattle.wave_definitions.proofs.Below.{finds_best}
 use Rattle.wave_definitions.proofs.Pieces.{IsAtLeast, floor_rises, not_above, pieces_keep, piece_lengths, depth_within}
 
 -- ---- what a piece kept is taken
@@ -152,7 +152,7 @@ module _ (all : Classes) (closed : List Row) (row : Row) (searchable : IsSearcha
   all_pieces =
       let firsts = take (piece_depth all) all.classes in
       let later = drop (piece_depth all) all.classes in
-      let whole : all.classes ≡ firsts ++ later = halves (piece_depth all) all.classes in
+      let whole : all.classes ≡ firsts ++ later = sym (take-append-drop (piece_depth all) all.classes) in
       let split : Split all [] (firsts ++ later) [] = record { whole = whole; fits = refl } in
       let order : InOrder (firsts ++ later) = subst InOrder whole searchable.in_order in
       let every : sought all closed [] (firsts ++ later) ≡ filter (attains closed) (compositions all) =
@@ -178,7 +178,7 @@ chunks n xs first (suc count) =
   where
     taken_twice : {X : Type 0} (n m : ℕ) (xs : List X) → take (n + m) xs ≡ take n xs ++ take m (drop n xs)
     taken_twice n m xs =
-        halves n (take (n + m) xs) ∙ ap (λ ys. ys ++ drop n (take (n + m) xs)) (take-take n (n + m) xs (omega arith)) ∙ ap (λ ys. take n xs ++ ys) (drop-take n m xs)
+        sym (take-append-drop n (take (n + m) xs)) ∙ ap (λ ys. ys ++ drop n (take (n + m) xs)) (take-take n (n + m) xs (omega arith)) ∙ ap (λ ys. take n xs ++ ys) (drop-take n m xs)
 
 whole_waves : (fronts : List (List ℕ)) → flat_map (λ part. part) (waves fronts) ≡ fronts
 whole_waves fronts = chunks 16 fronts 0 ((length fronts + 15) / 16) ∙ take_all (16 * ((length fronts + 15) / 16)) fronts (enough (length fronts))

@@ -1,7 +1,8 @@
 use Rattle.std.proofs.Common.{sym, ◌∙◌}
-use Rattle.cert_check.proofs.Stages.{total_agrees}
+use Rattle.check_definitions.proofs.ReasonsStand.{total_agrees}
+use Rattle.cert_check.proofs.Stages.{is_valid}
 use Rattle.cert_check.proofs.checking.answer_verdict.Goals as goal
 
 pub begin-requires : goal.begin-requires
 begin-requires c =
-    total_agrees c.args.pool.now c.args.answer.now c.in_ok-verdict.verdict c.lottery.result.now c.requires c.lottery.ensures c.in_ok-verdict.ensures (sym c.is_valid.ensures ∙ c.if-not-is_valid.false)
+    total_agrees c.args.pool.now c.args.answer.now c.lottery.result.now c.requires c.lottery.ensures (sym c.in_ok-verdict.ensures ∙ is_valid c.in_ok-verdict.verdict (sym c.is_valid.ensures ∙ c.if-not-is_valid.false))
