@@ -113,21 +113,3 @@ gives_same household count homes homes' e gives = subst (CanGiveAt household cou
 pub home_same : (household household' : Option ℕ) (count : ℕ) (a a' b b' : List ℕ) → household ≡ household' → a ≡ a' → b ≡ b' → HasMoreAt household count a b → HasMoreAt household' count a' b'
 home_same household household' count a a' b b' e f g more =
     subst (λ x. HasMoreAt x count a' b') e (subst (λ x. HasMoreAt household count x b') f (subst (λ x. HasMoreAt household count a x) g more))
-
--- ---- the empty front
-
-none_of : (classes : List Class) (household : Option ℕ) → takes_one_of classes [] household ≡ true
-none_of classes None = refl
-none_of classes (Some h) = ap (λ n. leb n 1) (nothing_taken (λ class. is_of_household h class.household) classes)
-
-none_of_each : (classes taking : List Class) → list_all (λ class. takes_one_of taking [] class.household) classes ≡ true
-none_of_each [] taking = refl
-none_of_each (class ∷ classes) taking = and_from (takes_one_of taking [] class.household) (list_all (λ class. takes_one_of taking [] class.household) classes) (none_of taking class.household) (none_of_each classes taking)
-
-pub begins_reachable : (all : Classes) → is_reachable all [] ≡ (size_reachable all [] && values_reachable all [])
-begins_reachable all =
-    ap (λ b. size_reachable all [] && values_reachable all [] && b) (none_of_each all.classes all.classes) ∙ and_true (size_reachable all [] && values_reachable all [])
-  where
-    and_true : (b : Bool) → (b && true) ≡ b
-    and_true true = refl
-    and_true false = refl

@@ -110,7 +110,7 @@ size_of_child all front class count tally stands tracks =
     let later : most_given (λ class. true) (later_than (front ++ count ∷ []) all.classes) ≡ tally.later_taken = ap (most_given (λ class. true)) (later_of_child all front count) ∙ sym tracks.later_taken in
     reach_equal all.size all.size _ _ _ _ (omega (arith, taken, tracks.taken)) later
 
-decided : (b : Bool) (A B : Type 0) (s : Bool) → (b ≡ true → A) → (b ≡ false → B) → (A → s ≡ true) → (B → s ≡ false) → b ≡ s
+pub decided : (b : Bool) (A B : Type 0) (s : Bool) → (b ≡ true → A) → (b ≡ false → B) → (A → s ≡ true) → (B → s ≡ false) → b ≡ s
 decided true A B s f g h k = sym (h (f refl))
 decided false A B s f g h k = sym (k (g refl))
 

@@ -27,7 +27,7 @@ use Rattle.panel_search.specs.declared.weighing.Weights.{Weights}
 use Rattle.front_laws.proofs.ClosedRows.{each_front}
 use Rattle.front_laws.proofs.Tracking.{Stands, comes_next}
 use Rattle.panel_search.proofs.Ranges.{LiveBetween, below_next, below_none, live_counts}
-use Rattle.front_laws.proofs.Fronts.{placed, front_length}
+use Rattle.front_laws.proofs.Fronts.{within_more, placed, front_length}
 use Rattle.front_laws.proofs.WeightLaws.{weighs_front, element_at}
 use Rattle.wave_definitions.specs.Below.{child_best, search_from}
 
@@ -202,7 +202,7 @@ parent_stands all closed row depth count rest before child after stands below e 
       live = ap (is_reachable all) front ∙ stands.live;
       counts = subst (AreWithin all) (sym front) stands.counts;
       tally = subst (λ xs. Tracks all (take depth xs) rest after.tally) (sym f) tracks;
-      priced = subst (λ x. Weighs all row x after.priced) (sym front) (subst (Weighs all row front_before) (sym h) (weighs_front all row front_before count child.priced (subst (λ x. Weighs all row x child.priced) e below.priced)));
+      priced = subst (λ x. Weighs all row x after.priced) (sym front) (subst (Weighs all row front_before) (sym h) (weighs_front all row front_before count _ (subst (λ x. Weighs all row x child.priced) e below.priced)));
       closed_rows = subst (λ x. WeighEach all closed x after.closed.items) (sym front)
           (subst (WeighEach all closed front_before) (sym i) (each_front all closed front_before count child.closed.items (subst (λ x. WeighEach all closed x child.closed.items) e below.closed_rows)));
     }

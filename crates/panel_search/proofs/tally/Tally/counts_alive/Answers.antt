@@ -28,7 +28,7 @@ all_within_reach-requires-clause-small_later c =
 
 pub returns-then-size_allows : goal.returns-then-size_allows
 returns-then-size_allows c =
-    let all = c.args.classes.now in let self = _ in
+    let all = c.args.classes.now in let self = c.args.self.now in
     front_live all c.args.front.now _ c.facts.ensures c.requires.stands
     (ap (λ n. leb self.taken n && leb n (self.taken + self.later_taken)) (sym c.size.ensures) ∙ (sym c.size_allows.ensures ∙ c.if-size_allows.true))
     c.all_within_reach.result
@@ -37,6 +37,6 @@ returns-then-size_allows c =
 
 pub returns-else-size_allows : goal.returns-else-size_allows
 returns-else-size_allows c =
-    let self = _ in
+    let self = c.args.self.now in
     c.if-size_allows.false ∙ sym (front_dead c.args.classes.now c.args.front.now _ c.requires.stands
     (ap (λ n. leb self.taken n && leb n (self.taken + self.later_taken)) (sym c.size.ensures) ∙ (sym c.size_allows.ensures ∙ c.if-size_allows.false)))

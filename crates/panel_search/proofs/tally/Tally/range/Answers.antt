@@ -29,7 +29,7 @@ values_range-requires-clause-small_later c =
 
 pub returns-clause-inside : goal.returns-clause-inside
 returns-clause-inside c =
-    let all = c.args.classes.now in let front = c.args.front.now in let class = c.index-classes-front.result in let self = _ in
+    let all = c.args.classes.now in let front = c.args.front.now in let class = c.index-classes-front.result in let self = c.args.self.now in
     let stands = stands_there all (length front) _ class c.requires.below c.classes.ensures c.index-classes-front.is in
     let places = places_of_class all (length front) class c.facts.ensures stands in
     λ count l m.
@@ -47,7 +47,7 @@ returns-clause-inside c =
 
 pub returns-clause-outside : goal.returns-clause-outside
 returns-clause-outside c =
-    let all = c.args.classes.now in let front = c.args.front.now in let class = c.index-classes-front.result in let self = _ in
+    let all = c.args.classes.now in let front = c.args.front.now in let class = c.index-classes-front.result in let self = c.args.self.now in
     let stands = stands_there all (length front) _ class c.requires.below c.classes.ensures c.index-classes-front.is in
     let places = places_of_class all (length front) class c.facts.ensures stands in
     λ count l m live.
