@@ -1,4 +1,3 @@
-pub mod Taken
 pub mod SpreadStops
 pub mod Parts
 pub mod Lengths
@@ -8,6 +7,3 @@ pub mod Starts
 pub mod ArcRows
 pub mod Words128
 pub mod Totals
-pub mod Filters
-pub mod Places
-pub mod MadeClasses

@@ -1,16 +1,7 @@
 pub mod AboveCap
-pub mod Adding
-pub mod ClosedRows
-pub mod Filters
-pub mod Households
+pub mod Leaders
 pub mod Liveness
-pub mod MadeClasses
-pub mod Places
 pub mod RuledOut
 pub mod StageTerms
 pub mod Stands
 pub mod Stepping
-pub mod Taken
-pub mod Tracking
-pub mod UnitSums
-pub mod WeightLaws

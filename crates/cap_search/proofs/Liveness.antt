@@ -1,125 +1,30 @@
--- What a tally says about live fronts.
-use Rattle.std.proofs.Common.{◌≡◌, ℕ, zero, suc, ◌+◌, ◌-◌, ◌≤◌, ◌<◌, Bool, true, false, cond, ◌&&◌, leb, max, min, List, [], ◌∷◌, ◌++◌, length, drop, Some, refl, sym, ap, ◌∙◌, arith, subst, length-append}
-use Rattle.std.specs.Prelude.{slice_get, slice_index, slice_index_or}
-use Rattle.std.specs.List.{list_all, enumerate_from}
-use Rattle.std.proofs.lemmas.Bool.{and_parts, and_from, eqb-true, eq-eqb, false≢true, false_from_ne_true, leb-false, leb-true, lt-leb}
-use Rattle.std.proofs.lemmas.Option.{get_or_from_slice_get, slice_get-get_or, slice_get_within}
+-- Which children of a front are live, and the empty front.
+use Rattle.std.proofs.Common.{◌≡◌, ℕ, ◌+◌, ◌-◌, ◌≤◌, ◌<◌, Bool, true, false, ◌&&◌, leb, max, min, List, [], ◌∷◌, ◌++◌, length, drop, Option, Some, None, refl, sym, ap, ◌∙◌, arith, subst}
+use Rattle.std.specs.Prelude.{slice_index}
+use Rattle.std.specs.List.{list_all}
+use Rattle.std.proofs.lemmas.Bool.{and_from, false≢true, false_from_ne_true, leb-false, leb-true, lt-leb}
 use Rattle.search_definitions.specs.declared.Bounds.{Bounds}
 use Rattle.search_definitions.specs.Classes.{Class, Classes, HasPlaces, KeepsLimits}
-use Rattle.search_definitions.specs.Compositions.{taken_of, has_value, takes_one_a_household}
-use Rattle.search_definitions.specs.Fronts.{most_given, is_reachable, size_reachable, value_reachable, values_reachable, later_than}
-use Rattle.cap_search.specs.Tallies.{cell, HasBound, reaches, AllReach, OneFails, EachReaches, SomeFails}
-use Rattle.cap_search.specs.Front.{Tracks}
-use Rattle.cap_search.specs.declared.tally.Tally.{Tally}
-use Rattle.cap_search.proofs.Tracking.{Stands, comes_next, few_places, most_more, taken_more}
+use Rattle.search_definitions.specs.Compositions.{is_of_household, takes_one_of, takes_one_a_household}
+use Rattle.search_definitions.specs.Fronts.{is_reachable, size_reachable, values_reachable}
+use Rattle.front_laws.specs.Front.{FrontTally, Tracks}
+use Rattle.front_laws.specs.Tallies.{AllReach}
+use Rattle.front_laws.proofs.Liveness.{decided, reach_of_child, size_of_child, values_of_child}
+use Rattle.front_laws.proofs.Tracking.{Stands, nothing_taken}
+use Rattle.cap_search.specs.Tallies.{OneFails}
 
--- ---- a test of each element with its place
+-- ---- a child of a front
 
-each_place : {X : Type 0} (p : ℕ × X → Bool) (n : ℕ) (xs : List X) → ((i k : ℕ) (x : X) → k ≡ n + i → slice_get xs i ≡ Some x → p (k, x) ≡ true) → list_all p (enumerate_from n xs) ≡ true
-each_place p n [] f = refl
-each_place p n (x ∷ xs) f =
-    and_from (p (n, x)) (list_all p (enumerate_from (n + 1) xs)) (f 0 n x (omega arith) refl) (each_place p (n + 1) xs (λ i k y e at. f (suc i) k y (omega arith) at))
-
-at_place : {X : Type 0} (p : ℕ × X → Bool) (n : ℕ) (xs : List X) → list_all p (enumerate_from n xs) ≡ true → (i k : ℕ) (x : X) → k ≡ n + i → slice_get xs i ≡ Some x → p (k, x) ≡ true
-at_place p n [] h i k x e at = cc
-at_place p n (y ∷ ys) h zero k x e at =
-    let parts = and_parts (p (n, y)) (list_all p (enumerate_from (n + 1) ys)) h in
-    let same : k ≡ n = omega arith in let is : y ≡ x = cc in
-    subst (λ z. p (k, z) ≡ true) is (subst (λ z. p (z, y) ≡ true) (sym same) parts.0)
-at_place p n (y ∷ ys) h (suc i) k x e at =
-    let parts = and_parts (p (n, y)) (list_all p (enumerate_from (n + 1) ys)) h in at_place p (n + 1) ys parts.1 i k x (omega arith) at
-
-values_from : (all : Classes) (front : List ℕ) → ((c v : ℕ) (bound : Bounds) → c < length all.bounds → HasBound all.bounds c v bound → value_reachable all front c (v, bound) ≡ true) → values_reachable all front ≡ true
-values_from all front f =
-    each_place (λ (c, values). list_all (value_reachable all front c) (enumerate_from 0 values)) 0 all.bounds
-    (λ c k values e at. each_place (value_reachable all front k) 0 values
-    (λ v j bound e2 at2.
-    let same : c ≡ k = omega arith in let place : v ≡ j = omega arith in
-    subst (λ z. value_reachable all front z (j, bound) ≡ true) same (subst (λ z. value_reachable all front c (z, bound) ≡ true) place
-    (f c v bound (slice_get_within all.bounds c values at) (ap (λ vs. slice_get vs v) (get_or_from_slice_get all.bounds c values [] at) ∙ at2)))))
-
-values_at : (all : Classes) (front : List ℕ) → values_reachable all front ≡ true → (c v : ℕ) (bound : Bounds) → c < length all.bounds → HasBound all.bounds c v bound → value_reachable all front c (v, bound) ≡ true
-values_at all front h c v bound below has =
-    at_place (value_reachable all front c) 0 (slice_index_or all.bounds c [])
-    (at_place (λ (c, values). list_all (value_reachable all front c) (enumerate_from 0 values)) 0 all.bounds h c c (slice_index_or all.bounds c []) (omega arith) (slice_get-get_or all.bounds c [] below))
-    v v bound (omega arith) has
-
-value_in_cell : (all : Classes) → KeepsLimits all → (c v : ℕ) (bound : Bounds) → c < length all.bounds → HasBound all.bounds c v bound → v < 50
-value_in_cell all limits c v bound below has =
-    let few = few_places all limits c below in let within = slice_get_within (slice_index_or all.bounds c []) v bound has in omega arith
-
--- ---- a child of a live front
-
-later_of_child : (all : Classes) (front : List ℕ) (count : ℕ) → later_than (front ++ count ∷ []) all.classes ≡ drop (length front + 1) all.classes
-later_of_child all front count = ap (λ n. drop n all.classes) (length-append front (count ∷ []))
-
-reach_equal : (lower upper a a' m m' : ℕ) → a ≡ a' → m ≡ m' → (leb a upper && leb lower (a + m)) ≡ (leb a' upper && leb lower (a' + m'))
-reach_equal lower upper a a' m m' e f = rw (e, f) refl
-
--- the class's own values
-own_reach : (all : Classes) (front : List ℕ) (class : Class) (count : ℕ) (tally : Tally) → Stands all (length front) class → Tracks all front (drop (length front + 1) all.classes) tally →
-    (c v : ℕ) (bound : Bounds) → c < length all.bounds → v < 50 → has_value c v class ≡ true →
-    value_reachable all (front ++ count ∷ []) c (v, bound) ≡ reaches bound tally.held.items tally.later.items count c v
-own_reach all front class count tally stands tracks c v bound below within has =
-    let taken : taken_of (has_value c v) all.classes (front ++ count ∷ []) ≡ taken_of (has_value c v) all.classes front + cond true count 0 =
-    taken_more all front class count stands (has_value c v) ∙ ap (λ b. taken_of (has_value c v) all.classes front + cond b count 0) has in
-    let held = tracks.held c v below within in
-    let later : most_given (has_value c v) (later_than (front ++ count ∷ []) all.classes) ≡ slice_index tally.later.items (cell c v) =
-    ap (most_given (has_value c v)) (later_of_child all front count) ∙ sym (tracks.later c v below within) in
-    reach_equal bound.lower bound.upper _ _ _ _ (omega (arith, taken, held)) later
-
--- the values that others have
-other_reach : (all : Classes) (front : List ℕ) (class : Class) (count : ℕ) → Stands all (length front) class →
-    (c v : ℕ) (bound : Bounds) → has_value c v class ≡ false → value_reachable all (front ++ count ∷ []) c (v, bound) ≡ value_reachable all front c (v, bound)
-other_reach all front class count stands c v bound has =
-    let taken : taken_of (has_value c v) all.classes (front ++ count ∷ []) ≡ taken_of (has_value c v) all.classes front + cond false count 0 =
-    taken_more all front class count stands (has_value c v) ∙ ap (λ b. taken_of (has_value c v) all.classes front + cond b count 0) has in
-    let next : most_given (has_value c v) (drop (length front) all.classes) ≡ cond false class.most 0 + most_given (has_value c v) (drop (length front + 1) all.classes) =
-    ap (most_given (has_value c v)) (comes_next all (length front) class stands)
-    ∙ (most_more (has_value c v) class (drop (length front + 1) all.classes) ∙ ap (λ b. cond b class.most 0 + most_given (has_value c v) (drop (length front + 1) all.classes)) has) in
-    let later = ap (most_given (has_value c v)) (later_of_child all front count) in
-    reach_equal bound.lower bound.upper _ _ _ _ (omega (arith, taken)) (omega (arith, next, later))
-
-values_of_child : (all : Classes) (front : List ℕ) (class : Class) (count : ℕ) (tally : Tally) → KeepsLimits all → HasPlaces all.bounds class → Stands all (length front) class → is_reachable all front ≡ true →
-    Tracks all front (drop (length front + 1) all.classes) tally → AllReach all.bounds tally.held.items tally.later.items class.values count → values_reachable all (front ++ count ∷ []) ≡ true
-values_of_child all front class count tally limits places stands live tracks reach =
-    let both = and_parts (size_reachable all front && values_reachable all front) (takes_one_a_household all.classes front) live in
-    let parent = (and_parts (size_reachable all front) (values_reachable all front) both.0).1 in
-    values_from all (front ++ count ∷ []) (λ c v bound below has.
-    let within = value_in_cell all limits c v bound below has in
-    (elim (has_value c v class) as (λ b. has_value c v class ≡ b → value_reachable all (front ++ count ∷ []) c (v, bound) ≡ true) [
-      | true ↦ λ own. let is = eqb-true (slice_index class.values c) v own in
-          own_reach all front class count tally stands tracks c v bound below within own
-          ∙ subst (λ w. reaches bound tally.held.items tally.later.items count c w ≡ true) is (reach c bound (omega (arith, places.one_each)) (subst (λ w. HasBound all.bounds c w bound) (sym is) has))
-      | false ↦ λ other. other_reach all front class count stands c v bound other ∙ values_at all front parent c v bound below has
-    ]) refl)
-
-values_fail : (all : Classes) (front : List ℕ) (class : Class) (count : ℕ) (tally : Tally) → KeepsLimits all → HasPlaces all.bounds class → Stands all (length front) class →
-    Tracks all front (drop (length front + 1) all.classes) tally → OneFails all.bounds tally.held.items tally.later.items class.values count → values_reachable all (front ++ count ∷ []) ≡ false
+values_fail : (all : Classes) (front : List ℕ) (class : Class) (count : ℕ) (tally : FrontTally) → KeepsLimits all → HasPlaces all.bounds class → Stands all (length front) class →
+    Tracks all front (drop (length front + 1) all.classes) tally → OneFails all.bounds tally.held tally.later class.values count → values_reachable all (front ++ count ∷ []) ≡ false
 values_fail all front class count tally limits places stands tracks (c, bound, below, has, fails) =
-    let v = slice_index class.values c in
-    let lt : c < length all.bounds = omega (arith, places.one_each) in
-    false_from_ne_true (values_reachable all (front ++ count ∷ [])) (λ yes. false≢true (sym fails ∙ (sym (own_reach all front class count tally stands tracks c v bound lt (value_in_cell all limits c v bound lt has) (own class c))
-    ∙ values_at all (front ++ count ∷ []) yes c v bound lt has)))
-  where
-    own : (class : Class) (c : ℕ) → has_value c (slice_index class.values c) class ≡ true
-    own class c = eq-eqb (slice_index class.values c) (slice_index class.values c) refl
-
-size_of_child : (all : Classes) (front : List ℕ) (class : Class) (count : ℕ) (tally : Tally) → Stands all (length front) class → Tracks all front (drop (length front + 1) all.classes) tally →
-    size_reachable all (front ++ count ∷ []) ≡ (leb (tally.taken + count) all.size && leb all.size (tally.taken + count + tally.later_taken))
-size_of_child all front class count tally stands tracks =
-    let taken = taken_more all front class count stands (λ class. true) in
-    let later : most_given (λ class. true) (later_than (front ++ count ∷ []) all.classes) ≡ tally.later_taken = ap (most_given (λ class. true)) (later_of_child all front count) ∙ sym tracks.later_taken in
-    reach_equal all.size all.size _ _ _ _ (omega (arith, taken, tracks.taken)) later
-
-decided : (b : Bool) (A B : Type 0) (s : Bool) → (b ≡ true → A) → (b ≡ false → B) → (A → s ≡ true) → (B → s ≡ false) → b ≡ s
-decided true A B s f g h k = sym (h (f refl))
-decided false A B s f g h k = sym (k (g refl))
+    false_from_ne_true (values_reachable all (front ++ count ∷ []))
+    (λ yes. false≢true (sym fails ∙ reach_of_child all front class count tally limits places stands tracks yes c bound below has))
 
 -- a child whose size can be reached is live where its class's values can be
-pub child_live : (all : Classes) (front : List ℕ) (class : Class) (count : ℕ) (tally : Tally) → KeepsLimits all → HasPlaces all.bounds class → Stands all (length front) class → is_reachable all front ≡ true →
+pub child_live : (all : Classes) (front : List ℕ) (class : Class) (count : ℕ) (tally : FrontTally) → KeepsLimits all → HasPlaces all.bounds class → Stands all (length front) class → is_reachable all front ≡ true →
     Tracks all front (drop (length front + 1) all.classes) tally → (leb (tally.taken + count) all.size && leb all.size (tally.taken + count + tally.later_taken)) ≡ true →
-    (answer : Bool) → (answer ≡ true → AllReach all.bounds tally.held.items tally.later.items class.values count) → (answer ≡ false → OneFails all.bounds tally.held.items tally.later.items class.values count) →
+    (answer : Bool) → (answer ≡ true → AllReach all.bounds tally.held tally.later class.values count) → (answer ≡ false → OneFails all.bounds tally.held tally.later class.values count) →
     answer ≡ (size_reachable all (front ++ count ∷ []) && values_reachable all (front ++ count ∷ []))
 child_live all front class count tally limits places stands live tracks size answer allowed refused =
     let values = decided answer _ _ (values_reachable all (front ++ count ∷ [])) allowed refused
@@ -127,7 +32,7 @@ child_live all front class count tally limits places stands live tracks size ans
     let reach = size_of_child all front class count tally stands tracks ∙ size in
     values ∙ sym (ap (λ b. b && values_reachable all (front ++ count ∷ [])) reach)
 
-pub child_dead : (all : Classes) (front : List ℕ) (class : Class) (count : ℕ) (tally : Tally) → Stands all (length front) class →
+pub child_dead : (all : Classes) (front : List ℕ) (class : Class) (count : ℕ) (tally : FrontTally) → Stands all (length front) class →
     Tracks all front (drop (length front + 1) all.classes) tally → (leb (tally.taken + count) all.size && leb all.size (tally.taken + count + tally.later_taken)) ≡ false →
     (size_reachable all (front ++ count ∷ []) && values_reachable all (front ++ count ∷ [])) ≡ false
 child_dead all front class count tally stands tracks size =
@@ -137,21 +42,21 @@ and_false : (b : Bool) → (b && false) ≡ false
 and_false true = refl
 and_false false = refl
 
-pub child_values_dead : (all : Classes) (front : List ℕ) (class : Class) (count : ℕ) (tally : Tally) → KeepsLimits all → HasPlaces all.bounds class → Stands all (length front) class →
-    Tracks all front (drop (length front + 1) all.classes) tally → OneFails all.bounds tally.held.items tally.later.items class.values count → is_reachable all (front ++ count ∷ []) ≡ false
+pub child_values_dead : (all : Classes) (front : List ℕ) (class : Class) (count : ℕ) (tally : FrontTally) → KeepsLimits all → HasPlaces all.bounds class → Stands all (length front) class →
+    Tracks all front (drop (length front + 1) all.classes) tally → OneFails all.bounds tally.held tally.later class.values count → is_reachable all (front ++ count ∷ []) ≡ false
 child_values_dead all front class count tally limits places stands tracks fails =
     let child = front ++ count ∷ [] in
     ap (λ b. size_reachable all child && b && takes_one_a_household all.classes child) (values_fail all front class count tally limits places stands tracks fails)
     ∙ ap (λ b. b && takes_one_a_household all.classes child) (and_false (size_reachable all child))
 
-pub child_size_dead : (all : Classes) (front : List ℕ) (class : Class) (count : ℕ) (tally : Tally) → Stands all (length front) class →
+pub child_size_dead : (all : Classes) (front : List ℕ) (class : Class) (count : ℕ) (tally : FrontTally) → Stands all (length front) class →
     Tracks all front (drop (length front + 1) all.classes) tally → (leb (tally.taken + count) all.size && leb all.size (tally.taken + count + tally.later_taken)) ≡ false →
     is_reachable all (front ++ count ∷ []) ≡ false
 child_size_dead all front class count tally stands tracks size = ap (λ b. b && takes_one_a_household all.classes (front ++ count ∷ [])) (child_dead all front class count tally stands tracks size)
 
 -- counts above what the size and the upper bounds allow
-pub passed_dead : (all : Classes) (front : List ℕ) (class : Class) (tally : Tally) → KeepsLimits all → HasPlaces all.bounds class → Stands all (length front) class → Tracks all front (drop (length front + 1) all.classes) tally →
-    (most lack limit top : ℕ) → lack ≡ all.size - tally.taken → limit ≡ min most lack → ((count : ℕ) → top < count → count ≤ limit → OneFails all.bounds tally.held.items tally.later.items class.values count) →
+pub passed_dead : (all : Classes) (front : List ℕ) (class : Class) (tally : FrontTally) → KeepsLimits all → HasPlaces all.bounds class → Stands all (length front) class → Tracks all front (drop (length front + 1) all.classes) tally →
+    (most lack limit top : ℕ) → lack ≡ all.size - tally.taken → limit ≡ min most lack → ((count : ℕ) → top < count → count ≤ limit → OneFails all.bounds tally.held tally.later class.values count) →
     (count : ℕ) → top < count → count ≤ most → is_reachable all (front ++ count ∷ []) ≡ false
 passed_dead all front class tally limits places stands tracks most lack limit top lack_is limit_is fails count l u =
     let many : limit < count → is_reachable all (front ++ count ∷ []) ≡ false = λ lt.
@@ -162,8 +67,8 @@ passed_dead all front class tally limits places stands tracks most lack limit to
     ]) refl
 
 -- counts below what the size and the lower bounds need
-pub lacking_dead : (all : Classes) (front : List ℕ) (class : Class) (tally : Tally) → KeepsLimits all → HasPlaces all.bounds class → Stands all (length front) class → Tracks all front (drop (length front + 1) all.classes) tally →
-    (least lack limit low : ℕ) → lack ≡ all.size - (tally.taken + tally.later_taken) → limit ≡ max least lack → ((count : ℕ) → count < low → limit ≤ count → OneFails all.bounds tally.held.items tally.later.items class.values count) →
+pub lacking_dead : (all : Classes) (front : List ℕ) (class : Class) (tally : FrontTally) → KeepsLimits all → HasPlaces all.bounds class → Stands all (length front) class → Tracks all front (drop (length front + 1) all.classes) tally →
+    (least lack limit low : ℕ) → lack ≡ all.size - (tally.taken + tally.later_taken) → limit ≡ max least lack → ((count : ℕ) → count < low → limit ≤ count → OneFails all.bounds tally.held tally.later class.values count) →
     (count : ℕ) → count < low → least ≤ count → is_reachable all (front ++ count ∷ []) ≡ false
 lacking_dead all front class tally limits places stands tracks least lack limit low lack_is limit_is fails count l u =
     let few : count < limit → is_reachable all (front ++ count ∷ []) ≡ false = λ lt.
@@ -174,28 +79,25 @@ lacking_dead all front class tally limits places stands tracks least lack limit 
       | false ↦ λ f. few (leb-false limit count f)
     ]) refl
 
--- ---- a front
+pub fails_same : (bounds bounds' : List (List Bounds)) (held held' later later' values values' : List ℕ) (count : ℕ) → bounds ≡ bounds' → held ≡ held' → later ≡ later' → values ≡ values' →
+    OneFails bounds held later values count → OneFails bounds' held' later' values' count
+fails_same bounds bounds' held held' later later' values values' count e f g h fails =
+    subst (λ x. OneFails x held' later' values' count) e (subst (λ x. OneFails bounds x later' values' count) f (subst (λ x. OneFails bounds held x values' count) g (subst (λ x. OneFails bounds held later x count) h fails)))
 
-front_reach : (all : Classes) (front : List ℕ) (tally : Tally) → Tracks all front (drop (length front) all.classes) tally → (c v : ℕ) (bound : Bounds) → c < length all.bounds → v < 50 →
-    value_reachable all front c (v, bound) ≡ reaches bound tally.held.items tally.later.items 0 c v
-front_reach all front tally tracks c v bound below within =
-    reach_equal bound.lower bound.upper _ _ _ _ (omega (arith, tracks.held c v below within)) (sym (tracks.later c v below within))
+-- ---- the empty front
 
-size_of_front : (all : Classes) (front : List ℕ) (tally : Tally) → Tracks all front (drop (length front) all.classes) tally →
-    size_reachable all front ≡ (leb (tally.taken + 0) all.size && leb all.size (tally.taken + 0 + tally.later_taken))
-size_of_front all front tally tracks = reach_equal all.size all.size _ _ _ _ (omega (arith, tracks.taken)) (sym tracks.later_taken)
+none_of : (classes : List Class) (household : Option ℕ) → takes_one_of classes [] household ≡ true
+none_of classes None = refl
+none_of classes (Some h) = ap (λ n. leb n 1) (nothing_taken (λ class. is_of_household h class.household) classes)
 
-pub front_live : (all : Classes) (front : List ℕ) (tally : Tally) → KeepsLimits all → Tracks all front (drop (length front) all.classes) tally →
-    (leb (tally.taken + 0) all.size && leb all.size (tally.taken + 0 + tally.later_taken)) ≡ true →
-    (answer : Bool) → (answer ≡ true → EachReaches all.bounds tally.held.items tally.later.items) → (answer ≡ false → SomeFails all.bounds tally.held.items tally.later.items) →
-    answer ≡ (size_reachable all front && values_reachable all front)
-front_live all front tally limits tracks size answer allowed refused =
-    let values = decided answer _ _ (values_reachable all front) allowed refused
-    (λ reach. values_from all front (λ c v bound below has. front_reach all front tally tracks c v bound below (value_in_cell all limits c v bound below has) ∙ reach c v bound below has))
-    (λ (c, v, bound, below, has, fails). false_from_ne_true (values_reachable all front)
-    (λ yes. false≢true (sym fails ∙ (sym (front_reach all front tally tracks c v bound below (value_in_cell all limits c v bound below has)) ∙ values_at all front yes c v bound below has)))) in
-    values ∙ sym (ap (λ b. b && values_reachable all front) (size_of_front all front tally tracks ∙ size))
+none_of_each : (classes taking : List Class) → list_all (λ class. takes_one_of taking [] class.household) classes ≡ true
+none_of_each [] taking = refl
+none_of_each (class ∷ classes) taking = and_from (takes_one_of taking [] class.household) (list_all (λ class. takes_one_of taking [] class.household) classes) (none_of taking class.household) (none_of_each classes taking)
 
-pub front_dead : (all : Classes) (front : List ℕ) (tally : Tally) → Tracks all front (drop (length front) all.classes) tally →
-    (leb (tally.taken + 0) all.size && leb all.size (tally.taken + 0 + tally.later_taken)) ≡ false → (size_reachable all front && values_reachable all front) ≡ false
-front_dead all front tally tracks size = ap (λ b. b && values_reachable all front) (size_of_front all front tally tracks ∙ size)
+pub begins_reachable : (all : Classes) → is_reachable all [] ≡ (size_reachable all [] && values_reachable all [])
+begins_reachable all =
+    ap (λ b. size_reachable all [] && values_reachable all [] && b) (none_of_each all.classes all.classes) ∙ and_true (size_reachable all [] && values_reachable all [])
+  where
+    and_true : (b : Bool) → (b && true) ≡ b
+    and_true true = refl
+    and_true false = refl

@@ -4,7 +4,8 @@ use Rattle.std.specs.Prelude.{slice_get, slice_index, slice_index_or}
 use Rattle.std.proofs.lemmas.Bool.{and_parts, false_from_ne_true, leb-true, lt-leb, ltb-false, ltb-true}
 use Rattle.std.proofs.lemmas.Option.{get_or_from_slice_get, slice_get-get_or}
 use Rattle.search_definitions.specs.declared.Bounds.{Bounds}
-use Rattle.cap_search.specs.Tallies.{HasBound, HaveBounds, OneFails, cell, reaches}
+use Rattle.front_laws.specs.Tallies.{HasBound, HaveBounds, cell, reaches}
+use Rattle.cap_search.specs.Tallies.{OneFails}
 
 -- the bound that was read of a category's value
 pub bound_here : (bounds : List (List Bounds)) (values : List ℕ) (c : ℕ) (index slice : List Bounds) (d : Bounds) → HaveBounds bounds values → c < length values → index ≡ get_or bounds c index → slice ≡ index →

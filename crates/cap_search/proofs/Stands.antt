@@ -13,28 +13,16 @@ use Rattle.search_definitions.specs.Classes.{Class, Classes, KeepsLimits}
 use Rattle.search_definitions.specs.Fronts.{is_reachable, is_live_above, optimistic, sizes_of, taken_by}
 use Rattle.search_definitions.proofs.Limits.{all_from_each}
 use Rattle.cap_search.specs.Front.{Tracks}
-use Rattle.cap_search.specs.Steps.{Begins, CanTake, StandsAt}
-use Rattle.cap_search.specs.Weights.{AreWithin, Weighs, WeighEach}
+use Rattle.cap_search.specs.Steps.{Begins, StandsAt}
+use Rattle.front_laws.specs.Front.{CanTake, AreWithin}
+use Rattle.cap_search.specs.Weights.{Weighs, WeighEach}
 use Rattle.cap_search.specs.declared.searching.Search.{Search}
 use Rattle.cap_search.specs.declared.tally.Tally.{Tally}
 use Rattle.cap_search.specs.declared.weighing.Weights.{Weights}
-use Rattle.cap_search.proofs.Tracking.{Stands, nothing_taken}
-use Rattle.cap_search.proofs.Stepping.{placed, front_length}
-use Rattle.cap_search.proofs.WeightLaws.{weighs_front, element_at}
-
-pub place_is : (all : Classes) (depth : ℕ) (class : Class) → Stands all depth class → slice_get all.classes depth ≡ Some class
-place_is all depth class stands = slice_get-get_or all.classes depth class stands.below ∙ ap Some (sym stands.is)
-
-pub same_class : (all : Classes) (depth : ℕ) (class other : Class) → Stands all depth class → slice_get all.classes depth ≡ Some other → other ≡ class
-same_class all depth class other stands e = let here = place_is all depth class stands in cc
-
-pub class_limits : (all : Classes) (depth : ℕ) (class : Class) → KeepsLimits all → Stands all depth class → (class.least ≤ class.most) × (class.most ≤ length class.members) × (length class.members ≤ 400)
-class_limits all depth class limits stands =
-    let here = stands.is in let sum = limits.few_members in
-    let low = All-get_or (λ (class : Class). class.least ≤ class.most) all.classes depth class stands.below (all_from_each (λ (class : Class). class.least ≤ class.most) all.classes limits.searchable.in_order) in
-    let most = All-get_or (λ (class : Class). class.most ≤ length class.members) all.classes depth class stands.below limits.most in
-    let one = get_or-le-sum_by (λ (class : Class). length class.members) all.classes depth class stands.below in
-    (rw here (omega arith), rw here (omega arith), rw here (omega arith))
+use Rattle.front_laws.proofs.ClosedRows.{each_front}
+use Rattle.front_laws.proofs.Fronts.{within_more, placed, front_length}
+use Rattle.front_laws.proofs.Tracking.{Stands, nothing_taken}
+use Rattle.front_laws.proofs.WeightLaws.{weighs_front, element_at}
 
 -- the same place with another tally
 pub stands_with : (all : Classes) (closed : List Row) (row : Row) (depth : ℕ) (rest rest' : List Class) (before after : Search) → StandsAt all closed row depth rest before → after.counts.items ≡ before.counts.items →
@@ -63,38 +51,8 @@ begins_there all closed row search begins live =
       closed_rows = begins.closed_rows;
     }
 
-pub none_within : (all : Classes) → AreWithin all []
-none_within all t l = absurd (omega arith)
-
 pub whole_lack : (all : Classes) (size : ℕ) → size ≡ all.size → size ≡ all.size - taken_by all []
 whole_lack all size e = omega (arith, nothing_taken (λ class. true) all.classes)
-
-pub within_more : (all : Classes) (front : List ℕ) (depth count : ℕ) → length front ≡ depth → depth < length all.classes → CanTake all depth count → AreWithin all front → AreWithin all (front ++ count ∷ [])
-within_more all front depth count long below can within t l =
-    (elim (ltb t (length front)) as (λ b. ltb t (length front) ≡ b → slice_index (front ++ count ∷ []) t ≤ slice_index (sizes_of all) t) [
-      | true ↦ λ e. let lt = ltb-true t (length front) e in earlier lt
-      | false ↦ λ e. let ge = ltb-false t (length front) e in last (omega (arith, length-append front (count ∷ [])))
-    ]) refl
-  where
-    nothing_more : t ≡ length front → length front + 0 ≡ t
-    nothing_more e = omega arith
-
-    earlier : t < length front → slice_index (front ++ count ∷ []) t ≤ slice_index (sizes_of all) t
-    earlier lt = omega (arith, get_or-append front (count ∷ []) 0 t lt, within t lt)
-
-    size_at : (classes : List Class) (i : ℕ) (class : Class) → slice_get classes i ≡ Some class → slice_index (map (λ class. length class.members) classes) i ≡ length class.members
-    size_at [] i class e = cc
-    size_at (c ∷ classes) zero class e = let is : c ≡ class = cc in ap (λ (c : Class). length c.members) is
-    size_at (c ∷ classes) (suc i) class e = size_at classes i class e
-
-    last : t ≡ length front → slice_index (front ++ count ∷ []) t ≤ slice_index (sizes_of all) t
-    last e =
-        let class = element_at all.classes depth below in
-        let place = place_is all depth class.0 (record { below = below; is = class.1 }) in
-        let most = can class.0 place in
-        let here : slice_index (front ++ count ∷ []) t ≡ count = ap (λ i. get_or (front ++ count ∷ []) i 0) (sym (nothing_more e)) ∙ get_or-append-add front (count ∷ []) 0 0 in
-        let size = ap (slice_index (sizes_of all)) (e ∙ long) ∙ size_at all.classes depth class.0 place in
-        omega arith
 
 -- the counts of a child
 pub child_within : (all : Classes) (closed : List Row) (row : Row) (depth count : ℕ) (rest : List Class) (search : Search) → StandsAt all closed row depth rest search → depth < length all.classes → CanTake all depth count →
@@ -119,9 +77,6 @@ child_stands all closed row depth count rest before after stands below can live 
       closed_rows = subst (λ f. WeighEach all closed f after.closed.items) (sym child) closed_rows;
     }
 
-each_front : (all : Classes) (rows : List Row) (front : List ℕ) (count : ℕ) (weighings : List Weights) → WeighEach all rows (front ++ count ∷ []) weighings → WeighEach all rows front weighings
-each_front all rows front count weighings weighs = record { one_each = weighs.one_each; each = λ i r w e f. weighs_front all r front count w (weighs.each i r w e f) }
-
 -- back at the front that a child went on from
 pub parent_stands : (all : Classes) (closed : List Row) (row : Row) (depth count : ℕ) (rest : List Class) (before child after : Search) → StandsAt all closed row depth rest before → StandsAt all closed row (depth + 1) rest child →
     take (depth + 1) child.counts.items ≡ take depth before.counts.items ++ count ∷ [] → take depth child.counts.items ≡ take depth before.counts.items →
@@ -136,7 +91,7 @@ parent_stands all closed row depth count rest before child after stands below e 
       live = ap (is_reachable all) front ∙ stands.live;
       counts = subst (AreWithin all) (sym front) stands.counts;
       tally = subst (λ xs. Tracks all (take depth xs) rest after.tally) (sym f) tracks;
-      weights = subst (λ x. Weighs all row x after.weights) (sym front) (subst (Weighs all row front_before) (sym h) (weighs_front all row front_before count child.weights (subst (λ x. Weighs all row x child.weights) e below.weights)));
+      weights = subst (λ x. Weighs all row x after.weights) (sym front) (subst (Weighs all row front_before) (sym h) (weighs_front all row front_before count _ (subst (λ x. Weighs all row x child.weights) e below.weights)));
       closed_rows = subst (λ x. WeighEach all closed x after.closed.items) (sym front)
           (subst (WeighEach all closed front_before) (sym i) (each_front all closed front_before count child.closed.items (subst (λ x. WeighEach all closed x child.closed.items) e below.closed_rows)));
     }
@@ -148,10 +103,3 @@ child_live all closed row child live weighs =
     let parts = and_parts (list_all (λ r. int_le r.b (optimistic all r child)) closed) (int_lt row.b (optimistic all row child)) weighs in
     and_from (is_reachable all child && list_all (λ r. int_le r.b (optimistic all r child)) closed) (int_lt row.b (optimistic all row child))
     (and_from (is_reachable all child) (list_all (λ r. int_le r.b (optimistic all r child)) closed) live parts.0) parts.1
-
-pub child_tracks : (all : Classes) (depth count : ℕ) (items counts : List ℕ) (tally : Tally) → items ≡ counts → length counts ≡ length all.classes → depth ≤ length all.classes →
-    Tracks all (take depth items ++ count ∷ []) (drop (length (take depth items) + 1) all.classes) tally → Tracks all (take depth counts ++ count ∷ []) (drop (depth + 1) all.classes) tally
-child_tracks all depth count items counts tally e f le tracks =
-    let size = front_length depth counts (length all.classes) f le in
-    subst (λ n. Tracks all (take depth counts ++ count ∷ []) (drop (n + 1) all.classes) tally) size
-    (subst (λ xs. Tracks all (take depth xs ++ count ∷ []) (drop (length (take depth xs) + 1) all.classes) tally) e tracks)

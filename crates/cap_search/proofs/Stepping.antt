@@ -11,20 +11,12 @@ use Rattle.search_definitions.specs.Fronts.{is_live_above, is_reachable, optimis
 use Rattle.check_definitions.specs.Visits.{enter_above}
 use Rattle.row_definitions.specs.Row.{Row}
 use Rattle.search_definitions.specs.Visits.{Search as Due, one_by_one}
-use Rattle.cap_search.specs.Front.{Tracks}
-use Rattle.cap_search.specs.declared.tally.Tally.{Tally}
 use Rattle.cap_search.specs.Steps.{StandsAt, Steps, StepsFrom, child_above, children_above, counts_at, counts_of_first}
 use Rattle.cap_search.specs.declared.searching.BudgetSpent.{BudgetSpent}
 use Rattle.cap_search.specs.declared.searching.Search.{Search}
-use Rattle.cap_search.proofs.Tracking.{Stands, comes_next}
-use Rattle.cap_search.proofs.WeightLaws.{element_at}
-
--- one search, and where it finds nothing another
-abbrev pub then_next : Due → Due → Due
-then_next one rest = cond (is_some one.found) one (record { visits = one.visits + rest.visits; found = rest.found })
-
-after_nothing : (rest : Due) → rest ≡ then_next (record { visits = 0; found = None }) rest
-after_nothing rest = let e : rest.visits ≡ 0 + rest.visits = omega arith in ap (λ (n : ℕ). let due : Due = record { visits = n; found = rest.found } in due) e
+use Rattle.front_laws.proofs.InTurn.{after_nothing, at_least_one, found_at_once, found_later, then_next}
+use Rattle.front_laws.proofs.Tracking.{Stands, comes_next}
+use Rattle.front_laws.proofs.WeightLaws.{element_at}
 
 -- a child, and the children after it
 children_more : (all : Classes) (closed : List Row) (row : Row) (later : List Class) (front : List ℕ) (c : ℕ) (counts : List ℕ) →
@@ -63,19 +55,6 @@ children_next all closed row depth front least (suc more) some =
     ∙ ap (λ n. then_next (child_at all closed row depth front (least + suc more)) (children_at all closed row depth front least n)) (sym less)
 
 -- ---- steps
-
-at_least_one : (one rest : Due) → one.visits ≤ (then_next one rest).visits
-at_least_one one rest = elim (is_some one.found) as (λ b. one.visits ≤ (cond b one (record { visits = one.visits + rest.visits; found = rest.found })).visits) [
-  | true ↦ omega arith
-  | false ↦ omega arith
-]
-
--- the first of two searches finds one
-pub found_at_once : (one rest : Due) (found : List ℕ) → one.found ≡ Some found → then_next one rest ≡ one
-found_at_once one rest found e = ap (λ o. cond (is_some o) one (record { visits = one.visits + rest.visits; found = rest.found })) e
-
-pub found_later : (one rest : Due) → one.found ≡ None → then_next one rest ≡ record { visits = one.visits + rest.visits; found = rest.found }
-found_later one rest e = ap (λ o. cond (is_some o) one (record { visits = one.visits + rest.visits; found = rest.found })) e
 
 -- both searches of a step, where the first found nothing
 pub both : (all : Classes) (closed : List Row) (row : Row) (depth : ℕ) (later : List Class) (one rest : Due) (before mid : Search) (result : Result Bool BudgetSpent) (after : Search) →
@@ -239,50 +218,6 @@ enter_due all closed row depth front front' below f =
     ap (λ classes. enter_above all closed row classes front) next
     ∙ ap (λ counts. let due : Due = record { visits = 1 + (children_above all closed row later front counts).visits; found = (children_above all closed row later front counts).found } in due) (sym here)
     ∙ ap (λ f. let due : Due = record { visits = 1 + (children_above all closed row later f (counts_at all depth)).visits; found = (children_above all closed row later f (counts_at all depth)).found } in due) (sym f)
-
--- the front of a search, and how long it is
-pub front_length : (depth : ℕ) (counts : List ℕ) (n : ℕ) → length counts ≡ n → depth ≤ n → length (take depth counts) ≡ depth
-front_length depth counts n e le = length-take-le depth counts (omega arith)
-
-pub at_front : (all : Classes) (depth : ℕ) (items counts : List ℕ) (tally : Tally) → items ≡ counts → length counts ≡ length all.classes → depth ≤ length all.classes →
-    Tracks all (take depth counts) (drop (depth + 1) all.classes) tally → Tracks all (take depth items) (drop (length (take depth items) + 1) all.classes) tally
-at_front all depth items counts tally e f le tracks =
-    let size = front_length depth counts (length all.classes) f le in
-    subst (λ xs. Tracks all (take depth xs) (drop (length (take depth xs) + 1) all.classes) tally) (sym e)
-    (subst (λ n. Tracks all (take depth counts) (drop (n + 1) all.classes) tally) (sym size) tracks)
-
-pub from_front : (all : Classes) (depth : ℕ) (items counts : List ℕ) (tally : Tally) → items ≡ counts → length counts ≡ length all.classes → depth ≤ length all.classes →
-    Tracks all (take depth items) (drop (length (take depth items)) all.classes) tally → Tracks all (take depth counts) (drop depth all.classes) tally
-from_front all depth items counts tally e f le tracks =
-    let size = front_length depth counts (length all.classes) f le in
-    subst (λ n. Tracks all (take depth counts) (drop n all.classes) tally) size
-    (subst (λ xs. Tracks all (take depth xs) (drop (length (take depth xs)) all.classes) tally) e tracks)
-
-pub from_front_more : (all : Classes) (depth : ℕ) (items counts : List ℕ) (tally : Tally) → items ≡ counts → length counts ≡ length all.classes → depth ≤ length all.classes →
-    Tracks all (take depth items) (drop (length (take depth items) + 1) all.classes) tally → Tracks all (take depth counts) (drop (depth + 1) all.classes) tally
-from_front_more all depth items counts tally e f le tracks =
-    let size = front_length depth counts (length all.classes) f le in
-    subst (λ n. Tracks all (take depth counts) (drop (n + 1) all.classes) tally) size
-    (subst (λ xs. Tracks all (take depth xs) (drop (length (take depth xs) + 1) all.classes) tally) e tracks)
-
--- ---- a child in its place
-
-pub placed : (depth count : ℕ) (xs : List ℕ) → depth < length xs → take (depth + 1) (set xs depth count) ≡ take depth xs ++ count ∷ []
-placed depth count [] lt = absurd (omega arith)
-placed zero count (x ∷ xs) lt = refl
-placed (suc depth) count (x ∷ xs) lt = let e : suc depth + 1 ≡ suc (depth + 1) = omega arith in rw e (ap (λ (l : List ℕ). x ∷ l) (placed depth count xs (omega arith)))
-
-pub front_of : (depth : ℕ) (xs front : List ℕ) (count : ℕ) → length front ≡ depth → take (depth + 1) xs ≡ front ++ count ∷ [] → take depth xs ≡ front
-front_of depth xs front count l e =
-    let size : depth ≤ length (take (depth + 1) xs) = omega (arith, ap length e, length-append front (count ∷ []), l) in
-    ap (take depth) (sym (take-append-drop (depth + 1) xs)) ∙ (take-append-le depth (take (depth + 1) xs) (drop (depth + 1) xs) size
-    ∙ (ap (take depth) e ∙ (take-append-le depth front (count ∷ []) (omega arith) ∙ (ap (λ n. take n front) (sym l) ∙ take-length front))))
-
-pub at_child : (all : Classes) (depth : ℕ) (items front : List ℕ) (count : ℕ) (tally : Tally) → length front ≡ depth → take depth items ≡ front → Tracks all (front ++ count ∷ []) (drop (depth + 1) all.classes) tally →
-    Tracks all (take depth items ++ count ∷ []) (drop (length (take depth items) + 1) all.classes) tally
-at_child all depth items front count tally l e tracks =
-    subst (λ f. Tracks all (f ++ count ∷ []) (drop (length f + 1) all.classes) tally) (sym e)
-    (subst (λ n. Tracks all (front ++ count ∷ []) (drop (n + 1) all.classes) tally) (sym l) tracks)
 
 -- a live child's search is entered
 pub child_due : (all : Classes) (closed : List Row) (row : Row) (later : List Class) (child child' : List ℕ) → is_live_above all closed row row.b child ≡ true → child' ≡ child → child_above all closed row later child ≡ enter_above all closed row later child'

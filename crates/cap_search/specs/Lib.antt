@@ -1,6 +1,5 @@
 pub mod Answers
 pub mod Tallies
-pub mod Homes
 pub mod Front
 pub mod Weights
 pub mod Terms

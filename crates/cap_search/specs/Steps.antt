@@ -6,8 +6,9 @@ use Rattle.search_definitions.specs.Classes.{Class, Classes}
 use Rattle.search_definitions.specs.Compositions.{counts_of}
 use Rattle.search_definitions.specs.Fronts.{is_live_above, is_reachable}
 use Rattle.search_definitions.specs.Visits.{Search as Due, one_by_one}
+use Rattle.front_laws.specs.Front.{AreWithin}
 use Rattle.cap_search.specs.Front.{Tracks}
-use Rattle.cap_search.specs.Weights.{AreWithin, Weighs, WeighEach}
+use Rattle.cap_search.specs.Weights.{Weighs, WeighEach}
 use Rattle.cap_search.specs.declared.searching.BudgetSpent.{BudgetSpent}
 use Rattle.cap_search.specs.declared.searching.Search.{Search}
 
@@ -27,10 +28,6 @@ pub record Begins (all : Classes) (closed : List Row) (row : Row) (search : Sear
   pub tally : Tracks all [] all.classes search.tally
   pub weights : Weighs all row [] search.weights
   pub closed_rows : WeighEach all closed [] search.closed.items
-
--- at least so many of the class in a place can be taken
-abbrev pub CanTake : Classes → ℕ → ℕ → Type 0
-CanTake all depth count = (class : Class) → slice_get all.classes depth ≡ Some class → count ≤ length class.members
 
 -- a child where it is live, else nothing
 abbrev pub child_above : Classes → List Row → Row → List Class → List ℕ → Due

@@ -3,7 +3,8 @@ use Rattle.std.specs.Prelude.{◌≡◌, ◌∷◌, List, map}
 use Rattle.check_definitions.specs.Caps.{classes_at, stage_row}
 use Rattle.pool_definitions.specs.Certificate.{Stage}
 use Rattle.pool_definitions.specs.Pool.{Pool}
-use Rattle.cap_search.specs.Weights.{AreNarrow, EachNarrow, IsSummed, SumEach}
+use Rattle.front_laws.specs.Weights.{AreNarrow, EachNarrow}
+use Rattle.cap_search.specs.Weights.{IsSummed, SumEach}
 use Rattle.cap_search.specs.declared.terms.Terms.{Terms}
 
 -- no weight in the rows is too wide, and the sums are theirs

@@ -1,79 +1,31 @@
--- The greatest sums of units in a row, and what fronts weigh in it.
-use Rattle.std.specs.Prelude.{◌≡◌, ℕ, ◌+◌, ◌*◌, ◌^◌, ◌≤◌, ◌<◌, List, length, drop, take, ℤ, pos, ◌+ℤ◌, unsigned_abs, slice_index, slice_index_or, slice_get, Some}
-use Rattle.std.specs.Int.{int_max}
-use Rattle.row_definitions.specs.Row.{Row, sum_of_sizes}
+-- The greatest sums of units in rows, and what fronts weigh in them.
+use Rattle.std.specs.Prelude.{ℕ, List, ℤ}
+use Rattle.row_definitions.specs.Row.{Row}
 use Rattle.search_definitions.specs.Classes.{Classes}
-use Rattle.search_definitions.specs.Compositions.{weight_in}
-use Rattle.search_definitions.specs.Fronts.{sizes_of, units, falling, sum_of, greatest_sum}
+use Rattle.front_laws.specs.Weights as laws
 use Rattle.cap_search.specs.declared.greatest.Sums.{Sums}
 use Rattle.cap_search.specs.declared.weighing.Weights.{Weights}
 
--- the number in a place
-abbrev pub at : List ℤ → ℕ → ℤ
-at xs i = slice_index_or xs i (pos 0)
+-- the table of the greatest sums
+abbrev pub table_of : Sums → List ℤ
+table_of sums = sums.cells.items
 
--- the products of sizes and entries, without their signs, fit 128 bits in all, so that no sum of units is too wide
-pub record AreNarrow (all : Classes) (entries : List ℤ) : Type 0 where
-  pub one_each : length entries ≡ length all.classes
-  pub narrow : sum_of_sizes (sizes_of all) entries < 2 ^ 127
-
--- a number can be added to each of the others
-abbrev pub CanAdd : ℤ → List ℤ → Type 0
-CanAdd weight sums = (n : ℕ) → n < length sums → unsigned_abs (at sums n) + unsigned_abs weight < 2 ^ 127
-
--- the sum of so many units and one more of a weight where there are no other units, else the greater one of it and the sum
--- without that unit
-pub record IsGreater (units count : ℕ) (without with_it result : ℤ) : Type 0 where
-  pub all_taken : units < count → result ≡ with_it
-  pub some_left : count ≤ units → result ≡ int_max without with_it
-
--- sums of 0, 1, 2 and more of so many units, as they become by one more unit of a weight
-pub record HasUnit (units : ℕ) (weight : ℤ) (before after : List ℤ) : Type 0 where
-  pub same : length after ≡ length before
-  pub none : at after 0 ≡ at before 0
-  pub some : (n : ℕ) → n + 1 < length before → IsGreater units (n + 1) (at before (n + 1)) (at before n +ℤ weight) (at after (n + 1))
-
--- the greatest sums of 0, 1, 2 and more units
-abbrev pub AreGreatest : List ℤ → List ℤ → Type 0
-AreGreatest units sums = (n : ℕ) → n < length sums → at sums n ≡ sum_of (take n (falling units))
-
--- the units of the classes from a place on
-abbrev pub units_from : Classes → List ℤ → ℕ → List ℤ
-units_from all entries place = units (drop place all.classes) (drop place entries)
-
--- a cell for the classes of these numbers at the end, and so many units
-abbrev pub cell_of : Classes → ℕ → ℕ → ℕ
-cell_of all later count = later * (all.size + 1) + count
-
--- the table of the greatest sums, for so many classes at the end and fewer: each number of units up to the size
-pub record HoldsSums (all : Classes) (entries : List ℤ) (lines : ℕ) (table : List ℤ) : Type 0 where
-  pub room : length table ≡ lines * (all.size + 1)
-  pub each : (later place count : ℕ) → later < lines → later + place ≡ length all.classes → count ≤ all.size →
-      at table (cell_of all later count) ≡ greatest_sum count (drop place all.classes) (drop place entries)
-
--- each count is at most the size of its class
-abbrev pub AreWithin : Classes → List ℕ → Type 0
-AreWithin all counts = (t : ℕ) → t < length counts → slice_index counts t ≤ slice_index (sizes_of all) t
+-- the weights by the lengths of fronts
+abbrev pub weights_of : Weights → List ℤ
+weights_of weights = weights.by_length.items
 
 -- the greatest sums in a row
 abbrev pub IsSummed : Classes → Row → Sums → Type 0
-IsSummed all row sums = HoldsSums all row.a (length all.classes + 1) sums.cells.items
+IsSummed all row sums = laws.IsSummed all row (table_of sums)
 
 -- those in each of the rows
-pub record SumEach (all : Classes) (rows : List Row) (sums : List Sums) : Type 0 where
-  pub one_each : length sums ≡ length rows
-  pub each : (i : ℕ) (row : Row) (here : Sums) → slice_get rows i ≡ Some row → slice_get sums i ≡ Some here → IsSummed all row here
+abbrev pub SumEach : Classes → List Row → List Sums → Type 0
+SumEach = laws.SumEach table_of
 
 -- what a front, and each front that it goes on from, weighs in a row
-pub record Weighs (all : Classes) (row : Row) (front : List ℕ) (weights : Weights) : Type 0 where
-  pub room : length weights.by_length.items ≡ length all.classes + 1
-  pub each : (depth : ℕ) → depth ≤ length front → at weights.by_length.items depth ≡ weight_in row.a (take depth front)
+abbrev pub Weighs : Classes → Row → List ℕ → Weights → Type 0
+Weighs all row front weights = laws.Weighs all row front (weights_of weights)
 
 -- the same in each of the rows
-pub record WeighEach (all : Classes) (rows : List Row) (front : List ℕ) (weights : List Weights) : Type 0 where
-  pub one_each : length weights ≡ length rows
-  pub each : (i : ℕ) (row : Row) (here : Weights) → slice_get rows i ≡ Some row → slice_get weights i ≡ Some here → Weighs all row front here
-
--- each of the rows is narrow
-abbrev pub EachNarrow : Classes → List Row → Type 0
-EachNarrow all rows = (i : ℕ) (row : Row) → slice_get rows i ≡ Some row → AreNarrow all row.a
+abbrev pub WeighEach : Classes → List Row → List ℕ → List Weights → Type 0
+WeighEach = laws.WeighEach weights_of

@@ -2,7 +2,7 @@
 
 ghost use Rattle.std.specs.Prelude.{◌≡◌, ◌≤◌, length};
 ghost use Rattle.search_definitions.specs.Classes.{IsKnownHousehold};
-ghost use Rattle.cap_search.specs.Homes.{AreFew, HasMoreAt, CanGiveAt, has_room};
+ghost use Rattle.front_laws.specs.Homes.{AreFew, HasMoreAt, CanGiveAt, has_room};
 
 // So many more are taken of a household, if there is one.
 pub(crate) fn add_at(homes: &mut [usize], household: Option<usize>, count: usize)

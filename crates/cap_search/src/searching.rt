@@ -4,7 +4,8 @@
 ghost use Rattle.std.specs.Prelude.{◌≡◌, ◌≤◌, ◌<◌, ◌+◌, [], ◌∷◌, ◌++◌, true, false, ◌&&◌, length, take, drop, int_le, int_lt, IfOk, OnOk, OnErr};
 ghost use Rattle.std.specs.List.{list_all};
 ghost use Rattle.cap_search.specs.Answers.{Answers, AnswersWithin};
-ghost use Rattle.cap_search.specs.Steps.{Begins, CanTake, Finds, StandsAt, Steps, child_above, children_above, counts_at};
+ghost use Rattle.cap_search.specs.Steps.{Begins, Finds, StandsAt, Steps, child_above, children_above, counts_at};
+ghost use Rattle.front_laws.specs.Front.{CanTake};
 ghost use Rattle.cap_search.specs.Terms.{AreTerms};
 ghost use Rattle.cap_search.specs.Weights.{Weighs, WeighEach};
 ghost use Rattle.check_definitions.specs.Visits.{above_search, enter_above};

@@ -1,7 +1,8 @@
 //! Numbers for the values of the categories, 50 places for each category, and what they allow.
 
 ghost use Rattle.std.specs.Prelude.{◌≡◌, ℕ, List, true, false, ◌≤◌, ◌<◌, ◌+◌, ◌^◌, length};
-ghost use Rattle.cap_search.specs.Tallies.{HaveCells, CanGive, AreAtMost, HasMore, HaveBounds, AllReach, OneFails, FitCells, EachReaches, SomeFails, within_reach};
+ghost use Rattle.front_laws.specs.Tallies.{HaveCells, CanGive, AreAtMost, HasMore, HaveBounds, AllReach, FitCells, EachReaches, SomeFails, within_reach};
+ghost use Rattle.cap_search.specs.Tallies.{OneFails};
 
 use crate::groups::ValueBounds;
 use search_definitions::Bounds;

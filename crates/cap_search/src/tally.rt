@@ -1,8 +1,9 @@
 //! What a front takes of everybody, of each value and of each household, and the most that the classes after it give.
 
 ghost use Rattle.std.specs.Prelude.{◌≡◌, ℕ, false, ◌+◌, ◌-◌, ◌*◌, ◌≤◌, ◌<◌, ◌++◌, ◌^◌, [], ◌∷◌, IfOk, true, nat_le, ◌&&◌, drop, length};
-ghost use Rattle.cap_search.specs.Front.{Gives, Tracks};
-ghost use Rattle.cap_search.specs.Tallies.{AreAtMost};
+ghost use Rattle.front_laws.specs.Front.{Gives};
+ghost use Rattle.cap_search.specs.Front.{Tracks};
+ghost use Rattle.front_laws.specs.Tallies.{AreAtMost};
 ghost use Rattle.search_definitions.specs.Fronts.{is_reachable, size_reachable, taken_by, values_reachable};
 
 use crate::groups::Classes;

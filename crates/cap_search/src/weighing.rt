@@ -2,7 +2,9 @@
 
 ghost use Rattle.std.specs.Prelude.{◌≡◌, ◌+◌, ◌-◌, ◌*◌, ◌<◌, ◌≤◌, ◌^◌, ◌++◌, [], ◌∷◌, true, length, pos, ◌+ℤ◌, ◌*ℤ◌, unsigned_abs, int_le, IfOk};
 ghost use Rattle.std.specs.List.{list_all};
-ghost use Rattle.cap_search.specs.Weights.{AreNarrow, AreWithin, EachNarrow, IsSummed, SumEach, Weighs, WeighEach};
+ghost use Rattle.front_laws.specs.Weights.{AreNarrow, EachNarrow};
+ghost use Rattle.front_laws.specs.Front.{AreWithin};
+ghost use Rattle.cap_search.specs.Weights.{IsSummed, SumEach, Weighs, WeighEach};
 ghost use Rattle.search_definitions.specs.Fronts.{optimistic, taken_by};
 ghost use Rattle.search_definitions.specs.Compositions.{weight_in};
 

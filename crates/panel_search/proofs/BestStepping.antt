@@ -15,18 +15,21 @@ use Rattle.search_definitions.specs.Fronts.{is_reachable, is_live_above, optimis
 use Rattle.search_definitions.specs.Visits.{Pricing, best_search, enter_best}
 use Rattle.search_definitions.proofs.Limits.{all_from_each}
 use Rattle.panel_search.specs.Front.{Tracks}
-use Rattle.panel_search.specs.Pricing.{BeginsAt, StandsAt, Moves, CanTake, children_best}
+use Rattle.panel_search.specs.Pricing.{BeginsAt, StandsAt, Moves, children_best}
+use Rattle.front_laws.specs.Front.{CanTake, AreWithin}
 use Rattle.panel_search.specs.Steps.{counts_below}
-use Rattle.panel_search.specs.Weights.{AreNarrow, EachNarrow, Weighs, WeighEach}
+use Rattle.front_laws.specs.Weights.{AreNarrow, EachNarrow}
+use Rattle.panel_search.specs.Weights.{Weighs, WeighEach}
 use Rattle.panel_search.specs.declared.searching.BudgetSpent.{BudgetSpent}
 use Rattle.panel_search.specs.declared.pricing.BestSearch.{BestSearch}
 use Rattle.panel_search.specs.declared.tally.Tally.{Tally}
 use Rattle.panel_search.specs.declared.weighing.Weights.{Weights}
-use Rattle.panel_search.proofs.Tracking.{Stands, comes_next}
+use Rattle.front_laws.proofs.ClosedRows.{each_front}
+use Rattle.front_laws.proofs.Tracking.{Stands, comes_next}
 use Rattle.panel_search.proofs.Ranges.{LiveBetween, below_next, below_none, live_counts}
-use Rattle.panel_search.proofs.Stepping.{placed, front_length}
-use Rattle.panel_search.proofs.WeightLaws.{weighs_front, element_at}
-use Rattle.wave_definitions.specs.Below.{AreWithin, child_best, search_from}
+use Rattle.front_laws.proofs.Fronts.{within_more, placed, front_length}
+use Rattle.front_laws.proofs.WeightLaws.{weighs_front, element_at}
+use Rattle.wave_definitions.specs.Below.{child_best, search_from}
 
 -- ---- visits only grow
 
@@ -129,20 +132,6 @@ moves_same all closed row depth rest due due' front front' nodes nodes' result a
 
 -- ---- where a search stands
 
-pub place_is : (all : Classes) (depth : ℕ) (class : Class) → Stands all depth class → slice_get all.classes depth ≡ Some class
-place_is all depth class stands = slice_get-get_or all.classes depth class stands.below ∙ ap Some (sym stands.is)
-
-pub same_class : (all : Classes) (depth : ℕ) (class other : Class) → Stands all depth class → slice_get all.classes depth ≡ Some other → other ≡ class
-same_class all depth class other stands e = let here = place_is all depth class stands in cc
-
-pub class_limits : (all : Classes) (depth : ℕ) (class : Class) → KeepsLimits all → Stands all depth class → (class.least ≤ class.most) × (class.most ≤ length class.members) × (length class.members ≤ 400)
-class_limits all depth class limits stands =
-    let here = stands.is in let sum = limits.few_members in
-    let low = All-get_or (λ (class : Class). class.least ≤ class.most) all.classes depth class stands.below (all_from_each (λ (class : Class). class.least ≤ class.most) all.classes limits.searchable.in_order) in
-    let most = All-get_or (λ (class : Class). class.most ≤ length class.members) all.classes depth class stands.below limits.most in
-    let one = get_or-le-sum_by (λ (class : Class). length class.members) all.classes depth class stands.below in
-    (rw here (omega arith), rw here (omega arith), rw here (omega arith))
-
 -- the same place with another tally
 pub stands_with : (all : Classes) (closed : List Row) (row : Row) (depth : ℕ) (rest rest' : List Class) (before after : BestSearch) → StandsAt all closed row depth rest before → after.counts.items ≡ before.counts.items → after.kept.items ≡ before.kept.items →
     after.priced ≡ before.priced → after.closed.items ≡ before.closed.items → Tracks all (take depth before.counts.items) rest' after.tally → StandsAt all closed row depth rest' after
@@ -180,33 +169,6 @@ begins_at all closed row front search places kept within e counts tally priced c
   closed_rows = subst (λ f. WeighEach all closed f search.closed.items) (sym e) closed_rows;
 }
 
-pub within_more : (all : Classes) (front : List ℕ) (depth count : ℕ) → length front ≡ depth → depth < length all.classes → CanTake all depth count → AreWithin all front → AreWithin all (front ++ count ∷ [])
-within_more all front depth count long below can within t l =
-    (elim (ltb t (length front)) as (λ b. ltb t (length front) ≡ b → slice_index (front ++ count ∷ []) t ≤ slice_index (sizes_of all) t) [
-      | true ↦ λ e. let lt = ltb-true t (length front) e in earlier lt
-      | false ↦ λ e. let ge = ltb-false t (length front) e in last (omega (arith, length-append front (count ∷ [])))
-    ]) refl
-  where
-    nothing_more : t ≡ length front → length front + 0 ≡ t
-    nothing_more e = omega arith
-
-    earlier : t < length front → slice_index (front ++ count ∷ []) t ≤ slice_index (sizes_of all) t
-    earlier lt = omega (arith, get_or-append front (count ∷ []) 0 t lt, within t lt)
-
-    size_at : (classes : List Class) (i : ℕ) (class : Class) → slice_get classes i ≡ Some class → slice_index (map (λ class. length class.members) classes) i ≡ length class.members
-    size_at [] i class e = cc
-    size_at (c ∷ classes) zero class e = let is : c ≡ class = cc in ap (λ (c : Class). length c.members) is
-    size_at (c ∷ classes) (suc i) class e = size_at classes i class e
-
-    last : t ≡ length front → slice_index (front ++ count ∷ []) t ≤ slice_index (sizes_of all) t
-    last e =
-        let class = element_at all.classes depth below in
-        let place = place_is all depth class.0 (record { below = below; is = class.1 }) in
-        let most = can class.0 place in
-        let here : slice_index (front ++ count ∷ []) t ≡ count = ap (λ i. get_or (front ++ count ∷ []) i 0) (sym (nothing_more e)) ∙ get_or-append-add front (count ∷ []) 0 0 in
-        let size = ap (slice_index (sizes_of all)) (e ∙ long) ∙ size_at all.classes depth class.0 place in
-        omega arith
-
 -- a live child
 pub child_stands : (all : Classes) (closed : List Row) (row : Row) (depth count : ℕ) (rest : List Class) (before after : BestSearch) → StandsAt all closed row depth rest before → depth < length all.classes → CanTake all depth count →
     is_reachable all (take depth before.counts.items ++ count ∷ []) ≡ true → after.counts.items ≡ set before.counts.items depth count → length after.kept.items ≡ length all.classes →
@@ -225,9 +187,6 @@ child_stands all closed row depth count rest before after stands below can live 
       closed_rows = subst (λ f. WeighEach all closed f after.closed.items) (sym child) closed_rows;
     }
 
-each_front : (all : Classes) (rows : List Row) (front : List ℕ) (count : ℕ) (weighings : List Weights) → WeighEach all rows (front ++ count ∷ []) weighings → WeighEach all rows front weighings
-each_front all rows front count weighings weighs = record { one_each = weighs.one_each; each = λ i r w e f. weighs_front all r front count w (weighs.each i r w e f) }
-
 -- back at the front that a child went on from
 pub parent_stands : (all : Classes) (closed : List Row) (row : Row) (depth count : ℕ) (rest : List Class) (before child after : BestSearch) → StandsAt all closed row depth rest before → StandsAt all closed row (depth + 1) rest child →
     take (depth + 1) child.counts.items ≡ take depth before.counts.items ++ count ∷ [] → take depth child.counts.items ≡ take depth before.counts.items →
@@ -243,7 +202,7 @@ parent_stands all closed row depth count rest before child after stands below e 
       live = ap (is_reachable all) front ∙ stands.live;
       counts = subst (AreWithin all) (sym front) stands.counts;
       tally = subst (λ xs. Tracks all (take depth xs) rest after.tally) (sym f) tracks;
-      priced = subst (λ x. Weighs all row x after.priced) (sym front) (subst (Weighs all row front_before) (sym h) (weighs_front all row front_before count child.priced (subst (λ x. Weighs all row x child.priced) e below.priced)));
+      priced = subst (λ x. Weighs all row x after.priced) (sym front) (subst (Weighs all row front_before) (sym h) (weighs_front all row front_before count _ (subst (λ x. Weighs all row x child.priced) e below.priced)));
       closed_rows = subst (λ x. WeighEach all closed x after.closed.items) (sym front)
           (subst (WeighEach all closed front_before) (sym i) (each_front all closed front_before count child.closed.items (subst (λ x. WeighEach all closed x child.closed.items) e below.closed_rows)));
     }
@@ -256,13 +215,6 @@ child_due all closed row later child now live weighs =
     let above = and_from (is_reachable all child && list_all (λ r. int_le r.b (optimistic all r child)) closed) (int_lt now.floor (optimistic all row child))
     (and_from (is_reachable all child) (list_all (λ r. int_le r.b (optimistic all r child)) closed) live parts.0) parts.1 in
     ap (λ b. cond b (enter_best all closed row later child now) now) above
-
-pub child_tracks : (all : Classes) (depth count : ℕ) (items counts : List ℕ) (tally : Tally) → items ≡ counts → length counts ≡ length all.classes → depth ≤ length all.classes →
-    Tracks all (take depth items ++ count ∷ []) (drop (length (take depth items) + 1) all.classes) tally → Tracks all (take depth counts ++ count ∷ []) (drop (depth + 1) all.classes) tally
-child_tracks all depth count items counts tally e f le tracks =
-    let size = front_length depth counts (length all.classes) f le in
-    subst (λ n. Tracks all (take depth counts ++ count ∷ []) (drop (n + 1) all.classes) tally) size
-    (subst (λ xs. Tracks all (take depth xs ++ count ∷ []) (drop (length (take depth xs) + 1) all.classes) tally) e tracks)
 
 -- ---- the rows
 

@@ -21,9 +21,9 @@ use Rattle.panel_search.specs.declared.searching.SearchStop.{SearchStop}
 use Rattle.panel_search.specs.declared.searching.SearchStop.TheVariants.{Spent}
 use Rattle.panel_search.specs.Pieces.{IsLiveFront, counts_first, live_among, live_children}
 use Rattle.panel_search.specs.Steps.{counts_below}
-use Rattle.panel_search.proofs.BestStepping.{class_limits, same_class, within_more}
+use Rattle.front_laws.proofs.Fronts.{class_limits, same_class, within_more}
 use Rattle.panel_search.proofs.Ranges.{LiveBetween, below_next, below_none, live_counts}
-use Rattle.panel_search.proofs.Tracking.{Stands, comes_next, stands_there}
+use Rattle.front_laws.proofs.Tracking.{Stands, comes_next, stands_there}
 
 -- ---- how many classes
 

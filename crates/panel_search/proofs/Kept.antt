@@ -16,7 +16,7 @@ use Rattle.panel_search.specs.Pricers.{AreClosed}
 use Rattle.panel_search.specs.Weights.{IsSummed}
 use Rattle.panel_search.specs.declared.greatest.Sums.{Sums}
 use Rattle.panel_search.specs.declared.searching.SearchStop.{SearchStop}
-use Rattle.panel_search.proofs.ClosedRows.{get_pushed}
+use Rattle.front_laws.proofs.Beside.{get_pushed}
 
 -- one row more
 pub closed_more : (all : Classes) (rows : List Row) (sums : List Sums) (row : Row) (here : Sums) → AreClosed all rows sums → HaveEntries all (row ∷ []) → HaveReach all (row ∷ []) →

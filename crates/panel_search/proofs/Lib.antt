@@ -1,12 +1,5 @@
-pub mod Adding
 pub mod BestStepping
 pub mod Division
-pub mod ClosedRows
-pub mod Households
 pub mod Kept
-pub mod Liveness
 pub mod Ranges
 pub mod Stepping
-pub mod Tracking
-pub mod UnitSums
-pub mod WeightLaws

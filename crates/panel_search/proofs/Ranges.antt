@@ -10,13 +10,14 @@ use Rattle.search_definitions.specs.Classes.{Class, Classes, HasPlaces, KeepsLim
 use Rattle.search_definitions.specs.Compositions.{counts_down, counts_of, takes_one_a_household}
 use Rattle.search_definitions.specs.Fronts.{is_reachable, size_reachable, values_reachable}
 use Rattle.panel_search.specs.Front.{Tracks}
-use Rattle.panel_search.specs.Homes.{has_room}
+use Rattle.front_laws.specs.Homes.{has_room}
 use Rattle.panel_search.specs.Steps.{counts_below}
-use Rattle.panel_search.specs.Tallies.{AllReach, AreSmallBounds, HasBound, reaches}
+use Rattle.front_laws.specs.Tallies.{AllReach, HasBound, reaches}
+use Rattle.panel_search.specs.Tallies.{AreSmallBounds}
 use Rattle.panel_search.specs.declared.tally.Tally.{Tally}
-use Rattle.panel_search.proofs.Households.{child_households}
-use Rattle.panel_search.proofs.Liveness.{size_of_child, values_of_child, reach_of_child}
-use Rattle.panel_search.proofs.Tracking.{Stands}
+use Rattle.front_laws.proofs.Households.{child_households}
+use Rattle.front_laws.proofs.Liveness.{size_of_child, values_of_child, reach_of_child}
+use Rattle.front_laws.proofs.Tracking.{Stands}
 
 -- ---- the values
 
@@ -96,11 +97,11 @@ pub reached_live : (all : Classes) (front : List ℕ) (class : Class) (count : �
 reached_live all front class count tally limits places stands live tracks reached =
     let ones = (and_parts (size_reachable all front && values_reachable all front) (takes_one_a_household all.classes front) live).1 in
     let child = front ++ count ∷ [] in
-    let size : size_reachable all child ≡ true = size_of_child all front class count tally stands tracks
+    let size : size_reachable all child ≡ true = size_of_child all front class count _ stands tracks
     ∙ and_from (leb (tally.taken + count) all.size) (leb all.size (tally.taken + count + tally.later_taken)) (le-leb (tally.taken + count) all.size reached.few) (le-leb all.size (tally.taken + count + tally.later_taken) reached.enough) in
     and_from (size_reachable all child && values_reachable all child) (takes_one_a_household all.classes child)
-    (and_from (size_reachable all child) (values_reachable all child) size (values_of_child all front class count tally limits places stands live tracks reached.values))
-    (sym (child_households all front class count (drop (length front + 1) all.classes) tally limits stands tracks ones class.household refl) ∙ reached.room)
+    (and_from (size_reachable all child) (values_reachable all child) size (values_of_child all front class count _ limits places stands live tracks reached.values))
+    (sym (child_households all front class count (drop (length front + 1) all.classes) _ limits stands tracks ones class.household refl) ∙ reached.room)
 
 pub live_reached : (all : Classes) (front : List ℕ) (class : Class) (count : ℕ) (tally : Tally) → KeepsLimits all → HasPlaces all.bounds class → Stands all (length front) class → is_reachable all front ≡ true →
     Tracks all front (drop (length front + 1) all.classes) tally → is_reachable all (front ++ count ∷ []) ≡ true → Reached all class count tally
@@ -109,12 +110,12 @@ live_reached all front class count tally limits places stands live tracks here =
     let child = front ++ count ∷ [] in
     let both = and_parts (size_reachable all child && values_reachable all child) (takes_one_a_household all.classes child) here in
     let parts = and_parts (size_reachable all child) (values_reachable all child) both.0 in
-    let size = and_parts (leb (tally.taken + count) all.size) (leb all.size (tally.taken + count + tally.later_taken)) (sym (size_of_child all front class count tally stands tracks) ∙ parts.0) in
+    let size = and_parts (leb (tally.taken + count) all.size) (leb all.size (tally.taken + count + tally.later_taken)) (sym (size_of_child all front class count _ stands tracks) ∙ parts.0) in
     record {
       few = leb-true (tally.taken + count) all.size size.0;
       enough = leb-true all.size (tally.taken + count + tally.later_taken) size.1;
-      values = reach_of_child all front class count tally limits places stands tracks parts.1;
-      room = child_households all front class count (drop (length front + 1) all.classes) tally limits stands tracks ones class.household refl ∙ both.1;
+      values = reach_of_child all front class count _ limits places stands tracks parts.1;
+      room = child_households all front class count (drop (length front + 1) all.classes) _ limits stands tracks ones class.household refl ∙ both.1;
     }
 
 -- ---- counts that are passed over

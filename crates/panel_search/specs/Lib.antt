@@ -1,6 +1,5 @@
 pub mod Answers
 pub mod Front
-pub mod Homes
 pub mod Pieces
 pub mod Pricers
 pub mod Pricing

@@ -4,7 +4,7 @@ use Rattle.row_definitions.specs.Row.{Row}
 use Rattle.search_definitions.specs.Classes.{Class, Classes}
 use Rattle.search_definitions.specs.Compositions.{counts_of}
 use Rattle.search_definitions.specs.Fronts.{is_live_above}
-use Rattle.wave_definitions.specs.Below.{AreWithin}
+use Rattle.front_laws.specs.Front.{AreWithin}
 
 -- a live front of so many first classes, with the floor at the row's right side
 pub record IsLiveFront (all : Classes) (closed : List Row) (row : Row) (depth : ℕ) (front : List ℕ) : Type 0 where

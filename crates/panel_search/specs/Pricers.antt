@@ -3,7 +3,8 @@ use Rattle.std.specs.Prelude.{List, ◌∷◌}
 use Rattle.row_definitions.specs.Row.{Row}
 use Rattle.search_definitions.specs.Classes.{Classes}
 use Rattle.search_definitions.specs.Fronts.{HaveEntries, HaveReach}
-use Rattle.panel_search.specs.Weights.{AreNarrow, EachNarrow, IsSummed, SumEach}
+use Rattle.front_laws.specs.Weights.{AreNarrow, EachNarrow}
+use Rattle.panel_search.specs.Weights.{IsSummed, SumEach}
 use Rattle.panel_search.specs.declared.greatest.Sums.{Sums}
 
 -- the rows that a composition of the classes is to attain

@@ -8,7 +8,8 @@ use Rattle.panel_search.specs.Front.{Tracks}
 use Rattle.panel_search.specs.Weights.{Weighs, WeighEach}
 use Rattle.panel_search.specs.declared.searching.BudgetSpent.{BudgetSpent}
 use Rattle.panel_search.specs.declared.pricing.BestSearch.{BestSearch}
-use Rattle.wave_definitions.specs.Below.{AreWithin, child_best}
+use Rattle.front_laws.specs.Front.{AreWithin, CanTake}
+use Rattle.wave_definitions.specs.Below.{child_best}
 
 -- a search stands at a live front of the first classes, where these classes come after it
 pub record StandsAt (all : Classes) (closed : List Row) (row : Row) (depth : ℕ) (rest : List Class) (search : BestSearch) : Type 0 where
@@ -34,10 +35,6 @@ pub record BeginsAt (all : Classes) (closed : List Row) (row : Row) (depth : ℕ
 -- its visits, its floor, and what it has kept
 abbrev pub told : BestSearch → Pricing
 told search = record { visits = search.visits; floor = search.floor; kept = if search.is_found then Some search.kept.items else None }
-
--- at least so many of the class in a place can be taken
-abbrev pub CanTake : Classes → ℕ → ℕ → Type 0
-CanTake all depth count = (class : Class) → slice_get all.classes depth ≡ Some class → count ≤ length class.members
 
 -- each count from one number on and below another can be taken of the class in a place
 abbrev pub CanTakeWithin : Classes → ℕ → ℕ → ℕ → Type 0

@@ -1,5 +1,6 @@
 -- What a search for the best composition reads.
-use Rattle.panel_search.specs.Weights.{AreNarrow, EachNarrow, IsSummed, SumEach}
+use Rattle.front_laws.specs.Weights.{AreNarrow, EachNarrow}
+use Rattle.panel_search.specs.Weights.{IsSummed, SumEach}
 use Rattle.panel_search.specs.declared.pricing.Terms.{Terms}
 
 -- no weight in the rows is too wide, and the sums are theirs

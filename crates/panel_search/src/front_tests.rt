@@ -2,7 +2,7 @@
 //! with the visits that they take, as counted by hand.
 
 ghost use Rattle.std.specs.Prelude.{◌≡◌, ◌≤◌, true, length};
-ghost use Rattle.wave_definitions.specs.Below.{AreWithin};
+ghost use Rattle.front_laws.specs.Front.{AreWithin};
 
 use crate::best_tests::is_small;
 use crate::tests::{SMALL, built};

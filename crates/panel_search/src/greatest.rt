@@ -1,7 +1,8 @@
 //! The greatest sums of units that classes give in a row, as a table which is made once.
 
 ghost use Rattle.std.specs.Prelude.{◌≡◌, ◌+◌, ◌<◌, ◌≤◌, drop, length, IfOk};
-ghost use Rattle.panel_search.specs.Weights.{AreNarrow, CanAdd, HasUnit, IsGreater, AreGreatest, HoldsSums, IsSummed, units_from};
+ghost use Rattle.front_laws.specs.Weights.{AreNarrow, CanAdd, HasUnit, IsGreater, AreGreatest, HoldsSums, units_from};
+ghost use Rattle.panel_search.specs.Weights.{IsSummed};
 ghost use Rattle.search_definitions.specs.Fronts.{greatest_sum};
 
 use alike::Classes;

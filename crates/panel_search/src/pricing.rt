@@ -4,7 +4,8 @@ ghost use Rattle.std.specs.Prelude.{◌≡◌, ◌≤◌, ◌<◌, ◌+◌, ◌+
 ghost use Rattle.std.specs.List.{list_all};
 ghost use Rattle.panel_search.specs.Answers.{AnswersBest, AnswersBestWithin, AnswersWeighed, AnswersWeighedWithin};
 ghost use Rattle.panel_search.specs.Front.{Tracks};
-ghost use Rattle.panel_search.specs.Pricing.{BeginsAt, StandsAt, Moves, EndsWithin, told, CanTake, CanTakeWithin, children_best};
+ghost use Rattle.panel_search.specs.Pricing.{BeginsAt, StandsAt, Moves, EndsWithin, told, CanTakeWithin, children_best};
+ghost use Rattle.front_laws.specs.Front.{CanTake, AreWithin};
 ghost use Rattle.panel_search.specs.Pieces.{live_among, live_children};
 ghost use Rattle.panel_search.specs.Steps.{counts_below, LiveWithin};
 ghost use Rattle.panel_search.specs.Terms.{AreTerms};
@@ -12,7 +13,7 @@ ghost use Rattle.panel_search.specs.Weights.{Weighs, WeighEach};
 ghost use Rattle.search_definitions.specs.Compositions.{price, weight_in};
 ghost use Rattle.search_definitions.specs.Fronts.{HaveEntries, HaveReach, is_live_above, is_reachable, optimistic};
 ghost use Rattle.search_definitions.specs.Visits.{best_search, enter_best};
-ghost use Rattle.wave_definitions.specs.Below.{AreWithin, child_best, search_from};
+ghost use Rattle.wave_definitions.specs.Below.{child_best, search_from};
 
 use crate::fronts::Front;
 use crate::greatest::Sums;

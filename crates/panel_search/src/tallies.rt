@@ -1,7 +1,8 @@
 //! Numbers for the values of the categories, 50 places for each category, and what they allow.
 
 ghost use Rattle.std.specs.Prelude.{◌≡◌, ℕ, true, false, ◌≤◌, ◌<◌, ◌+◌, ◌^◌, [], length, slice_index_or};
-ghost use Rattle.panel_search.specs.Tallies.{HaveCells, CanGive, AreAtMost, HasMore, HaveBounds, AllReach, AreSmallBounds, FitCells, HasBound, EachReaches, SomeFails, within_reach};
+ghost use Rattle.front_laws.specs.Tallies.{HaveCells, CanGive, AreAtMost, HasMore, HaveBounds, AllReach, FitCells, HasBound, EachReaches, SomeFails, within_reach};
+ghost use Rattle.panel_search.specs.Tallies.{AreSmallBounds};
 
 use alike::{Bounds, ValueBounds};
 

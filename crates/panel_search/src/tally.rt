@@ -1,11 +1,11 @@
 //! What a front takes of everybody, of each value and of each household, and the most that the classes after it give.
 
 ghost use Rattle.std.specs.Prelude.{◌≡◌, ℕ, ◌+◌, ◌-◌, ◌*◌, ◌≤◌, ◌<◌, ◌++◌, ◌^◌, [], ◌∷◌, IfOk, true, nat_le, ◌&&◌, drop, length};
-ghost use Rattle.panel_search.specs.Front.{Gives, Tracks};
-ghost use Rattle.panel_search.specs.Tallies.{AreAtMost};
+ghost use Rattle.front_laws.specs.Front.{Gives, AreWithin};
+ghost use Rattle.panel_search.specs.Front.{Tracks};
+ghost use Rattle.front_laws.specs.Tallies.{AreAtMost};
 ghost use Rattle.search_definitions.specs.Compositions.{takes_one_a_household};
 ghost use Rattle.search_definitions.specs.Fronts.{is_reachable, size_reachable, taken_by, values_reachable};
-ghost use Rattle.wave_definitions.specs.Below.{AreWithin};
 
 use crate::homes;
 use crate::tallies::{PLACES, add_to, all_within_reach, take_from, values_range};

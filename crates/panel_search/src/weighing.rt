@@ -2,10 +2,11 @@
 
 ghost use Rattle.std.specs.Prelude.{◌≡◌, ◌+◌, ◌-◌, ◌*◌, ◌<◌, ◌≤◌, ◌^◌, ◌++◌, [], ◌∷◌, true, length, pos, ◌+ℤ◌, ◌*ℤ◌, unsigned_abs, int_le, IfOk};
 ghost use Rattle.std.specs.List.{list_all};
-ghost use Rattle.panel_search.specs.Weights.{AreNarrow, EachNarrow, IsSummed, SumEach, Weighs, WeighEach};
+ghost use Rattle.front_laws.specs.Weights.{AreNarrow, EachNarrow};
+ghost use Rattle.panel_search.specs.Weights.{IsSummed, SumEach, Weighs, WeighEach};
 ghost use Rattle.search_definitions.specs.Fronts.{optimistic, taken_by};
 ghost use Rattle.search_definitions.specs.Compositions.{weight_in};
-ghost use Rattle.wave_definitions.specs.Below.{AreWithin};
+ghost use Rattle.front_laws.specs.Front.{AreWithin};
 
 use crate::greatest::Sums;
 use alike::Classes;

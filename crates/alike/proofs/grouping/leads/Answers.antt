@@ -2,7 +2,7 @@ use Rattle.std.proofs.Common.{◌≡◌, ◌∙◌, ◌||◌, sym, ap, false, no
 use Rattle.std.specs.List.{list_any, range_with_len}
 use Rattle.search_definitions.specs.Classes.{are_alike as alike}
 use Rattle.search_definitions.proofs.ByClass.{any_true}
-use Rattle.alike.proofs.Filters.{any_next}
+use Rattle.front_laws.proofs.Filters.{any_next}
 use Rattle.alike.proofs.grouping.leads.Goals as goal
 
 pub returns-then-are_alike : goal.returns-then-are_alike

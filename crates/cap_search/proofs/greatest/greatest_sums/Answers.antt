@@ -1,7 +1,7 @@
 use Rattle.std.proofs.Common.{◌≡◌, ◌+◌, ◌-◌, ◌++◌, length, arith, sym, ap, ◌∙◌, subst}
 use Rattle.std.proofs.lemmas.List.{with_items_is}
-use Rattle.cap_search.specs.Weights.{HoldsSums, units_from}
-use Rattle.cap_search.proofs.UnitSums.{table_more, greatest_same}
+use Rattle.front_laws.specs.Weights.{HoldsSums, units_from}
+use Rattle.front_laws.proofs.UnitSums.{table_more, greatest_same}
 use Rattle.cap_search.proofs.greatest.greatest_sums.Goals as goal
 
 pub loop-later-preserved : goal.loop-later-preserved

@@ -1,5 +1,5 @@
 use Rattle.std.proofs.Common.{◌≡◌, ◌+◌, ◌++◌, length, replicate}
-use Rattle.cap_search.specs.Weights.{at, AreGreatest, units_from}
+use Rattle.front_laws.specs.Weights.{at, AreGreatest, units_from}
 use Rattle.cap_search.proofs.greatest.put_class.Given as goal
 
 abbrev pub invariant-loop-done : goal.invariant-loop-done

@@ -1,5 +1,5 @@
 use Rattle.cap_search.specs.Likeness.{count_of, is_alike}
-use Rattle.cap_search.proofs.Filters.{leader_below}
+use Rattle.cap_search.proofs.Leaders.{leader_below}
 use Rattle.cap_search.proofs.grouping.groups.Goals as goal
 
 pub group-requires-clause-below : goal.group-requires-clause-below

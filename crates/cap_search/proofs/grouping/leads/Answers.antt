@@ -1,7 +1,7 @@
 use Rattle.std.proofs.Common.{◌∙◌, ◌||◌, sym, ap, not, arith}
 use Rattle.cap_search.specs.Likeness.{is_alike as alike}
 use Rattle.search_definitions.proofs.ByClass.{any_true}
-use Rattle.cap_search.proofs.Filters.{any_next}
+use Rattle.front_laws.proofs.Filters.{any_next}
 use Rattle.cap_search.proofs.grouping.leads.Goals as goal
 
 pub returns-then-are_alike : goal.returns-then-are_alike

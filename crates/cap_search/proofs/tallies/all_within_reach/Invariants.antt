@@ -1,7 +1,7 @@
 use Rattle.std.proofs.Common.{◌<◌, ℕ}
 use Rattle.std.specs.Prelude.{IsTrue}
 use Rattle.search_definitions.specs.declared.Bounds.{Bounds}
-use Rattle.cap_search.specs.Tallies.{HasBound, reaches}
+use Rattle.front_laws.specs.Tallies.{HasBound, reaches}
 use Rattle.cap_search.proofs.tallies.all_within_reach.Given as goal
 
 abbrev pub invariant-loop-category : goal.invariant-loop-category

@@ -2,9 +2,9 @@ use Rattle.std.proofs.Common.{rules, ◌≡◌, ◌+◌, ◌++◌, replicate, su
 use Rattle.std.specs.Int.{w128}
 use Rattle.std.specs.Prelude.{unsigned_abs}
 use Rattle.std.proofs.lemmas.Int.{to_z-of_z}
-use Rattle.panel_search.specs.Weights.{at, CanAdd, HasUnit, AreGreatest, units_from}
-use Rattle.panel_search.proofs.Tracking.{stands_there, most_of_class}
-use Rattle.panel_search.proofs.UnitSums.{unit_fits, units_more, units_few, units_next, greatest_more, many_long}
+use Rattle.front_laws.specs.Weights.{at, CanAdd, HasUnit, AreGreatest, units_from}
+use Rattle.front_laws.proofs.Tracking.{stands_there, most_of_class}
+use Rattle.front_laws.proofs.UnitSums.{unit_fits, units_more, units_few, units_next, greatest_more, many_long}
 use Rattle.panel_search.proofs.greatest.put_class.Goals as goal
 
 pub overflow_add-units : goal.overflow_add-units

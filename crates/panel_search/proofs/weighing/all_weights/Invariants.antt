@@ -1,5 +1,6 @@
-use Rattle.panel_search.proofs.ClosedRows.{WeighedFirst}
+use Rattle.front_laws.specs.Beside.{FirstHave}
+use Rattle.panel_search.specs.Weights.{Weighs}
 use Rattle.panel_search.proofs.weighing.all_weights.Given as goal
 
 abbrev pub invariant-loop-row : goal.invariant-loop-row
-invariant-loop-row l = WeighedFirst l.classes l.closed l.front l.row-index l.weights.items
+invariant-loop-row l = FirstHave (λ row here. Weighs l.classes row l.front here) l.closed l.row-index l.weights.items

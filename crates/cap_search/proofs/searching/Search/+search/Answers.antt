@@ -1,10 +1,12 @@
 use Rattle.std.proofs.Common.{rules, ◌≡◌, ◌+◌, ◌-◌, ◌<◌, [], ◌∷◌, ◌++◌, true, false, length, take, drop, set, refl, sym, ap, ◌∙◌, arith, subst}
 use Rattle.search_definitions.specs.Fronts.{is_reachable}
 use Rattle.cap_search.specs.Front.{Tracks}
-use Rattle.cap_search.specs.Steps.{CanTake, Steps}
-use Rattle.cap_search.proofs.Tracking.{stands_there}
-use Rattle.cap_search.proofs.Stands.{same_class, class_limits, stands_with, child_stands, parent_stands, child_live, child_tracks}
-use Rattle.cap_search.proofs.Stepping.{steps_err, steps_true, steps_false, first_spent, first_found, last_none, next_steps, enter_visits, enter_due, none_left, only_within, from_front, from_front_more, front_length, placed, front_of, at_child, child_due}
+use Rattle.front_laws.specs.Front.{CanTake}
+use Rattle.cap_search.specs.Steps.{Steps}
+use Rattle.front_laws.proofs.Tracking.{stands_there}
+use Rattle.front_laws.proofs.Fronts.{same_class, class_limits, child_tracks, from_front, from_front_more, front_length, placed, front_of, at_child}
+use Rattle.cap_search.proofs.Stands.{stands_with, child_stands, parent_stands, child_live}
+use Rattle.cap_search.proofs.Stepping.{steps_err, steps_true, steps_false, first_spent, first_found, last_none, next_steps, enter_visits, enter_due, none_left, only_within, child_due}
 use Rattle.cap_search.proofs.searching.Search.+search.Goals as goal
 
 pub children-returns-in_err-try_child : goal.children-returns-in_err-try_child
@@ -156,7 +158,7 @@ try_child-give_back-requires-clause-stands t c =
     ap (λ xs. take (depth + 1) (set xs depth count)) items ∙ placed depth count self.counts.items (omega (arith, c.requires.below, c.requires.stands.places)) in
     let steps = steps_false all closed row (depth + 1) (drop (depth + 1) all.classes) _ _ _ _ c.enter.new.self c.in_ok-enter.ensures c.if-branch.false in
     let same : take depth c.enter.new.self.counts.items ≡ front = front_of depth c.enter.new.self.counts.items front count long (steps.2 ∙ child) in
-    at_child all depth _ front count c.enter.new.self.tally long (ap (take depth) c.deref-3.ensures.value ∙ same)
+    at_child all depth _ front count _ long (ap (take depth) c.deref-3.ensures.value ∙ same)
     (subst (λ f. Tracks all f (drop (depth + 1) all.classes) c.enter.new.self.tally) (steps.2 ∙ child) steps.3.tally)
 
 pub try_child-returns : goal.try_child-returns

@@ -1,5 +1,5 @@
 use Rattle.std.proofs.Common.{sym, subst}
-use Rattle.cap_search.specs.Weights.{EachNarrow}
+use Rattle.front_laws.specs.Weights.{EachNarrow}
 use Rattle.cap_search.proofs.searching.Search.new.Goals as goal
 
 pub all_weights-requires : goal.all_weights-requires

@@ -1,8 +1,10 @@
 use Rattle.std.proofs.Common.{◌++◌, ◌∷◌, [], take, sym, subst, ◌∙◌}
 use Rattle.std.proofs.lemmas.List.{with_items_is}
-use Rattle.cap_search.specs.Weights.{AreWithin, EachNarrow, Weighs, WeighEach}
+use Rattle.front_laws.specs.Front.{AreWithin}
+use Rattle.front_laws.specs.Weights.{EachNarrow}
+use Rattle.cap_search.specs.Weights.{Weighs, WeighEach}
 use Rattle.cap_search.proofs.Stands.{child_within}
-use Rattle.cap_search.proofs.WeightLaws.{weighs_front}
+use Rattle.front_laws.proofs.WeightLaws.{weighs_front}
 use Rattle.cap_search.proofs.searching.Search.weights_allow.Goals as goal
 
 pub child_attains-requires-clause-narrow : goal.child_attains-requires-clause-narrow
@@ -32,7 +34,7 @@ returns-then-side-reached-clause-stands c =
       live = stands.live;
       counts = stands.counts;
       tally = stands.tally;
-      weights = weighs_front all row (take depth self.counts.items) count c.child-reached.new.self
+      weights = weighs_front all row (take depth self.counts.items) count _
           (subst (λ xs. Weighs all row (take depth xs ++ count ∷ []) c.child-reached.new.self) c.deref.ensures.value c.child-reached.ensures.weighs);
       closed_rows = subst (WeighEach all closed (take depth self.counts.items)) (sym made)
           (subst (λ xs. WeighEach all closed (take depth xs) after) c.deref.ensures.value (subst (λ rows. WeighEach all rows (take depth c.deref.result.now) after) c.deref-then-side-reached-2.ensures.value c.child_attains.ensures.front));
@@ -47,7 +49,7 @@ returns-else-side-reached-clause-stands c =
       live = stands.live;
       counts = stands.counts;
       tally = stands.tally;
-      weights = weighs_front terms.classes terms.row (take depth self.counts.items) count c.child-reached.new.self
+      weights = weighs_front terms.classes terms.row (take depth self.counts.items) count _
           (subst (λ xs. Weighs terms.classes terms.row (take depth xs ++ count ∷ []) c.child-reached.new.self) c.deref.ensures.value c.child-reached.ensures.weighs);
       closed_rows = stands.closed_rows;
     }

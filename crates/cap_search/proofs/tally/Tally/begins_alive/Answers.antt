@@ -1,7 +1,7 @@
 use Rattle.std.proofs.Common.{◌+◌, ◌&&◌, leb, length, [], refl, sym, ap, ◌∙◌, arith, true}
-use Rattle.cap_search.proofs.Households.{begins_reachable}
-use Rattle.cap_search.proofs.Tracking.{fit_same, fit_cells, small_same, few_later, small_held, most_small, each_same, some_same, nothing_taken}
-use Rattle.cap_search.proofs.Liveness.{front_live, front_dead}
+use Rattle.cap_search.proofs.Liveness.{begins_reachable}
+use Rattle.front_laws.proofs.Tracking.{fit_same, fit_cells, small_same, few_later, small_held, most_small, each_same, some_same, nothing_taken}
+use Rattle.front_laws.proofs.Liveness.{front_live, front_dead}
 use Rattle.cap_search.proofs.tally.Tally.begins_alive.Goals as goal
 
 pub size_allows-requires : goal.size_allows-requires
@@ -21,18 +21,18 @@ pub all_within_reach-requires-clause-small : goal.all_within_reach-requires-clau
 all_within_reach-requires-clause-small c =
     let all = c.args.classes.now in
     small_same _ (length all.bounds) _ c.args.self.now.held.items (ap length c.bounds.ensures) c.deref.ensures.value
-    (small_held all [] _ (length all.bounds) c.args.self.now refl (omega (arith, nothing_taken (λ class. true) all.classes)) c.requires)
+    (small_held all [] _ (length all.bounds) _ refl (omega (arith, nothing_taken (λ class. true) all.classes)) c.requires)
 
 pub all_within_reach-requires-clause-small_later : goal.all_within_reach-requires-clause-small_later
 all_within_reach-requires-clause-small_later c =
     let all = c.args.classes.now in
-    small_same _ (length all.bounds) _ c.args.self.now.later.items (ap length c.bounds.ensures) c.deref-then-size_allows.ensures.value (few_later all [] 0 (length all.bounds) c.args.self.now c.facts.ensures refl c.requires)
+    small_same _ (length all.bounds) _ c.args.self.now.later.items (ap length c.bounds.ensures) c.deref-then-size_allows.ensures.value (few_later all [] 0 (length all.bounds) _ c.facts.ensures refl c.requires)
 
 pub returns-then-size_allows : goal.returns-then-size_allows
 returns-then-size_allows c =
     let all = c.args.classes.now in let self = c.args.self.now in
-    front_live all [] self c.facts.ensures c.requires
-    (ap (λ n. leb (self.taken + 0) n && leb n (self.taken + 0 + self.later_taken)) (sym c.size.ensures) ∙ (sym c.size_allows.ensures ∙ c.if-size_allows.true))
+    front_live all [] _ c.facts.ensures c.requires
+    (ap (λ n. leb (self.taken) n && leb n (self.taken + self.later_taken)) (sym c.size.ensures) ∙ (sym c.size_allows.ensures ∙ c.if-size_allows.true))
     c.all_within_reach.result
     (λ yes. each_same _ _ _ _ _ _ c.bounds.ensures c.deref.ensures.value c.deref-then-size_allows.ensures.value (c.all_within_reach.ensures.all yes))
     (λ no. some_same _ _ _ _ _ _ c.bounds.ensures c.deref.ensures.value c.deref-then-size_allows.ensures.value (c.all_within_reach.ensures.some no))
@@ -41,5 +41,5 @@ returns-then-size_allows c =
 pub returns-else-size_allows : goal.returns-else-size_allows
 returns-else-size_allows c =
     let self = c.args.self.now in
-    c.if-size_allows.false ∙ sym (begins_reachable c.args.classes.now ∙ front_dead c.args.classes.now [] self c.requires
-    (ap (λ n. leb (self.taken + 0) n && leb n (self.taken + 0 + self.later_taken)) (sym c.size.ensures) ∙ (sym c.size_allows.ensures ∙ c.if-size_allows.false)))
+    c.if-size_allows.false ∙ sym (begins_reachable c.args.classes.now ∙ front_dead c.args.classes.now [] _ c.requires
+    (ap (λ n. leb (self.taken) n && leb n (self.taken + self.later_taken)) (sym c.size.ensures) ∙ (sym c.size_allows.ensures ∙ c.if-size_allows.false)))

@@ -1,6 +1,6 @@
 use Rattle.std.proofs.Common.{◌+◌, ◌&&◌, leb, length, sym, ap, ◌∙◌, arith, true}
-use Rattle.cap_search.proofs.Tracking.{stands_there, places_of_class, cells_of_class, bounds_of_class, bounds_same, cells_same, small_same, few_later, few_held, few_taken, most_small, reach_same, fails_same}
-use Rattle.cap_search.proofs.Liveness.{child_live, child_dead}
+use Rattle.front_laws.proofs.Tracking.{stands_there, places_of_class, cells_of_class, bounds_of_class, bounds_same, cells_same, small_same, few_later, few_held, few_taken, most_small, reach_same}
+use Rattle.cap_search.proofs.Liveness.{fails_same, child_live, child_dead}
 use Rattle.cap_search.proofs.tally.Tally.counts_allow.Goals as goal
 
 pub size_allows-requires : goal.size_allows-requires
@@ -41,14 +41,14 @@ values_allow-requires-clause-small c =
     let all = c.args.classes.now in let front = c.args.front.now in let class = c.index-classes-front.result in
     let stands = stands_there all (length front) _ class c.requires.below c.classes.ensures c.index-classes-front.is in
     let places = places_of_class all (length front) class c.facts.ensures stands in
-    small_same _ _ _ c.args.self.now.held.items (ap length c.values.ensures) c.deref.ensures.value (few_held all front _ (length class.values) c.args.self.now c.facts.ensures places.one_each c.requires.live c.requires.stands)
+    small_same _ _ _ c.args.self.now.held.items (ap length c.values.ensures) c.deref.ensures.value (few_held all front _ (length class.values) _ c.facts.ensures places.one_each c.requires.live c.requires.stands)
 
 pub values_allow-requires-clause-small_later : goal.values_allow-requires-clause-small_later
 values_allow-requires-clause-small_later c =
     let all = c.args.classes.now in let front = c.args.front.now in let class = c.index-classes-front.result in
     let stands = stands_there all (length front) _ class c.requires.below c.classes.ensures c.index-classes-front.is in
     let places = places_of_class all (length front) class c.facts.ensures stands in
-    small_same _ _ _ c.args.self.now.later.items (ap length c.values.ensures) c.deref-then-size_allows.ensures.value (few_later all front (length front + 1) (length class.values) c.args.self.now c.facts.ensures places.one_each c.requires.stands)
+    small_same _ _ _ c.args.self.now.later.items (ap length c.values.ensures) c.deref-then-size_allows.ensures.value (few_later all front (length front + 1) (length class.values) _ c.facts.ensures places.one_each c.requires.stands)
 
 pub returns-then-size_allows : goal.returns-then-size_allows
 returns-then-size_allows c =
@@ -56,7 +56,7 @@ returns-then-size_allows c =
     let stands = stands_there all (length front) _ class c.requires.below c.classes.ensures c.index-classes-front.is in
     let places = places_of_class all (length front) class c.facts.ensures stands in
     let self = c.args.self.now in
-    child_live all front class c.args.count self c.facts.ensures places stands c.requires.live c.requires.stands
+    child_live all front class c.args.count _ c.facts.ensures places stands c.requires.live c.requires.stands
     (ap (λ n. leb (self.taken + c.args.count) n && leb n (self.taken + c.args.count + self.later_taken)) (sym c.size.ensures) ∙ (sym c.size_allows.ensures ∙ c.if-size_allows.true))
     c.values_allow.result
     (λ yes. reach_same _ _ _ _ _ _ _ _ c.args.count c.bounds.ensures c.deref.ensures.value c.deref-then-size_allows.ensures.value c.values.ensures (c.values_allow.ensures.allowed yes))
@@ -68,5 +68,5 @@ returns-else-size_allows c =
     let stands = stands_there all (length front) _ class c.requires.below c.classes.ensures c.index-classes-front.is in
     let places = places_of_class all (length front) class c.facts.ensures stands in
     let self = c.args.self.now in
-    c.if-size_allows.false ∙ sym (child_dead all front class c.args.count self stands c.requires.stands
+    c.if-size_allows.false ∙ sym (child_dead all front class c.args.count _ stands c.requires.stands
     (ap (λ n. leb (self.taken + c.args.count) n && leb n (self.taken + c.args.count + self.later_taken)) (sym c.size.ensures) ∙ (sym c.size_allows.ensures ∙ c.if-size_allows.false)))

@@ -1,7 +1,7 @@
 use Rattle.std.proofs.Common.{◌+◌, drop, length, refl, sym, ap, ◌∙◌, arith}
 use Rattle.std.proofs.lemmas.List.{with_items_is}
-use Rattle.cap_search.proofs.Households.{small_homes, few_same, home_same}
-use Rattle.cap_search.proofs.Tracking.{stands_there, places_of_class, cells_of_class, cells_same, small_same, more_same, small_held, taken_on}
+use Rattle.front_laws.proofs.Households.{small_homes, few_same, home_same}
+use Rattle.front_laws.proofs.Tracking.{stands_there, places_of_class, cells_of_class, cells_same, small_same, more_same, small_held, taken_on}
 use Rattle.cap_search.proofs.tally.Tally.take.Goals as goal
 
 pub add_to-requires-clause-cells : goal.add_to-requires-clause-cells
@@ -16,11 +16,11 @@ add_to-requires-clause-small c =
     let all = c.args.classes.now in let front = c.args.front.now in let class = c.index-classes-front.result in
     let stands = stands_there all (length front) _ class c.requires.below c.classes.ensures c.index-classes-front.is in
     let places = places_of_class all (length front) class c.facts.ensures stands in
-    small_same _ _ _ c.args.self.now.held.items (ap length c.values.ensures) c.deref_mut.ensures.value (small_held all front _ (length class.values) c.args.self.now places.one_each c.requires.small c.requires.stands)
+    small_same _ _ _ c.args.self.now.held.items (ap length c.values.ensures) c.deref_mut.ensures.value (small_held all front _ (length class.values) _ places.one_each c.requires.small c.requires.stands)
 
 pub add_at-requires-clause-small : goal.add_at-requires-clause-small
 add_at-requires-clause-small c =
-    few_same _ c.args.self.now.homes.items c.deref_mut-2.ensures.value (small_homes c.args.classes.now c.args.front.now _ c.args.self.now c.requires.small c.requires.stands)
+    few_same _ c.args.self.now.homes.items c.deref_mut-2.ensures.value (small_homes c.args.classes.now c.args.front.now _ _ c.requires.small c.requires.stands)
 
 pub overflow_add-self : goal.overflow_add-self
 overflow_add-self c =
@@ -33,6 +33,6 @@ returns c =
     let places = places_of_class all (length front) class c.facts.ensures stands in
     let items = with_items_is c.args.self.now.held c.add_to.new.cells (c.add_to.ensures.same ∙ ap length c.deref_mut.ensures.value ∙ sym c.args.self.now.held.ok.0) in
     let homes = with_items_is c.args.self.now.homes c.add_at.new.homes (c.add_at.ensures.same ∙ ap length c.deref_mut-2.ensures.value ∙ sym c.args.self.now.homes.ok.0) in
-    taken_on all front class c.args.count (drop (length front + 1) all.classes) c.args.self.now _ places stands c.requires.stands refl refl refl
+    taken_on all front class c.args.count (drop (length front + 1) all.classes) _ _ places stands c.requires.stands refl refl refl
     (more_same _ _ _ _ _ _ _ _ c.values.ensures refl c.deref_mut.ensures.value (sym items) c.add_to.ensures)
     (home_same _ _ _ _ _ _ _ c.household.ensures c.deref_mut-2.ensures.value (sym homes) c.add_at.ensures)

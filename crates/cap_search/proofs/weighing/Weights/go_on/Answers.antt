@@ -3,8 +3,8 @@ use Rattle.std.specs.Int.{w128}
 use Rattle.std.specs.Prelude.{unsigned_abs}
 use Rattle.std.proofs.lemmas.Int.{to_z-of_z}
 use Rattle.search_definitions.specs.Compositions.{weight_in}
-use Rattle.cap_search.specs.Weights.{at}
-use Rattle.cap_search.proofs.WeightLaws.{child_narrow, weight_more, weighs_child}
+use Rattle.front_laws.specs.Weights.{at}
+use Rattle.front_laws.proofs.WeightLaws.{child_narrow, weight_more, weighs_child}
 use Rattle.cap_search.proofs.weighing.Weights.go_on.Goals as goal
 
 pub with_count-weight-requires : goal.with_count-weight-requires
@@ -43,5 +43,5 @@ returns-clause-weighs c =
     let made : c.with_count-weight.result ≡ c.weight.result +ℤ pos c.args.count *ℤ get_or c.entries.result.now depth (pos 0) = simp to_z-of_z at c.with_count-weight.ensures in
     let here = made ∙ ap (λ z. z +ℤ pos c.args.count *ℤ get_or c.entries.result.now depth (pos 0)) c.weight.ensures
     ∙ ap (λ xs. weight_in row.a c.args.front.now +ℤ pos c.args.count *ℤ at xs depth) c.entries.ensures in
-    weighs_child c.args.classes.now row c.args.front.now c.args.count self _ c.requires.narrow c.requires.below c.requires.stands
+    weighs_child c.args.classes.now row c.args.front.now c.args.count _ _ c.requires.narrow c.requires.below c.requires.stands
     (ap (set self.by_length.items (depth + 1)) (to_z-of_z w128 c.with_count-weight.result fv ∙ here))

@@ -4,10 +4,10 @@ use Rattle.search_definitions.specs.Visits.{enter_best}
 use Rattle.panel_search.specs.Front.{Tracks}
 use Rattle.panel_search.specs.Pricing.{told, CanTakeWithin}
 use Rattle.panel_search.specs.Steps.{LiveWithin}
-use Rattle.panel_search.proofs.Tracking.{stands_there}
-use Rattle.panel_search.proofs.Stepping.{front_length, from_front, from_front_more, placed, front_of, at_child}
+use Rattle.front_laws.proofs.Tracking.{stands_there}
+use Rattle.front_laws.proofs.Fronts.{front_length, from_front, from_front_more, placed, front_of, at_child, same_class, class_limits, child_tracks}
 use Rattle.panel_search.proofs.Ranges.{between}
-use Rattle.panel_search.proofs.BestStepping.{moves_err, moves_same, children_within, child_within, children_none, children_next, enter_more, enter_children, same_class, class_limits, stands_with, child_stands, parent_stands, child_due, child_tracks}
+use Rattle.panel_search.proofs.BestStepping.{moves_err, moves_same, children_within, child_within, children_none, children_next, enter_more, enter_children, stands_with, child_stands, parent_stands, child_due}
 use Rattle.panel_search.proofs.pricing.BestSearch.+search.Goals as goal
 
 pub children-returns-then-end-low : goal.children-returns-then-end-low
@@ -135,7 +135,7 @@ try_child-give_back-requires-clause-stands t c =
     ap (λ xs. take (depth + 1) (set xs depth count)) items ∙ placed depth count self.counts.items (omega (arith, c.requires.below, c.requires.stands.places)) in
     let steps = c.in_ok-enter.ensures in
     let same : take depth c.enter.new.self.counts.items ≡ front = front_of depth c.enter.new.self.counts.items front count long (steps.1 ∙ child) in
-    at_child all depth _ front count c.enter.new.self.tally long (ap (take depth) c.deref-2.ensures.value ∙ same)
+    at_child all depth _ front count _ long (ap (take depth) c.deref-2.ensures.value ∙ same)
     (subst (λ f. Tracks all f (drop (depth + 1) all.classes) c.enter.new.self.tally) (steps.1 ∙ child) steps.4.tally)
 
 pub try_child-returns : goal.try_child-returns

@@ -1,6 +1,6 @@
 use Rattle.std.proofs.Common.{take, ap, arith}
 use Rattle.search_definitions.specs.Fronts.{taken_by}
-use Rattle.panel_search.proofs.WeightLaws.{within_few}
+use Rattle.front_laws.proofs.WeightLaws.{within_few}
 use Rattle.panel_search.proofs.pricing.BestSearch.is_live.Goals as goal
 
 pub is_alive-requires-clause-small : goal.is_alive-requires-clause-small

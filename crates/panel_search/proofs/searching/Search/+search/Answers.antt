@@ -2,10 +2,10 @@ use Rattle.std.proofs.Common.{rules, ◌≡◌, ◌+◌, ◌<◌, [], ◌∷◌,
 use Rattle.search_definitions.specs.Fronts.{is_reachable}
 use Rattle.panel_search.specs.Front.{Tracks}
 use Rattle.panel_search.specs.Steps.{LiveWithin}
-use Rattle.panel_search.proofs.BestStepping.{class_limits}
+use Rattle.front_laws.proofs.Fronts.{class_limits, at_front, from_front, from_front_more, front_length, placed, front_of, at_child}
 use Rattle.panel_search.proofs.Ranges.{between}
-use Rattle.panel_search.proofs.Tracking.{stands_there}
-use Rattle.panel_search.proofs.Stepping.{steps_err, steps_true, steps_false, first_spent, first_found, next_steps, enter_visits, enter_due, at_front, from_front, from_front_more, front_length, placed, front_of, at_child, child_due}
+use Rattle.front_laws.proofs.Tracking.{stands_there}
+use Rattle.panel_search.proofs.Stepping.{steps_err, steps_true, steps_false, first_spent, first_found, next_steps, enter_visits, enter_due, child_due}
 use Rattle.panel_search.proofs.searching.Search.+search.Goals as goal
 
 pub children-returns-in_err-try_child : goal.children-returns-in_err-try_child
@@ -86,7 +86,7 @@ pub enter-end_class-requires-clause-stands : goal.enter-end_class-requires-claus
 enter-end_class-requires-clause-stands t c =
     let all = c.args.classes.now in
     let steps = steps_false all c.args.depth (drop (c.args.depth + 1) all.classes) _ _ _ _ c.children.new.self c.in_ok-children.ensures c.if-branch.false in
-    at_front c.args.classes.now c.args.depth _ c.children.new.self.counts.items c.children.new.self.tally c.deref-3.ensures.value steps.3.places steps.3.within steps.3.tally
+    at_front c.args.classes.now c.args.depth _ c.children.new.self.counts.items _ c.deref-3.ensures.value steps.3.places steps.3.within steps.3.tally
 
 pub enter-returns : goal.enter-returns
 enter-returns t c =
@@ -120,7 +120,7 @@ try_child-give_back-requires-clause-stands t c =
     let child = placed depth count counts below in
     let steps = steps_false all (depth + 1) (drop (depth + 1) all.classes) _ _ _ _ c.enter.new.self c.in_ok-enter.ensures c.if-branch.false in
     let same : take depth c.enter.new.self.counts.items ≡ front = front_of depth c.enter.new.self.counts.items front count long (steps.2 ∙ child) in
-    at_child all depth _ front count c.enter.new.self.tally long (ap (take depth) c.deref-2.ensures.value ∙ same)
+    at_child all depth _ front count _ long (ap (take depth) c.deref-2.ensures.value ∙ same)
     (subst (λ f. Tracks all f (drop (depth + 1) all.classes) c.enter.new.self.tally) (steps.2 ∙ child) steps.3.tally)
 
 pub try_child-returns : goal.try_child-returns

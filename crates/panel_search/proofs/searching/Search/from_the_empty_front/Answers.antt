@@ -1,5 +1,5 @@
 use Rattle.std.proofs.Common.{true, arith}
-use Rattle.panel_search.proofs.Tracking.{nothing_taken}
+use Rattle.front_laws.proofs.Tracking.{nothing_taken}
 use Rattle.panel_search.proofs.searching.Search.from_the_empty_front.Goals as goal
 
 pub is_alive-requires-clause-small : goal.is_alive-requires-clause-small

@@ -1,8 +1,8 @@
 use Rattle.std.proofs.Common.{◌+◌, true, length, sym, ap, ◌∙◌, arith, subst}
-use Rattle.panel_search.specs.Homes.{has_room}
+use Rattle.front_laws.specs.Homes.{has_room}
 use Rattle.panel_search.specs.Tallies.{AreSmallBounds}
 use Rattle.panel_search.proofs.Ranges.{small_bounds, reached_live, live_reached}
-use Rattle.panel_search.proofs.Tracking.{stands_there, places_of_class, small_same, few_later, few_held, few_taken, most_small, reach_same}
+use Rattle.front_laws.proofs.Tracking.{stands_there, places_of_class, small_same, few_later, few_held, few_taken, most_small, reach_same}
 use Rattle.panel_search.proofs.tally.Tally.range.Goals as goal
 
 pub overflow_add-self : goal.overflow_add-self
@@ -18,14 +18,14 @@ values_range-requires-clause-small c =
     let all = c.args.classes.now in let front = c.args.front.now in let class = c.index-classes-front.result in
     let stands = stands_there all (length front) _ class c.requires.below c.classes.ensures c.index-classes-front.is in
     let places = places_of_class all (length front) class c.facts.ensures stands in
-    small_same _ _ _ c.args.self.now.held.items (ap length c.values.ensures) c.deref.ensures.value (few_held all front _ (length class.values) c.args.self.now c.facts.ensures places.one_each c.requires.live c.requires.stands)
+    small_same _ _ _ c.args.self.now.held.items (ap length c.values.ensures) c.deref.ensures.value (few_held all front _ (length class.values) _ c.facts.ensures places.one_each c.requires.live c.requires.stands)
 
 pub values_range-requires-clause-small_later : goal.values_range-requires-clause-small_later
 values_range-requires-clause-small_later c =
     let all = c.args.classes.now in let front = c.args.front.now in let class = c.index-classes-front.result in
     let stands = stands_there all (length front) _ class c.requires.below c.classes.ensures c.index-classes-front.is in
     let places = places_of_class all (length front) class c.facts.ensures stands in
-    small_same _ _ _ c.args.self.now.later.items (ap length c.values.ensures) c.deref-2.ensures.value (few_later all front (length front + 1) (length class.values) c.args.self.now c.facts.ensures places.one_each c.requires.stands)
+    small_same _ _ _ c.args.self.now.later.items (ap length c.values.ensures) c.deref-2.ensures.value (few_later all front (length front + 1) (length class.values) _ c.facts.ensures places.one_each c.requires.stands)
 
 pub returns-clause-inside : goal.returns-clause-inside
 returns-clause-inside c =

@@ -4,7 +4,7 @@ use Rattle.std.specs.Prelude.{unsigned_abs}
 use Rattle.std.proofs.lemmas.Int.{to_z-of_z, fits_signed_from_abs}
 use Rattle.search_definitions.specs.Compositions.{weight_in}
 use Rattle.search_definitions.specs.Fronts.{greatest_sum, optimistic}
-use Rattle.panel_search.proofs.WeightLaws.{front_narrow}
+use Rattle.front_laws.proofs.WeightLaws.{front_narrow}
 use Rattle.panel_search.proofs.weighing.Weights.optimistic.Goals as goal
 
 pub overflow_add-result : goal.overflow_add-result

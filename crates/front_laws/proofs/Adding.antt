@@ -1,7 +1,7 @@
 -- Counts put in at the values of the first categories.
 use Rattle.std.proofs.Common.{◌≡◌, ℕ, ◌+◌, ◌*◌, ◌≤◌, ◌<◌, List, length}
 use Rattle.std.specs.Prelude.{slice_index}
-use Rattle.panel_search.specs.Tallies.{cell, share}
+use Rattle.front_laws.specs.Tallies.{cell, share}
 
 -- the values of the first `done` categories have their share more, the others what they had
 pub record SharesUpTo (done : ℕ) (values : List ℕ) (count : ℕ) (before after : List ℕ) : Type 0 where

@@ -13,11 +13,10 @@ use Rattle.row_definitions.proofs.SumLaws.{abs_sum_le}
 use Rattle.search_definitions.specs.Classes.{Class, Classes, KeepsLimits}
 use Rattle.search_definitions.specs.Compositions.{taken_of, takes_one_a_household, weight_in}
 use Rattle.search_definitions.specs.Fronts.{sizes_of, is_reachable, size_reachable, values_reachable, taken_by, units, greatest_sum, optimistic}
-use Rattle.panel_search.specs.Weights.{at, cell_of, AreNarrow, HoldsSums, Weighs}
-use Rattle.panel_search.specs.declared.weighing.Weights.{Weights}
-use Rattle.panel_search.proofs.UnitSums.{width, greatest_width, units_width, each_of}
-use Rattle.panel_search.proofs.Tracking.{taken_more}
-use Rattle.wave_definitions.specs.Below.{AreWithin}
+use Rattle.front_laws.specs.Front.{AreWithin}
+use Rattle.front_laws.specs.Weights.{at, cell_of, AreNarrow, HoldsSums, Weighs}
+use Rattle.front_laws.proofs.UnitSums.{width, greatest_width, units_width}
+use Rattle.front_laws.proofs.Tracking.{each_of, taken_more}
 
 pub take_whole : (xs : List ℕ) → take (length xs) xs ≡ xs
 take_whole [] = refl
@@ -128,13 +127,13 @@ child_is all row front count lack {before = before} {entry = entry} {weight = we
           ∙ sym (optimistic_child all row front count lack narrow below lack_is);
     }
 
-pub weighs_child : (all : Classes) (row : Row) (front : List ℕ) (count : ℕ) (before after : Weights) → AreNarrow all row.a → length front < length all.classes → Weighs all row front before →
-    after.by_length.items ≡ set before.by_length.items (length front + 1) (weight_in row.a front +ℤ pos count *ℤ at row.a (length front)) →
+pub weighs_child : (all : Classes) (row : Row) (front : List ℕ) (count : ℕ) (before after : List ℤ) → AreNarrow all row.a → length front < length all.classes → Weighs all row front before →
+    after ≡ set before (length front + 1) (weight_in row.a front +ℤ pos count *ℤ at row.a (length front)) →
     Weighs all row (front ++ count ∷ []) after
 weighs_child all row front count before after narrow below weighs e = record {
-  room = ap length e ∙ length-set before.by_length.items (length front + 1) _ ∙ weighs.room;
+  room = ap length e ∙ length-set before (length front + 1) _ ∙ weighs.room;
   each = λ depth l.
-      (elim (eqb depth (length front + 1)) as (λ b. eqb depth (length front + 1) ≡ b → at after.by_length.items depth ≡ weight_in row.a (take depth (front ++ count ∷ []))) [
+      (elim (eqb depth (length front + 1)) as (λ b. eqb depth (length front + 1) ≡ b → at after depth ≡ weight_in row.a (take depth (front ++ count ∷ []))) [
         | true ↦ λ t. let same = eqb-true depth (length front + 1) t in whole depth same
         | false ↦ λ t. let other = eqb-false depth (length front + 1) t in part depth other (shorter depth other l)
       ]) refl;
@@ -143,29 +142,29 @@ weighs_child all row front count before after narrow below weighs e = record {
     shorter : (depth : ℕ) → (depth ≡ length front + 1 → ⊥) → depth ≤ length (front ++ count ∷ []) → depth ≤ length front
     shorter depth other l = omega (arith, length-append front (count ∷ []))
 
-    part : (depth : ℕ) → (depth ≡ length front + 1 → ⊥) → depth ≤ length front → at after.by_length.items depth ≡ weight_in row.a (take depth (front ++ count ∷ []))
+    part : (depth : ℕ) → (depth ≡ length front + 1 → ⊥) → depth ≤ length front → at after depth ≡ weight_in row.a (take depth (front ++ count ∷ []))
     part depth other l =
-        ap (λ xs. at xs depth) e ∙ get_or-set_other before.by_length.items (length front + 1) depth _ (pos 0) other ∙ weighs.each depth l ∙ ap (weight_in row.a) (sym (take-append-le depth front (count ∷ []) l))
+        ap (λ xs. at xs depth) e ∙ get_or-set_other before (length front + 1) depth _ (pos 0) other ∙ weighs.each depth l ∙ ap (weight_in row.a) (sym (take-append-le depth front (count ∷ []) l))
 
-    whole : (depth : ℕ) → depth ≡ length front + 1 → at after.by_length.items depth ≡ weight_in row.a (take depth (front ++ count ∷ []))
+    whole : (depth : ℕ) → depth ≡ length front + 1 → at after depth ≡ weight_in row.a (take depth (front ++ count ∷ []))
     whole depth same =
         let size : depth ≡ length (front ++ count ∷ []) = omega (arith, length-append front (count ∷ [])) in
-        ap (λ xs. at xs depth) e ∙ get_or-set_at before.by_length.items (length front + 1) depth _ (pos 0) same (omega (arith, weighs.room))
+        ap (λ xs. at xs depth) e ∙ get_or-set_at before (length front + 1) depth _ (pos 0) same (omega (arith, weighs.room))
         ∙ sym (weight_more row.a front count (omega (arith, narrow.one_each)))
         ∙ ap (weight_in row.a) (sym (ap (λ n. take n (front ++ count ∷ [])) size ∙ take_whole (front ++ count ∷ [])))
 
 -- what weighs a child weighs the front that it goes on from
-pub weighs_front : (all : Classes) (row : Row) (front : List ℕ) (count : ℕ) (weighing : Weights) → Weighs all row (front ++ count ∷ []) weighing → Weighs all row front weighing
+pub weighs_front : (all : Classes) (row : Row) (front : List ℕ) (count : ℕ) (weighing : List ℤ) → Weighs all row (front ++ count ∷ []) weighing → Weighs all row front weighing
 weighs_front all row front count weighing weighs = record {
   room = weighs.room;
   each = λ depth l. weighs.each depth (omega (arith, length-append front (count ∷ []))) ∙ ap (weight_in row.a) (take-append-le depth front (count ∷ []) l);
 }
 
 -- the empty front
-pub weighs_none : (all : Classes) (row : Row) (weighing : Weights) → length weighing.by_length.items ≡ length all.classes + 1 → at weighing.by_length.items 0 ≡ pos 0 → Weighs all row [] weighing
+pub weighs_none : (all : Classes) (row : Row) (weighing : List ℤ) → length weighing ≡ length all.classes + 1 → at weighing 0 ≡ pos 0 → Weighs all row [] weighing
 weighs_none all row weighing room none = record {
   room = room;
-  each = λ depth l. let e : depth ≡ 0 = omega arith in ap (at weighing.by_length.items) e ∙ none ∙ sym (no_weight row.a) ∙ ap (λ n. weight_in row.a (take n [])) (sym e);
+  each = λ depth l. let e : depth ≡ 0 = omega arith in ap (at weighing) e ∙ none ∙ sym (no_weight row.a) ∙ ap (λ n. weight_in row.a (take n [])) (sym e);
 }
 
 -- the first counts of a front, and with the next one

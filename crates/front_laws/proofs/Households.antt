@@ -1,17 +1,17 @@
 -- At most one is taken of each household.
-use Rattle.std.proofs.Common.{◌≡◌, ℕ, ◌+◌, ◌≤◌, Bool, true, false, cond, eqb, leb, List, [], ◌∷◌, ◌++◌, length, Option, Some, None, refl, sym, ap, ◌∙◌, arith, subst}
+use Rattle.std.proofs.Common.{◌≡◌, ℕ, ◌+◌, ◌≤◌, Bool, true, false, cond, ◌&&◌, eqb, leb, List, [], ◌∷◌, ◌++◌, length, Option, Some, None, refl, sym, ap, ◌∙◌, arith, subst}
 use Rattle.std.specs.Prelude.{slice_index}
-use Rattle.std.proofs.lemmas.Bool.{eqb-true, eq-eqb, false≢true, false_from_ne_true}
+use Rattle.std.specs.List.{list_all}
+use Rattle.std.proofs.lemmas.Bool.{and_from, eqb-true, eq-eqb, false≢true, false_from_ne_true}
 use Rattle.std.proofs.lemmas.List.Elements.{All-get_or}
 use Rattle.basic_laws.proofs.Each.{each_from_list_all, list_all_implies}
 use Rattle.search_definitions.specs.Classes.{Class, Classes, IsKnownHousehold, KeepsLimits, volunteer_count}
 use Rattle.search_definitions.specs.Compositions.{taken_of, is_of_household, takes_one_of, takes_one_a_household}
-use Rattle.search_definitions.specs.Fronts.{is_reachable, taken_by}
+use Rattle.search_definitions.specs.Fronts.{is_reachable, size_reachable, taken_by, values_reachable}
 use Rattle.search_definitions.proofs.Limits.{all_from_each}
-use Rattle.panel_search.specs.Front.{Tracks}
-use Rattle.panel_search.specs.Homes.{AreFew, CanGiveAt, HasMoreAt, has_room}
-use Rattle.panel_search.specs.declared.tally.Tally.{Tally}
-use Rattle.panel_search.proofs.Tracking.{Stands, few_taken, taken_more, taken_within_all}
+use Rattle.front_laws.specs.Front.{FrontTally, Tracks}
+use Rattle.front_laws.specs.Homes.{AreFew, CanGiveAt, HasMoreAt, has_room}
+use Rattle.front_laws.proofs.Tracking.{Stands, few_taken, nothing_taken, taken_more, taken_within_all}
 
 -- ---- the household of a class
 
@@ -20,25 +20,25 @@ household_known all i class n limits stands e household same =
     let known = All-get_or (λ (class : Class). IsKnownHousehold (volunteer_count all) class.household) all.classes i class stands.below limits.households in
     subst (λ m. IsKnownHousehold m household) (sym e) (subst (IsKnownHousehold (volunteer_count all)) (sym (same ∙ ap (λ (class : Class). class.household) stands.is)) known)
 
-pub small_homes : (all : Classes) (front : List ℕ) (rest : List Class) (tally : Tally) → taken_by all front ≤ 1000 → Tracks all front rest tally → AreFew tally.homes.items
+pub small_homes : (all : Classes) (front : List ℕ) (rest : List Class) (tally : FrontTally) → taken_by all front ≤ 1000 → Tracks all front rest tally → AreFew tally.homes
 small_homes all front rest tally small tracks = λ h l.
     omega (arith, tracks.homes h (omega (arith, tracks.homes_cells)), taken_within_all (λ class. is_of_household h class.household) all.classes front)
 
-pub few_homes : (all : Classes) (front : List ℕ) (rest : List Class) (tally : Tally) → KeepsLimits all → is_reachable all front ≡ true → Tracks all front rest tally → AreFew tally.homes.items
+pub few_homes : (all : Classes) (front : List ℕ) (rest : List Class) (tally : FrontTally) → KeepsLimits all → is_reachable all front ≡ true → Tracks all front rest tally → AreFew tally.homes
 few_homes all front rest tally limits live tracks = small_homes all front rest tally (omega (arith, few_taken all front (λ class. true) limits live)) tracks
 
 -- the household of a class has no room left exactly where it has two taken
-pub home_alive : (all : Classes) (front : List ℕ) (i : ℕ) (class : Class) (rest : List Class) (tally : Tally) → KeepsLimits all → Stands all i class → Tracks all front rest tally →
-    (household : Option ℕ) → household ≡ class.household → has_room tally.homes.items household 0 ≡ takes_one_of all.classes front household
+pub home_alive : (all : Classes) (front : List ℕ) (i : ℕ) (class : Class) (rest : List Class) (tally : FrontTally) → KeepsLimits all → Stands all i class → Tracks all front rest tally →
+    (household : Option ℕ) → household ≡ class.household → has_room tally.homes household 0 ≡ takes_one_of all.classes front household
 home_alive all front i class rest tally limits stands tracks None same = refl
 home_alive all front i class rest tally limits stands tracks (Some h) same =
     let known = household_known all i class (volunteer_count all) limits stands refl (Some h) same in
-    let taken : slice_index tally.homes.items h + 0 ≡ taken_of (λ class. is_of_household h class.household) all.classes front = omega (arith, tracks.homes h known) in
+    let taken : slice_index tally.homes h + 0 ≡ taken_of (λ class. is_of_household h class.household) all.classes front = omega (arith, tracks.homes h known) in
     ap (λ n. leb n 1) taken
 
 -- what was taken of a class can be given back
-pub home_gives : (all : Classes) (front : List ℕ) (class : Class) (count : ℕ) (rest : List Class) (tally : Tally) → KeepsLimits all → Stands all (length front) class → Tracks all (front ++ count ∷ []) rest tally →
-    (household : Option ℕ) → household ≡ class.household → CanGiveAt household count tally.homes.items
+pub home_gives : (all : Classes) (front : List ℕ) (class : Class) (count : ℕ) (rest : List Class) (tally : FrontTally) → KeepsLimits all → Stands all (length front) class → Tracks all (front ++ count ∷ []) rest tally →
+    (household : Option ℕ) → household ≡ class.household → CanGiveAt household count tally.homes
 home_gives all front class count rest tally limits stands tracks None same = tt
 home_gives all front class count rest tally limits stands tracks (Some h) same =
     let known = household_known all (length front) class (volunteer_count all) limits stands refl (Some h) same in
@@ -49,7 +49,7 @@ home_gives all front class count rest tally limits stands tracks (Some h) same =
 
 -- ---- a child of a front that takes one of each household at most
 
-module _ (all : Classes) (front : List ℕ) (class : Class) (count : ℕ) (rest : List Class) (tally : Tally) (limits : KeepsLimits all) (stands : Stands all (length front) class) (tracks : Tracks all front rest tally) where
+module _ (all : Classes) (front : List ℕ) (class : Class) (count : ℕ) (rest : List Class) (tally : FrontTally) (limits : KeepsLimits all) (stands : Stands all (length front) class) (tracks : Tracks all front rest tally) where
   abbrev of : ℕ → Class → Bool
   of h class = is_of_household h class.household
 
@@ -57,12 +57,12 @@ module _ (all : Classes) (front : List ℕ) (class : Class) (count : ℕ) (rest 
   more_of : (h : ℕ) → taken_of (of h) all.classes (front ++ count ∷ []) ≡ taken_of (of h) all.classes front + cond (is_of_household h class.household) count 0
   more_of h = taken_more all front class count stands (of h)
 
-  own_room : (h : ℕ) → Some h ≡ class.household → leb (taken_of (of h) all.classes (front ++ count ∷ [])) 1 ≡ has_room tally.homes.items (Some h) count
+  own_room : (h : ℕ) → Some h ≡ class.household → leb (taken_of (of h) all.classes (front ++ count ∷ [])) 1 ≡ has_room tally.homes (Some h) count
   own_room h same =
       let known = household_known all (length front) class (volunteer_count all) limits stands refl (Some h) same in
       let own : is_of_household h class.household ≡ true = ap (is_of_household h) (sym same) ∙ eq-eqb h h refl in
       let more = more_of h ∙ ap (λ b. taken_of (of h) all.classes front + cond b count 0) own in
-      let sum : taken_of (of h) all.classes (front ++ count ∷ []) ≡ slice_index tally.homes.items h + count = omega (arith, tracks.homes h known, more) in
+      let sum : taken_of (of h) all.classes (front ++ count ∷ []) ≡ slice_index tally.homes h + count = omega (arith, tracks.homes h known, more) in
       ap (λ n. leb n 1) sum
 
   other_room : (k : ℕ) → is_of_household k class.household ≡ false → leb (taken_of (of k) all.classes (front ++ count ∷ [])) 1 ≡ leb (taken_of (of k) all.classes front) 1
@@ -72,7 +72,7 @@ module _ (all : Classes) (front : List ℕ) (class : Class) (count : ℕ) (rest 
       ap (λ n. leb n 1) sum
 
   -- each household's test, by the household of the class
-  still_one : (own : Option ℕ) → own ≡ class.household → has_room tally.homes.items own count ≡ true → (household : Option ℕ) →
+  still_one : (own : Option ℕ) → own ≡ class.household → has_room tally.homes own count ≡ true → (household : Option ℕ) →
       takes_one_of all.classes front household ≡ true → takes_one_of all.classes (front ++ count ∷ []) household ≡ true
   still_one own same room None e = refl
   still_one None same room (Some k) e = other_room k (ap (is_of_household k) (sym same)) ∙ e
@@ -82,7 +82,7 @@ module _ (all : Classes) (front : List ℕ) (class : Class) (count : ℕ) (rest 
         | false ↦ λ f. other_room k (ap (is_of_household k) (sym same) ∙ f) ∙ e
       ]) refl
 
-  two_taken : (own : Option ℕ) → own ≡ class.household → has_room tally.homes.items own count ≡ false → takes_one_a_household all.classes (front ++ count ∷ []) ≡ false
+  two_taken : (own : Option ℕ) → own ≡ class.household → has_room tally.homes own count ≡ false → takes_one_a_household all.classes (front ++ count ∷ []) ≡ false
   two_taken None same room = absurd (false≢true (sym room))
   two_taken (Some h) same room =
       false_from_ne_true (takes_one_a_household all.classes (front ++ count ∷ []))
@@ -94,9 +94,9 @@ module _ (all : Classes) (front : List ℕ) (class : Class) (count : ℕ) (rest 
       subst (λ household. takes_one_of all.classes (front ++ count ∷ []) household ≡ true) (sym (same ∙ ap (λ (class : Class). class.household) stands.is)) here in
       false≢true (sym room ∙ sym (own_room h same) ∙ at_class))
 
-  pub child_households : takes_one_a_household all.classes front ≡ true → (own : Option ℕ) → own ≡ class.household → has_room tally.homes.items own count ≡ takes_one_a_household all.classes (front ++ count ∷ [])
+  pub child_households : takes_one_a_household all.classes front ≡ true → (own : Option ℕ) → own ≡ class.household → has_room tally.homes own count ≡ takes_one_a_household all.classes (front ++ count ∷ [])
   child_households ones own same =
-      (elim (has_room tally.homes.items own count) as (λ b. has_room tally.homes.items own count ≡ b → b ≡ takes_one_a_household all.classes (front ++ count ∷ [])) [
+      (elim (has_room tally.homes own count) as (λ b. has_room tally.homes own count ≡ b → b ≡ takes_one_a_household all.classes (front ++ count ∷ [])) [
         | true ↦ λ room. sym (list_all_implies (λ (class : Class). takes_one_of all.classes front class.household) (λ (class : Class). takes_one_of all.classes (front ++ count ∷ []) class.household)
             (λ (other : Class) e. still_one own same room other.household e) all.classes ones)
         | false ↦ λ room. sym (two_taken own same room)

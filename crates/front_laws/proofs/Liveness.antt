@@ -8,10 +8,9 @@ use Rattle.search_definitions.specs.declared.Bounds.{Bounds}
 use Rattle.search_definitions.specs.Classes.{Class, Classes, HasPlaces, KeepsLimits}
 use Rattle.search_definitions.specs.Compositions.{taken_of, has_value, takes_one_a_household}
 use Rattle.search_definitions.specs.Fronts.{most_given, is_reachable, size_reachable, value_reachable, values_reachable, later_than}
-use Rattle.panel_search.specs.Tallies.{cell, HasBound, reaches, AllReach, EachReaches, SomeFails}
-use Rattle.panel_search.specs.Front.{Tracks}
-use Rattle.panel_search.specs.declared.tally.Tally.{Tally}
-use Rattle.panel_search.proofs.Tracking.{Stands, comes_next, few_places, most_more, taken_more}
+use Rattle.front_laws.specs.Tallies.{cell, HasBound, reaches, AllReach, EachReaches, SomeFails}
+use Rattle.front_laws.specs.Front.{FrontTally, Tracks}
+use Rattle.front_laws.proofs.Tracking.{Stands, comes_next, few_places, most_more, taken_more}
 
 -- ---- a test of each element with its place
 
@@ -57,14 +56,14 @@ reach_equal : (lower upper a a' m m' : ℕ) → a ≡ a' → m ≡ m' → (leb a
 reach_equal lower upper a a' m m' e f = rw (e, f) refl
 
 -- the class's own values
-own_reach : (all : Classes) (front : List ℕ) (class : Class) (count : ℕ) (tally : Tally) → Stands all (length front) class → Tracks all front (drop (length front + 1) all.classes) tally →
+own_reach : (all : Classes) (front : List ℕ) (class : Class) (count : ℕ) (tally : FrontTally) → Stands all (length front) class → Tracks all front (drop (length front + 1) all.classes) tally →
     (c v : ℕ) (bound : Bounds) → c < length all.bounds → v < 50 → has_value c v class ≡ true →
-    value_reachable all (front ++ count ∷ []) c (v, bound) ≡ reaches bound tally.held.items tally.later.items count c v
+    value_reachable all (front ++ count ∷ []) c (v, bound) ≡ reaches bound tally.held tally.later count c v
 own_reach all front class count tally stands tracks c v bound below within has =
     let taken : taken_of (has_value c v) all.classes (front ++ count ∷ []) ≡ taken_of (has_value c v) all.classes front + cond true count 0 =
     taken_more all front class count stands (has_value c v) ∙ ap (λ b. taken_of (has_value c v) all.classes front + cond b count 0) has in
     let held = tracks.held c v below within in
-    let later : most_given (has_value c v) (later_than (front ++ count ∷ []) all.classes) ≡ slice_index tally.later.items (cell c v) =
+    let later : most_given (has_value c v) (later_than (front ++ count ∷ []) all.classes) ≡ slice_index tally.later (cell c v) =
     ap (most_given (has_value c v)) (later_of_child all front count) ∙ sym (tracks.later c v below within) in
     reach_equal bound.lower bound.upper _ _ _ _ (omega (arith, taken, held)) later
 
@@ -80,8 +79,8 @@ other_reach all front class count stands c v bound has =
     let later = ap (most_given (has_value c v)) (later_of_child all front count) in
     reach_equal bound.lower bound.upper _ _ _ _ (omega (arith, taken)) (omega (arith, next, later))
 
-pub values_of_child : (all : Classes) (front : List ℕ) (class : Class) (count : ℕ) (tally : Tally) → KeepsLimits all → HasPlaces all.bounds class → Stands all (length front) class → is_reachable all front ≡ true →
-    Tracks all front (drop (length front + 1) all.classes) tally → AllReach all.bounds tally.held.items tally.later.items class.values count → values_reachable all (front ++ count ∷ []) ≡ true
+pub values_of_child : (all : Classes) (front : List ℕ) (class : Class) (count : ℕ) (tally : FrontTally) → KeepsLimits all → HasPlaces all.bounds class → Stands all (length front) class → is_reachable all front ≡ true →
+    Tracks all front (drop (length front + 1) all.classes) tally → AllReach all.bounds tally.held tally.later class.values count → values_reachable all (front ++ count ∷ []) ≡ true
 values_of_child all front class count tally limits places stands live tracks reach =
     let both = and_parts (size_reachable all front && values_reachable all front) (takes_one_a_household all.classes front) live in
     let parent = (and_parts (size_reachable all front) (values_reachable all front) both.0).1 in
@@ -90,12 +89,12 @@ values_of_child all front class count tally limits places stands live tracks rea
     (elim (has_value c v class) as (λ b. has_value c v class ≡ b → value_reachable all (front ++ count ∷ []) c (v, bound) ≡ true) [
       | true ↦ λ own. let is = eqb-true (slice_index class.values c) v own in
           own_reach all front class count tally stands tracks c v bound below within own
-          ∙ subst (λ w. reaches bound tally.held.items tally.later.items count c w ≡ true) is (reach c bound (omega (arith, places.one_each)) (subst (λ w. HasBound all.bounds c w bound) (sym is) has))
+          ∙ subst (λ w. reaches bound tally.held tally.later count c w ≡ true) is (reach c bound (omega (arith, places.one_each)) (subst (λ w. HasBound all.bounds c w bound) (sym is) has))
       | false ↦ λ other. other_reach all front class count stands c v bound other ∙ values_at all front parent c v bound below has
     ]) refl)
 
-pub reach_of_child : (all : Classes) (front : List ℕ) (class : Class) (count : ℕ) (tally : Tally) → KeepsLimits all → HasPlaces all.bounds class → Stands all (length front) class →
-    Tracks all front (drop (length front + 1) all.classes) tally → values_reachable all (front ++ count ∷ []) ≡ true → AllReach all.bounds tally.held.items tally.later.items class.values count
+pub reach_of_child : (all : Classes) (front : List ℕ) (class : Class) (count : ℕ) (tally : FrontTally) → KeepsLimits all → HasPlaces all.bounds class → Stands all (length front) class →
+    Tracks all front (drop (length front + 1) all.classes) tally → values_reachable all (front ++ count ∷ []) ≡ true → AllReach all.bounds tally.held tally.later class.values count
 reach_of_child all front class count tally limits places stands tracks all_reach = λ c bound below has.
     let v = slice_index class.values c in
     let lt : c < length all.bounds = omega (arith, places.one_each) in
@@ -104,31 +103,31 @@ reach_of_child all front class count tally limits places stands tracks all_reach
     own : (class : Class) (c : ℕ) → has_value c (slice_index class.values c) class ≡ true
     own class c = eq-eqb (slice_index class.values c) (slice_index class.values c) refl
 
-pub size_of_child : (all : Classes) (front : List ℕ) (class : Class) (count : ℕ) (tally : Tally) → Stands all (length front) class → Tracks all front (drop (length front + 1) all.classes) tally →
+pub size_of_child : (all : Classes) (front : List ℕ) (class : Class) (count : ℕ) (tally : FrontTally) → Stands all (length front) class → Tracks all front (drop (length front + 1) all.classes) tally →
     size_reachable all (front ++ count ∷ []) ≡ (leb (tally.taken + count) all.size && leb all.size (tally.taken + count + tally.later_taken))
 size_of_child all front class count tally stands tracks =
     let taken = taken_more all front class count stands (λ class. true) in
     let later : most_given (λ class. true) (later_than (front ++ count ∷ []) all.classes) ≡ tally.later_taken = ap (most_given (λ class. true)) (later_of_child all front count) ∙ sym tracks.later_taken in
     reach_equal all.size all.size _ _ _ _ (omega (arith, taken, tracks.taken)) later
 
-decided : (b : Bool) (A B : Type 0) (s : Bool) → (b ≡ true → A) → (b ≡ false → B) → (A → s ≡ true) → (B → s ≡ false) → b ≡ s
+pub decided : (b : Bool) (A B : Type 0) (s : Bool) → (b ≡ true → A) → (b ≡ false → B) → (A → s ≡ true) → (B → s ≡ false) → b ≡ s
 decided true A B s f g h k = sym (h (f refl))
 decided false A B s f g h k = sym (k (g refl))
 
 -- ---- a front
 
-front_reach : (all : Classes) (front : List ℕ) (tally : Tally) → Tracks all front (drop (length front) all.classes) tally → (c v : ℕ) (bound : Bounds) → c < length all.bounds → v < 50 →
-    value_reachable all front c (v, bound) ≡ reaches bound tally.held.items tally.later.items 0 c v
+front_reach : (all : Classes) (front : List ℕ) (tally : FrontTally) → Tracks all front (drop (length front) all.classes) tally → (c v : ℕ) (bound : Bounds) → c < length all.bounds → v < 50 →
+    value_reachable all front c (v, bound) ≡ reaches bound tally.held tally.later 0 c v
 front_reach all front tally tracks c v bound below within =
     reach_equal bound.lower bound.upper _ _ _ _ (omega (arith, tracks.held c v below within)) (sym (tracks.later c v below within))
 
-size_of_front : (all : Classes) (front : List ℕ) (tally : Tally) → Tracks all front (drop (length front) all.classes) tally →
+size_of_front : (all : Classes) (front : List ℕ) (tally : FrontTally) → Tracks all front (drop (length front) all.classes) tally →
     size_reachable all front ≡ (leb tally.taken all.size && leb all.size (tally.taken + tally.later_taken))
 size_of_front all front tally tracks = reach_equal all.size all.size _ _ _ _ (omega (arith, tracks.taken)) (sym tracks.later_taken)
 
-pub front_live : (all : Classes) (front : List ℕ) (tally : Tally) → KeepsLimits all → Tracks all front (drop (length front) all.classes) tally →
+pub front_live : (all : Classes) (front : List ℕ) (tally : FrontTally) → KeepsLimits all → Tracks all front (drop (length front) all.classes) tally →
     (leb tally.taken all.size && leb all.size (tally.taken + tally.later_taken)) ≡ true →
-    (answer : Bool) → (answer ≡ true → EachReaches all.bounds tally.held.items tally.later.items) → (answer ≡ false → SomeFails all.bounds tally.held.items tally.later.items) →
+    (answer : Bool) → (answer ≡ true → EachReaches all.bounds tally.held tally.later) → (answer ≡ false → SomeFails all.bounds tally.held tally.later) →
     answer ≡ (size_reachable all front && values_reachable all front)
 front_live all front tally limits tracks size answer allowed refused =
     let values = decided answer _ _ (values_reachable all front) allowed refused
@@ -137,6 +136,6 @@ front_live all front tally limits tracks size answer allowed refused =
     (λ yes. false≢true (sym fails ∙ (sym (front_reach all front tally tracks c v bound below (value_in_cell all limits c v bound below has)) ∙ values_at all front yes c v bound below has)))) in
     values ∙ sym (ap (λ b. b && values_reachable all front) (size_of_front all front tally tracks ∙ size))
 
-pub front_dead : (all : Classes) (front : List ℕ) (tally : Tally) → Tracks all front (drop (length front) all.classes) tally →
+pub front_dead : (all : Classes) (front : List ℕ) (tally : FrontTally) → Tracks all front (drop (length front) all.classes) tally →
     (leb tally.taken all.size && leb all.size (tally.taken + tally.later_taken)) ≡ false → (size_reachable all front && values_reachable all front) ≡ false
 front_dead all front tally tracks size = ap (λ b. b && values_reachable all front) (size_of_front all front tally tracks ∙ size)

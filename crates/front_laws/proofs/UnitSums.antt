@@ -2,7 +2,7 @@
 use Rattle.std.proofs.Common.{◌≡◌, ℕ, zero, suc, ◌+◌, ◌*◌, ◌^◌, ◌≤◌, ◌<◌, true, false, cond, eqb, ltb, List, [], ◌∷◌, ◌++◌, length, take, drop, set, map, fold, replicate, ℤ, pos, ◌+ℤ◌, refl, sym, ap, ◌∙◌, arith, mul-le-mul_right, subst, length-append}
 use Rattle.std.specs.Prelude.{int_le, unsigned_abs}
 use Rattle.std.specs.Int.{int_max}
-use Rattle.std.specs.List.{All, AllByRecursion}
+use Rattle.std.specs.List.{AllByRecursion}
 use Rattle.std.proofs.lemmas.Bool.{ltb-true, ltb-false, eqb-true, eqb-false}
 use Rattle.std.proofs.lemmas.List.{drop_more, length-set, get_or-set_other, get_or-append-add}
 use Rattle.std.proofs.Math.ListN.{get_or-append}
@@ -17,8 +17,8 @@ use Rattle.row_definitions.proofs.SumLaws.{abs_sum_le}
 use Rattle.search_definitions.specs.Classes.{Class, Classes, KeepsLimits}
 use Rattle.search_definitions.specs.Fronts.{most_given, put_falling, falling, units, sum_of, greatest_sum}
 use Rattle.search_definitions.proofs.GreatestSum.{AtMost, Falls, falling_falls, length-falling, length-replicate}
-use Rattle.panel_search.specs.Weights.{cell_of, HoldsSums, IsGreater, HasUnit, AreGreatest, AreNarrow, at, units_from}
-use Rattle.panel_search.proofs.Tracking.{Stands, comes_next, most_more, most_small}
+use Rattle.front_laws.specs.Weights.{cell_of, HoldsSums, IsGreater, HasUnit, AreGreatest, AreNarrow, at, units_from}
+use Rattle.front_laws.proofs.Tracking.{Stands, comes_next, each_of, most_more, most_small}
 
 -- ---- sums
 
@@ -199,10 +199,6 @@ drop_units (suc i) (class ∷ classes) [] = omega (arith, no_units (drop i class
     no_units [] = refl
     no_units (class ∷ classes) = refl
 drop_units (suc i) (class ∷ classes) (x ∷ entries) = omega (arith, drop_units i classes entries, same_units_width class.most x (units classes entries))
-
-pub each_of : {X : Type 0} (P : X → Type 0) (xs : List X) → All P xs → AllByRecursion P xs
-each_of P [] h = tt
-each_of P (x ∷ xs) h = (h 0 x (omega arith), each_of P xs (λ k d l. h (suc k) d (omega arith)))
 
 -- the units of some classes fit 128 bits
 pub units_narrow : (all : Classes) (entries : List ℤ) (place : ℕ) → KeepsLimits all → AreNarrow all entries → width (units_from all entries place) < 2 ^ 127

@@ -12,10 +12,9 @@ use Rattle.search_definitions.specs.Classes.{Class, Classes, HasPlaces, KeepsLim
 use Rattle.search_definitions.specs.Compositions.{taken_of, has_value, is_of_household, takes_one_a_household}
 use Rattle.search_definitions.specs.Fronts.{most_given, taken_by, is_reachable, size_reachable, values_reachable}
 use Rattle.search_definitions.proofs.FirstSearch.{Split, taken_split}
-use Rattle.panel_search.specs.Tallies.{cell, HaveCells, CanGive, AreAtMost, HasMore, HaveBounds, AllReach, FitCells, EachReaches, SomeFails}
-use Rattle.panel_search.specs.Front.{Gives, Tracks}
-use Rattle.panel_search.specs.Homes.{HasMoreAt}
-use Rattle.panel_search.specs.declared.tally.Tally.{Tally}
+use Rattle.front_laws.specs.Tallies.{cell, HaveCells, CanGive, AreAtMost, HasMore, HaveBounds, AllReach, FitCells, EachReaches, SomeFails}
+use Rattle.front_laws.specs.Front.{FrontTally, Gives, Tracks}
+use Rattle.front_laws.specs.Homes.{HasMoreAt}
 
 -- ---- classes
 
@@ -112,9 +111,9 @@ taken_more all front class count stands p =
 -- ---- steps of a tally
 
 -- a class begins: these are tallies before and after
-pub begun : (all : Classes) (front : List ℕ) (class : Class) (rest : List Class) (before after : Tally) → HasPlaces all.bounds class → Tracks all front (class ∷ rest) before →
-    after.taken ≡ before.taken → after.held.items ≡ before.held.items → after.later_taken + class.most ≡ before.later_taken → HasMore class.values class.most after.later.items before.later.items →
-    after.homes.items ≡ before.homes.items → Tracks all front rest after
+pub begun : (all : Classes) (front : List ℕ) (class : Class) (rest : List Class) (before after : FrontTally) → HasPlaces all.bounds class → Tracks all front (class ∷ rest) before →
+    after.taken ≡ before.taken → after.held ≡ before.held → after.later_taken + class.most ≡ before.later_taken → HasMore class.values class.most after.later before.later →
+    after.homes ≡ before.homes → Tracks all front rest after
 begun all front class rest before after places tracks e f g more homes = record {
   homes_cells = ap length homes ∙ tracks.homes_cells;
   homes = λ h l. ap (λ cells. slice_index cells h) homes ∙ tracks.homes h l;
@@ -127,9 +126,9 @@ begun all front class rest before after places tracks e f g more homes = record 
 }
 
 -- a class ends
-pub ended : (all : Classes) (front : List ℕ) (class : Class) (rest : List Class) (before after : Tally) → HasPlaces all.bounds class → Tracks all front rest before →
-    after.taken ≡ before.taken → after.held.items ≡ before.held.items → after.later_taken ≡ before.later_taken + class.most → HasMore class.values class.most before.later.items after.later.items →
-    after.homes.items ≡ before.homes.items → Tracks all front (class ∷ rest) after
+pub ended : (all : Classes) (front : List ℕ) (class : Class) (rest : List Class) (before after : FrontTally) → HasPlaces all.bounds class → Tracks all front rest before →
+    after.taken ≡ before.taken → after.held ≡ before.held → after.later_taken ≡ before.later_taken + class.most → HasMore class.values class.most before.later after.later →
+    after.homes ≡ before.homes → Tracks all front (class ∷ rest) after
 ended all front class rest before after places tracks e f g more homes = record {
   homes_cells = ap length homes ∙ tracks.homes_cells;
   homes = λ h l. ap (λ cells. slice_index cells h) homes ∙ tracks.homes h l;
@@ -142,9 +141,9 @@ ended all front class rest before after places tracks e f g more homes = record 
 }
 
 -- so many of a class are taken
-pub taken_on : (all : Classes) (front : List ℕ) (class : Class) (count : ℕ) (rest : List Class) (before after : Tally) → HasPlaces all.bounds class → Stands all (length front) class → Tracks all front rest before →
-    after.taken ≡ before.taken + count → after.later.items ≡ before.later.items → after.later_taken ≡ before.later_taken → HasMore class.values count before.held.items after.held.items →
-    HasMoreAt class.household count before.homes.items after.homes.items → Tracks all (front ++ count ∷ []) rest after
+pub taken_on : (all : Classes) (front : List ℕ) (class : Class) (count : ℕ) (rest : List Class) (before after : FrontTally) → HasPlaces all.bounds class → Stands all (length front) class → Tracks all front rest before →
+    after.taken ≡ before.taken + count → after.later ≡ before.later → after.later_taken ≡ before.later_taken → HasMore class.values count before.held after.held →
+    HasMoreAt class.household count before.homes after.homes → Tracks all (front ++ count ∷ []) rest after
 taken_on all front class count rest before after places stands tracks e f g more homes = record {
   homes_cells = homes.same ∙ tracks.homes_cells;
   homes = λ h l. omega (arith, homes.each h (omega (arith, tracks.homes_cells)), tracks.homes h l, taken_more all front class count stands (λ class. is_of_household h class.household));
@@ -157,9 +156,9 @@ taken_on all front class count rest before after places stands tracks e f g more
 }
 
 -- they are given back
-pub given_back : (all : Classes) (front : List ℕ) (class : Class) (count : ℕ) (rest : List Class) (before after : Tally) → HasPlaces all.bounds class → Stands all (length front) class → Tracks all (front ++ count ∷ []) rest before →
-    after.taken + count ≡ before.taken → after.later.items ≡ before.later.items → after.later_taken ≡ before.later_taken → HasMore class.values count after.held.items before.held.items →
-    HasMoreAt class.household count after.homes.items before.homes.items → Tracks all front rest after
+pub given_back : (all : Classes) (front : List ℕ) (class : Class) (count : ℕ) (rest : List Class) (before after : FrontTally) → HasPlaces all.bounds class → Stands all (length front) class → Tracks all (front ++ count ∷ []) rest before →
+    after.taken + count ≡ before.taken → after.later ≡ before.later → after.later_taken ≡ before.later_taken → HasMore class.values count after.held before.held →
+    HasMoreAt class.household count after.homes before.homes → Tracks all front rest after
 given_back all front class count rest before after places stands tracks e f g more homes = record {
   homes_cells = sym homes.same ∙ tracks.homes_cells;
   homes = λ h l. omega (arith, homes.each h (omega (arith, homes.same, tracks.homes_cells)), tracks.homes h l, taken_more all front class count stands (λ class. is_of_household h class.household));
@@ -173,7 +172,7 @@ given_back all front class count rest before after places stands tracks e f g mo
 
 -- ---- what the tallies of values need
 
-each_of : {X : Type 0} (P : X → Type 0) (xs : List X) → All P xs → AllByRecursion P xs
+pub each_of : {X : Type 0} (P : X → Type 0) (xs : List X) → All P xs → AllByRecursion P xs
 each_of P [] h = tt
 each_of P (x ∷ xs) h = (h 0 x (omega arith), each_of P xs (λ k d l. h (suc k) d (omega arith)))
 
@@ -202,8 +201,8 @@ zero_cells n categories cells e room = λ c v a b.
     omega arith
 
 -- nothing is taken, and each class comes later
-pub starts : (all : Classes) (cells : List ℕ) (tally : Tally) → tally.taken ≡ 0 → AreAtMost 0 (length all.bounds) tally.held.items → length tally.held.items ≡ 50 * length all.bounds →
-    tally.later.items ≡ cells → Gives all all.classes tally.later_taken cells → (n : ℕ) → n ≡ volunteer_count all → tally.homes.items ≡ replicate n 0 → Tracks all [] all.classes tally
+pub starts : (all : Classes) (cells : List ℕ) (tally : FrontTally) → tally.taken ≡ 0 → AreAtMost 0 (length all.bounds) tally.held → length tally.held ≡ 50 * length all.bounds →
+    tally.later ≡ cells → Gives all all.classes tally.later_taken cells → (n : ℕ) → n ≡ volunteer_count all → tally.homes ≡ replicate n 0 → Tracks all [] all.classes tally
 starts all cells tally e none room f gives n count homes = record {
   homes_cells = ap length homes ∙ length-replicate n 0 ∙ count;
   homes = λ h l. ap (λ cells. slice_index cells h) homes ∙ get_or-replicate n h 0 0 (omega arith) ∙ sym (taken_none (λ class. is_of_household h class.household) all.classes);
@@ -215,20 +214,20 @@ starts all cells tally e none room f gives n count homes = record {
   later = λ c v a b. ap (λ cells. slice_index cells (cell c v)) f ∙ gives.each c v a b;
 }
 
-pub few_later : (all : Classes) (front : List ℕ) (i n : ℕ) (tally : Tally) → KeepsLimits all → n ≡ length all.bounds → Tracks all front (drop i all.classes) tally → AreAtMost 1000000 n tally.later.items
+pub few_later : (all : Classes) (front : List ℕ) (i n : ℕ) (tally : FrontTally) → KeepsLimits all → n ≡ length all.bounds → Tracks all front (drop i all.classes) tally → AreAtMost 1000000 n tally.later
 few_later all front i n tally limits e tracks = λ c v a b. omega (arith, tracks.later c v (omega arith) b, most_small all i (has_value c v) limits)
 
-pub small_held : (all : Classes) (front : List ℕ) (rest : List Class) (n : ℕ) (tally : Tally) → n ≡ length all.bounds → taken_by all front ≤ 1000 → Tracks all front rest tally → AreAtMost 1000000 n tally.held.items
+pub small_held : (all : Classes) (front : List ℕ) (rest : List Class) (n : ℕ) (tally : FrontTally) → n ≡ length all.bounds → taken_by all front ≤ 1000 → Tracks all front rest tally → AreAtMost 1000000 n tally.held
 small_held all front rest n tally e small tracks = λ c v a b. omega (arith, tracks.held c v (omega arith) b, taken_within_all (has_value c v) all.classes front)
 
-pub few_held : (all : Classes) (front : List ℕ) (rest : List Class) (n : ℕ) (tally : Tally) → KeepsLimits all → n ≡ length all.bounds → is_reachable all front ≡ true → Tracks all front rest tally → AreAtMost 1000000 n tally.held.items
+pub few_held : (all : Classes) (front : List ℕ) (rest : List Class) (n : ℕ) (tally : FrontTally) → KeepsLimits all → n ≡ length all.bounds → is_reachable all front ≡ true → Tracks all front rest tally → AreAtMost 1000000 n tally.held
 few_held all front rest n tally limits e live tracks = small_held all front rest n tally e (omega (arith, few_taken all front (λ class. true) limits live)) tracks
 
 own_value : (class : Class) (c : ℕ) → has_value c (slice_index class.values c) class ≡ true
 own_value class c = eq-eqb (slice_index class.values c) (slice_index class.values c) refl
 
 -- a class that comes next can leave what comes later
-pub can_leave : (all : Classes) (front : List ℕ) (class : Class) (rest : List Class) (tally : Tally) → KeepsLimits all → HasPlaces all.bounds class → Tracks all front (class ∷ rest) tally → CanGive class.values tally.later.items class.most
+pub can_leave : (all : Classes) (front : List ℕ) (class : Class) (rest : List Class) (tally : FrontTally) → KeepsLimits all → HasPlaces all.bounds class → Tracks all front (class ∷ rest) tally → CanGive class.values tally.later class.most
 can_leave all front class rest tally limits places tracks c below =
     let v = slice_index class.values c in
     let few = few_places all limits c (omega (arith, places.one_each)) in
@@ -238,8 +237,8 @@ can_leave all front class rest tally limits places tracks c below =
     omega (arith, tracks.later c v (omega (arith, places.one_each)) (omega arith))
 
 -- what was taken of a class can be given back
-pub can_give_back : (all : Classes) (front : List ℕ) (class : Class) (count : ℕ) (rest : List Class) (tally : Tally) → KeepsLimits all → HasPlaces all.bounds class → Stands all (length front) class →
-    Tracks all (front ++ count ∷ []) rest tally → CanGive class.values tally.held.items count
+pub can_give_back : (all : Classes) (front : List ℕ) (class : Class) (count : ℕ) (rest : List Class) (tally : FrontTally) → KeepsLimits all → HasPlaces all.bounds class → Stands all (length front) class →
+    Tracks all (front ++ count ∷ []) rest tally → CanGive class.values tally.held count
 can_give_back all front class count rest tally limits places stands tracks c below =
     let v = slice_index class.values c in
     let few = few_places all limits c (omega (arith, places.one_each)) in
@@ -291,8 +290,8 @@ pub fit_cells : (all : Classes) (cells : List ℕ) → KeepsLimits all → lengt
 fit_cells all cells limits e = record { few = λ c below. few_places all limits c below; room = omega arith }
 
 -- the next class stands before those after it
-pub with_next : (all : Classes) (front : List ℕ) (class : Class) (tally : Tally) → Stands all (length front) class → Tracks all front (drop (length front) all.classes) tally → Tracks all front (class ∷ drop (length front + 1) all.classes) tally
+pub with_next : (all : Classes) (front : List ℕ) (class : Class) (tally : FrontTally) → Stands all (length front) class → Tracks all front (drop (length front) all.classes) tally → Tracks all front (class ∷ drop (length front + 1) all.classes) tally
 with_next all front class tally stands tracks = subst (λ rest. Tracks all front rest tally) (comes_next all (length front) class stands) tracks
 
-pub from_next : (all : Classes) (front : List ℕ) (class : Class) (tally : Tally) → Stands all (length front) class → Tracks all front (class ∷ drop (length front + 1) all.classes) tally → Tracks all front (drop (length front) all.classes) tally
+pub from_next : (all : Classes) (front : List ℕ) (class : Class) (tally : FrontTally) → Stands all (length front) class → Tracks all front (class ∷ drop (length front + 1) all.classes) tally → Tracks all front (drop (length front) all.classes) tally
 from_next all front class tally stands tracks = subst (λ rest. Tracks all front rest tally) (sym (comes_next all (length front) class stands)) tracks

@@ -1,0 +1,14 @@
+pub mod Adding
+pub mod Beside
+pub mod ClosedRows
+pub mod Filters
+pub mod Fronts
+pub mod Households
+pub mod InTurn
+pub mod Liveness
+pub mod MadeClasses
+pub mod Places
+pub mod Taken
+pub mod Tracking
+pub mod UnitSums
+pub mod WeightLaws

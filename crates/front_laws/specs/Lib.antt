@@ -1,0 +1,5 @@
+pub mod Beside
+pub mod Front
+pub mod Homes
+pub mod Tallies
+pub mod Weights
