@@ -1,24 +1,22 @@
 -- The text of a proof is read again, and gives that proof.
-use Rattle.std.proofs.Common.{◌≡◌, ℕ, ◌+◌, ◌≤◌, Bool, true, false, not, cond, ltb, List, [], ◌∷◌, ◌++◌, length, map, drop, ◌||◌, refl, sym, ◌∙◌, ap, subst, arith, append_assoc, length-append, Option, Some, None}
+use Rattle.std.proofs.Common.{◌≡◌, ℕ, ◌+◌, ◌≤◌, Bool, true, false, not, cond, ltb, List, [], ◌∷◌, ◌++◌, length, map, drop, ◌||◌, refl, sym, ◌∙◌, ap, subst, arith, append_assoc, length-append, Some, None}
 use Rattle.std.specs.Prelude.{bytes_eq, codes, Ok, is_none}
-use Rattle.std.specs.List.{AllByRecursion, join_with_byte, list_all}
+use Rattle.std.specs.List.{list_all}
 use Rattle.std.proofs.lemmas.Bool.{and_parts, leb-true, ltb-true}
-use Rattle.std.proofs.lemmas.Grind.{flat_map-append}
 use Rattle.std.proofs.lemmas.List.{append-nil}
-use Rattle.std.proofs.lemmas.List.Splits.{join_with_byte-slice_split}
 use Rattle.pool_definitions.specs.Building.{lowest_kind}
 use Rattle.pool_definitions.specs.Certificate.{Answer}
 use Rattle.pool_definitions.specs.Pool.{IsPool, Pool, has_households}
-use Rattle.line_definitions.specs.Lines.{line_feed, pieces_of, text_of}
+use Rattle.line_definitions.specs.Lines.{line_feed, text_of}
 use Rattle.line_definitions.proofs.LineByLine as reading
-use Rattle.line_definitions.proofs.LineLemmas.{Lacks, pieces_lack, pieces_of-text_of, some_piece}
+use Rattle.line_definitions.proofs.LineLemmas.{Lacks}
 use Rattle.line_definitions.proofs.FieldLemmas.{line_lacks_feed, plain_field}
 use Rattle.line_definitions.proofs.NumberLemmas.{bytes_same}
 use Rattle.text_definitions.specs.PoolText.{version_line}
 use Rattle.text_definitions.specs.PoolReading as pools
 use Rattle.text_definitions.proofs.ReadAgain as pool_again
 use Rattle.bundle_definitions.specs.BundleReading as bundles
-use Rattle.bundle_definitions.specs.BundleText.{Bundle, IsBundle, bundle_spelling, pool_lines}
+use Rattle.bundle_definitions.specs.BundleText.{Bundle, pool_lines}
 use Rattle.bundle_definitions.proofs.ReadAgain as bundle_again
 use Rattle.addition_definitions.specs.ProofVerdict.{OfLottery, OfNoPanel, Proof}
 use Rattle.addition_definitions.specs.TreeLines.{TreeLine}

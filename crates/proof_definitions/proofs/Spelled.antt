@@ -1,17 +1,15 @@
 -- Lines that are read without a fault are those of the proof that is read.
 use Rattle.std.proofs.Common.{◌≡◌, ℕ, suc, ◌+◌, ◌<◌, Bool, true, false, not, cond, ◌||◌, List, [], ◌∷◌, ◌++◌, length, refl, sym, ◌∙◌, ap, subst, arith, append_assoc, length-append, Option, Some, None}
 use Rattle.std.specs.Prelude.{bytes_eq, Ok, is_none}
-use Rattle.std.specs.List.{join_with_byte, list_all}
+use Rattle.std.specs.List.{list_all}
 use Rattle.std.proofs.lemmas.Bool.{false≢true, le-leb, ltb-true, not-false}
-use Rattle.std.proofs.lemmas.Grind.{flat_map-append}
 use Rattle.std.proofs.lemmas.List.{append-nil, map-append}
-use Rattle.std.proofs.lemmas.List.Splits.{join_with_byte-slice_split}
 use Rattle.basic_laws.proofs.Each.{list_all-push}
 use Rattle.pool_definitions.specs.Building.{lowest_kind}
 use Rattle.pool_definitions.specs.Pool.{IsPool, Pool}
 use Rattle.pool_definitions.specs.Certificate.{Answer}
 use Rattle.pool_definitions.proofs.BuildingLemmas.{no_kind}
-use Rattle.line_definitions.specs.Lines.{line_feed, pieces_of, text_of}
+use Rattle.line_definitions.specs.Lines.{text_of}
 use Rattle.line_definitions.proofs.LineByLine as reading
 use Rattle.line_definitions.proofs.NumberLemmas.{bytes_are}
 use Rattle.text_definitions.specs.PoolReading as pools
