@@ -1,6 +1,6 @@
 //! The reasons of the lottery itself: a listed panel that is no quota panel, one that is listed twice, and another total.
 
-ghost use Rattle.std.specs.Prelude.{◌≡◌, ◌==◌, [], IfOk, map, not, option_map, sum_by};
+ghost use Rattle.std.specs.Prelude.{◌≡◌, [], IfOk, map, not, option_map};
 ghost use Rattle.std.specs.List.{find};
 ghost use Rattle.pool_definitions.specs.Pool.{is_quota_panel as is_quota};
 ghost use Rattle.check_definitions.specs.Reasons.{first_reason, first_repeated as first_again, lottery_reasons};
@@ -24,7 +24,7 @@ pub fn lottery_verdict(alloc: Global, pool: &Pool, lottery: &Lottery) -> Result<
     if let Some(panel) = first_repeated(alloc, lottery.rows())? {
         return Verdict::refused(alloc, 0, 2, panel.members());
     }
-    if !total_agrees(lottery) {
+    if !lottery.weights_sum_to_total() {
         return Verdict::refused(alloc, 0, 3, &[]);
     }
     Ok(Verdict::valid())
@@ -65,19 +65,4 @@ fn first_repeated<'a>(
         }
     }
     Ok(None)
-}
-
-/// The weights sum to the total. Each is taken from the total in turn, so that no sum passes 128 bits.
-fn total_agrees(lottery: &Lottery) -> bool
-    ensures { result ≡ (lottery.now.total == sum_by (λ row. row.weight) lottery.now.rows) }
-{
-    let mut rest = lottery.total().unsigned_abs();
-    for row in lottery.rows() {
-        let weight = row.weight().unsigned_abs();
-        if rest < weight {
-            return false;
-        }
-        rest -= weight;
-    }
-    rest == 0
 }

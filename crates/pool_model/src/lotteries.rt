@@ -1,6 +1,6 @@
 //! Lotteries: panels with their weights, and the weights' total.
 
-ghost use Rattle.std.specs.Prelude.{◌≡◌, ◌<◌, ◌^◌, ◌≤ℤ◌, ◌++◌, ◌∷◌, [], pos, unsigned_abs, IfOk, OnOk, OnErr};
+ghost use Rattle.std.specs.Prelude.{◌≡◌, ◌==◌, ◌<◌, ◌^◌, ◌≤ℤ◌, ◌++◌, ◌∷◌, [], pos, sum_by, unsigned_abs, IfOk, OnOk, OnErr};
 
 use crate::panels::Panel;
 use std::alloc::{AllocError, Global};
@@ -110,6 +110,13 @@ impl Lottery {
         &self.rows
     }
 
+    /// The weights sum to the total.
+    pub fn weights_sum_to_total(&self) -> bool
+        ensures { result ≡ (self.now.total == sum_by (λ row. row.weight) self.now.rows) }
+    {
+        weights_sum_to(self.total.unsigned_abs(), &self.rows)
+    }
+
     /// An equal lottery.
     pub fn copy(&self) -> Result<Lottery, AllocError>
         ensures { IfOk result (λ copied. copied ≡ self.now) }
@@ -120,6 +127,21 @@ impl Lottery {
             rows,
         })
     }
+}
+
+/// The weights of the rows sum to the total. Each is taken from the total in turn, so that no sum passes 128 bits.
+fn weights_sum_to(total: u128, rows: &[LotteryRow]) -> bool
+    ensures { result ≡ (total == sum_by (λ row. row.weight) rows.now) }
+{
+    let mut rest = total;
+    for row in rows {
+        let weight = row.weight().unsigned_abs();
+        if rest < weight {
+            return false;
+        }
+        rest -= weight;
+    }
+    rest == 0
 }
 
 fn copied_rows(alloc: Global, rows: &[LotteryRow]) -> Result<Vec<LotteryRow>, AllocError>

@@ -1,38 +1,26 @@
 -- The pieces of a text, one line at a time.
-use Rattle.std.proofs.Common.{◌≡◌, ℕ, ◌+◌, ◌≤◌, arith, List, [], ◌∷◌, refl, sym, ap, ◌∙◌, Some, None}
-use Rattle.std.specs.Prelude.{Result, Ok, Err}
+use Rattle.std.proofs.Common.{◌≡◌, ℕ, ◌+◌, ◌≤◌, arith, List, [], ◌∷◌, Result, Ok, Err, refl, sym, subst, Some, None}
 use Rattle.line_definitions.specs.Lines.{Fault, fields_of, pieces_of}
-use Rattle.line_definitions.proofs.LineLemmas.{some_piece}
+use Rattle.line_definitions.specs.Reading.{fault_or, read_lines}
+use Rattle.line_definitions.proofs.LineByLine as reading
 use Rattle.pool_model.specs.declared.building.BuildStop.{BuildStop}
 use Rattle.pool_model.specs.declared.building.BuildStop.TheVariants.{Kind, OutOfMemory}
 use Rattle.pool_text.specs.Answers.{Reads, Tells, IsRightBefore, stopped}
 use Rattle.text_definitions.specs.declared.Passed.{Passed}
-use Rattle.text_definitions.specs.PoolReading.{Progress, Begun, Versioned, Inside, Ended, Entry, OfCategory, OfValue, OfVolunteer, OfHousehold, OfStanding, TheEnd, Unknown, entry_of, after_entry, line_kind, after_line, at_last, fault_or, read_lines}
+use Rattle.text_definitions.specs.PoolReading.{Progress, Begun, Versioned, Inside, Ended, Entry, OfCategory, OfValue, OfVolunteer, OfHousehold, OfStanding, TheEnd, Unknown, entry_of, after_entry, line_kind, after_line, at_last, reader}
 use Rattle.pool_definitions.specs.Pool.{Pool}
+use Rattle.pool_text.specs.declared.faults.ReadPool.{ReadPool}
 use Rattle.pool_text.specs.declared.faults.ReadPool.TheVariants.{OutOfMemory as Unread}
 use Rattle.pool_text.specs.Progress.{line_due}
 
--- a line, and what comes of the rest
-pub one_line : (number : ℕ) (progress : Progress) (line rest : List ℕ) →
-    read_lines number progress (line ∷ pieces_of rest) ≡ fault_or (line_kind progress line) number (read_lines (number + 1) (after_line progress line) (pieces_of rest))
-one_line number progress line rest =
-    let some = some_piece rest in
-    ap (λ pieces. read_lines number progress (line ∷ pieces)) some.2
-    ∙ ap (λ pieces. fault_or (line_kind progress line) number (read_lines (number + 1) (after_line progress line) pieces)) (sym some.2)
-
 -- a stop at a line is what the reading comes to
-pub stops_at : (T : Type 0) (number : ℕ) (progress : Progress) (line later : List ℕ) (stop : BuildStop) → Tells {T = T} (line_kind progress line) (Err stop) →
-    Reads (read_lines number progress (line ∷ pieces_of later)) (Err (stopped number stop))
-stops_at T number progress line later OutOfMemory h = tt
-stops_at T number progress line later (Kind kind) h =
-    one_line number progress line later ∙ ap (λ k. fault_or k number (read_lines (number + 1) (after_line progress line) (pieces_of later))) h
-
--- a right line leads on
-pub leads_on : (number : ℕ) (progress next : Progress) (line later : List ℕ) → line_kind progress line ≡ None → next ≡ after_line progress line →
-    read_lines (number + 1) next (pieces_of later) ≡ read_lines number progress (line ∷ pieces_of later)
-leads_on number progress next line later h e =
-    ap (λ p. read_lines (number + 1) p (pieces_of later)) e
-    ∙ (sym (ap (λ k. fault_or k number (read_lines (number + 1) (after_line progress line) (pieces_of later))) h) ∙ sym (one_line number progress line later))
+pub stops_at : (T : Type 0) (number : ℕ) (progress : Progress) (rest line later : List ℕ) → pieces_of rest ≡ line ∷ pieces_of later → (wanted : Result Pool Fault) →
+    read_lines reader number progress (pieces_of rest) ≡ wanted → (stop : BuildStop) → Tells {T = T} (line_kind progress line) (Err stop) → (told : ReadPool) → told ≡ stopped number stop → Reads wanted (Err told)
+stops_at T number progress rest line later parted wanted same stop tells told e = subst (λ said. Reads wanted (Err said)) (sym e) (by stop tells)
+  where
+    by : (stop : BuildStop) → Tells {T = T} (line_kind progress line) (Err stop) → Reads wanted (Err (stopped number stop))
+    by OutOfMemory h = tt
+    by (Kind kind) h = reading.stops_at reader number progress rest line later parted wanted same kind h
 
 -- what follows an entry is due no earlier than the third line
 entry_due : (pool : Pool) (passed : Passed) (entry : Entry) (number : ℕ) → 3 ≤ number → line_due (after_entry pool passed entry) ≤ number + 1
@@ -63,12 +51,12 @@ pub earlier : (number other : ℕ) (r : Result Pool Fault) → number ≤ other 
 earlier number other (Ok pool) l h = tt
 earlier number other (Err fault) l h = omega arith
 
-pub reads_from : (number : ℕ) (progress : Progress) (pieces : List (List ℕ)) → IsRightBefore number (read_lines number progress pieces)
+pub reads_from : (number : ℕ) (progress : Progress) (pieces : List (List ℕ)) → IsRightBefore number (read_lines reader number progress pieces)
 reads_from number progress [] = last_from number progress []
 reads_from number progress (bytes ∷ []) = last_from number progress bytes
 reads_from number progress (line ∷ next ∷ later) =
-    elim (line_kind progress line) as (λ k. IsRightBefore number (fault_or k number (read_lines (number + 1) (after_line progress line) (next ∷ later)))) [
-      | None ↦ earlier number (number + 1) (read_lines (number + 1) (after_line progress line) (next ∷ later)) (omega arith) (reads_from (number + 1) (after_line progress line) (next ∷ later))
+    elim (line_kind progress line) as (λ k. IsRightBefore number (fault_or k number (read_lines reader (number + 1) (after_line progress line) (next ∷ later)))) [
+      | None ↦ earlier number (number + 1) (read_lines reader (number + 1) (after_line progress line) (next ∷ later)) (omega arith) (reads_from (number + 1) (after_line progress line) (next ∷ later))
       | Some kind ↦ omega arith
     ]
 

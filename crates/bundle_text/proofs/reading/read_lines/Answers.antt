@@ -1,31 +1,28 @@
 use Rattle.std.proofs.Common.{◌≡◌, ◌∷◌, arith, sym, subst, ap, ◌∙◌}
 use Rattle.std.specs.Prelude.{Err}
 use Rattle.line_definitions.specs.Lines.{pieces_of}
-use Rattle.bundle_definitions.specs.BundleReading.{read_bundle, read_lines}
+use Rattle.line_definitions.proofs.LineByLine.{leads_on}
+use Rattle.line_definitions.specs.Reading.{read_lines}
+use Rattle.bundle_definitions.specs.BundleReading.{read_bundle, reader}
 use Rattle.bundle_definitions.proofs.Spelled.{IsRight, line_adds}
 use Rattle.bundle_text.specs.Answers.{Reads}
 use Rattle.bundle_text.specs.declared.progress.Progress.{Progress}
 use Rattle.bundle_text.specs.Progress.{seen}
-use Rattle.bundle_text.proofs.LineByLine.{stops_at, leads_on, done_right}
+use Rattle.bundle_text.proofs.LineByLine.{stops_at, done_right}
 use Rattle.bundle_text.proofs.reading.read_lines.Goals as goal
 
 pub returns-in-Err : goal.returns-in-Err
 returns-in-Err c =
-    let pieces = c.in-Some.line.now ∷ pieces_of c.in-Some.later.now in
-    let stop = stops_at Progress c.loop-line.number (seen c.loop-line.progress) c.in-Some.line.now c.in-Some.later.now c.in-Err.stop c.in-Err.ensures.kind in
-    let told : Reads (read_lines c.loop-line.number (seen c.loop-line.progress) pieces) (Err c.stop_at.result) =
-    subst (λ e. Reads (read_lines c.loop-line.number (seen c.loop-line.progress) pieces) (Err e)) (sym c.stop_at.ensures) stop in
-    let said : read_lines c.loop-line.number (seen c.loop-line.progress) pieces ≡ read_bundle c.args.bytes.now =
-    ap (read_lines c.loop-line.number (seen c.loop-line.progress)) (sym c.in-Some.ensures.some) ∙ c.loop-line.invariant.same in
-    subst (λ r. Reads r (Err c.stop_at.result)) said told
+    stops_at Progress c.loop-line.number (seen c.loop-line.progress) c.loop-line.rest.now c.in-Some.line.now c.in-Some.later.now c.in-Some.ensures.some
+    (read_bundle c.args.bytes.now) c.loop-line.invariant.same c.in-Err.stop c.in-Err.ensures.kind c.stop_at.result c.stop_at.ensures
 
 pub last-requires : goal.last-requires
 last-requires c = done_right (seen c.loop-line.progress) c.loop-line.invariant.right
 
 pub loop-line-preserved : goal.loop-line-preserved
 loop-line-preserved c = record {
-  same = leads_on c.loop-line.number (seen c.loop-line.progress) (seen c.in-Ok.next) c.in-Some.line.now c.in-Some.later.now c.in-Ok.ensures.kind c.in-Ok.ensures.ok
-      ∙ (ap (read_lines c.loop-line.number (seen c.loop-line.progress)) (sym c.in-Some.ensures.some) ∙ c.loop-line.invariant.same);
+  same = leads_on reader c.loop-line.number (seen c.loop-line.progress) c.loop-line.rest.now c.in-Some.line.now c.in-Some.later.now c.in-Some.ensures.some
+      (read_bundle c.args.bytes.now) c.loop-line.invariant.same (seen c.in-Ok.next) c.in-Ok.ensures.kind c.in-Ok.ensures.ok;
   few = let less = c.in-Some.ensures.shorter in let few = c.loop-line.invariant.few in omega arith;
   right = subst IsRight (sym c.in-Ok.ensures.ok) (line_adds (seen c.loop-line.progress) c.in-Some.line.now c.loop-line.invariant.right c.in-Ok.ensures.kind).0;
 }

@@ -1,6 +1,7 @@
 use Rattle.std.proofs.Common.{◌≡◌, ◌+◌, ◌≤◌, length}
 use Rattle.line_definitions.specs.Lines.{pieces_of}
-use Rattle.bundle_definitions.specs.BundleReading.{read_bundle, read_lines}
+use Rattle.line_definitions.specs.Reading.{read_lines}
+use Rattle.bundle_definitions.specs.BundleReading.{read_bundle, reader}
 use Rattle.bundle_definitions.proofs.Spelled.{IsRight}
 use Rattle.bundle_text.specs.Progress.{seen}
 use Rattle.bundle_text.proofs.reading.read_lines.Given as goal
@@ -8,7 +9,7 @@ use Rattle.bundle_text.proofs.reading.read_lines.Given as goal
 -- what the rest comes to is what the whole comes to, and what stands is right
 abbrev pub invariant-loop-line : goal.invariant-loop-line
 invariant-loop-line l = record {
-  same : read_lines l.number (seen l.progress) (pieces_of l.rest) ≡ read_bundle l.fn.bytes;
+  same : read_lines reader l.number (seen l.progress) (pieces_of l.rest) ≡ read_bundle l.fn.bytes;
   few : l.number + length l.rest ≤ length l.fn.bytes + 1;
   right : IsRight (seen l.progress);
 }

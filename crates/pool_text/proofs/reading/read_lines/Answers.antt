@@ -3,23 +3,20 @@ use Rattle.pool_definitions.specs.Pool.{Pool}
 use Rattle.pool_text.specs.declared.faults.ReadPool.{ReadPool}
 use Rattle.line_definitions.specs.Lines.{pieces_of}
 use Rattle.line_definitions.proofs.LineLemmas.{some_piece}
-use Rattle.std.proofs.Common.{◌≡◌, ◌≤◌, ◌+◌, ℕ, suc, List, ◌∷◌, length, refl, arith, sym, subst, ap, ◌∙◌}
-use Rattle.text_definitions.specs.PoolReading.{read, read_lines}
-use Rattle.pool_text.specs.Answers.{Reads, IsRightBefore}
+use Rattle.std.proofs.Common.{◌≡◌, ◌≤◌, ◌+◌, ℕ, suc, List, length, refl, arith, sym, subst, ap, ◌∙◌}
+use Rattle.line_definitions.proofs.LineByLine.{leads_on}
+use Rattle.line_definitions.specs.Reading.{read_lines}
+use Rattle.text_definitions.specs.PoolReading.{read, reader}
+use Rattle.pool_text.specs.Answers.{IsRightBefore}
 use Rattle.pool_text.specs.declared.progress.Progress.{Progress}
 use Rattle.pool_text.specs.Progress.{seen, line_due}
-use Rattle.pool_text.proofs.LineByLine.{stops_at, leads_on, next_due, earlier, reads_from, memory_wanted}
+use Rattle.pool_text.proofs.LineByLine.{stops_at, next_due, earlier, reads_from, memory_wanted}
 use Rattle.pool_text.proofs.reading.read_lines.Goals as goal
 
 pub returns-in-Err-clause-exact : goal.returns-in-Err-clause-exact
 returns-in-Err-clause-exact c =
-    let pieces = c.in-Some.line.now ∷ pieces_of c.in-Some.later.now in
-    let stop = stops_at Progress c.loop-line.number (seen c.loop-line.progress) c.in-Some.line.now c.in-Some.later.now c.in-Err.stop c.in-Err.ensures.kind in
-    let told : Reads (read_lines c.loop-line.number (seen c.loop-line.progress) pieces) (Err c.stop_at.result) =
-    subst (λ e. Reads (read_lines c.loop-line.number (seen c.loop-line.progress) pieces) (Err e)) (sym c.stop_at.ensures) stop in
-    let said : read_lines c.loop-line.number (seen c.loop-line.progress) pieces ≡ read c.args.bytes.now =
-    ap (read_lines c.loop-line.number (seen c.loop-line.progress)) (sym c.in-Some.ensures.some) ∙ c.loop-line.invariant.same in
-    subst (λ r. Reads r (Err c.stop_at.result)) said told
+    stops_at Progress c.loop-line.number (seen c.loop-line.progress) c.loop-line.rest.now c.in-Some.line.now c.in-Some.later.now c.in-Some.ensures.some
+    (read c.args.bytes.now) c.loop-line.invariant.same c.in-Err.stop c.in-Err.ensures.kind c.stop_at.result c.stop_at.ensures
 
 pub returns-in-Err-clause-memory : goal.returns-in-Err-clause-memory
 returns-in-Err-clause-memory c wanted =
@@ -33,7 +30,7 @@ returns-in-Err-clause-memory c wanted =
     let some = some_piece c.in-Some.later.now in
     let more : length (pieces_of c.in-Some.later.now) ≡ suc (length some.1) = ap (λ (ps : List (List ℕ)). length ps) some.2 in
     let all = c.loop-line.invariant.count in (
-      subst (IsRightBefore 3) c.loop-line.invariant.same (earlier 3 number (read_lines number progress (pieces_of c.loop-line.rest.now)) three (reads_from number progress (pieces_of c.loop-line.rest.now))),
+      subst (IsRightBefore 3) c.loop-line.invariant.same (earlier 3 number (read_lines reader number progress (pieces_of c.loop-line.rest.now)) three (reads_from number progress (pieces_of c.loop-line.rest.now))),
       omega (arith, pieces, more),
     )
   where
@@ -42,8 +39,8 @@ returns-in-Err-clause-memory c wanted =
 
 pub loop-line-preserved : goal.loop-line-preserved
 loop-line-preserved c = record {
-  same = leads_on c.loop-line.number (seen c.loop-line.progress) (seen c.in-Ok.next) c.in-Some.line.now c.in-Some.later.now c.in-Ok.ensures.kind c.in-Ok.ensures.ok
-      ∙ (ap (read_lines c.loop-line.number (seen c.loop-line.progress)) (sym c.in-Some.ensures.some) ∙ c.loop-line.invariant.same);
+  same = leads_on reader c.loop-line.number (seen c.loop-line.progress) c.loop-line.rest.now c.in-Some.line.now c.in-Some.later.now c.in-Some.ensures.some
+      (read c.args.bytes.now) c.loop-line.invariant.same (seen c.in-Ok.next) c.in-Ok.ensures.kind c.in-Ok.ensures.ok;
   few = let less = c.in-Some.ensures.shorter in let few = c.loop-line.invariant.few in omega arith;
   due = subst (λ p. line_due p ≤ c.loop-line.number + 1) (sym c.in-Ok.ensures.ok) (next_due (seen c.loop-line.progress) c.in-Some.line.now c.loop-line.number c.loop-line.invariant.due);
   count = let one : length (pieces_of c.loop-line.rest.now) ≡ suc (length (pieces_of c.in-Some.later.now)) = ap (λ (ps : List (List ℕ)). length ps) c.in-Some.ensures.some in let all = c.loop-line.invariant.count in omega (arith, one);

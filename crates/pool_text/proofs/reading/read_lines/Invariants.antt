@@ -1,13 +1,14 @@
 use Rattle.std.proofs.Common.{◌≡◌, ◌+◌, ◌≤◌, length}
 use Rattle.line_definitions.specs.Lines.{pieces_of}
-use Rattle.text_definitions.specs.PoolReading.{read, read_lines}
+use Rattle.line_definitions.specs.Reading.{read_lines}
+use Rattle.text_definitions.specs.PoolReading.{read, reader}
 use Rattle.pool_text.specs.Progress.{seen, line_due}
 use Rattle.pool_text.proofs.reading.read_lines.Given as goal
 
 -- what the rest comes to is what the whole comes to
 abbrev pub invariant-loop-line : goal.invariant-loop-line
 invariant-loop-line l = record {
-  same : read_lines l.number (seen l.progress) (pieces_of l.rest) ≡ read l.fn.bytes;
+  same : read_lines reader l.number (seen l.progress) (pieces_of l.rest) ≡ read l.fn.bytes;
   few : l.number + length l.rest ≤ length l.fn.bytes + 1;
   due : line_due (seen l.progress) ≤ l.number;
   count : length (pieces_of l.fn.bytes) + 1 ≡ l.number + length (pieces_of l.rest);

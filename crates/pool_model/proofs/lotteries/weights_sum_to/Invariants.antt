@@ -1,7 +1,7 @@
 use Rattle.std.proofs.Common.{◌≡◌, ◌+◌, take}
 use Rattle.std.specs.Prelude.{sum_by}
-use Rattle.certificate_reasons.proofs.lotteries.total_agrees.Given as goal
+use Rattle.pool_model.proofs.lotteries.weights_sum_to.Given as goal
 
 -- the weights so far and the rest are the total
 abbrev pub invariant-loop-row : goal.invariant-loop-row
-invariant-loop-row l = sum_by (λ row. row.weight) (take l.row-index l.lottery.rows) + l.rest ≡ l.lottery.total
+invariant-loop-row l = sum_by (λ row. row.weight) (take l.row-index l.rows) + l.rest ≡ l.total
