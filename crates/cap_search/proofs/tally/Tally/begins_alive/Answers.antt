@@ -1,4 +1,4 @@
-use Rattle.std.proofs.Common.{◌+◌, ◌&&◌, leb, length, [], refl, sym, ap, ◌∙◌, arith, true}
+use Rattle.std.proofs.Common.{◌≡◌, ℕ, ◌+◌, ◌&&◌, leb, length, [], refl, sym, ap, ◌∙◌, arith, true}
 use Rattle.cap_search.proofs.Liveness.{begins_reachable}
 use Rattle.front_laws.proofs.Tracking.{fit_same, fit_cells, small_same, few_later, small_held, most_small, each_same, some_same, nothing_taken}
 use Rattle.front_laws.proofs.Liveness.{front_live, front_dead}
@@ -28,11 +28,17 @@ all_within_reach-requires-clause-small_later c =
     let all = c.args.classes.now in
     small_same _ (length all.bounds) _ c.args.self.now.later.items (ap length c.bounds.ensures) c.deref-then-size_allows.ensures.value (few_later all [] 0 (length all.bounds) _ c.facts.ensures refl c.requires)
 
+-- the test of the size, with no more of a class
+no_more : (taken later size size' : ℕ) → size' ≡ size → (leb taken size && leb size (taken + later)) ≡ (leb (taken + 0) size' && leb size' (taken + 0 + later))
+no_more taken later size size' e =
+    let same : taken + 0 ≡ taken = omega arith in
+    ap (λ n. leb n size && leb size (n + later)) (sym same) ∙ ap (λ n. leb (taken + 0) n && leb n (taken + 0 + later)) (sym e)
+
 pub returns-then-size_allows : goal.returns-then-size_allows
 returns-then-size_allows c =
-    let all = c.args.classes.now in let self = c.args.self.now in
+    let all = c.args.classes.now in
     front_live all [] _ c.facts.ensures c.requires
-    (ap (λ n. leb (self.taken) n && leb n (self.taken + self.later_taken)) (sym c.size.ensures) ∙ (sym c.size_allows.ensures ∙ c.if-size_allows.true))
+    (no_more c.args.self.now.taken _ _ _ c.size.ensures ∙ (sym c.size_allows.ensures ∙ c.if-size_allows.true))
     c.all_within_reach.result
     (λ yes. each_same _ _ _ _ _ _ c.bounds.ensures c.deref.ensures.value c.deref-then-size_allows.ensures.value (c.all_within_reach.ensures.all yes))
     (λ no. some_same _ _ _ _ _ _ c.bounds.ensures c.deref.ensures.value c.deref-then-size_allows.ensures.value (c.all_within_reach.ensures.some no))
@@ -40,6 +46,5 @@ returns-then-size_allows c =
 
 pub returns-else-size_allows : goal.returns-else-size_allows
 returns-else-size_allows c =
-    let self = c.args.self.now in
     c.if-size_allows.false ∙ sym (begins_reachable c.args.classes.now ∙ front_dead c.args.classes.now [] _ c.requires
-    (ap (λ n. leb (self.taken) n && leb n (self.taken + self.later_taken)) (sym c.size.ensures) ∙ (sym c.size_allows.ensures ∙ c.if-size_allows.false)))
+    (no_more c.args.self.now.taken _ _ _ c.size.ensures ∙ (sym c.size_allows.ensures ∙ c.if-size_allows.false)))
