@@ -1,3 +1,4 @@
 pub mod AnswerLines
 pub mod ReadAgain
 pub mod Spelled
+pub mod Weights

@@ -90,22 +90,12 @@ module _ (problem : Problem) (leaf : Leaf) where
       pub charge_next : (sum one : ℤ) → sum ≡ first_charges problem k leaf → one ≡ charge problem.constraints m → to_z w128 (of_z w128 (sum +ℤ one)) ≡ first_charges problem (k + 1) leaf
       charge_next sum one e f = stored (sum +ℤ one) (first_charges problem (k + 1) leaf) (charge_fits sum one e f) (ap₂ (λ a b. a +ℤ b) e f ∙ sym charges_more)
 
-      module _ (i : ℕ) (factor coefficient : ℤ) (product_is : factor *ℤ coefficient ≡ multiplied problem.constraints i m) where
-        pub product_fits : FitsSigned w128 (factor *ℤ coefficient)
-        product_fits = fits_where (factor *ℤ coefficient) (multiplied problem.constraints i m) product_is (narrow_at i near is).0
+      pub rest_fits : (i : ℕ) (before one : ℤ) → before ≡ rest problem (first_multipliers k leaf) i → one ≡ multiplied problem.constraints i m → FitsSigned w128 (before -ℤ one)
+      rest_fits i before one e f =
+          fits_where (before -ℤ one) (rest problem (first_multipliers (k + 1) leaf) i) (ap₂ (λ a b. a -ℤ b) e f ∙ sym (rest_more i)) (rest_narrow problem near leaf is (k + 1) i)
 
-        abbrev product : ℤ
-        product = to_z w128 (of_z w128 (factor *ℤ coefficient))
-
-        less_product : (before : ℤ) → before ≡ rest problem (first_multipliers k leaf) i → before -ℤ product ≡ rest problem (first_multipliers (k + 1) leaf) i
-        less_product before e =
-            ap₂ (λ a b. a -ℤ b) e (stored (factor *ℤ coefficient) (multiplied problem.constraints i m) product_fits product_is) ∙ sym (rest_more i)
-
-        pub rest_fits : (before : ℤ) → before ≡ rest problem (first_multipliers k leaf) i → FitsSigned w128 (before -ℤ product)
-        rest_fits before e = fits_where (before -ℤ product) (rest problem (first_multipliers (k + 1) leaf) i) (less_product before e) (rest_narrow problem near leaf is (k + 1) i)
-
-        pub rest_next : (before : ℤ) → before ≡ rest problem (first_multipliers k leaf) i → to_z w128 (of_z w128 (before -ℤ product)) ≡ rest problem (first_multipliers (k + 1) leaf) i
-        rest_next before e = stored (before -ℤ product) (rest problem (first_multipliers (k + 1) leaf) i) (rest_fits before e) (less_product before e)
+      pub rest_next : (i : ℕ) (before one : ℤ) → before ≡ rest problem (first_multipliers k leaf) i → one ≡ multiplied problem.constraints i m → to_z w128 (of_z w128 (before -ℤ one)) ≡ rest problem (first_multipliers (k + 1) leaf) i
+      rest_next i before one e f = stored (before -ℤ one) (rest problem (first_multipliers (k + 1) leaf) i) (rest_fits i before one e f) (ap₂ (λ a b. a -ℤ b) e f ∙ sym (rest_more i))
 
 -- the charges of the volunteers' rests
 module _ (problem : Problem) (leaf : Leaf) (standings : List Standing) where

@@ -4,7 +4,7 @@
 ghost use Rattle.std.specs.Prelude.{◌≡◌, ◌^◌, ◌<◌, ◌*ℤ◌, ◌+ℤ◌, IsTrue, length, pos, unsigned_abs};
 ghost use Rattle.addition_definitions.specs.Constraints.{constraint_at, signed_sum};
 ghost use Rattle.addition_definitions.specs.LeafSums.{is_problem_in_reach};
-ghost use Rattle.addition_definitions.specs.Leaves.{charge as charge_of, has_constraints as has_constraints_of, leaf_shows as shows, rest as rest_of, rest_charge as rest_charge_of, total_charge as total_charge_of};
+ghost use Rattle.addition_definitions.specs.Leaves.{charge as charge_of, has_constraints as has_constraints_of, leaf_shows as shows, multiplied as multiplied_of, rest as rest_of, rest_charge as rest_charge_of, total_charge as total_charge_of};
 ghost use Rattle.addition_definitions.specs.TreeRanges.{is_leaf};
 ghost use Rattle.pool_definitions.specs.Certificate.{weight_of as weight_of_one};
 
@@ -151,10 +151,19 @@ fn rest(problem: &Problem, leaf: &Leaf, i: usize) -> i128
 {
     let mut rest = leaf.scale() as i128 * weight_of(problem.stage, i);
     for multiplier in leaf.multipliers() {
-        let constraint = problem.constraint(multiplier.number());
-        rest -= multiplier.factor() * constraint.coefficient(i);
+        rest -= multiplied(problem, multiplier, i);
     }
     rest
+}
+
+/// A volunteer's coefficient in a multiplier's constraint, multiplied.
+fn multiplied(problem: &Problem, multiplier: &Multiplier, i: usize) -> i128
+    requires known { multiplier.now.number < length problem.now.constraints }
+    requires narrow { unsigned_abs (multiplied_of problem.now.constraints i multiplier.now) < 2 ^ 127 }
+    ensures { result ≡ multiplied_of problem.now.constraints i multiplier.now }
+{
+    let constraint = problem.constraint(multiplier.number());
+    multiplier.factor() * constraint.coefficient(i)
 }
 
 /// A volunteer's weight, or 0 where the stage has none.

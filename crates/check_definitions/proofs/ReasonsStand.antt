@@ -11,6 +11,7 @@ use Rattle.pool_definitions.specs.Certificate.{Answer, Certifies, Stage, StageHo
 use Rattle.pool_definitions.specs.Lottery.{IsLottery, Lottery, LotteryRow, TotalAgrees, count}
 use Rattle.pool_definitions.specs.Pool.{Pool, everybody, is_quota_panel}
 use Rattle.bundle_definitions.specs.Ranges.{IsInRanges, is_group, is_row, is_stage, is_weight, reach}
+use Rattle.bundle_definitions.proofs.Weights.{positive_weights}
 use Rattle.check_definitions.specs.Caps.{first_above_cap}
 use Rattle.check_definitions.specs.Reasons.{Refusal, Valid, first_count, first_reason, first_repeated, listed, lottery_reasons, nobody_unless, one, reason, reasons, reasons_from, shared_count, stage_reasons, verdict}
 use Rattle.check_definitions.proofs.PassedCaps.{capped_where_no_panel, no_panel_where_capped}
@@ -86,8 +87,7 @@ lottery_holds pool answer ranges none =
       panels = panels_pass (is_quota_panel pool) lottery (reason_none 0 1 (find (λ panel. not (is_quota_panel pool panel)) (listed lottery)) none.0);
       different = all_different_where_none (listed lottery) (reason_none 0 2 (first_repeated [] (listed lottery)) none.1.0);
       total_agrees = record {
-        weights = list_all_implies (is_row n) (λ row. leb 1 row.weight)
-            (λ row h. (and_parts (leb 1 row.weight) (leb row.weight (10 ^ 38)) (and_parts (is_weight row.weight) (is_group n row.panel) h).0).0) lottery.rows ranges.rows;
+        weights = positive_weights n lottery.rows ranges.rows;
         total = eqb-true lottery.total (sum_by (λ row. row.weight) lottery.rows)
             (unless_none (eqb lottery.total (sum_by (λ row. row.weight) lottery.rows)) (reason_none 0 3 (nobody_unless (eqb lottery.total (sum_by (λ row. row.weight) lottery.rows))) none.1.1.0));
       };

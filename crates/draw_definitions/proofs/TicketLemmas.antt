@@ -51,7 +51,3 @@ weight_at (first ∷ rows) (suc j) row l e = weight_at rows j row (omega arith) 
 -- the sum with one weight more
 pub sum_pushed : (weights : List ℕ) (j weight : ℕ) → j < length weights → get_or weights j 0 ≡ weight → sum (take (j + 1) weights) ≡ sum (take j weights) + weight
 sum_pushed weights j weight l e = sum_by_more (λ n. n) weights j 0 l ∙ ap (λ w. sum (take j weights) + w) e
-
--- the sum so far and one weight more are no more than all
-pub sum_room : (weights : List ℕ) (j weight : ℕ) → j < length weights → get_or weights j 0 ≡ weight → sum (take j weights) + weight ≤ sum weights
-sum_room weights j weight l e = let h = sum_by_more_le (λ n. n) weights j 0 l in omega arith

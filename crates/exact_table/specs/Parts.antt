@@ -1,9 +1,11 @@
 -- The parts of the table that are no rows, and what they keep.
-use Rattle.std.specs.Prelude.{◌≡◌, ◌≢◌, ℕ, ◌+◌, ◌-◌, nat_lt, ◌<◌, ◌≤◌, ◌^◌, ◌≤ℤ◌, pos, unsigned_abs, Bool, true, if◌then◌else◌, List, [], length, take, slice_index, slice_index_or}
+use Rattle.std.specs.Prelude.{◌≡◌, ◌≢◌, ℕ, ◌+◌, ◌-◌, nat_lt, ◌<◌, ◌≤◌, ◌^◌, ◌≤ℤ◌, ◌<ℤ◌, ℤ, pos, unsigned_abs, Bool, true, if◌then◌else◌, Option, Some, None, List, [], length, take, slice_index, slice_index_or}
 use Rattle.std.specs.List.{All}
 use Rattle.row_definitions.specs.declared.Var.{Var}
 use Rattle.row_definitions.specs.Row.{Row, reach}
-use Rattle.row_definitions.specs.Table.{Table}
+use Rattle.row_definitions.specs.declared.Var.TheVariants.{Column}
+use Rattle.row_definitions.specs.Choice.{basic_row}
+use Rattle.row_definitions.specs.Table.{Table, coefficient_at, row_at}
 use Rattle.row_definitions.specs.InOrder.{count_in, IsInOrder}
 use Rattle.exact_table.specs.Marks.{marks_of, settled_of, AreMarks}
 
@@ -53,6 +55,12 @@ pub record AreRows (table : Table) : Type 0 where
   pub entry_count : All (λ row. length row.a ≡ length table.sizes) table.rows
   pub small : All (λ row. reach table.sizes row < 2 ^ 127) table.rows
   pub sides : All (λ row. pos 0 ≤ℤ row.b) table.rows
+
+-- where a column is basic: the right side of its row, and its coefficient there, which is above 0
+abbrev pub TellsBasic : Table → ℕ → Option (ℤ × ℤ) → Type 0
+TellsBasic table column None = basic_row table (Column column) ≡ None
+TellsBasic table column (Some entry) =
+    (at : ℕ) × (basic_row table (Column column) ≡ Some at) × (entry.0 ≡ (row_at table at).b) × (entry.1 ≡ coefficient_at table at (Column column)) × (pos 0 <ℤ entry.1)
 
 -- each number of a row fits 128 bits with a sign
 pub record IsSmall (row : Row) : Type 0 where
