@@ -1,28 +1,21 @@
 -- Where a search stands: at a front, at a child that it goes on to, and back at the front.
-use Rattle.std.proofs.Common.{◌≡◌, ℕ, zero, suc, ◌+◌, ◌-◌, ◌≤◌, ◌<◌, true, false, ltb, ◌&&◌, List, [], ◌∷◌, ◌++◌, length, take, drop, set, map, get_or, Some, refl, sym, ap, ◌∙◌, arith, subst, length-append}
-use Rattle.std.specs.Prelude.{int_le, int_lt, slice_get, slice_index}
+use Rattle.std.proofs.Common.{◌≡◌, ℕ, ◌+◌, ◌-◌, ◌<◌, true, ◌&&◌, List, [], ◌∷◌, ◌++◌, length, take, set, sym, ap, ◌∙◌, arith, subst}
+use Rattle.std.specs.Prelude.{int_le, int_lt}
 use Rattle.std.specs.List.{list_all}
-use Rattle.std.proofs.lemmas.Bool.{and_parts, and_from, ltb-true, ltb-false}
-use Rattle.std.proofs.lemmas.Option.{slice_get-get_or}
-use Rattle.std.proofs.lemmas.List.{length-set, get_or-append-add}
-use Rattle.std.proofs.lemmas.List.Elements.{All-get_or}
-use Rattle.std.proofs.lemmas.List.Sums.{get_or-le-sum_by}
-use Rattle.std.proofs.Math.ListN.{get_or-append}
+use Rattle.std.proofs.lemmas.Bool.{and_parts, and_from}
+use Rattle.std.proofs.lemmas.List.{length-set}
 use Rattle.row_definitions.specs.Row.{Row}
-use Rattle.search_definitions.specs.Classes.{Class, Classes, KeepsLimits}
-use Rattle.search_definitions.specs.Fronts.{is_reachable, is_live_above, optimistic, sizes_of, taken_by}
-use Rattle.search_definitions.proofs.Limits.{all_from_each}
+use Rattle.search_definitions.specs.Classes.{Class, Classes}
+use Rattle.search_definitions.specs.Fronts.{is_reachable, is_live_above, optimistic, taken_by}
 use Rattle.cap_search.specs.Front.{Tracks}
 use Rattle.cap_search.specs.Steps.{Begins, StandsAt}
 use Rattle.front_laws.specs.Front.{CanTake, AreWithin}
 use Rattle.cap_search.specs.Weights.{Weighs, WeighEach}
 use Rattle.cap_search.specs.declared.searching.Search.{Search}
-use Rattle.cap_search.specs.declared.tally.Tally.{Tally}
-use Rattle.cap_search.specs.declared.weighing.Weights.{Weights}
-use Rattle.front_laws.proofs.ClosedRows.{each_front}
+use Rattle.front_laws.proofs.ClosedRows.{each_back}
 use Rattle.front_laws.proofs.Fronts.{within_more, placed, front_length}
-use Rattle.front_laws.proofs.Tracking.{Stands, nothing_taken}
-use Rattle.front_laws.proofs.WeightLaws.{weighs_front, element_at}
+use Rattle.front_laws.proofs.Tracking.{nothing_taken}
+use Rattle.front_laws.proofs.WeightLaws.{weighs_back}
 
 -- the same place with another tally
 pub stands_with : (all : Classes) (closed : List Row) (row : Row) (depth : ℕ) (rest rest' : List Class) (before after : Search) → StandsAt all closed row depth rest before → after.counts.items ≡ before.counts.items →
@@ -91,9 +84,8 @@ parent_stands all closed row depth count rest before child after stands below e 
       live = ap (is_reachable all) front ∙ stands.live;
       counts = subst (AreWithin all) (sym front) stands.counts;
       tally = subst (λ xs. Tracks all (take depth xs) rest after.tally) (sym f) tracks;
-      weights = subst (λ x. Weighs all row x after.weights) (sym front) (subst (Weighs all row front_before) (sym h) (weighs_front all row front_before count _ (subst (λ x. Weighs all row x child.weights) e below.weights)));
-      closed_rows = subst (λ x. WeighEach all closed x after.closed.items) (sym front)
-          (subst (WeighEach all closed front_before) (sym i) (each_front all closed front_before count child.closed.items (subst (λ x. WeighEach all closed x child.closed.items) e below.closed_rows)));
+      weights = subst (Weighs all row (take depth after.counts.items)) (sym h) (weighs_back all row front_before _ _ count _ e front below.weights);
+      closed_rows = subst (WeighEach all closed (take depth after.counts.items)) (sym i) (each_back all closed front_before _ _ count _ e front below.closed_rows);
     }
 
 -- a child that is in reach, and whose weights allow it, is live

@@ -5,16 +5,10 @@ use Rattle.check_definitions.specs.Visits.{stage_search}
 use Rattle.pool_definitions.specs.Certificate.{Stage}
 use Rattle.pool_definitions.specs.Pool.{Pool}
 use Rattle.search_definitions.specs.Visits.{Search}
-use Rattle.cap_search.specs.declared.searching.BudgetSpent.{BudgetSpent}
 use Rattle.cap_search.specs.declared.searching.SearchStop.{SearchStop}
 use Rattle.cap_search.specs.declared.searching.SearchStop.TheVariants.{Spent, OutOfMemory}
 
--- what a search that has its memory answers: what it finds where its visits stay within the budget, else that the budget is spent
-abbrev pub AnswersWithin : Search → ℕ → Result (Option (List ℕ)) BudgetSpent → Type 0
-AnswersWithin search nodes (Ok found) = (search.visits ≤ nodes) × (found ≡ search.found)
-AnswersWithin search nodes (Err spent) = nodes < search.visits
-
--- the same, where want of memory may come at any time
+-- what a search finds where its visits stay within the budget, else that the budget is spent; want of memory may come at any time
 abbrev pub Answers : Search → ℕ → Result (Option (List ℕ)) SearchStop → Type 0
 Answers search nodes (Ok found) = (search.visits ≤ nodes) × (found ≡ search.found)
 Answers search nodes (Err Spent) = nodes < search.visits

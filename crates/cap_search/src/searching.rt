@@ -3,7 +3,8 @@
 
 ghost use Rattle.std.specs.Prelude.{◌≡◌, ◌≤◌, ◌<◌, ◌+◌, [], ◌∷◌, ◌++◌, true, false, ◌&&◌, length, take, drop, int_le, int_lt, IfOk, OnOk, OnErr};
 ghost use Rattle.std.specs.List.{list_all};
-ghost use Rattle.cap_search.specs.Answers.{Answers, AnswersWithin};
+ghost use Rattle.front_laws.specs.Answers.{AnswersWithin};
+ghost use Rattle.cap_search.specs.Answers.{Answers};
 ghost use Rattle.cap_search.specs.Steps.{Begins, Finds, StandsAt, Steps, child_above, children_above, counts_at};
 ghost use Rattle.front_laws.specs.Front.{CanTake};
 ghost use Rattle.cap_search.specs.Terms.{AreTerms};

@@ -9,7 +9,7 @@ use Rattle.search_definitions.specs.Classes.{Classes}
 use Rattle.search_definitions.specs.Fronts.{optimistic}
 use Rattle.front_laws.specs.Weights.{Weighs, WeighEach}
 use Rattle.front_laws.proofs.Beside.{get_set_other, get_set_same, same_at}
-use Rattle.front_laws.proofs.WeightLaws.{weighs_front}
+use Rattle.front_laws.proofs.WeightLaws.{weighs_back, weighs_front}
 
 -- the first rows weigh the child and are attained, the others weigh the front
 pub record WeighedTo {W : Type 0} (read : W → List ℤ) (all : Classes) (rows : List Row) (front : List ℕ) (count done : ℕ) (weighings : List W) : Type 0 where
@@ -84,5 +84,9 @@ all_weighed {W} {read} all rows front count done weighings to l = record {
 }
 
 -- what weighs a child in each row weighs the front that it goes on from
-pub each_front : {W : Type 0} {read : W → List ℤ} (all : Classes) (rows : List Row) (front : List ℕ) (count : ℕ) (weighings : List W) → WeighEach read all rows (front ++ count ∷ []) weighings → WeighEach read all rows front weighings
-each_front {read = read} all rows front count weighings weighs = record { one_each = weighs.one_each; each = λ i r w e f. weighs_front all r front count (read w) (weighs.each i r w e f) }
+pub each_back : {W : Type 0} {read : W → List ℤ} (all : Classes) (rows : List Row) (front child back : List ℕ) (count : ℕ) (weighings : List W) → child ≡ front ++ count ∷ [] → back ≡ front →
+    WeighEach read all rows child weighings → WeighEach read all rows back weighings
+each_back {read = read} all rows front child back count weighings e f weighs = record {
+  one_each = weighs.one_each;
+  each = λ i r w at here. weighs_back all r front child back count (read w) e f (weighs.each i r w at here);
+}

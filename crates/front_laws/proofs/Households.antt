@@ -1,17 +1,16 @@
 -- At most one is taken of each household.
-use Rattle.std.proofs.Common.{◌≡◌, ℕ, ◌+◌, ◌≤◌, Bool, true, false, cond, ◌&&◌, eqb, leb, List, [], ◌∷◌, ◌++◌, length, Option, Some, None, refl, sym, ap, ◌∙◌, arith, subst}
+use Rattle.std.proofs.Common.{◌≡◌, ℕ, ◌+◌, ◌≤◌, Bool, true, false, cond, eqb, leb, List, [], ◌∷◌, ◌++◌, length, Option, Some, None, refl, sym, ap, ◌∙◌, arith, subst}
 use Rattle.std.specs.Prelude.{slice_index}
-use Rattle.std.specs.List.{list_all}
-use Rattle.std.proofs.lemmas.Bool.{and_from, eqb-true, eq-eqb, false≢true, false_from_ne_true}
+use Rattle.std.proofs.lemmas.Bool.{eqb-true, eq-eqb, false≢true, false_from_ne_true}
 use Rattle.std.proofs.lemmas.List.Elements.{All-get_or}
 use Rattle.basic_laws.proofs.Each.{each_from_list_all, list_all_implies}
 use Rattle.search_definitions.specs.Classes.{Class, Classes, IsKnownHousehold, KeepsLimits, volunteer_count}
 use Rattle.search_definitions.specs.Compositions.{taken_of, is_of_household, takes_one_of, takes_one_a_household}
-use Rattle.search_definitions.specs.Fronts.{is_reachable, size_reachable, taken_by, values_reachable}
+use Rattle.search_definitions.specs.Fronts.{is_reachable, taken_by}
 use Rattle.search_definitions.proofs.Limits.{all_from_each}
 use Rattle.front_laws.specs.Front.{FrontTally, Tracks}
 use Rattle.front_laws.specs.Homes.{AreFew, CanGiveAt, HasMoreAt, has_room}
-use Rattle.front_laws.proofs.Tracking.{Stands, few_taken, nothing_taken, taken_more, taken_within_all}
+use Rattle.front_laws.proofs.Tracking.{Stands, few_taken, taken_more, taken_within_all}
 
 -- ---- the household of a class
 

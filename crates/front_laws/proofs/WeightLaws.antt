@@ -160,6 +160,11 @@ weighs_front all row front count weighing weighs = record {
   each = λ depth l. weighs.each depth (omega (arith, length-append front (count ∷ []))) ∙ ap (weight_in row.a) (take-append-le depth front (count ∷ []) l);
 }
 
+-- the same, where the front and the child are read of a search
+pub weighs_back : (all : Classes) (row : Row) (front child back : List ℕ) (count : ℕ) (weighing : List ℤ) → child ≡ front ++ count ∷ [] → back ≡ front → Weighs all row child weighing → Weighs all row back weighing
+weighs_back all row front child back count weighing e f weighs =
+    subst (λ x. Weighs all row x weighing) (sym f) (weighs_front all row front count weighing (subst (λ x. Weighs all row x weighing) e weighs))
+
 -- the empty front
 pub weighs_none : (all : Classes) (row : Row) (weighing : List ℤ) → length weighing ≡ length all.classes + 1 → at weighing 0 ≡ pos 0 → Weighs all row [] weighing
 weighs_none all row weighing room none = record {

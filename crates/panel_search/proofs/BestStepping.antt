@@ -1,19 +1,14 @@
 -- The children of a front one after the other, in the search for the best composition.
-use Rattle.std.proofs.Common.{◌≡◌, ℕ, zero, suc, ◌+◌, ◌-◌, ◌≤◌, ◌<◌, true, false, cond, ltb, ◌&&◌, List, [], ◌∷◌, ◌++◌, length, take, drop, set, filter, map, get_or, Some, None, Result, Ok, Err, refl, sym, ap, ◌∙◌, arith, subst, length-append}
-use Rattle.std.specs.Prelude.{IsErr, int_le, int_lt, slice_get, slice_index}
+use Rattle.std.proofs.Common.{◌≡◌, ℕ, zero, suc, ◌+◌, ◌-◌, ◌≤◌, ◌<◌, true, false, cond, ◌&&◌, List, [], ◌∷◌, ◌++◌, length, take, drop, set, filter, None, Result, Ok, Err, refl, sym, ap, ◌∙◌, arith, subst}
+use Rattle.std.specs.Prelude.{IsErr, int_le, int_lt}
 use Rattle.std.specs.List.{list_all}
-use Rattle.std.proofs.lemmas.Bool.{false≢true, and_parts, and_from, ltb-true, ltb-false}
-use Rattle.std.proofs.lemmas.Option.{slice_get-get_or}
-use Rattle.std.proofs.lemmas.List.{length-set, get_or-append-add}
-use Rattle.std.proofs.lemmas.List.Elements.{All-get_or}
-use Rattle.std.proofs.lemmas.List.Sums.{get_or-le-sum_by}
-use Rattle.std.proofs.Math.ListN.{get_or-append}
+use Rattle.std.proofs.lemmas.Bool.{false≢true, and_parts, and_from}
+use Rattle.std.proofs.lemmas.List.{length-set}
 use Rattle.row_definitions.specs.Row.{Row}
-use Rattle.search_definitions.specs.Classes.{Class, Classes, KeepsLimits}
+use Rattle.search_definitions.specs.Classes.{Class, Classes}
 use Rattle.search_definitions.specs.Compositions.{counts_of}
-use Rattle.search_definitions.specs.Fronts.{is_reachable, is_live_above, optimistic, sizes_of, HaveEntries, HaveReach}
+use Rattle.search_definitions.specs.Fronts.{is_reachable, is_live_above, optimistic, HaveEntries, HaveReach}
 use Rattle.search_definitions.specs.Visits.{Pricing, best_search, enter_best}
-use Rattle.search_definitions.proofs.Limits.{all_from_each}
 use Rattle.panel_search.specs.Front.{Tracks}
 use Rattle.panel_search.specs.Pricing.{BeginsAt, StandsAt, Moves, children_best}
 use Rattle.front_laws.specs.Front.{CanTake, AreWithin}
@@ -22,13 +17,11 @@ use Rattle.front_laws.specs.Weights.{AreNarrow, EachNarrow}
 use Rattle.panel_search.specs.Weights.{Weighs, WeighEach}
 use Rattle.panel_search.specs.declared.searching.BudgetSpent.{BudgetSpent}
 use Rattle.panel_search.specs.declared.pricing.BestSearch.{BestSearch}
-use Rattle.panel_search.specs.declared.tally.Tally.{Tally}
-use Rattle.panel_search.specs.declared.weighing.Weights.{Weights}
-use Rattle.front_laws.proofs.ClosedRows.{each_front}
+use Rattle.front_laws.proofs.ClosedRows.{each_back}
 use Rattle.front_laws.proofs.Tracking.{Stands, comes_next}
 use Rattle.panel_search.proofs.Ranges.{LiveBetween, below_next, below_none, live_counts}
 use Rattle.front_laws.proofs.Fronts.{within_more, placed, front_length}
-use Rattle.front_laws.proofs.WeightLaws.{weighs_front, element_at}
+use Rattle.front_laws.proofs.WeightLaws.{weighs_back}
 use Rattle.wave_definitions.specs.Below.{child_best, search_from}
 
 -- ---- visits only grow
@@ -202,9 +195,8 @@ parent_stands all closed row depth count rest before child after stands below e 
       live = ap (is_reachable all) front ∙ stands.live;
       counts = subst (AreWithin all) (sym front) stands.counts;
       tally = subst (λ xs. Tracks all (take depth xs) rest after.tally) (sym f) tracks;
-      priced = subst (λ x. Weighs all row x after.priced) (sym front) (subst (Weighs all row front_before) (sym h) (weighs_front all row front_before count _ (subst (λ x. Weighs all row x child.priced) e below.priced)));
-      closed_rows = subst (λ x. WeighEach all closed x after.closed.items) (sym front)
-          (subst (WeighEach all closed front_before) (sym i) (each_front all closed front_before count child.closed.items (subst (λ x. WeighEach all closed x child.closed.items) e below.closed_rows)));
+      priced = subst (Weighs all row (take depth after.counts.items)) (sym h) (weighs_back all row front_before _ _ count _ e front below.priced);
+      closed_rows = subst (WeighEach all closed (take depth after.counts.items)) (sym i) (each_back all closed front_before _ _ count _ e front below.closed_rows);
     }
 
 -- a live child's search is entered

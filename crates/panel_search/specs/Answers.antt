@@ -7,12 +7,7 @@ use Rattle.panel_search.specs.declared.searching.BudgetSpent.{BudgetSpent}
 use Rattle.panel_search.specs.declared.searching.SearchStop.{SearchStop}
 use Rattle.panel_search.specs.declared.searching.SearchStop.TheVariants.{Spent, OutOfMemory}
 
--- what a search that has its memory answers: what it finds where its visits stay within the budget, else that the budget is spent
-abbrev pub AnswersWithin : Search → ℕ → Result (Option (List ℕ)) BudgetSpent → Type 0
-AnswersWithin search nodes (Ok found) = (search.visits ≤ nodes) × (found ≡ search.found)
-AnswersWithin search nodes (Err spent) = nodes < search.visits
-
--- what the search finds where its visits stay within the budget, else that the budget is spent; want of memory may come at any time
+-- what a search finds where its visits stay within the budget, else that the budget is spent; want of memory may come at any time
 abbrev pub Answers : Search → ℕ → Result (Option (List ℕ)) SearchStop → Type 0
 Answers search nodes (Ok found) = (search.visits ≤ nodes) × (found ≡ search.found)
 Answers search nodes (Err Spent) = nodes < search.visits

@@ -1,5 +1,5 @@
 -- One step of the search for the best composition.
-use Rattle.std.specs.Prelude.{◌≡◌, ◌≤◌, ◌<◌, ℕ, if◌then◌else◌, true, List, [], ◌∷◌, ◌++◌, length, take, drop, fold, Result, Ok, Err, Some, None, slice_get}
+use Rattle.std.specs.Prelude.{◌≡◌, ◌≤◌, ◌<◌, ℕ, if◌then◌else◌, true, List, [], ◌∷◌, ◌++◌, length, take, drop, fold, Result, Ok, Err, Some, None}
 use Rattle.row_definitions.specs.Row.{Row}
 use Rattle.search_definitions.specs.Classes.{Class, Classes}
 use Rattle.search_definitions.specs.Fronts.{is_reachable}

@@ -1,7 +1,8 @@
 //! The search for the first composition, front by front: classes in their order, of each the greatest count first.
 
 ghost use Rattle.std.specs.Prelude.{◌≡◌, true, ◌≤◌, ◌<◌, ◌+◌, [], ◌∷◌, ◌++◌, length, take, drop, IfOk, OnOk, OnErr};
-ghost use Rattle.panel_search.specs.Answers.{Answers, AnswersWithin};
+ghost use Rattle.front_laws.specs.Answers.{AnswersWithin};
+ghost use Rattle.panel_search.specs.Answers.{Answers};
 ghost use Rattle.search_definitions.specs.Compositions.{first_composition};
 ghost use Rattle.panel_search.specs.Front.{Tracks};
 ghost use Rattle.panel_search.specs.Steps.{StandsAt, Steps, Finds, child_first, children_first, counts_below, LiveWithin};

@@ -1,10 +1,10 @@
 -- The search below one front, with a floor of its own, and the best composition below it.
-use Rattle.std.specs.Prelude.{ℕ, ◌≤◌, ◌<◌, if◌then◌else◌, List, ◌++◌, filter, map, length, slice_index, ℤ, Option, None}
+use Rattle.std.specs.Prelude.{ℕ, ◌≤◌, if◌then◌else◌, List, ◌++◌, filter, map, length, ℤ, Option, None}
 use Rattle.front_laws.specs.Front.{AreWithin}
 use Rattle.row_definitions.specs.Row.{Row}
 use Rattle.search_definitions.specs.Classes.{Class, Classes}
 use Rattle.search_definitions.specs.Compositions.{all_counts, attains, first_greatest, is_composition, weight_in}
-use Rattle.search_definitions.specs.Fronts.{is_live_above, later_than, sizes_of}
+use Rattle.search_definitions.specs.Fronts.{is_live_above, later_than}
 use Rattle.search_definitions.specs.Visits.{Pricing, enter_best}
 
 -- a front has at most one count for each class, and each is at most the size of its class

@@ -1,4 +1,4 @@
-use Rattle.std.proofs.Common.{◌≡◌, ◌∙◌, ℕ, Bool, not, List, Vec, Global, sym, ap}
+use Rattle.std.proofs.Common.{◌∙◌, ℕ, Bool, not, Vec, Global, sym, ap}
 use Rattle.std.specs.List.{list_any, range_with_len}
 use Rattle.search_definitions.specs.Classes.{Class, are_alike as alike, class_by}
 use Rattle.front_laws.proofs.Filters.{mapped_passed, mapped_taken}

@@ -1,4 +1,4 @@
-use Rattle.std.proofs.Common.{◌≡◌, ◌∙◌, length}
+use Rattle.std.proofs.Common.{◌∙◌, length}
 use Rattle.std.proofs.lemmas.Bool.{false≢true}
 use Rattle.search_definitions.specs.Classes.{shared_household as shared}
 use Rattle.front_laws.proofs.Places.{made_at, made_within}

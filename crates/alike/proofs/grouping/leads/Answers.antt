@@ -1,5 +1,4 @@
-use Rattle.std.proofs.Common.{◌≡◌, ◌∙◌, ◌||◌, sym, ap, false, not, length, arith}
-use Rattle.std.specs.List.{list_any, range_with_len}
+use Rattle.std.proofs.Common.{◌∙◌, ◌||◌, sym, ap, not, arith}
 use Rattle.search_definitions.specs.Classes.{are_alike as alike}
 use Rattle.search_definitions.proofs.ByClass.{any_true}
 use Rattle.front_laws.proofs.Filters.{any_next}

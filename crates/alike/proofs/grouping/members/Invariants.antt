@@ -1,4 +1,4 @@
-use Rattle.std.proofs.Common.{◌≡◌, length}
+use Rattle.std.proofs.Common.{◌≡◌}
 use Rattle.std.specs.List.{filter, range_with_len}
 use Rattle.search_definitions.specs.Classes.{are_alike as alike}
 use Rattle.alike.proofs.grouping.members.Given as goal

@@ -7,7 +7,7 @@ use Rattle.basic_laws.proofs.Sums.{total, sum_by-is-total}
 use lib.Signed.{lt_z}
 use Rattle.row_definitions.specs.Row.{sum_of_sizes}
 use Rattle.search_definitions.specs.Classes.{Class}
-use Rattle.panel_search.specs.Weights.{at}
+use Rattle.front_laws.specs.Weights.{at}
 use Rattle.pricing_pool.proofs.tests.is_small.Goals as goal
 
 small_sum : (classes : List Class) (xs : List ℤ) (m : ℕ) → ((t : ℕ) → t < length xs → unsigned_abs (at xs t) ≤ m) → sum_of_sizes (map (λ class. length class.members) classes) xs ≤ total (λ class. length class.members) classes * m

@@ -1,6 +1,6 @@
 use Rattle.std.proofs.Common.{ℕ, ◌<◌, ◌≤◌}
 use Rattle.std.specs.Prelude.{unsigned_abs}
-use Rattle.panel_search.specs.Weights.{at}
+use Rattle.front_laws.specs.Weights.{at}
 use Rattle.pricing_pool.proofs.tests.is_small.Given as goal
 
 abbrev pub invariant-loop-entry : goal.invariant-loop-entry
