@@ -10,6 +10,7 @@ mod candidates;
 mod codes;
 mod combining;
 mod dice;
+mod divisors;
 mod eliminating;
 mod guesses;
 mod rows;
@@ -19,4 +20,6 @@ mod table;
 mod tests;
 mod worst;
 
+pub use dice::Dice;
+pub use divisors::{common_divisor, divide_by_common};
 pub use table::Table;

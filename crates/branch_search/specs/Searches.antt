@@ -1,11 +1,14 @@
--- What a search for a point of whole numbers finds, what it spends, and why it stops.
-use Rattle.std.specs.Prelude.{◌≡◌, ℕ, ◌+◌, ◌<◌, ◌≤◌, ◌^◌, List, length, slice_index_or, ℤ, ◌≤ℤ◌}
+-- What a search for a point of whole numbers finds, what it spends, and why it stops; and quotients rounded up.
+use Rattle.std.specs.Prelude.{◌≡◌, ℕ, ◌+◌, ◌<◌, ◌≤◌, ◌^◌, nat_lt, if◌then◌else◌, Result, List, length, slice_index_or, ℤ, pos, ◌≤ℤ◌, unsigned_abs}
+use Rattle.std.specs.Int.{int_div_euclid, int_rem_euclid}
 use Rattle.box_table.specs.Sizes.{Sizes}
 use Rattle.proof_limits.specs.Budgets.{Left}
+use Rattle.proof_limits.specs.declared.passes.Op.TheVariants.{Add}
 use Rattle.proof_limits.specs.Spans.{Ends}
 use Rattle.proof_limits.specs.declared.stops.Limit.TheVariants.{Pivots, Nodes, Lottery}
 use Rattle.proof_limits.specs.declared.stops.Stop.{Stop}
 use Rattle.proof_limits.specs.declared.stops.Stop.TheVariants.{Wide, Limited, Spent, Lost, OutOfMemory}
+use Rattle.proof_limits.specs.Widths.{narrowed}
 use Rattle.branch_search.specs.declared.searching.Found.{Found}
 use Rattle.branch_search.specs.declared.searching.Found.TheVariants.{Point, Nothing, Doubt}
 
@@ -39,3 +42,8 @@ SearchStops table left (Spent Nodes) = left.nodes ≡ 0
 SearchStops table left (Spent Lottery) = ⊥
 SearchStops table left Lost = Unit {0}
 SearchStops table left OutOfMemory = Unit {0}
+
+-- the least whole number that is no less than a quotient by a number above 0: the quotient rounded down, and 1 more where something is left;
+-- or the stop where it is above 2^62 by absolute value
+abbrev pub rounded_up : ℤ → ℤ → Result ℤ Stop
+rounded_up x y = narrowed Add (int_div_euclid x y) (if nat_lt 0 (unsigned_abs (int_rem_euclid x y)) then pos 1 else pos 0)

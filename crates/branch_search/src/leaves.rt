@@ -1,9 +1,9 @@
 //! Leaves of a tree: the multipliers by which a table refutes a node.
 
-ghost use Rattle.std.specs.Prelude.{◌≤ℤ◌, pos, IfErr};
+ghost use Rattle.std.specs.Prelude.{◌≤ℤ◌, pos, IfErr, IfOk};
 ghost use Rattle.branch_search.specs.Nodes.{IsLostOrMemory};
 
-use frac128::gcd;
+use box_table::common_divisor;
 use proof_limits::{Narrow, Stop};
 use proof_model::{Leaf, Multiplier};
 use std::alloc::{AllocError, Global};
@@ -35,20 +35,42 @@ pub(crate) fn leaf_of(
 ) -> Result<Leaf, Stop>
     ensures { IfErr result IsLostOrMemory }
 {
-    let scale = scale(refutation, weight_row);
-    let divisor = divisor(refutation, rows, scale);
-    let mut multipliers = Vec::new(alloc);
+    let mut pairs = Vec::new(alloc);
     for row in rows {
-        let factor = factor_of(refutation, *row);
+        let name = names.get(*row).copied().ok_or(Stop::Lost)?;
+        pairs.push((name, factor_of(refutation, *row)))?;
+    }
+    lowest_leaf(alloc, scale(refutation, weight_row), &pairs)
+}
+
+/// The leaf of a scale of at least 0 and of multipliers with the numbers of their constraints, divided by their greatest common divisor. Those
+/// that are 0 are left out. Its contract leaves the leaf open, since what a run makes is verified before it is told.
+pub fn lowest_leaf(alloc: Global, scale: Narrow, pairs: &[(usize, Narrow)]) -> Result<Leaf, Stop>
+    ensures { IfErr result IsLostOrMemory }
+{
+    let divisor = divisor_of(alloc, scale, pairs)?;
+    let mut multipliers = Vec::new(alloc);
+    for (number, factor) in pairs {
         if !factor.is_zero() {
-            let name = names.get(*row).copied().ok_or(Stop::Lost)?;
-            multipliers.push(Multiplier::new(name, factor.wide() / divisor))?;
+            multipliers.push(Multiplier::new(*number, factor.wide() / divisor))?;
         }
     }
-    match u64::try_from(scale.wide() / divisor) {
+    match u64::try_from(scale.abs().wide() / divisor) {
         Ok(scale) => Ok(Leaf::new(scale, multipliers)),
         Err(_) => Err(Stop::Lost),
     }
+}
+
+/// The greatest common divisor of a scale and of multipliers.
+fn divisor_of(alloc: Global, scale: Narrow, pairs: &[(usize, Narrow)]) -> Result<i128, AllocError>
+    ensures { IfOk result (λ divisor. pos 1 ≤ℤ divisor) }
+{
+    let mut numbers = Vec::new(alloc);
+    numbers.push(scale)?;
+    for (_, factor) in pairs {
+        numbers.push(*factor)?;
+    }
+    Ok(common_divisor(&numbers))
 }
 
 /// What the weights are multiplied by: minus the multiplier of their row where that is below 0, else 0.
@@ -62,15 +84,4 @@ fn scale(refutation: &[Narrow], weight_row: Option<usize>) -> Narrow {
 /// The multiplier of a row.
 fn factor_of(refutation: &[Narrow], row: usize) -> Narrow {
     refutation.get(row).copied().unwrap_or(Narrow::ZERO)
-}
-
-/// The greatest common divisor of a scale and the multipliers of rows, and 1 where all are 0.
-fn divisor(refutation: &[Narrow], rows: &[usize], scale: Narrow) -> i128
-    ensures { pos 1 ≤ℤ result }
-{
-    let mut divisor = scale.abs().wide();
-    for row in rows {
-        divisor = gcd(divisor, factor_of(refutation, *row).abs().wide());
-    }
-    divisor.max(1)
 }

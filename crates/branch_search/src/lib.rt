@@ -1,7 +1,7 @@
 //! A search for a point of whole numbers that keeps the spans of a table's columns and rows, by halves of a column's span where the table
 //! has a point that isn't whole; and the same search as a proof that there is none, written as the lines of a tree. Who takes what is found
 //! tests it: proved is that a point lies in the columns' spans, that each call is safe and ends, and that each stop tells the truth.
-//! Below stand `box_table`, `proof_model`, `proof_limits` and `frac128`.
+//! Below stand `box_table`, `proof_model` and `proof_limits`.
 #![tactic(auto)]
 
 mod leaves;
@@ -11,6 +11,9 @@ mod proving;
 mod searching;
 #[cfg(test)]
 mod tests;
+mod weighing;
 
+pub use leaves::lowest_leaf;
 pub use proving::prove_empty;
 pub use searching::{Found, search};
+pub use weighing::{add_weights, ceiling, reach_of, search_weighing};

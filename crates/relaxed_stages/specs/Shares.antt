@@ -1,11 +1,11 @@
 -- Fractions, and chances of columns.
-use Rattle.std.specs.Prelude.{ℕ, ℤ}
+use Rattle.std.specs.Prelude.{List, Option, ℤ}
 
 pub record Fraction : Type 0 where
   pub num : ℤ
   pub den : ℤ
 
--- how many columns have chances, and a common denominator of those that are settled
+-- the chance of each column, where it is settled, and a common multiple of the denominators of those that are
 pub record Settled : Type 0 where
-  pub columns : ℕ
+  pub shares : List (Option Fraction)
   pub common : ℤ

@@ -1,6 +1,7 @@
 //! The chances of columns, as far as they are settled.
 
-ghost use Rattle.std.specs.Prelude.{◌≡◌, ◌<◌, ◌≤ℤ◌, pos, length, IfOk};
+ghost use Rattle.std.specs.Prelude.{◌≡◌, ◌↔◌, IsTrue, ◌<◌, ◌≤ℤ◌, pos, length, replicate, slice_index_or, slice_set, None, Some, IsSome, IfOk, OnErr, OnOk};
+ghost use Rattle.std.specs.List.{All};
 
 use crate::shares::Share;
 use frac128::gcd;
@@ -17,12 +18,12 @@ pub struct Chances {
 }
 
 impl Model for Chances {
-    ghost use Rattle.std.specs.Prelude.{length, pos, ◌≤ℤ◌};
+    ghost use Rattle.std.specs.Prelude.{pos, ◌≤ℤ◌};
     ghost use Rattle.relaxed_stages.specs.Shares.{Settled};
 
     ghost Value = { Settled };
 
-    ghost view = { λ c. record { columns = length c.shares.items; common = c.common } };
+    ghost view = { λ c. record { shares = c.shares.items; common = c.common } };
 
     ghost invariant = { λ c. pos 1 ≤ℤ c.common };
 }
@@ -30,7 +31,7 @@ impl Model for Chances {
 impl Chances {
     /// Of so many columns none is settled.
     pub fn unsettled(alloc: Global, columns: usize) -> Result<Chances, AllocError>
-        ensures { IfOk result (λ chances. chances ≡ record { columns = columns; common = pos 1 }) }
+        ensures { IfOk result (λ chances. chances ≡ record { shares = replicate columns None; common = pos 1 }) }
     {
         Ok(Chances {
             shares: vec![in alloc; None; columns]?,
@@ -39,12 +40,16 @@ impl Chances {
     }
 
     /// The chance of a column, where it is settled.
-    pub fn share(&self, column: usize) -> Option<Share> {
+    pub fn share(&self, column: usize) -> Option<Share>
+        ensures { result ≡ slice_index_or self.now.shares column None }
+    {
         self.shares.get(column).copied().flatten()
     }
 
     /// Whether all columns are settled.
-    pub fn are_settled(&self) -> bool {
+    pub fn are_settled(&self) -> bool
+        ensures { IsTrue result ↔ All (λ share. IsSome share) self.now.shares }
+    {
         self.shares.iter().all(|share| share.is_some())
     }
 
@@ -56,10 +61,11 @@ impl Chances {
         self.common
     }
 
-    /// Settles a column's chance.
+    /// Settles a column's chance. After an error nothing has changed.
     pub fn settle(&mut self, column: usize, share: Share) -> Result<(), Stop>
-        requires { column < self.old.columns }
-        ensures { self.new.columns ≡ self.old.columns }
+        requires { column < length self.old.shares }
+        ensures shares { OnOk result (self.new.shares ≡ slice_set self.old.shares column (Some share)) }
+        ensures err { OnErr result (self.new ≡ self.old) }
     {
         self.common = self.common_with(share)?;
         self.shares[column] = Some(share);

@@ -1,10 +1,10 @@
 //! The level at which columns settle, by the weights and the cap of a stage.
 
-ghost use Rattle.std.specs.Prelude.{◌≡◌, length};
+ghost use Rattle.std.specs.Prelude.{◌≡◌, ◌≤ℤ◌, ◌<ℤ◌, pos, length};
 
 use crate::chances::Chances;
-use crate::divisors::divisor_of;
 use crate::shares::Share;
+use frac128::gcd;
 use proof_limits::{Narrow, Stop, narrow_add, narrow_div, wide_add, wide_mul, wide_sub};
 use quota_program::Program;
 
@@ -17,7 +17,8 @@ pub struct Level {
     pub unsettled: Narrow,
 }
 
-/// What weights by column come to, each taken for each member.
+/// What weights by column come to, each taken for each member. Its contract leaves the sums open, since what a run makes is verified before it
+/// is told.
 pub fn level_of(program: &Program, chances: &Chances, weights: &[Narrow]) -> Result<Level, Stop>
     requires weights { length weights.now ≡ length program.now.firsts }
 {
@@ -44,7 +45,8 @@ pub fn level_of(program: &Program, chances: &Chances, weights: &[Narrow]) -> Res
 }
 
 impl Level {
-    /// The chance at which all unsettled columns weigh, with the settled ones, a cap. There is one where their weights come to more than 0.
+    /// The chance at which all unsettled columns weigh, with the settled ones, a cap. There is one where their weights come to more than 0. Its
+    /// contract leaves the chance open, since what a run makes is verified before it is told.
     pub fn share(self, cap: Narrow, common: Narrow) -> Result<Share, Stop> {
         let num = wide_sub(wide_mul(cap.wide(), common.wide())?, self.settled)?;
         let den = wide_mul(self.unsettled.wide(), common.wide())?;
@@ -55,4 +57,12 @@ impl Level {
         let (num, den) = (narrow_div(num, divisor)?, narrow_div(den, divisor)?);
         Share::new(num, den).ok_or(Stop::Lost)
     }
+}
+
+/// The greatest common divisor of a number and one that is above 0.
+fn divisor_of(x: i128, y: i128) -> i128
+    requires { pos 0 <ℤ y }
+    ensures { pos 1 ≤ℤ result }
+{
+    gcd(x.checked_abs().unwrap_or(0), y).max(1)
 }

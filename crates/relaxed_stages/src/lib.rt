@@ -1,11 +1,9 @@
 //! The stages of a pool by the relaxation of its quotas: a point in the place of a lottery, which gives each volunteer a chance and meets the
 //! quotas on average. Each stage is a program of the quotas' rows, and its multipliers are a leaf that shows its cap. Below stand
-//! `quota_program`, `box_table` and `proof_limits`.
+//! `quota_program`, `branch_search`, `box_table` and `proof_limits`.
 #![tactic(auto)]
 
 mod chances;
-mod divisors;
-mod leaves;
 mod levels;
 mod refuted;
 mod shares;
@@ -16,4 +14,4 @@ mod tests;
 pub use chances::Chances;
 pub use levels::{Level, level_of};
 pub use shares::Share;
-pub use stages::{KindStage, Relaxed, relaxed_stages, row_spans, settle, table_of};
+pub use stages::{KindStage, Relaxed, everybody_left, relaxed_stages, row_spans, settle, table_of};

@@ -3,7 +3,7 @@
 ghost use Rattle.std.specs.Prelude.{◌≡◌, ◌+◌, ◌≤◌, length, IfOk};
 
 use crate::chances::Chances;
-use crate::divisors::common_divisor;
+use box_table::common_divisor;
 use proof_limits::{Narrow, Stop, narrow_add, narrow_div, times, wide_add, wide_sub};
 use quota_program::{Program, QuotaRow};
 use std::alloc::Global;
@@ -95,7 +95,7 @@ fn charge_columns(
 fn lowest(mut weights: Vec<Narrow>, cap: i128) -> Result<Shown, Stop>
     ensures { IfOk result (λ shown. length shown.weights.items ≡ length weights.items) }
 {
-    let divisor = common_divisor(Narrow::ZERO, &weights);
+    let divisor = common_divisor(&weights);
     let is_tight = cap % divisor == 0;
     let scale = if is_tight { divisor } else { 1 };
     for weight in weights.iter_mut() {

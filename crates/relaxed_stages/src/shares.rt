@@ -1,8 +1,10 @@
 //! Chances as fractions of narrow numbers.
 
-ghost use Rattle.std.specs.Prelude.{◌≡◌, ◌≤ℤ◌, pos, SomeIff};
+ghost use Rattle.std.specs.Prelude.{◌≡◌, ◌↔◌, IsTrue, ◌≤ℤ◌, ◌<ℤ◌, ◌*ℤ◌, int_div, pos, IfErr, SomeIff};
+ghost use Rattle.proof_limits.specs.Stops.{IsWideOrMemory};
+ghost use Rattle.proof_limits.specs.Widths.{narrowed};
 
-use proof_limits::{Narrow, Stop, narrow_mul, times};
+use proof_limits::{Narrow, Op, Stop, narrow_mul, times};
 use std::marker::Model;
 
 /// A fraction with a denominator of at least 1.
@@ -64,14 +66,26 @@ impl Share {
         self.den
     }
 
-    /// The fraction times a multiple of its denominator.
-    pub fn scaled(self, multiple: Narrow) -> Result<Narrow, Stop> {
-        let factor = multiple.wide().checked_div(self.den.wide());
-        narrow_mul(self.num.wide(), factor.ok_or(Stop::Lost)?)
+    /// The fraction times a multiple of its denominator: the numerator times the quotient.
+    pub fn scaled(self, multiple: Narrow) -> Result<Narrow, Stop>
+        ensures value { result ≡ narrowed Op.Mul self.num (int_div multiple self.den) }
+        ensures stops { IfErr result IsWideOrMemory }
+    {
+        narrow_mul(self.num.wide(), quotient(multiple, self.den))
     }
 
     /// Whether it is less than another one.
-    pub fn is_below(self, other: Share) -> bool {
+    pub fn is_below(self, other: Share) -> bool
+        ensures { IsTrue result ↔ ((self.num *ℤ other.den) <ℤ (other.num *ℤ self.den)) }
+    {
         times(self.num, other.den) < times(other.num, self.den)
     }
+}
+
+/// A quotient by a number of at least 1, rounded towards 0.
+fn quotient(number: Narrow, divisor: Narrow) -> i128
+    requires { pos 1 ≤ℤ divisor }
+    ensures { result ≡ int_div number divisor }
+{
+    number.wide() / divisor.wide()
 }

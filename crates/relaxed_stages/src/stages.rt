@@ -4,11 +4,11 @@ ghost use Rattle.std.specs.Prelude.{◌≡◌, ◌<◌, ◌≤◌, ◌^◌, leng
 ghost use Rattle.box_table.specs.Sizes.{SameSizes};
 
 use crate::chances::Chances;
-use crate::leaves::lowest_leaf;
 use crate::levels::level_of;
 use crate::refuted::{Shown, shown_by};
 use crate::shares::Share;
 use box_table::Table;
+use branch_search::lowest_leaf;
 use proof_limits::{Budget, Narrow, Span, Stop, narrow_add, narrow_mul};
 use proof_model::Leaf;
 use quota_program::Program;
@@ -35,7 +35,8 @@ pub enum Relaxed {
     Settled(Vec<KindStage>, Chances, bool),
 }
 
-/// The stages of a pool by the relaxation of its quotas.
+/// The stages of a pool by the relaxation of its quotas. Its contract says only that it is safe and ends, since what a run makes is verified
+/// before it is told.
 pub fn relaxed_stages(
     alloc: Global,
     program: &Program,
@@ -122,7 +123,8 @@ fn stage(
     match last {
         Some((shown, multipliers)) => found_by(alloc, program, shown, share, &multipliers, earlier),
         None => {
-            let shown = everybody_left(alloc, program, chances)?;
+            let (weights, cap) = everybody_left(alloc, program, chances)?;
+            let shown = Shown::of_weights(weights, cap);
             found_by(alloc, program, shown, share, &[], earlier)
         }
     }
@@ -182,8 +184,12 @@ fn gone_weights(
 }
 
 /// A weight of 1 for each unsettled column, and as a cap the most that they may have together.
-fn everybody_left(alloc: Global, program: &Program, chances: &Chances) -> Result<Shown, Stop>
-    ensures { IfOk result (λ shown. length shown.weights.items ≡ length program.now.firsts) }
+pub fn everybody_left(
+    alloc: Global,
+    program: &Program,
+    chances: &Chances,
+) -> Result<(Vec<Narrow>, Narrow), Stop>
+    ensures { IfOk result (λ found. length found.0.items ≡ length program.now.firsts) }
 {
     let mut weights = Vec::new(alloc);
     let mut cap = Narrow::ZERO;
@@ -195,7 +201,7 @@ fn everybody_left(alloc: Global, program: &Program, chances: &Chances) -> Result
         }
         weights.push(one_if(is_left))?;
     }
-    Ok(Shown::of_weights(weights, cap))
+    Ok((weights, cap))
 }
 
 fn one_if(holds: bool) -> Narrow {
@@ -234,8 +240,8 @@ fn found_by(
 
 /// Settles those whose weight is above 0.
 pub fn settle(chances: &mut Chances, weights: &[Narrow], share: Share) -> Result<(), Stop>
-    requires { length weights.now ≤ chances.old.columns }
-    ensures { chances.new.columns ≡ chances.old.columns }
+    requires { length weights.now ≤ length chances.old.shares }
+    ensures { length chances.new.shares ≡ length chances.old.shares }
 {
     for column in 0..weights.len() {
         if chances.share(column).is_none() && weights[column].get() > 0 {

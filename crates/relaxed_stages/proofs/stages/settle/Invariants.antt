@@ -1,5 +1,5 @@
-use Rattle.std.proofs.Common.{◌≡◌}
+use Rattle.std.proofs.Common.{◌≡◌, length}
 use Rattle.relaxed_stages.proofs.stages.settle.Given as goal
 
 abbrev pub invariant-loop-column : goal.invariant-loop-column
-invariant-loop-column l = l.chances.columns ≡ l.initial.chances.columns
+invariant-loop-column l = length l.chances.shares ≡ length l.initial.chances.shares
