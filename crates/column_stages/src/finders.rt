@@ -4,7 +4,7 @@ ghost use Rattle.std.specs.Prelude.{◌≡◌, ◌<◌, IfOk, IfSome, OnOk, leng
 ghost use Rattle.column_stages.specs.Shapes.{IsFinder};
 
 use box_table::Table;
-use branch_search::{Found, search};
+use branch_search::{Found, search, search_weighing};
 use proof_limits::{Budget, Narrow, Span, Stop, narrow_add, times, wide_add};
 use quota_program::Program;
 use relaxed_stages::{row_spans, table_of};
@@ -65,18 +65,17 @@ impl<'a> Finder<'a> {
         ensures counts { IfOk result (λ found. IfSome found (λ counts. length counts.items ≡ self.old.table.columns)) }
         ensures nodes { OnOk result (budget.new.nodes < budget.old.nodes) }
     {
-        let reach = reach(self.program, weights)?;
-        let mut rows = Vec::from_slice(self.alloc, &self.rows)?;
-        rows.push(Span::reaching(need, reach))?;
-        let mut goal = Vec::new(self.alloc);
-        for weight in weights {
-            goal.push(weight.get())?;
-        }
-        self.table.add_row(weights)?;
-        self.table.aim(&goal, 1)?;
-        let spans = self.program.spans();
-        let found = search(self.alloc, &mut self.table, spans, &rows, u64::MAX, budget)?;
-        self.table.drop_last_row(budget)?;
+        let span = Span::reaching(need, reach(self.program, weights)?);
+        let found = search_weighing(
+            self.alloc,
+            &mut self.table,
+            self.program.spans(),
+            &self.rows,
+            weights,
+            span,
+            u64::MAX,
+            budget,
+        )?;
         point_of(found, self.program.columns())
     }
 

@@ -3,13 +3,12 @@
 ghost use Rattle.std.specs.Prelude.{◌≡◌, IfOk, OnOk, length};
 ghost use Rattle.column_stages.specs.Shapes.{IsMix};
 
-use box_table::Table;
+use box_table::{Dice, Table};
 use proof_limits::{Budget, Narrow, Span, Stop, narrow_add, times, wide_add};
 use std::alloc::Global;
 
-const MULTIPLIER: u64 = 6_364_136_223_846_793_005;
-
-const INCREMENT: u64 = 1_442_695_040_888_963_407;
+/// The faces of the dice by which compositions differ in the goal.
+const FACES: u64 = 64;
 
 /// A composition, and whether it weighs less than the cap of a stage that was closed.
 #[derive(Debug, Drop)]
@@ -24,7 +23,7 @@ pub(crate) struct Mix {
     alloc: Global,
     table: Table,
     known: Vec<Known>,
-    dice: u64,
+    dice: Dice,
 }
 
 impl Mix {
@@ -41,7 +40,7 @@ impl Mix {
             alloc,
             table,
             known: Vec::new(alloc),
-            dice: 1,
+            dice: Dice::new(1),
         })
     }
 
@@ -58,9 +57,8 @@ impl Mix {
     {
         let mut column = Vec::from_slice(self.alloc, &counts)?;
         column.push(Narrow::ONE)?;
-        self.dice = self.dice.wrapping_mul(MULTIPLIER).wrapping_add(INCREMENT);
-        let face = (self.dice >> 33) % 64;
-        self.table.add_column(&column, -(face as i64 + 1))?;
+        self.table
+            .add_column(&column, -(self.dice.throw(FACES) as i64))?;
         self.known.push(Known {
             counts,
             is_lighter: false,

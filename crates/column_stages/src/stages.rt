@@ -1,14 +1,15 @@
 //! Stage after stage, over compositions.
 
-ghost use Rattle.std.specs.Prelude.{◌≡◌, ◌<◌, ◌≤ℤ◌, pos, IfOk, OnOk, length};
+ghost use Rattle.std.specs.Prelude.{◌≡◌, ◌<◌, IfOk, OnOk, length};
 ghost use Rattle.column_stages.specs.Shapes.{IsFinder, IsMix};
 
 use crate::finders::Finder;
 use crate::mixes::{Mix, weight_of};
-use frac128::gcd;
-use proof_limits::{Budget, Narrow, Stop, narrow_add, narrow_div, wide_add, wide_mul};
+use box_table::divide_by_common;
+use branch_search::ceiling;
+use proof_limits::{Budget, Narrow, Stop, narrow_add, wide_add, wide_mul};
 use quota_program::Program;
-use relaxed_stages::{Chances, KindStage, Level, Share, level_of, settle};
+use relaxed_stages::{Chances, KindStage, Level, Share, everybody_left, level_of, settle};
 use std::alloc::Global;
 
 /// What the compositions say of a pool.
@@ -20,7 +21,8 @@ pub enum Columned {
     Settled(Vec<KindStage>, Chances),
 }
 
-/// The stages of a pool over its compositions.
+/// The stages of a pool over its compositions. Its contract says only that it is safe and ends, since what a run makes is verified before it is
+/// told.
 pub fn column_stages(
     alloc: Global,
     program: &Program,
@@ -137,28 +139,14 @@ fn weights_of(
     ensures { IfOk result (λ weights. length weights.items ≡ length program.now.firsts) }
 {
     let mut weights = Vec::new(alloc);
-    let mut divisor = 0;
     for column in 0..program.columns() {
         let own = multipliers.get(column).copied().unwrap_or(Narrow::ZERO);
         let is_kept = program.spans()[column].least().is_zero() && own.get() < 0;
         let is_weighed = chances.share(column).is_some() || is_kept;
-        let weight = if is_weighed { -own } else { Narrow::ZERO };
-        divisor = gcd(divisor, weight.abs().wide());
-        weights.push(weight)?;
+        weights.push(if is_weighed { -own } else { Narrow::ZERO })?;
     }
-    divided(alloc, &weights, divisor.max(1))
-}
-
-/// Numbers divided by one of at least 1.
-fn divided(alloc: Global, numbers: &[Narrow], divisor: i128) -> Result<Vec<Narrow>, Stop>
-    requires { pos 1 ≤ℤ divisor }
-    ensures { IfOk result (λ quotients. length quotients.items ≡ length numbers.now) }
-{
-    let mut quotients = Vec::new(alloc);
-    for number in 0..numbers.len() {
-        quotients.push(narrow_div(numbers[number].wide(), divisor)?)?;
-    }
-    Ok(quotients)
+    divide_by_common(&mut weights);
+    Ok(weights)
 }
 
 /// What a composition weighs at least that passes the level of a share.
@@ -170,30 +158,8 @@ fn need(own: Level, share: Share, common: Narrow) -> Result<Narrow, Stop> {
     )?;
     let sum = wide_add(settled, unsettled)?;
     let divisor = wide_mul(common.wide(), share.den().wide())?;
-    let Some(quotient) = sum.checked_div_euclid(divisor) else {
+    if divisor < 1 {
         return Err(Stop::Lost);
-    };
-    let is_whole = sum.checked_rem_euclid(divisor) == Some(0);
-    narrow_add(quotient, if is_whole { 0 } else { 1 })
-}
-
-/// A weight of 1 for each unsettled column, and as a cap the most that they may have together.
-fn everybody_left(
-    alloc: Global,
-    program: &Program,
-    chances: &Chances,
-) -> Result<(Vec<Narrow>, Narrow), Stop>
-    ensures { IfOk result (λ found. length found.0.items ≡ length program.now.firsts) }
-{
-    let mut weights = Vec::new(alloc);
-    let mut cap = Narrow::ZERO;
-    for column in 0..program.columns() {
-        let is_left = chances.share(column).is_none();
-        if is_left {
-            let most = program.spans()[column].greatest();
-            cap = narrow_add(cap.wide(), most.wide())?;
-        }
-        weights.push(if is_left { Narrow::ONE } else { Narrow::ZERO })?;
     }
-    Ok((weights, cap))
+    ceiling(sum, divisor)
 }

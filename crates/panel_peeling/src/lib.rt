@@ -2,7 +2,6 @@
 //! program of the panels seen makes up the rest. Below stand `relaxed_stages`, `branch_search`, `box_table` and `proof_limits`.
 #![tactic(auto)]
 
-mod dice;
 mod faces;
 mod lotteries;
 mod odds;

@@ -60,7 +60,8 @@ struct Run<'a> {
     best: Option<Rest>,
 }
 
-/// The lottery of the point that chances of columns give, over panels of a size that meet the rows.
+/// The lottery of the point that chances of columns give, over panels of a size that meet the rows. Its contract says only that it is safe and
+/// ends, since what a run makes is verified before it is told.
 pub fn lottery_of(
     alloc: Global,
     program: &Program,

@@ -3,13 +3,12 @@
 ghost use Rattle.std.specs.Prelude.{◌≡◌, length};
 ghost use Rattle.box_table.specs.Sizes.{SameSizes};
 
-use crate::dice::Dice;
 use crate::faces::Face;
 use crate::odds::log;
 use crate::rests::Rest;
 use crate::rows::PanelRow;
 use crate::seen::Seen;
-use box_table::Table;
+use box_table::{Dice, Table};
 use branch_search::{Found, search};
 use proof_limits::{Budget, Narrow, Span, Stop, narrow_add, narrow_sub, times, wide_sub};
 use std::alloc::Global;

@@ -1,5 +1,7 @@
 //! The rows that each panel meets: those of the quotas, and those of stages.
 
+ghost use Rattle.std.specs.Prelude.{◌≡◌, ◌+◌, length, IfOk};
+
 use proof_limits::{Narrow, Span, Stop, times, wide_add};
 use quota_program::Program;
 use relaxed_stages::KindStage;
@@ -26,13 +28,17 @@ impl PanelRows {
         program: &Program,
         kinds: &Program,
         stages: &[KindStage],
-    ) -> Result<PanelRows, Stop> {
+    ) -> Result<PanelRows, Stop>
+        ensures { IfOk result (λ made. length made.rows.items ≡ length program.now.rows + length stages.now) }
+    {
         let mut rows = Vec::new(alloc);
-        for row in program.rows() {
+        for number in 0..program.rows().len() {
+            let row = &program.rows()[number];
             let coefficients = Vec::from_slice(alloc, row.coefficients())?;
             rows.push(panel_row(alloc, coefficients, row.span())?)?;
         }
-        for stage in stages {
+        for number in 0..stages.len() {
+            let stage = &stages[number];
             let weights = weights_of(alloc, kinds, &stage.weights)?;
             rows.push(panel_row(alloc, weights, Span::point(stage.cap))?)?;
         }
@@ -41,7 +47,9 @@ impl PanelRows {
 }
 
 /// Each volunteer's weight, by those of the columns.
-pub fn weights_of(alloc: Global, kinds: &Program, weights: &[Narrow]) -> Result<Vec<Narrow>, Stop> {
+pub fn weights_of(alloc: Global, kinds: &Program, weights: &[Narrow]) -> Result<Vec<Narrow>, Stop>
+    ensures { IfOk result (λ own. length own.items ≡ length kinds.now.column_numbers) }
+{
     let mut own = Vec::new(alloc);
     for i in 0..kinds.volunteers() {
         own.push(value_at(weights, kinds.column_of(i)))?;

@@ -4,19 +4,21 @@ ghost use Rattle.std.specs.Prelude.{◌≡◌, length, IfOk, OnOk};
 ghost use Rattle.box_table.specs.Sizes.{SameSizes};
 ghost use Rattle.panel_peeling.specs.Shapes.{IsMix};
 
-use crate::dice::Dice;
 use crate::faces::Face;
 use crate::peels::MOST_NODES;
 use crate::rests::Rest;
 use crate::rows::{PanelRow, value_at};
 use crate::seen::Seen;
-use box_table::Table;
-use branch_search::{Found, search};
-use proof_limits::{Budget, Narrow, Span, Stop, narrow_add, times, wide_sub};
+use box_table::{Dice, Table};
+use branch_search::{Found, ceiling, reach_of, search_weighing};
+use proof_limits::{Budget, Narrow, Span, Stop, times, wide_sub};
 use std::alloc::Global;
 
 /// How many panels a tail may ask for.
 const MOST_STEPS: usize = 600;
+
+/// The faces of the dice by which panels differ in the goal.
+const FACES: u64 = 64;
 
 /// What a tail comes to.
 #[derive(Debug, Drop)]
@@ -124,21 +126,17 @@ fn beat(
     requires rows { length face.now.rows.items ≡ table.old.rows }
     ensures { OnOk result (SameSizes table.old table.new) }
 {
-    let mut reach = Narrow::ZERO;
-    for wish in wishes {
-        reach = narrow_add(reach.wide(), wish.abs().wide())?;
-    }
-    let mut rows = Vec::from_slice(alloc, &face.rows)?;
-    rows.push(Span::reaching(need, reach))?;
-    let mut goal = Vec::new(alloc);
-    for wish in wishes {
-        goal.push(wish.get())?;
-    }
-    table.add_row(wishes)?;
-    table.aim(&goal, 1)?;
-    let found = search(alloc, table, &face.columns, &rows, MOST_NODES, budget)?;
-    table.drop_last_row(budget)?;
-    Ok(found)
+    let span = Span::reaching(need, reach_of(wishes)?);
+    search_weighing(
+        alloc,
+        table,
+        &face.columns,
+        &face.rows,
+        wishes,
+        span,
+        MOST_NODES,
+        budget,
+    )
 }
 
 impl Mix {
@@ -181,8 +179,8 @@ impl Mix {
             column.push(one_if(members.contains(&self.moving[i])))?;
         }
         column.push(Narrow::ONE)?;
-        let face = self.dice.throw(64) as i64;
-        self.table.add_column(&column, -(face + 1))?;
+        self.table
+            .add_column(&column, -(self.dice.throw(FACES) as i64))?;
         self.columns.push(Span::reaching(Narrow::ZERO, total))?;
         self.panels.push(number)?;
         Ok(())
@@ -220,19 +218,13 @@ impl Mix {
             }
             sum = wide_sub(sum, times(*multiplier, value_at(&rest.parts, *i)))?;
         }
-        Ok((wishes, ceiling(sum, rest.total)?))
+        if rest.total < Narrow::ONE {
+            return Err(Stop::Lost);
+        }
+        Ok((wishes, ceiling(sum, rest.total.wide())?))
     }
 }
 
 fn one_if(holds: bool) -> Narrow {
     if holds { Narrow::ONE } else { Narrow::ZERO }
-}
-
-/// The least whole number that is no less than a quotient by a number above 0.
-fn ceiling(x: i128, y: Narrow) -> Result<Narrow, Stop> {
-    let Some(quotient) = x.checked_div_euclid(y.wide()) else {
-        return Err(Stop::Lost);
-    };
-    let is_whole = x.checked_rem_euclid(y.wide()) == Some(0);
-    narrow_add(quotient, if is_whole { 0 } else { 1 })
 }

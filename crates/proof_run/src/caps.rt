@@ -4,7 +4,7 @@ ghost use Rattle.std.specs.Prelude.{◌≡◌, ◌<◌, ◌^◌, IfOk, OnOk, len
 ghost use Rattle.proof_run.specs.Shapes.{IsCapSearch};
 
 use box_table::Table;
-use branch_search::prove_empty;
+use branch_search::{add_weights, prove_empty, reach_of};
 use proof_limits::{Budget, Narrow, Span, Stop, narrow_add};
 use proof_model::TreeLines;
 use quota_program::Program;
@@ -96,9 +96,10 @@ impl<'a> CapSearch<'a> {
         if weights.len() != self.program.columns() || numbers.len() != weight_row + 1 {
             return Err(Stop::Lost);
         }
-        self.table.add_row(weights)?;
-        self.table.aim(&goal_of(self.alloc, weights)?, 1)?;
-        self.rows.push(above(weights, cap)?)?;
+        add_weights(self.alloc, &mut self.table, weights)?;
+        let reach = reach_of(weights)?;
+        self.rows
+            .push(Span::reaching(narrow_add(cap.wide(), 1)?, reach))?;
         let tree = prove_empty(
             self.alloc,
             &mut self.table,
@@ -111,21 +112,4 @@ impl<'a> CapSearch<'a> {
         self.rows[weight_row] = Span::point(cap);
         Ok(tree)
     }
-}
-
-fn goal_of(alloc: Global, weights: &[Narrow]) -> Result<Vec<i64>, Stop> {
-    let mut goal = Vec::new(alloc);
-    for weight in weights {
-        goal.push(weight.get())?;
-    }
-    Ok(goal)
-}
-
-/// The span of what weighs more than a cap.
-fn above(weights: &[Narrow], cap: Narrow) -> Result<Span, Stop> {
-    let mut reach = Narrow::ZERO;
-    for weight in weights {
-        reach = narrow_add(reach.wide(), weight.abs().wide())?;
-    }
-    Ok(Span::reaching(narrow_add(cap.wide(), 1)?, reach))
 }

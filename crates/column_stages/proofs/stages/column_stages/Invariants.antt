@@ -6,5 +6,5 @@ abbrev pub invariant-loop : goal.invariant-loop
 invariant-loop l = record {
   mix : IsMix (length l.program.firsts) l.mix;
   finder : IsFinder (length l.program.firsts) l.finder;
-  chances : l.chances.columns ≡ length l.program.firsts;
+  chances : length l.chances.shares ≡ length l.program.firsts;
 }

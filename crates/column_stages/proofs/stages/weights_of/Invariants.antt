@@ -1,5 +1,5 @@
-use Rattle.std.proofs.Common.{◌≡◌, ◌≤ℤ◌, length, pos}
+use Rattle.std.proofs.Common.{◌≡◌, length}
 use Rattle.column_stages.proofs.stages.weights_of.Given as goal
 
 abbrev pub invariant-loop-column : goal.invariant-loop-column
-invariant-loop-column l = (length l.weights.items ≡ l.column) × (pos 0 ≤ℤ l.divisor)
+invariant-loop-column l = length l.weights.items ≡ l.column
