@@ -1,10 +1,9 @@
 -- A proof is valid exactly where its certificate holds and its trees show the caps.
-use Rattle.std.proofs.Common.{◌≡◌, ℕ, ◌+◌, Bool, true, false, leb, List, [], ◌∷◌, ◌++◌, length, Option, Some, None, refl, ap}
-use Rattle.std.specs.List.{AllByRecursion}
+use Rattle.std.proofs.Common.{◌≡◌, ℕ, ◌+◌, true, leb, List, [], ◌∷◌, ◌++◌, length, Option, Some, None, refl, ap}
 use Rattle.basic_laws.proofs.Each.{each_append, each_left, each_right}
 use Rattle.bundle_definitions.specs.Ranges.{IsInRanges, reach}
 use Rattle.check_definitions.specs.Reasons as check
-use Rattle.check_definitions.specs.Reasons.{Refusal, Valid, Verdict, cap_reasons, first_reason, listed, lottery_reasons, nobody_unless, reason, reasons_before_cap}
+use Rattle.check_definitions.specs.Reasons.{Refusal, Valid, cap_reasons, first_reason, lottery_reasons, nobody_unless, reason, reasons_before_cap}
 use Rattle.check_definitions.proofs.PassedCaps.{no_panel_where_capped}
 use Rattle.check_definitions.proofs.ReasonsStand as certificates
 use Rattle.check_definitions.proofs.ReasonsStand.{NoneStands, none_from_valid, valid_from_none, reason_none, unless_none}

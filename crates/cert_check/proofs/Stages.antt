@@ -1,19 +1,17 @@
 -- How a check goes from one stage to the next.
-use Rattle.std.proofs.Common.{◌≡◌, ℕ, suc, ◌+◌, ◌<◌, ◌^◌, Bool, true, not, false, cond, ◌&&◌, eqb, leb, ltb, List, [], ◌∷◌, ◌++◌, length, get_or, drop, Option, Some, None, Result, Ok, Err, refl, sym, ap, ap₂, ◌∙◌, arith, subst}
-use Rattle.std.specs.Prelude.{reverse, sum_by}
-use Rattle.std.specs.List.{find, list_all}
-use Rattle.std.proofs.lemmas.Bool.{and_parts, eqb-true, false≢true}
+use Rattle.std.proofs.Common.{◌≡◌, ℕ, suc, ◌+◌, ◌<◌, Bool, true, false, cond, ◌&&◌, ltb, List, [], ◌∷◌, ◌++◌, length, get_or, drop, Result, Ok, Err, refl, sym, ap, ap₂, ◌∙◌, arith, subst}
+use Rattle.std.specs.Prelude.{reverse}
+use Rattle.std.specs.List.{list_all}
+use Rattle.std.proofs.lemmas.Bool.{false≢true}
 use Rattle.std.proofs.lemmas.List.{reverse-append}
 use Rattle.std.proofs.lemmas.List.Folds.{list_all_at}
 use Rattle.std.proofs.Math.Seq.{drop-cons}
-use Rattle.basic_laws.proofs.Each.{list_all_implies}
-use Rattle.bundle_definitions.specs.Ranges.{IsInRanges, is_group, is_row, is_weight}
 use Rattle.pool_definitions.specs.Certificate.{Answer, Stage}
-use Rattle.pool_definitions.specs.Lottery.{Lottery, TotalAgrees}
-use Rattle.pool_definitions.specs.Pool.{Pool, is_quota_panel}
+use Rattle.pool_definitions.specs.Lottery.{Lottery}
+use Rattle.pool_definitions.specs.Pool.{Pool}
 use Rattle.certificate_reasons.specs.Courses.{Course, passed}
 use Rattle.certificate_reasons.specs.Sayings.{holds}
-use Rattle.check_definitions.specs.Reasons.{Refusal, Refused, Valid, Verdict, cap_reasons, first_reason, first_repeated, listed, lottery_reasons, nobody_unless, reason, reasons_before_cap}
+use Rattle.check_definitions.specs.Reasons.{Refused, Valid, Verdict, cap_reasons, first_reason, reasons_before_cap}
 use Rattle.check_definitions.specs.Steps.{answer_from, or_next}
 use Rattle.check_definitions.specs.Visits.{check_answer, stage_search}
 use Rattle.check_definitions.proofs.GoesOn.{goes_on_by_stages}

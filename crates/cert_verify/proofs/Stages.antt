@@ -1,15 +1,12 @@
 -- How a check of a proof goes from one stage to the next.
-use Rattle.std.proofs.Common.{◌≡◌, ℕ, ◌+◌, ◌<◌, ◌^◌, Bool, true, false, not, eqb, leb, List, [], ◌∷◌, length, get_or, drop, Option, Some, None, refl, sym, ap, ap₂, ◌∙◌}
-use Rattle.std.specs.Prelude.{sum_by}
-use Rattle.std.specs.List.{find}
-use Rattle.std.proofs.lemmas.Bool.{and_parts, eqb-true, false≢true}
+use Rattle.std.proofs.Common.{◌≡◌, ℕ, ◌+◌, ◌<◌, Bool, true, false, leb, List, [], ◌∷◌, length, get_or, drop, Option, refl, sym, ap, ap₂, ◌∙◌}
+use Rattle.std.proofs.lemmas.Bool.{false≢true}
 use Rattle.std.proofs.lemmas.List.{drop_more}
-use Rattle.basic_laws.proofs.Each.{list_all_implies}
-use Rattle.pool_definitions.specs.Certificate.{Answer, Stage}
-use Rattle.pool_definitions.specs.Lottery.{Lottery, TotalAgrees}
-use Rattle.pool_definitions.specs.Pool.{Pool, is_quota_panel}
-use Rattle.bundle_definitions.specs.Ranges.{IsInRanges, is_group, is_row, is_weight, reach}
-use Rattle.check_definitions.specs.Reasons.{Refused, Valid, Verdict, first_reason, first_repeated, listed as listed_panels, lottery_reasons, nobody_unless, reason, reasons_before_cap}
+use Rattle.pool_definitions.specs.Certificate.{Stage}
+use Rattle.pool_definitions.specs.Lottery.{Lottery}
+use Rattle.pool_definitions.specs.Pool.{Pool}
+use Rattle.bundle_definitions.specs.Ranges.{reach}
+use Rattle.check_definitions.specs.Reasons.{Refused, Valid, Verdict, first_reason, nobody_unless, reason, reasons_before_cap}
 use Rattle.certificate_reasons.specs.Sayings.{holds}
 use Rattle.addition_definitions.specs.LeafSums.{is_stage_in_reach}
 use Rattle.addition_definitions.specs.Leaves.{stage_problem, standings}

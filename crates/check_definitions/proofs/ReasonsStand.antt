@@ -5,12 +5,12 @@ use Rattle.std.specs.List.{AllByRecursion, find, list_all}
 use Rattle.std.specs.Ordering.{int_eq}
 use Rattle.std.proofs.lemmas.Bool.{and_parts, eqb-true, eq-eqb, false≢true, false_from_ne_true, le-leb, le-ltb, leb-true, ltb-false, not-false, not_from_true}
 use borrow.Author.Differences.{le-true, lt-false, lt-true, true_is_le}
-use Rattle.basic_laws.proofs.Each.{each_append, each_from_list_all, each_left, each_map, each_right, list_all_from_each, list_all_implies}
+use Rattle.basic_laws.proofs.Each.{each_append, each_from_list_all, each_left, each_map, each_right, list_all_from_each}
 use Rattle.basic_laws.proofs.Found.{find-none}
 use Rattle.pool_definitions.specs.Certificate.{Answer, Certifies, Stage, StageHolds, StagesHold, is_settled, panel_weight, settling, unsettled, weight_of}
 use Rattle.pool_definitions.specs.Lottery.{IsLottery, Lottery, LotteryRow, TotalAgrees, count}
 use Rattle.pool_definitions.specs.Pool.{Pool, everybody, is_quota_panel}
-use Rattle.bundle_definitions.specs.Ranges.{IsInRanges, is_group, is_row, is_stage, is_weight, reach}
+use Rattle.bundle_definitions.specs.Ranges.{IsInRanges, is_stage, reach}
 use Rattle.bundle_definitions.proofs.Weights.{positive_weights}
 use Rattle.check_definitions.specs.Caps.{first_above_cap}
 use Rattle.check_definitions.specs.Reasons.{Refusal, Valid, first_count, first_reason, first_repeated, listed, lottery_reasons, nobody_unless, one, reason, reasons, reasons_from, shared_count, stage_reasons, verdict}

@@ -1,7 +1,7 @@
 -- The pieces of a text, one line at a time.
-use Rattle.std.proofs.Common.{◌≡◌, ℕ, ◌+◌, ◌≤◌, arith, List, [], ◌∷◌, Result, Ok, Err, refl, sym, subst, Some, None}
+use Rattle.std.proofs.Common.{◌≡◌, ℕ, List, ◌∷◌, Result, Err, sym, subst}
 use Rattle.line_definitions.specs.Lines.{Fault, pieces_of}
-use Rattle.line_definitions.specs.Reading.{fault_or, read_lines}
+use Rattle.line_definitions.specs.Reading.{read_lines}
 use Rattle.line_definitions.proofs.LineByLine as reading
 use Rattle.pool_model.specs.declared.building.BuildStop.{BuildStop}
 use Rattle.pool_model.specs.declared.building.BuildStop.TheVariants.{Kind, OutOfMemory}

@@ -1,17 +1,15 @@
 -- The search below a front keeps the best composition below it.
-use Rattle.std.proofs.Common.{◌≡◌, ℕ, zero, suc, ◌+◌, ◌≤◌, Bool, true, false, cond, List, [], ◌∷◌, ◌++◌, map, length, filter, take, drop, fold, ℤ, Option, Some, None, refl, sym, ap, ◌∙◌, subst}
-use Rattle.std.specs.Prelude.{int_lt, unwrap_or, ◌↔◌, IsTrue, IsFalse}
-use Rattle.std.specs.List.{flat_map, AllByRecursion}
-use Rattle.std.proofs.lemmas.Bool.{false≢true, false_from_ne_true}
+use Rattle.std.proofs.Common.{◌≡◌, ℕ, ◌≤◌, true, false, cond, List, [], ◌∷◌, length, filter, take, fold, ℤ, None, refl, sym, ap, ◌∙◌, subst}
+use Rattle.std.specs.Prelude.{int_lt, ◌↔◌, IsTrue, IsFalse}
+use Rattle.std.specs.List.{AllByRecursion}
 use Rattle.std.proofs.lemmas.List.{length-take-le, take-append-drop}
-use Rattle.std.proofs.lemmas.List.Sums.{fold-append}
-use Rattle.basic_laws.proofs.Each.{each_map, each_mapped, each_filter, each_from_filter, each_right}
+use Rattle.basic_laws.proofs.Each.{each_map, each_filter, each_from_filter, each_right}
 use Rattle.row_definitions.specs.Row.{Row}
 use Rattle.search_definitions.specs.Classes.{Class, Classes, IsSearchable}
-use Rattle.search_definitions.specs.Compositions.{counts_of, all_counts, is_composition, weight_in, attains, first_greatest}
+use Rattle.search_definitions.specs.Compositions.{weight_in, attains, first_greatest}
 use Rattle.search_definitions.specs.Fronts.{HaveEntries, is_live_above, later_than}
 use Rattle.search_definitions.specs.Visits.{Pricing, enter_best}
-use Rattle.search_definitions.proofs.FirstSearch.{Gives, InOrder, all_counts_give, Split, completions, of_children, child_splits}
+use Rattle.search_definitions.proofs.FirstSearch.{InOrder, Split}
 use Rattle.search_definitions.proofs.Best.{none_above}
 use Rattle.search_definitions.proofs.BestSearch.{Kept, keep, keep_none, keeps_first_greatest, told, sought, none_better, enter_best_keeps}
 use Rattle.wave_definitions.specs.Below.{below, best_below, search_from}

@@ -1,11 +1,7 @@
-use Rattle.std.proofs.Common.{◌≡◌, ◌∷◌, arith, sym, subst, ap, ◌∙◌}
-use Rattle.std.specs.Prelude.{Err}
-use Rattle.line_definitions.specs.Lines.{pieces_of}
+use Rattle.std.proofs.Common.{arith, sym, subst}
 use Rattle.line_definitions.proofs.LineByLine.{leads_on}
-use Rattle.line_definitions.specs.Reading.{read_lines}
 use Rattle.bundle_definitions.specs.BundleReading.{read_bundle, reader}
 use Rattle.bundle_definitions.proofs.Spelled.{IsRight, line_adds}
-use Rattle.bundle_text.specs.Answers.{Reads}
 use Rattle.bundle_text.specs.declared.progress.Progress.{Progress}
 use Rattle.bundle_text.specs.Progress.{seen}
 use Rattle.bundle_text.proofs.LineByLine.{stops_at, done_right}

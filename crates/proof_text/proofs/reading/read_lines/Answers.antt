@@ -1,11 +1,7 @@
-use Rattle.std.proofs.Common.{◌≡◌, ◌∷◌, arith, sym, subst, ap, ◌∙◌}
-use Rattle.std.specs.Prelude.{Err}
-use Rattle.line_definitions.specs.Lines.{pieces_of}
+use Rattle.std.proofs.Common.{arith, sym, subst}
 use Rattle.line_definitions.proofs.LineByLine.{leads_on}
-use Rattle.line_definitions.specs.Reading.{read_lines}
 use Rattle.proof_definitions.specs.ProofReading.{read_proof, reader}
 use Rattle.proof_definitions.proofs.Spelled.{IsRight, line_adds}
-use Rattle.proof_text.specs.Answers.{Reads}
 use Rattle.proof_text.specs.declared.progress.Progress.{Progress}
 use Rattle.proof_text.specs.Progress.{seen}
 use Rattle.proof_text.proofs.LineByLine.{stops_at, closed_right}
