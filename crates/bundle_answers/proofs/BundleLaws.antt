@@ -7,7 +7,6 @@ use Rattle.command_shell.specs.Answers.{AnswersOnce, Saying, Prints, Stops}
 use Rattle.bundle_answers.specs.OfBundle.{OfBundle, AboutBundle, AboutFault}
 use Rattle.bundle_answers.specs.Seal.{SealMeans, Done, bundle_seal}
 use Rattle.bundle_answers.specs.Draw.{DrawMeans, IsDrawn, IsRefused, WrongTotal, drawn_lines, refused_line}
-use Rattle.check_definitions.specs.Reasons.{Refusal}
 use Rattle.bundle_answers.specs.Check as check
 
 pub of_bundle_once : (Means : Bundle → Saying → Type 0) → AnswersOnce Means → AnswersOnce (OfBundle Means)

@@ -1,5 +1,5 @@
 -- How the run ends, as what is answered.
-use Rattle.std.proofs.Common.{◌≡◌, ◌∙◌, ℕ, [], Err, ap, refl, subst}
+use Rattle.std.proofs.Common.{◌≡◌, ◌∙◌, ℕ, [], Err, ap, subst}
 use Rattle.make_definitions.specs.MadePools.{made_pool}
 use Rattle.make_definitions.specs.Summary.{Sizes, summary_text}
 use Rattle.pool_definitions.specs.Certificate.{Answer}

@@ -1,6 +1,6 @@
 -- The answers of workers, piece by piece.
-use Rattle.std.proofs.Common.{◌≡◌, ℕ, zero, suc, ◌+◌, ◌*◌, ◌/◌, ◌%◌, ◌<◌, ◌≤◌, Bool, true, false, ltb, ltb-true, List, [], ◌∷◌, ◌++◌, length, take, get_or, Option, Some, Result, refl, sym, ap, ◌∙◌, subst, arith, mul-le-mul_right}
-use Rattle.std.specs.Prelude.{slice_get, slice_index_or, Vec, vec_items, IfOk, Ok, Err}
+use Rattle.std.proofs.Common.{◌≡◌, ℕ, zero, suc, ◌+◌, ◌*◌, ◌/◌, ◌%◌, ◌<◌, ◌≤◌, true, false, ltb, ltb-true, List, [], ◌∷◌, ◌++◌, length, take, get_or, Some, Result, refl, sym, ap, ◌∙◌, subst, arith, mul-le-mul_right}
+use Rattle.std.specs.Prelude.{slice_get, Vec, vec_items, IfOk, Ok, Err}
 use Rattle.std.specs.declared.alloc.AllocError.{AllocError}
 use Rattle.std.proofs.lemmas.List.{length-append}
 use Rattle.std.specs.declared.alloc.Global.{Global}

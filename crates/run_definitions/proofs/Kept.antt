@@ -2,7 +2,7 @@
 use Rattle.std.proofs.Common.{◌≡◌, ℕ, zero, suc, ◌+◌, ◌<◌, ◌≤◌, Bool, true, false, List, [], ◌∷◌, ◌++◌, length, length-append, map, take, Some, None, Result, Ok, refl, sym, ap, ap₂, ◌∙◌, subst, arith, inl, inr, ◌⊎◌}
 use Rattle.std.specs.Prelude.{◌==◌, slice_index, slice_set, sum, Contains}
 use Rattle.std.specs.List.{All}
-use Rattle.std.proofs.lemmas.Bool.{cases_lt, eqb-true, and_parts}
+use Rattle.std.proofs.lemmas.Bool.{cases_lt}
 use Rattle.std.proofs.lemmas.List.{get_or_append_left, get_or_push, map-append, take-append-le, length-map}
 use Rattle.std.proofs.lemmas.List.Elements.{All-cons, All-nil, All-push, All-from_recursion, recursion_from_All}
 use Rattle.std.proofs.lemmas.List.Sums.{sum-map}
@@ -23,7 +23,7 @@ use Rattle.row_definitions.proofs.PivotLaws.{after-Ok_parts}
 use Rattle.row_definitions.proofs.Starts.{start-keeps}
 use Rattle.row_definitions.proofs.StepsKeep.{add-keeps, close-keeps, enter-keeps}
 use Rattle.search_definitions.specs.Classes.{Class, Classes, KeepsLimits}
-use Rattle.search_definitions.specs.Compositions.{all_counts, compositions, is_composition, meets_bounds, price, taken_of}
+use Rattle.search_definitions.specs.Compositions.{all_counts, compositions, is_composition, price, taken_of}
 use Rattle.search_definitions.specs.Fronts.{sizes_of}
 use Rattle.search_definitions.proofs.FirstSearch.{composition_parts}
 use Rattle.search_definitions.proofs.Contained.{each_contains, each_itself, filtered, first_there}

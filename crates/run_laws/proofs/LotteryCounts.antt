@@ -1,19 +1,17 @@
 -- What the lottery that is spread from a table's columns weighs in its closed stages, and each volunteer's count as a sum of levels.
-use Rattle.std.proofs.Common.{◌≡◌, ℕ, zero, suc, ◌+◌, ◌*◌, ◌/◌, ◌<◌, Bool, true, false, cond, not, ◌||◌, List, [], ◌∷◌, map, length, get_or, Ok, refl, sym, ap, ap₂, ◌∙◌, subst, arith}
+use Rattle.std.proofs.Common.{◌≡◌, ℕ, zero, suc, ◌+◌, ◌*◌, ◌/◌, ◌<◌, Bool, true, false, cond, not, ◌||◌, List, [], ◌∷◌, map, length, get_or, Ok, refl, sym, ap, ap₂, ◌∙◌, arith}
 use Rattle.std.specs.Int.{◌∣◌}
 use Rattle.std.specs.List.{All, AllByRecursion, range_with_len}
-use Rattle.std.proofs.lemmas.Bool.{eq-eqb}
 use Rattle.std.proofs.lemmas.List.{get_or-map}
 use Rattle.std.proofs.lemmas.List.Elements.{All-from_recursion, recursion_from_All}
 use Rattle.std.proofs.lemmas.Option.{slice_get-get_or}
 use Rattle.std.proofs.Math.Nat.{mul-div_cancel_left}
 use Rattle.basic_laws.proofs.Sums.{total, sum_by-is-total}
-use Rattle.basic_laws.proofs.Each.{each_both, each_map, each_mapped}
+use Rattle.basic_laws.proofs.Each.{each_map}
 use Rattle.frac128.specs.Fractions.{Fraction, lowest_of}
 use Rattle.pool_definitions.specs.Certificate.{panel_weight}
-use Rattle.pool_definitions.specs.Lists.{includes}
 use Rattle.pool_definitions.specs.Lottery.{Lottery, count}
-use Rattle.pool_definitions.specs.Pool.{IsPool, Pool}
+use Rattle.pool_definitions.specs.Pool.{Pool}
 use Rattle.row_definitions.specs.InOrder.{count_in}
 use Rattle.row_definitions.specs.Levels.{HasLevels, count_over, class_levels}
 use Rattle.row_definitions.specs.Settled.{KeepsStages, was_unsettled}

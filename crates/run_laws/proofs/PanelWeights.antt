@@ -1,6 +1,6 @@
 -- A panel with a composition weighs in a row's stage what the composition weighs in the row.
 use Rattle.std.proofs.Common.{◌≡◌, ℕ, ◌<◌, Bool, true, ltb, List, length, sym, ap, ◌∙◌}
-use Rattle.std.specs.List.{AllByRecursion, list_all}
+use Rattle.std.specs.List.{list_all}
 use Rattle.std.proofs.lemmas.Bool.{ltb-true}
 use Rattle.basic_laws.proofs.Each.{each_from_list_all, each_map}
 use Rattle.pool_definitions.specs.Certificate.{panel_weight, weight_of}

@@ -14,7 +14,7 @@ use Rattle.pool_definitions.specs.Lottery.{IsLottery, Lottery, LotteryRow}
 use Rattle.pool_definitions.specs.Pool.{IsPool, Pool, is_quota_panel}
 use Rattle.pool_definitions.proofs.AllPanels.{quota_parts}
 use Rattle.row_definitions.specs.Row as rows
-use Rattle.row_definitions.specs.Row.{entry, sum_of_sizes}
+use Rattle.row_definitions.specs.Row.{sum_of_sizes}
 use Rattle.row_definitions.specs.Table.{Table}
 use Rattle.row_definitions.specs.Width.{width_limit}
 use Rattle.search_definitions.specs.Classes.{Class, Classes, MakesClasses, class_by, class_of, classes_by, leaders}

@@ -1,14 +1,13 @@
 -- A stage weighs each volunteer as its row's entry of the volunteer's class, and its row over the classes is that row again.
-use Rattle.std.proofs.Common.{◌≡◌, ℕ, zero, suc, ◌+◌, ◌<◌, Bool, true, List, [], ◌∷◌, map, length, get_or, pos, refl, sym, ap, ap₂, ◌∙◌, arith}
-use Rattle.std.specs.List.{AllByRecursion, range_with_len}
+use Rattle.std.proofs.Common.{◌≡◌, ℕ, suc, ◌+◌, ◌<◌, Bool, true, List, [], ◌∷◌, map, length, get_or, pos, refl, sym, ap, ap₂, ◌∙◌, arith}
+use Rattle.std.specs.List.{range_with_len}
 use Rattle.std.proofs.lemmas.List.{get_or-map, length-map}
 use Rattle.std.proofs.lemmas.List.FromFn.{get_or-map-range_with_len, length-map-range_with_len}
-use Rattle.basic_laws.proofs.Each.{each_everywhere, each_mapped}
-use Rattle.pool_definitions.specs.Certificate.{Stage, weight_of}
+use Rattle.pool_definitions.specs.Certificate.{weight_of}
 use Rattle.pool_definitions.specs.Pool.{Pool}
 use Rattle.row_definitions.specs.Row.{Row, entry}
-use Rattle.search_definitions.specs.Classes.{Classes, MakesClasses, class_number, classes_by, leaders, volunteer_count}
-use Rattle.search_definitions.specs.Stages.{WeighAlike, row_of}
+use Rattle.search_definitions.specs.Classes.{Classes, MakesClasses, class_number, classes_by, leaders}
+use Rattle.search_definitions.specs.Stages.{row_of}
 use Rattle.search_definitions.proofs.ClassNumbers.{class_count, leader_below, leader_number, number_same}
 use Rattle.search_definitions.proofs.Parting.{all_counted}
 use Rattle.run_definitions.specs.Run.{stage_of}

@@ -1,7 +1,7 @@
 -- Volunteers of equal values and standing, who share no household, make classes.
-use Rattle.std.proofs.Common.{◌≡◌, ℕ, Bool, true, false, not, ◌&&◌, ◌||◌, eqb, List, refl, sym, ap, ap₂, ◌∙◌, ⊎_elim, subst}
-use Rattle.std.specs.Prelude.{bytes_eq, is_some, IsTrue}
-use Rattle.std.proofs.lemmas.Bool.{and_from, and_parts, cases_Bool, eqb-true, eq-eqb, false≢true}
+use Rattle.std.proofs.Common.{◌≡◌, ℕ, Bool, true, false, not, ◌&&◌, ◌||◌, eqb, refl, sym, ap, ◌∙◌, ⊎_elim, subst}
+use Rattle.std.specs.Prelude.{bytes_eq}
+use Rattle.std.proofs.lemmas.Bool.{and_from, and_parts, eqb-true, eq-eqb, false≢true}
 use Rattle.std.proofs.lemmas.Slice.Eq.{bytes_eq-Decides}
 use Rattle.basic_laws.proofs.Tests.{or-true}
 use Rattle.pool_definitions.specs.declared.Standing.{Standing}

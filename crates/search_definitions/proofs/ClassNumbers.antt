@@ -1,6 +1,6 @@
 -- The number of a volunteer's class.
-use Rattle.std.proofs.Common.{◌≡◌, ℕ, zero, suc, ◌+◌, ◌≤◌, ◌<◌, Bool, true, false, cond, eqb, List, [], ◌∷◌, map, length, get_or, refl, sym, ap, ◌∙◌, arith, subst}
-use Rattle.std.specs.List.{AllByRecursion, position_or_len, range_with_len}
+use Rattle.std.proofs.Common.{◌≡◌, ℕ, zero, suc, ◌+◌, ◌≤◌, ◌<◌, Bool, true, false, cond, List, [], ◌∷◌, map, length, get_or, refl, sym, ap, ◌∙◌, arith, subst}
+use Rattle.std.specs.List.{position_or_len}
 use Rattle.std.proofs.lemmas.Bool.{false≢true}
 use Rattle.std.proofs.lemmas.List.{get_or-map, length-map}
 use Rattle.std.proofs.lemmas.List.Elements.{All-from_recursion}
@@ -8,7 +8,7 @@ use Rattle.std.proofs.lemmas.List.Recursion.{is_position_or_len}
 use Rattle.basic_laws.proofs.Sums.{total, one_if}
 use Rattle.pool_definitions.specs.Lists.{includes}
 use Rattle.pool_definitions.specs.Pool.{Pool}
-use Rattle.search_definitions.specs.Classes.{Class, Classes, MakesClasses, class_by, class_number, class_of, classes_by, leaders}
+use Rattle.search_definitions.specs.Classes.{Class, MakesClasses, class_by, class_number, class_of, classes_by, leaders}
 use Rattle.search_definitions.proofs.ByClass.{leaders_below, one_leader}
 use Rattle.search_definitions.proofs.FirstPanel.{holds_filter}
 

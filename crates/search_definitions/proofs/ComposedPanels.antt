@@ -1,6 +1,6 @@
 -- A panel whose composition over the classes of a pool is one of the compositions is a quota panel.
-use Rattle.std.proofs.Common.{◌≡◌, ℕ, ◌≤◌, ◌<◌, Bool, true, ltb, List, map, length, sym, ◌∙◌, subst}
-use Rattle.std.specs.List.{list_all, AllByRecursion, Contains}
+use Rattle.std.proofs.Common.{◌≡◌, ℕ, ◌≤◌, ◌<◌, Bool, true, ltb, List, length, sym, ◌∙◌, subst}
+use Rattle.std.specs.List.{list_all, Contains}
 use Rattle.std.proofs.lemmas.Bool.{ltb-true}
 use Rattle.basic_laws.proofs.Each.{each_from_list_all, each_map}
 use Rattle.pool_definitions.specs.Lists.{is_increasing}

@@ -1,19 +1,18 @@
 -- The first members of a composition's classes are a quota panel of that composition.
-use Rattle.std.proofs.Common.{◌≡◌, ℕ, zero, suc, ◌+◌, ◌-◌, ◌≤◌, ◌<◌, min, Bool, true, false, cond, ◌&&◌, eqb, ltb, List, [], ◌∷◌, map, length, filter, count_by, get_or, slice_index, refl, sym, ap, ◌∙◌, ⊎_elim, arith, subst, le_of_eq, None}
-use Rattle.std.specs.List.{list_all, AllByRecursion, range_with_len, enumerate_from}
-use Rattle.std.proofs.lemmas.Bool.{and_parts, and_from, cases_Bool, cases_lt, cases_eq, eqb-true, eq-eqb, ne_eqb, ltb-true, lt-ltb, le-ltb, false≢true}
+use Rattle.std.proofs.Common.{◌≡◌, ℕ, zero, suc, ◌+◌, ◌-◌, ◌≤◌, ◌<◌, min, Bool, true, false, cond, ◌&&◌, eqb, ltb, List, [], ◌∷◌, map, length, filter, count_by, refl, sym, ap, ◌∙◌, ⊎_elim, arith, subst}
+use Rattle.std.specs.List.{list_all, AllByRecursion, range_with_len}
+use Rattle.std.proofs.lemmas.Bool.{and_from, cases_Bool, cases_lt, cases_eq, eqb-true, eq-eqb, ne_eqb, lt-ltb, le-ltb, false≢true}
 use Rattle.basic_laws.proofs.Sums.{total, total_eq, total_ext, one_if, total-filter, length-filter-total, count_by-total}
-use Rattle.basic_laws.proofs.Each.{each_both, each_from_filter, each_from_list_all, each_map, each_mapped, each_filter, each_range, list_all_equal, range_each}
+use Rattle.basic_laws.proofs.Each.{each_from_filter, each_map, each_range, range_each}
 use Rattle.pool_definitions.specs.declared.Standing.{Standing}
 use Rattle.pool_definitions.specs.declared.Standing.TheVariants.{Open, Seated, Gone}
 use Rattle.pool_definitions.specs.Lists.{includes, is_increasing}
-use Rattle.pool_definitions.specs.Pool.{Pool, Volunteer, volunteer, is_quota_panel, allows, keeps_standings, meets_quotas, members_with, is_within}
+use Rattle.pool_definitions.specs.Pool.{Pool, volunteer, is_quota_panel}
 use Rattle.search_definitions.specs.Classes.{leaders, class_of, least_taken, most_taken, IsEquivalenceTest, MakesClasses}
-use Rattle.search_definitions.proofs.LeaderForm.{all_counts, compositions, composition_of, taken_of, is_composition, first_panel}
+use Rattle.search_definitions.proofs.LeaderForm.{compositions, composition_of, taken_of, is_composition, first_panel}
 use Rattle.pool_definitions.proofs.Weights.{one_member}
 use Rattle.search_definitions.proofs.ByClass.{Least, least_passing, is_first, leads}
 use Rattle.search_definitions.proofs.LeaderPanels.{ByLeader, each_by_leader, panel_fits}
-use Rattle.search_definitions.proofs.PanelCompositions.{passing}
 
 -- ---- filters of a range
 

@@ -1,5 +1,5 @@
 -- The greatest sum of some units is at least the sum of any as many of them.
-use Rattle.std.proofs.Common.{◌≡◌, ℕ, zero, suc, ◌+◌, ◌*◌, ◌≤◌, true, false, cond, List, [], ◌∷◌, ◌++◌, length, take, drop, fold, ℤ, pos, negsuc, ◌+ℤ◌, ◌*ℤ◌, neg_ℤ, refl, arith}
+use Rattle.std.proofs.Common.{◌≡◌, ℕ, zero, suc, ◌+◌, ◌*◌, ◌≤◌, true, false, cond, List, [], ◌∷◌, ◌++◌, length, take, drop, fold, ℤ, pos, ◌+ℤ◌, ◌*ℤ◌, refl, arith}
 use Rattle.std.specs.Prelude.{int_le, replicate}
 use Rattle.std.specs.List.{AllByRecursion}
 use borrow.Author.Differences.{up, down, sum_is_lem, le-true, le-false}

@@ -1,8 +1,8 @@
 -- The household rule on panels and on compositions: who shares a household is of one number.
-use Rattle.std.proofs.Common.{◌≡◌, ℕ, ◌+◌, ◌≤◌, ◌<◌, Bool, true, false, cond, ◌&&◌, eqb, leb, ltb, List, [], ◌∷◌, length, filter, count_by, Option, Some, None, refl, sym, ap, ◌∙◌, ◌⊎◌, inl, inr, ⊎_elim, arith, subst, le_of_eq}
+use Rattle.std.proofs.Common.{◌≡◌, ℕ, ◌+◌, ◌≤◌, ◌<◌, Bool, true, false, cond, ◌&&◌, eqb, leb, ltb, List, [], ◌∷◌, length, count_by, Option, Some, None, refl, sym, ap, ◌∙◌, ◌⊎◌, inl, inr, ⊎_elim, arith, subst, le_of_eq}
 use Rattle.std.specs.Prelude.{is_some, bytes_eq}
 use Rattle.std.specs.List.{find, list_all, AllByRecursion, range_with_len}
-use Rattle.std.proofs.lemmas.Bool.{cases_Bool, cases_lt, eqb-true, eq-eqb, leb-true, le-leb, false≢true}
+use Rattle.std.proofs.lemmas.Bool.{cases_lt, eqb-true, eq-eqb, leb-true, le-leb, false≢true}
 use Rattle.std.proofs.lemmas.Slice.Eq.{bytes_eq-Decides}
 use Rattle.basic_laws.proofs.Each.{each_everywhere, each_from_list_all, each_map, each_range, list_all_from_each}
 use Rattle.basic_laws.proofs.Found.{find-each, find-none, find-passes}

@@ -1,15 +1,15 @@
 -- A panel whose composition is one of the compositions, by leaders, is a quota panel.
-use Rattle.std.proofs.Common.{◌≡◌, ℕ, zero, suc, ◌+◌, ◌-◌, ◌≤◌, ◌<◌, Bool, true, false, cond, not, ◌&&◌, eqb, leb, ltb, List, [], ◌∷◌, map, length, filter, count_by, slice_index, Option, Some, None, refl, sym, ap, ◌∙◌, ⊎_elim, arith, subst, le_of_eq}
+use Rattle.std.proofs.Common.{◌≡◌, ℕ, ◌+◌, ◌-◌, ◌≤◌, ◌<◌, Bool, true, false, cond, not, ◌&&◌, eqb, leb, ltb, List, [], ◌∷◌, map, length, count_by, slice_index, Some, None, refl, sym, ap, ◌∙◌, ⊎_elim, arith, subst, le_of_eq}
 use Rattle.std.specs.Prelude.{is_some}
 use Rattle.std.specs.List.{list_all, list_any, AllByRecursion, range_with_len, enumerate_from}
-use Rattle.std.proofs.lemmas.Bool.{and_parts, cases_Bool, cases_lt, eqb-true, eq-eqb, ne_eqb, leb-true, ltb-true, false≢true}
-use Rattle.basic_laws.proofs.Sums.{total, total_le, total_same, total-ones, one_if, length-filter-total, count_by-total}
+use Rattle.std.proofs.lemmas.Bool.{and_parts, cases_Bool, eqb-true, eq-eqb, ne_eqb, leb-true, ltb-true, false≢true}
+use Rattle.basic_laws.proofs.Sums.{total, total_same, total-ones, one_if, length-filter-total, count_by-total}
 use Rattle.basic_laws.proofs.Lists.{map_same}
 use Rattle.basic_laws.proofs.Each.{each_both, each_everywhere, each_from_filter, each_from_list_all, each_map, each_mapped, list_all-enumerated, list_all_equal, range_each}
 use Rattle.pool_definitions.specs.declared.Standing.{Standing}
 use Rattle.pool_definitions.specs.declared.Standing.TheVariants.{Open, Seated, Gone}
 use Rattle.pool_definitions.specs.Lists.{includes, is_increasing}
-use Rattle.pool_definitions.specs.Pool.{Pool, Volunteer, volunteer, is_quota_panel, allows, keeps_standings, keeps_households, meets_quotas, members_with, is_within}
+use Rattle.pool_definitions.specs.Pool.{Pool, volunteer, is_quota_panel, allows, keeps_standings, keeps_households, meets_quotas, members_with, is_within}
 use Rattle.pool_definitions.proofs.AllPanels.{quota_from}
 use Rattle.pool_definitions.proofs.Weights.{total_panel}
 use Rattle.search_definitions.specs.Classes.{leaders, class_of, least_taken, most_taken, shared_household, MakesClasses}

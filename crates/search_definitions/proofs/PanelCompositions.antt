@@ -1,16 +1,16 @@
 -- A quota panel's composition is among the compositions, and weighs what the panel weighs.
-use Rattle.std.proofs.Common.{◌≡◌, ℕ, zero, suc, ◌+◌, ◌-◌, ◌*◌, ◌≤◌, ◌<◌, Bool, true, false, cond, not, ◌&&◌, ◌||◌, eqb, ltb, List, [], ◌∷◌, map, length, filter, count_by, get_or, slice_index, ℤ, pos, negsuc, ◌*ℤ◌, neg_ℤ, refl, sym, ap, ◌∙◌, ⊎_elim, arith, subst, le_of_eq}
+use Rattle.std.proofs.Common.{◌≡◌, ℕ, zero, suc, ◌+◌, ◌-◌, ◌*◌, ◌≤◌, ◌<◌, Bool, true, false, cond, not, ◌&&◌, ◌||◌, eqb, ltb, List, [], ◌∷◌, map, length, filter, count_by, slice_index, ℤ, pos, ◌*ℤ◌, refl, sym, ap, ◌∙◌, ⊎_elim, arith, subst, le_of_eq}
 use Rattle.std.specs.Prelude.{int_le, int_lt, unwrap_or, Option, Some, None}
 use Rattle.std.specs.List.{list_all, AllByRecursion, range_with_len, flat_map, enumerate_from}
-use Rattle.std.proofs.lemmas.Bool.{and_parts, and_from, cases_lt, eq-eqb, ltb-true, le-leb, false≢true}
+use Rattle.std.proofs.lemmas.Bool.{and_from, cases_lt, eq-eqb, ltb-true, le-leb, false≢true}
 use borrow.Author.Differences.{up, down, sum_is_lem, same_in, true_is_le, lt-false}
 use Rattle.basic_laws.proofs.Sums.{total, total_le, total-zero, one_if, length-filter-total, count_by-total}
 use Rattle.basic_laws.proofs.Integers.{product-parts}
 use Rattle.basic_laws.proofs.Each.{each_left, each_right, each_of_map, each_range, each_everywhere, list_all_from_each, list_all_equal, each_map, each_from_list_all, each_from_filter, each_filter_passes, enumerated-each}
 use Rattle.pool_definitions.specs.declared.Standing.{Standing}
 use Rattle.pool_definitions.specs.declared.Standing.TheVariants.{Open, Seated, Gone}
-use Rattle.pool_definitions.specs.Lists.{includes, is_increasing, choices}
-use Rattle.pool_definitions.specs.Pool.{Pool, Volunteer, volunteer, everybody, panels, is_quota_panel, allows, members_with, is_within}
+use Rattle.pool_definitions.specs.Lists.{includes, choices}
+use Rattle.pool_definitions.specs.Pool.{Pool, volunteer, everybody, panels, is_quota_panel, allows, members_with, is_within}
 use Rattle.pool_definitions.specs.Certificate.{Stage, weight_of, panel_weight, attains, is_capped}
 use Rattle.search_definitions.specs.Classes.{leaders, class_of, least_taken, most_taken, shared_household, IsEquivalenceTest, MakesClasses}
 use Rattle.search_definitions.specs.Compositions.{counts_down, first_greatest, is_of_household}

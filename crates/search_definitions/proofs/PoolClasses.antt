@@ -2,7 +2,7 @@
 use Rattle.std.proofs.Common.{◌≡◌, ℕ, zero, suc, ◌+◌, ◌*◌, ◌≤◌, ◌<◌, Bool, true, false, cond, ◌&&◌, ◌||◌, eqb, leb, ltb, List, [], ◌∷◌, map, length, filter, take, count_by, sum_by, slice_index, Option, None, Some, refl, sym, ap, ◌∙◌, ⊎_elim, arith, subst}
 use Rattle.std.specs.Prelude.{MatchOption, ◌↔◌, slice_get}
 use Rattle.std.specs.List.{flat_map, list_all, AllByRecursion, range_with_len, enumerate_from}
-use Rattle.std.proofs.lemmas.Bool.{cases_Bool, eqb-true, eq-eqb, ne_eqb, false≢true, le-ltb, lt-ltb}
+use Rattle.std.proofs.lemmas.Bool.{cases_Bool, eq-eqb, ne_eqb, false≢true, le-ltb, lt-ltb}
 use Rattle.std.proofs.lemmas.List.Elements.{filter_agree}
 use Rattle.basic_laws.proofs.Tests.{and-false, ltb-more}
 use Rattle.basic_laws.proofs.Each.{each_map, each_mapped, each_filter, each_everywhere, each_range, list_all_equal}

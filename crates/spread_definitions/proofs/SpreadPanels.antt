@@ -8,7 +8,7 @@ use Rattle.pool_definitions.specs.Pool.{Pool}
 use Rattle.search_definitions.specs.Classes.{Classes, MakesClasses, classes_by}
 use Rattle.search_definitions.specs.Compositions.{composition_of}
 use Rattle.search_definitions.proofs.Parting.{classes_part}
-use Rattle.spread_definitions.specs.Spreading.{AreParts, cuts, dial, panel_at, rows_of, spread}
+use Rattle.spread_definitions.specs.Spreading.{AreParts, cuts, panel_at, rows_of, spread}
 use Rattle.spread_definitions.proofs.Cuts.{each_flat_map}
 use Rattle.spread_definitions.proofs.Dials.{Cut, cuts_are}
 use Rattle.spread_definitions.proofs.Lotteries.{all_panels_are, is_spread, panel_below, parts_within, pool_can_give}

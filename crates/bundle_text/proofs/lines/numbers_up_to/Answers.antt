@@ -1,4 +1,4 @@
-use Rattle.std.proofs.Common.{◌≡◌, sym, ◌∙◌, ap, subst, Some}
+use Rattle.std.proofs.Common.{◌≡◌, sym, ◌∙◌, ap, Some}
 use Rattle.bundle_definitions.specs.BundleReading.{numbers_up_to}
 use Rattle.bundle_text.proofs.NumberLists.{numbers_more, numbers_fail}
 use Rattle.bundle_text.proofs.lines.numbers_up_to.Goals as goal

@@ -1,5 +1,5 @@
-use Rattle.std.proofs.Common.{◌≡◌, ◌+◌, ◌*◌, ◌∙◌, ℕ, List, ap, sym, subst, arith, length, ◌++◌, ◌∷◌, []}
-use Rattle.std.specs.Prelude.{slice_get, Some}
+use Rattle.std.proofs.Common.{◌≡◌, ◌+◌, ◌*◌, ◌∙◌, ℕ, List, ap, sym, subst, length, ◌++◌, ◌∷◌, []}
+use Rattle.std.specs.Prelude.{slice_get}
 use Rattle.std.proofs.lemmas.List.{length-append}
 use Rattle.panel_search.specs.Answers.{AnswersWeighed}
 use Rattle.pricing_pool.specs.Outcomes.{Outcome}

@@ -1,5 +1,4 @@
-use Rattle.std.proofs.Common.{sym, ap, subst, arith, length, ◌<◌}
-use Rattle.std.specs.Prelude.{slice_index_or}
+use Rattle.std.proofs.Common.{subst, arith, length, ◌<◌}
 use Rattle.std.proofs.lemmas.Result.{err_from_is_err_and}
 use Rattle.panel_search.specs.Answers.{AnswersWeighed}
 use Rattle.pricing_pool.specs.Outcomes.{search_at}
