@@ -10,10 +10,6 @@ mod grouping;
 mod groups;
 mod numbers;
 mod spreading;
-#[cfg(test)]
-mod spreading_tests;
-#[cfg(test)]
-mod tests;
 
 pub use composing::first_panel;
 pub use grouping::classes;

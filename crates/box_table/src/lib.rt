@@ -16,8 +16,6 @@ mod guesses;
 mod rows;
 mod seats;
 mod table;
-#[cfg(test)]
-mod tests;
 mod worst;
 
 pub use dice::Dice;

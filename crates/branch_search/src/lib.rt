@@ -9,8 +9,6 @@ mod nodes;
 mod path;
 mod proving;
 mod searching;
-#[cfg(test)]
-mod tests;
 mod weighing;
 
 pub use leaves::lowest_leaf;

@@ -9,8 +9,6 @@ mod lines;
 mod progress;
 mod ranges;
 mod reading;
-#[cfg(test)]
-mod tests;
 mod writing;
 
 pub use bundles::Bundle;

@@ -15,8 +15,6 @@ mod searching;
 mod tallies;
 mod tally;
 mod terms;
-#[cfg(test)]
-mod tests;
 mod weighing;
 
 pub use above_cap::panel_above_cap;

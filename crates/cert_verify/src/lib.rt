@@ -8,8 +8,6 @@ mod constraints;
 mod first_lines;
 mod leaves;
 mod paths;
-#[cfg(test)]
-mod tests;
 mod trees;
 mod verifying;
 

@@ -5,7 +5,5 @@
 mod finders;
 mod mixes;
 mod stages;
-#[cfg(test)]
-mod tests;
 
 pub use stages::{Columned, column_stages};

@@ -5,8 +5,6 @@
 mod asked;
 mod program;
 mod reading;
-#[cfg(test)]
-mod tests;
 mod values;
 
 pub use asked::{Asked, Made, WordsStop};

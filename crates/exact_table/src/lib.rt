@@ -11,8 +11,6 @@ mod pivoting;
 mod rows;
 mod starting;
 mod table;
-#[cfg(test)]
-mod tests;
 mod width;
 
 pub use row_definitions::{Op, Pass, Var};

@@ -7,8 +7,6 @@ mod certifying;
 mod running;
 mod solving;
 mod stops;
-#[cfg(test)]
-mod tests;
 
 pub use run_limits::{Limits, RunSizes};
 pub use solving::{solve, solve_sized};

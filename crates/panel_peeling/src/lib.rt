@@ -10,8 +10,6 @@ mod rests;
 mod rows;
 mod seen;
 mod tails;
-#[cfg(test)]
-mod tests;
 
 pub use lotteries::{Lottery, Part, lottery_of};
 pub use rows::{PanelRows, weights_of};

@@ -3,24 +3,16 @@
 //! for the best composition needs of the rows that compositions are to attain.
 #![tactic(auto)]
 
-#[cfg(test)]
-mod best_tests;
 mod dividing;
-#[cfg(test)]
-mod front_tests;
 mod fronts;
 mod greatest;
 mod homes;
-#[cfg(test)]
-mod household_tests;
 mod priced;
 mod pricer;
 mod pricing;
 mod searching;
 mod tallies;
 mod tally;
-#[cfg(test)]
-mod tests;
 mod weighing;
 
 pub use fronts::Front;

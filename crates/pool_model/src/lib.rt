@@ -13,8 +13,6 @@ mod panels;
 mod parts;
 mod pools;
 mod quotas;
-#[cfg(test)]
-mod tests;
 
 pub use building::BuildStop;
 pub use certificates::{Answer, Certificate, Stage, panel_weight};

@@ -6,8 +6,6 @@ mod entries;
 mod faults;
 mod progress;
 mod reading;
-#[cfg(test)]
-mod tests;
 mod writing;
 
 pub use faults::{PoolFault, ReadPool};

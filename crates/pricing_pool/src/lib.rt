@@ -4,8 +4,6 @@
 #![tactic(auto)]
 
 mod pricing;
-#[cfg(test)]
-mod tests;
 mod wave;
 mod waves;
 mod workers;

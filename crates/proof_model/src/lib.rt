@@ -5,8 +5,6 @@
 mod leaves;
 mod proofs;
 mod ranges;
-#[cfg(test)]
-mod tests;
 mod trees;
 
 pub use leaves::{Leaf, Multiplier};

@@ -7,8 +7,6 @@ mod faults;
 mod lines;
 mod progress;
 mod reading;
-#[cfg(test)]
-mod tests;
 mod writing;
 
 pub use faults::{ProofFault, ReadProof};

@@ -7,8 +7,6 @@ mod columns;
 mod demands;
 mod programs;
 mod rows;
-#[cfg(test)]
-mod tests;
 
 pub use programs::Program;
 pub use rows::QuotaRow;

@@ -8,8 +8,6 @@ mod levels;
 mod refuted;
 mod shares;
 mod stages;
-#[cfg(test)]
-mod tests;
 
 pub use chances::Chances;
 pub use levels::{Level, level_of};

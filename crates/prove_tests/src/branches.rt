@@ -1,0 +1,175 @@
+//! Searches and trees of small programs. What they find, what they spend and the lines are those of a reference program in another language.
+
+use box_table::Table;
+use branch_search::{Found, prove_empty, search};
+use proof_limits::{Budget, Narrow, Span};
+use proof_model::{Node, TreeLines};
+use std::alloc::Global;
+use std::process::Abort;
+use std::test::Fail;
+
+/// A span for each pair.
+fn spans(alloc: Global, ends: &[(i64, i64)]) -> Result<Vec<Span>, Fail> {
+    let mut spans = Vec::new(alloc);
+    for (least, greatest) in ends {
+        let least = Narrow::new(*least).ok_or("wide")?;
+        let greatest = Narrow::new(*greatest).ok_or("wide")?;
+        spans.push(Span::new(least, greatest).ok_or("empty")?)?;
+    }
+    Ok(spans)
+}
+
+/// A table of so many columns and these rows, aimed nowhere.
+fn table(rt: &impl Abort, alloc: Global, columns: usize, rows: &[&[i64]]) -> Result<Table, Fail> {
+    let mut table = Table::new(alloc, columns)?;
+    for row in rows {
+        let mut coefficients = Vec::new(alloc);
+        for coefficient in *row {
+            coefficients.push(Narrow::new(*coefficient).ok_or("wide")?)?;
+        }
+        assert!(rt; coefficients.len() == table.columns());
+        table.add_row(&coefficients)?;
+    }
+    table.aim(&[], 1)?;
+    Ok(table)
+}
+
+/// What a search finds in a program, and how many nodes and pivots are left of 100 each.
+fn found(
+    rt: &impl Abort,
+    alloc: Global,
+    columns: &[(i64, i64)],
+    rows: &[&[i64]],
+    allowed: &[(i64, i64)],
+    most: u64,
+) -> Result<String, Fail> {
+    let mut table = table(rt, alloc, columns.len(), rows)?;
+    let (columns, allowed) = (spans(alloc, columns)?, spans(alloc, allowed)?);
+    assert!(rt; columns.len() == table.columns());
+    assert!(rt; allowed.len() == table.rows());
+    let mut budget = Budget::new(100, 100);
+    let mut text = match search(alloc, &mut table, &columns, &allowed, most, &mut budget) {
+        Ok(Found::Nothing) => String::from_str(alloc, "nothing")?,
+        Ok(Found::Doubt) => String::from_str(alloc, "doubt")?,
+        Ok(Found::Point(point)) => {
+            let mut text = String::from_str(alloc, "point")?;
+            for number in &point {
+                text.push_str(&format!(in alloc; " {}", number.get())?)?;
+            }
+            text
+        }
+        Err(stop) => format!(in alloc; "{stop}")?,
+    };
+    text.push_str(&format!(in alloc; ", {} {}", budget.nodes(), budget.pivots())?)?;
+    Ok(text)
+}
+
+/// The lines: a split as its column, a leaf as its scale and each number times its factor.
+fn spelled(alloc: Global, lines: &TreeLines) -> Result<String, Fail> {
+    let mut text = String::new(alloc);
+    for line in lines.lines() {
+        match line.node() {
+            Node::Split(column) => text.push_str(&format!(in alloc; "{column} ")?)?,
+            Node::Leaf(leaf) => {
+                text.push_str(&format!(in alloc; "[{}", leaf.scale())?)?;
+                for multiplier in leaf.multipliers() {
+                    let (number, factor) = (multiplier.number(), multiplier.factor());
+                    text.push_str(&format!(in alloc; " {number}*{factor}")?)?;
+                }
+                text.push_str("] ")?;
+            }
+        }
+    }
+    Ok(text)
+}
+
+/// The lines of the tree of a program whose rows have the names 7, 3, 9 and 1, or why there are none, with so many nodes left.
+fn tree(
+    rt: &impl Abort,
+    alloc: Global,
+    columns: &[(i64, i64)],
+    rows: &[&[i64]],
+    allowed: &[(i64, i64)],
+    weight_row: Option<usize>,
+    nodes: u64,
+) -> Result<String, Fail> {
+    let mut table = table(rt, alloc, columns.len(), rows)?;
+    let (columns, allowed) = (spans(alloc, columns)?, spans(alloc, allowed)?);
+    let names = [7, 3, 9, 1]
+        .as_slice()
+        .get(..rows.len())
+        .ok_or("more rows")?;
+    assert!(rt; columns.len() == table.columns());
+    assert!(rt; allowed.len() == table.rows());
+    assert!(rt; names.len() == table.rows());
+    if let Some(row) = weight_row {
+        assert!(rt; row < table.rows());
+    }
+    let mut budget = Budget::new(100, nodes);
+    match prove_empty(
+        alloc,
+        &mut table,
+        &columns,
+        &allowed,
+        names,
+        weight_row,
+        &mut budget,
+    ) {
+        Ok(Some(lines)) => spelled(alloc, &lines),
+        Ok(None) => Ok(String::from_str(alloc, "a point")?),
+        Err(stop) => Ok(format!(in alloc; "{stop}")?),
+    }
+}
+
+const UNIT: [(i64, i64); 4] = [(0, 1), (0, 1), (0, 1), (0, 1)];
+
+#[test]
+fn searches_go_as_the_reference(rt: HostRuntime) -> Result<(), Fail> {
+    let alloc = rt.alloc();
+    let odd: &[&[i64]] = &[&[2, 2, 2]];
+    let pairs: &[&[i64]] = &[&[1, 1, 0], &[0, 1, 1], &[1, 0, 1], &[1, 1, 1]];
+    let sums: &[&[i64]] = &[&[1, 1, 1], &[2, -1, 3]];
+    let coins: &[&[i64]] = &[&[3, 5, 7, 11]];
+    let (three, four) = (&UNIT[..3], &UNIT[..4]);
+    let apart: &[(i64, i64)] = &[(0, 1), (0, 1), (0, 1), (2, 3)];
+    let boxes: &[(i64, i64)] = &[(0, 3), (-2, 2), (0, 1)];
+    let exact: &[(i64, i64)] = &[(2, 2), (4, 5)];
+    for (columns, rows, allowed, most, want) in [
+        (three, odd, &[(3, 3)][..], 0, "doubt, 99 100"),
+        (three, odd, &[(3, 3)][..], 1, "doubt, 98 99"),
+        (three, odd, &[(3, 3)][..], 100, "nothing, 89 96"),
+        (three, pairs, apart, 1, "nothing, 99 97"),
+        (boxes, sums, exact, 100, "point 2 0 0, 99 98"),
+        (four, coins, &[(13, 13)][..], 100, "nothing, 85 94"),
+        (four, coins, &[(14, 14)][..], 100, "point 1 0 0 1, 98 98"),
+    ] {
+        let text = found(&rt, alloc, columns, rows, allowed, most)?;
+        assert_eq!(rt; text.as_str(), want);
+    }
+    for (columns, rows, allowed, weight_row, nodes, want) in [
+        (
+            three,
+            odd,
+            &[(3, 3)][..],
+            None,
+            11,
+            "0 2 [0 7*-1] 1 [0 7*-1] [0 7*1] 1 2 [0 7*-1] [0 7*1] [0 7*1] ",
+        ),
+        (
+            three,
+            odd,
+            &[(3, 3)][..],
+            Some(0),
+            11,
+            "0 2 [1] 1 [1] [0] 1 2 [1] [0] [0] ",
+        ),
+        (three, odd, &[(3, 3)][..], None, 10, "a limit is spent"),
+        (three, pairs, apart, None, 1, "[0 1*-2 3*1 7*1 9*1] "),
+        (three, pairs, apart, Some(3), 1, "[2 3*1 7*1 9*1] "),
+        (boxes, sums, exact, None, 100, "a point"),
+    ] {
+        let text = tree(&rt, alloc, columns, rows, allowed, weight_row, nodes)?;
+        assert_eq!(rt; text.as_str(), want);
+    }
+    Ok(())
+}
