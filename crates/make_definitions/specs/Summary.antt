@@ -1,5 +1,5 @@
 -- The summary of a run that found an answer: a line for each number, and the seal of the bundle.
-use Rattle.std.specs.Prelude.{ℕ, min, max, List, [], ◌∷◌, codes, length, unwrap_or}
+use Rattle.std.specs.Prelude.{ℕ, min, max, List, [], ◌∷◌, ◌++◌, codes, length, unwrap_or}
 use Rattle.std.specs.Fmt.{decimal}
 use Rattle.std.specs.List.{reduce}
 use Rattle.frac128.specs.Fractions.{Fraction, lowest_of, fraction_text}
@@ -40,9 +40,9 @@ field_line word field = line_of (word ∷ field ∷ [])
 abbrev pub number_line : List ℕ → ℕ → List ℕ
 number_line word number = field_line word (decimal number)
 
--- the lines of the summary
-abbrev pub summary_lines : Pool → Answer → Sizes → List (List ℕ)
-summary_lines pool answer sizes =
+-- the lines of the summary that tell sizes
+abbrev pub size_lines : Pool → Answer → Sizes → List (List ℕ)
+size_lines pool answer sizes =
     number_line (codes "volunteers") (length pool.volunteers)
     ∷ number_line (codes "classes") sizes.classes
     ∷ number_line (codes "size") pool.size
@@ -50,7 +50,13 @@ summary_lines pool answer sizes =
     ∷ number_line (codes "columns") sizes.columns
     ∷ number_line (codes "pivots") sizes.pivots
     ∷ number_line (codes "stages") (length answer.stages)
-    ∷ number_line (codes "total") answer.lottery.total
+    ∷ []
+
+-- all lines of the summary
+abbrev pub summary_lines : Pool → Answer → Sizes → List (List ℕ)
+summary_lines pool answer sizes =
+    size_lines pool answer sizes
+    ++ number_line (codes "total") answer.lottery.total
     ∷ field_line (codes "least") (fraction_text (least_chance pool answer.lottery))
     ∷ field_line (codes "greatest") (fraction_text (greatest_chance pool answer.lottery))
     ∷ field_line (codes "seal") (seal_of (bundle_text pool answer))
