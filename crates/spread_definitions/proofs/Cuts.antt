@@ -112,7 +112,8 @@ pub each_flat_map : {X Y : Type 0} (P : Y → Type 0) (f : X → List Y) (xs : L
 each_flat_map P f [] each = tt
 each_flat_map P f (x ∷ xs) each = subst (AllByRecursion P) (sym (flat_map-cons f x xs)) (each_append P (f x) (flat_map f xs) each.0 (each_flat_map P f xs each.1))
 
-includes-append : (xs ys : List ℕ) (z : ℕ) → includes (xs ++ ys) z ≡ (includes xs z || includes ys z)
+-- two lists, one after the other, hold what one of them holds
+pub includes-append : (xs ys : List ℕ) (z : ℕ) → includes (xs ++ ys) z ≡ (includes xs z || includes ys z)
 includes-append [] ys z = refl
 includes-append (x ∷ xs) ys z = ap (λ b. eqb x z || b) (includes-append xs ys z) ∙ assoc (eqb x z) (includes xs z) (includes ys z)
   where
