@@ -4,8 +4,7 @@
 ghost use Rattle.std.specs.Prelude.{◌≡◌, ◌≤◌, true, length};
 ghost use Rattle.front_laws.specs.Front.{AreWithin};
 
-use crate::firsts::{SMALL, built};
-use crate::given::is_small;
+use crate::given::{different, is_small};
 use alike::{Classes, classes};
 use panel_search::{Front, Row, SearchStop, best_from, pieces};
 use std::test::Fail;
@@ -94,36 +93,24 @@ fn fits(classes: &Classes, front: &Front) -> bool
 #[test]
 fn searches_begin_at_fronts(rt: HostRuntime) -> Result<(), Fail> {
     let alloc = rt.alloc();
+    let all = classes(alloc, &different(alloc, 2, 4)?)?;
     let row = Row::new(0, vec![in alloc; 0, 0, 1, 0]?);
-    for given in SMALL {
-        if given.name == "each has another value" {
-            let all = classes(alloc, &built(alloc, given)?)?;
-            assert!(rt; is_small(&all, &row));
-            for below in WORKED {
-                let front = Front::new(Vec::from_slice(alloc, below.front)?);
-                assert!(rt; fits(&all, &front), "{:?}", below.front);
-                let (found, visits) = best_from(
-                    alloc,
-                    &all,
-                    &[],
-                    &row,
-                    &front,
-                    below.floor,
-                    below.visits,
-                )?;
-                let counts = found.as_ref().map(|composition| composition.counts());
-                assert_eq!(rt; counts, below.found, "{:?}", below.front);
-                assert_eq!(rt; visits, below.visits, "{:?}", below.front);
-                let less = below.visits.saturating_sub(1);
-                let short = best_from(alloc, &all, &[], &row, &front, below.floor, less);
-                assert_eq!(rt;
-                    matches!(short, Err(SearchStop::Spent)),
-                    below.visits > 0,
-                    "{:?}",
-                    below.front
-                );
-            }
-        }
+    assert!(rt; is_small(&all, &row));
+    for below in WORKED {
+        let front = Front::new(Vec::from_slice(alloc, below.front)?);
+        assert!(rt; fits(&all, &front), "{:?}", below.front);
+        let (found, visits) = best_from(alloc, &all, &[], &row, &front, below.floor, below.visits)?;
+        let counts = found.as_ref().map(|composition| composition.counts());
+        assert_eq!(rt; counts, below.found, "{:?}", below.front);
+        assert_eq!(rt; visits, below.visits, "{:?}", below.front);
+        let less = below.visits.saturating_sub(1);
+        let short = best_from(alloc, &all, &[], &row, &front, below.floor, less);
+        assert_eq!(rt;
+            matches!(short, Err(SearchStop::Spent)),
+            below.visits > 0,
+            "{:?}",
+            below.front
+        );
     }
     Ok(())
 }
@@ -131,20 +118,16 @@ fn searches_begin_at_fronts(rt: HostRuntime) -> Result<(), Fail> {
 #[test]
 fn a_search_is_divided(rt: HostRuntime) -> Result<(), Fail> {
     let alloc = rt.alloc();
+    let all = classes(alloc, &different(alloc, 2, 4)?)?;
     let row = Row::new(0, vec![in alloc; 0, 0, 1, 0]?);
-    for given in SMALL {
-        if given.name == "each has another value" {
-            let all = classes(alloc, &built(alloc, given)?)?;
-            assert!(rt; is_small(&all, &row));
-            let (fronts, visits) = pieces(alloc, &all, &[], &row, 9)?;
-            assert_eq!(rt; visits, 9);
-            assert_eq!(rt; fronts.len(), PIECES.len());
-            for (front, counts) in fronts.iter().zip(PIECES) {
-                assert_eq!(rt; front.counts(), *counts);
-            }
-            let short = pieces(alloc, &all, &[], &row, 8);
-            assert!(rt; matches!(short, Err(SearchStop::Spent)));
-        }
+    assert!(rt; is_small(&all, &row));
+    let (fronts, visits) = pieces(alloc, &all, &[], &row, 9)?;
+    assert_eq!(rt; visits, 9);
+    assert_eq!(rt; fronts.len(), PIECES.len());
+    for (front, counts) in fronts.iter().zip(PIECES) {
+        assert_eq!(rt; front.counts(), *counts);
     }
+    let short = pieces(alloc, &all, &[], &row, 8);
+    assert!(rt; matches!(short, Err(SearchStop::Spent)));
     Ok(())
 }

@@ -70,3 +70,17 @@ pub(crate) fn place(
     }
     Ok(())
 }
+
+/// As many seats as given for volunteers who differ, of each value one at most.
+pub(crate) fn different(alloc: Global, size: usize, volunteers: usize) -> Result<Pool, BuildStop> {
+    let mut pool = Pool::new(alloc, size)?;
+    pool.add_category("value")?;
+    for value in 0..volunteers {
+        pool.add_value(&format!(in alloc; "{value}")?, 0, 1)?;
+    }
+    for value in 0..volunteers {
+        let name = format!(in alloc; "{value}")?;
+        pool.add_volunteer(&name, &[Name::new(alloc, &name)?])?;
+    }
+    Ok(pool)
+}

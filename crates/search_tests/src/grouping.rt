@@ -1,5 +1,6 @@
 //! The classes of small pools, and first panels of them.
 
+use crate::given::place;
 use alike::{Bounds, Classes, Composition, class_numbers, classes, first_panel};
 use pool_definitions::Standing;
 use pool_model::{BuildStop, Name, Pool};
@@ -79,24 +80,15 @@ fn alike_volunteers_are_a_class(rt: HostRuntime) -> Result<(), Fail> {
     check_panel(&rt, alloc, &nobody, &[], &[])
 }
 
-/// Sets a standing, of a volunteer who is there.
-fn set(rt: &impl Abort, pool: &mut Pool, number: usize, standing: Standing) {
-    assert!(rt; number < pool.volunteers().len());
-    pool.set_standing(number, standing);
-}
-
-/// Sets a household, of a volunteer who is there.
-fn house(rt: &impl Abort, pool: &mut Pool, number: usize, name: &str) -> Result<(), BuildStop> {
-    assert!(rt; number < pool.volunteers().len());
-    pool.set_household(number, name)
-}
-
 #[test]
 fn standings_and_households_part_classes(rt: HostRuntime) -> Result<(), Fail> {
     let alloc = rt.alloc();
     let mut pool = four(alloc)?;
-    set(&rt, &mut pool, 0, Standing::Seated);
-    set(&rt, &mut pool, 2, Standing::Gone);
+    place(
+        &mut pool,
+        &[(0, Standing::Seated), (2, Standing::Gone)],
+        &[],
+    )?;
     let found = classes(alloc, &pool)?;
     check_classes(
         &rt,
@@ -112,9 +104,7 @@ fn standings_and_households_part_classes(rt: HostRuntime) -> Result<(), Fail> {
     let mut pool = four(alloc)?;
     let value = Name::new(alloc, "male")?;
     pool.add_volunteer("e", &[value])?;
-    for (number, name) in [(1, "h"), (2, "i"), (3, "h")] {
-        house(&rt, &mut pool, number, name)?;
-    }
+    place(&mut pool, &[], &[(1, "h"), (2, "i"), (3, "h")])?;
     let found = classes(alloc, &pool)?;
     check_classes(
         &rt,

@@ -1,12 +1,10 @@
 //! Pricings of small pools by several workers. The visits are those of worked waves, which the definitions compute.
 
-use crate::given::is_small;
+use crate::given::{different, is_small};
 use alike::classes;
 use outside::{NoWatch, Watch};
 use panel_search::{Row, SearchStop};
-use pool_model::{BuildStop, Name, Pool};
 use pricing_pool::best_by;
-use std::alloc::Global;
 use std::sync::atomic::{AtomicBool, Ordering};
 use std::test::Fail;
 
@@ -33,20 +31,6 @@ impl Watch for Holding {
             }
         }
     }
-}
-
-/// As many seats as given for volunteers who differ, of each value one at most.
-fn different(alloc: Global, size: usize, volunteers: usize) -> Result<Pool, BuildStop> {
-    let mut pool = Pool::new(alloc, size)?;
-    pool.add_category("value")?;
-    for value in 0..volunteers {
-        pool.add_value(&format!(in alloc; "{value}")?, 0, 1)?;
-    }
-    for value in 0..volunteers {
-        let name = format!(in alloc; "{value}")?;
-        pool.add_volunteer(&name, &[Name::new(alloc, &name)?])?;
-    }
-    Ok(pool)
 }
 
 #[test]

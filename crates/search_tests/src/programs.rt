@@ -1,13 +1,13 @@
 //! Programs of small pools, spelled.
 
-use pool_definitions::Standing;
-use pool_model::{BuildStop, Name, Pool};
+use crate::given::place;
+use pool_model::{BuildStop, Name, Pool, Standing};
 use quota_program::Program;
 use std::alloc::Global;
 use std::process::Abort;
 use std::test::Fail;
 
-/// A volunteer, or a standing, or a household.
+/// Adds a volunteer of a gender and an age.
 fn add(alloc: Global, pool: &mut Pool, id: &str, values: [&str; 2]) -> Result<(), BuildStop> {
     let [gender, age] = values;
     let values = [Name::new(alloc, gender)?, Name::new(alloc, age)?];
@@ -78,18 +78,6 @@ fn check(
     Ok(())
 }
 
-/// Sets a standing, of a volunteer who is there.
-fn set(rt: &impl Abort, pool: &mut Pool, number: usize, standing: Standing) {
-    assert!(rt; number < pool.volunteers().len());
-    pool.set_standing(number, standing);
-}
-
-/// Sets a household, of a volunteer who is there.
-fn house(rt: &impl Abort, pool: &mut Pool, number: usize, name: &str) -> Result<(), BuildStop> {
-    assert!(rt; number < pool.volunteers().len());
-    pool.set_household(number, name)
-}
-
 #[test]
 fn programs_are_spelled(rt: HostRuntime) -> Result<(), Fail> {
     let alloc = rt.alloc();
@@ -101,8 +89,11 @@ fn programs_are_spelled(rt: HostRuntime) -> Result<(), Fail> {
         "0 0 1 1 2 3 0 | 0*3:0..3 2*2:0..2 4*1:0..1 5*1:0..1 | 0/0:1111:3..3 1/1:1010:1..2 2/2:0101:1..2 3/3:1001:0..1",
         "0 1 2 3 4 5 6 | 0*1:0..1 1*1:0..1 2*1:0..1 3*1:0..1 4*1:0..1 5*1:0..1 6*1:0..1 | 0/0:1111111:3..3 1/1:1100101:1..2 2/2:0011010:1..2 3/3:1100011:0..1",
     )?;
-    set(&rt, &mut pool, 0, Standing::Seated);
-    set(&rt, &mut pool, 4, Standing::Gone);
+    place(
+        &mut pool,
+        &[(0, Standing::Seated), (4, Standing::Gone)],
+        &[],
+    )?;
     check(
         &rt,
         alloc,
@@ -112,11 +103,9 @@ fn programs_are_spelled(rt: HostRuntime) -> Result<(), Fail> {
     )?;
     // of two shared households, one whose members could both be taken, and one where somebody is gone
     let mut pool = seven(alloc)?;
-    for (number, name) in [(0, "y"), (1, "z"), (2, "x"), (3, "z"), (4, "x"), (5, "w")] {
-        house(&rt, &mut pool, number, name)?;
-    }
-    set(&rt, &mut pool, 2, Standing::Gone);
-    set(&rt, &mut pool, 6, Standing::Seated);
+    let houses = [(0, "y"), (1, "z"), (2, "x"), (3, "z"), (4, "x"), (5, "w")];
+    let standings = [(2, Standing::Gone), (6, Standing::Seated)];
+    place(&mut pool, &standings, &houses)?;
     let both =
         "0 1 2 3 4 5 6 | 0*1:0..1 1*1:0..1 2*1:0..0 3*1:0..1 4*1:0..1 5*1:0..1 6*1:1..1 | 0/0:1111111:3..3 1/1:1100101:1..2 2/2:0011010:1..2 3/3:1100011:0..1 5/8:0101000:0..1";
     check(&rt, alloc, &pool, both, both)?;
@@ -124,6 +113,6 @@ fn programs_are_spelled(rt: HostRuntime) -> Result<(), Fail> {
     let mut pool = Pool::new(alloc, 1)?;
     check(&rt, alloc, &pool, "| | 0/0::1..1", "| | 0/0::1..1")?;
     pool.add_volunteer("a", &[])?;
-    set(&rt, &mut pool, 0, Standing::Seated);
+    place(&mut pool, &[(0, Standing::Seated)], &[])?;
     check(&rt, alloc, &pool, "0 | 0*1:1..1 |", "0 | 0*1:1..1 |")
 }
