@@ -1,5 +1,5 @@
 -- Marks at volunteers' numbers, and the numbers that are marked.
-use Rattle.std.proofs.Common.{◌≡◌, ℕ, suc, ◌+◌, ◌-◌, ◌≤◌, ◌<◌, Bool, true, false, cond, ◌||◌, eqb, List, [], ◌∷◌, ◌++◌, filter, take, drop, length, slice_index_or, refl, sym, ap, ◌∙◌, ⊎_elim, arith, min}
+use Rattle.std.proofs.Common.{◌≡◌, ℕ, suc, ◌+◌, ◌-◌, ◌≤◌, ◌<◌, Bool, true, false, cond, ◌||◌, List, [], ◌∷◌, ◌++◌, filter, take, drop, length, slice_index_or, refl, sym, ap, ◌∙◌, ⊎_elim, arith, min}
 use Rattle.std.specs.List.{range_with_len}
 use Rattle.std.proofs.lemmas.Bool.{cases_lt}
 use Rattle.std.proofs.lemmas.List.{take-append-le, take_all}
@@ -8,6 +8,7 @@ use Rattle.basic_laws.proofs.Lists.{range-more}
 use Rattle.pool_definitions.specs.Lists.{includes}
 use Rattle.alike.specs.Steps.{AreMarked}
 use Rattle.spread_definitions.specs.Spreading.{turned}
+use Rattle.spread_definitions.proofs.Cuts.{includes-append}
 
 -- ---- the numbers that pass
 
@@ -41,14 +42,6 @@ fails-more p count e =
     append_nil (x ∷ xs) = ap (λ rest. x ∷ rest) (append_nil xs)
 
 -- ---- windows in two pieces
-
-pub includes-append : (xs ys : List ℕ) (z : ℕ) → includes (xs ++ ys) z ≡ (includes xs z || includes ys z)
-includes-append [] ys z = refl
-includes-append (x ∷ xs) ys z = ap (λ b. eqb x z || b) (includes-append xs ys z) ∙ assoc (eqb x z) (includes xs z) (includes ys z)
-  where
-    assoc : (a b c : Bool) → (a || (b || c)) ≡ ((a || b) || c)
-    assoc true b c = refl
-    assoc false b c = refl
 
 -- the first so many of two lists, one after the other
 take-both : (c : ℕ) (xs ys : List ℕ) → take c (xs ++ ys) ≡ take (min c (length xs)) xs ++ take (min (length ys) (c - min c (length xs))) ys

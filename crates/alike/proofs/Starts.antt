@@ -12,7 +12,7 @@ use Rattle.spread_definitions.specs.Spreading.{dial, is_partly_taken, partly_tak
 use Rattle.spread_definitions.proofs.Dials.{Divided, divided_dial, each_included, includes-partly}
 use Rattle.spread_definitions.specs.Spreading.{is_given}
 use Rattle.alike.specs.Steps.{AreMarked}
-use Rattle.alike.proofs.Marked.{includes-append}
+use Rattle.spread_definitions.proofs.Cuts.{includes-append}
 use Rattle.alike.proofs.Parts.{given-more, given-whole}
 
 pub some_size : (class : Class) (count : ℕ) → is_partly_taken class count ≡ true → 0 < length class.members

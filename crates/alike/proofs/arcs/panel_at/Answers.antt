@@ -6,25 +6,32 @@ use Rattle.search_definitions.proofs.FirstPanel.{filter_increases}
 use Rattle.spread_definitions.specs.Spreading.{is_given, panel_at, dial}
 use Rattle.alike.proofs.Starts.{passing_numbers}
 use Rattle.alike.proofs.arcs.panel_at.Goals as goal
+use Rattle.alike.proofs.arcs.panel_at.Goals.{After-new}
+
+-- the numbers that are marked are the panel, in rising order
+module _ (c : After-new) where
+  members : c.in_ok-numbers.field-0.items ≡ panel_at c.args.classes.now c.args.counts.now c.args.at
+  members =
+      let all = c.args.classes.now in let counts = c.args.counts.now in
+      passing_numbers (is_given c.args.places c.args.at all.classes counts) (volunteer_count all) c.deref.result.now c.in_ok-numbers.field-0.items (c.deref.ensures.value ∙ c.in_ok-given.ensures) c.in_ok-numbers.ensures
+      ∙ ap (λ len. filter (is_given len c.args.at all.classes counts) (range_with_len 0 (volunteer_count all))) c.requires.places
+
+  rises : is_increasing c.in_ok-numbers.field-0.items ≡ true
+  rises =
+      let all = c.args.classes.now in let counts = c.args.counts.now in
+      ap is_increasing members ∙ filter_increases (is_given (dial all counts) c.args.at all.classes counts) 0 (volunteer_count all)
 
 pub unreachable-requires : goal.unreachable-requires
 unreachable-requires c =
-    let all = c.args.classes.now in let counts = c.args.counts.now in
-    let members : c.in_ok-numbers.field-0.items ≡ panel_at all counts c.args.at =
-    passing_numbers (is_given c.args.places c.args.at all.classes counts) (volunteer_count all) c.deref.result.now c.in_ok-numbers.field-0.items (c.deref.ensures.value ∙ c.in_ok-given.ensures) c.in_ok-numbers.ensures
-    ∙ ap (λ len. filter (is_given len c.args.at all.classes counts) (range_with_len 0 (volunteer_count all))) c.requires.places in
-    let rises : is_increasing c.in_ok-numbers.field-0.items ≡ true = ap is_increasing members ∙ filter_increases (is_given (dial all counts) c.args.at all.classes counts) 0 (volunteer_count all) in
-    let some = rw rises at c.new.ensures in
+    let increases : is_increasing c.in_ok-numbers.field-0.items ≡ true = rises (goal.at.unreachable-requires c).After-new in
+    let some = rw increases at c.new.ensures in
     let none = c.in-None.is in
     cc
 
 pub returns : goal.returns
 returns c =
-    let all = c.args.classes.now in let counts = c.args.counts.now in
-    let members : c.in_ok-numbers.field-0.items ≡ panel_at all counts c.args.at =
-    passing_numbers (is_given c.args.places c.args.at all.classes counts) (volunteer_count all) c.deref.result.now c.in_ok-numbers.field-0.items (c.deref.ensures.value ∙ c.in_ok-given.ensures) c.in_ok-numbers.ensures
-    ∙ ap (λ len. filter (is_given len c.args.at all.classes counts) (range_with_len 0 (volunteer_count all))) c.requires.places in
-    let rises : is_increasing c.in_ok-numbers.field-0.items ≡ true = ap is_increasing members ∙ filter_increases (is_given (dial all counts) c.args.at all.classes counts) 0 (volunteer_count all) in
-    let some = rw rises at c.new.ensures in
+    let same = members (goal.at.returns c).After-new in
+    let increases : is_increasing c.in_ok-numbers.field-0.items ≡ true = rises (goal.at.returns c).After-new in
+    let some = rw increases at c.new.ensures in
     let is = c.in-Some.is in
     cc
