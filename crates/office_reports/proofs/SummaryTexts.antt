@@ -9,8 +9,7 @@ use Rattle.pool_definitions.specs.Certificate.{Answer}
 use Rattle.bundle_definitions.specs.BundleText.{bundle_text}
 use Rattle.draw_definitions.specs.Seal.{seal_of}
 use Rattle.line_definitions.specs.Lines.{line_feed, text_of}
-use Rattle.make_definitions.specs.Summary.{Sizes, field_line, greatest, least, number_line, summary_lines, summary_text}
-use Rattle.office_reports.specs.Lines.{size_lines}
+use Rattle.make_definitions.specs.Summary.{Sizes, field_line, greatest, least, number_line, size_lines, summary_lines, summary_text}
 
 pub naturals : (ns : List ℕ) → map pos ns ≡ map pos (map unsigned_abs (map pos ns))
 naturals [] = refl

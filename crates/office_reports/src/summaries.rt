@@ -5,8 +5,7 @@ ghost use Rattle.frac128.specs.Fractions.{fraction_text, lowest_of};
 ghost use Rattle.pool_definitions.specs.Lottery.{TotalAgrees};
 ghost use Rattle.line_definitions.specs.Lines.{text_of};
 ghost use Rattle.bundle_definitions.specs.Ranges.{IsInRanges};
-ghost use Rattle.make_definitions.specs.Summary.{field_line, greatest as words_of_greatest, least as words_of_least, number_line, summary_text};
-ghost use Rattle.office_reports.specs.Lines.{size_lines};
+ghost use Rattle.make_definitions.specs.Summary.{field_line, greatest as words_of_greatest, least as words_of_least, number_line, size_lines, summary_text};
 
 use bundle_text::write_bundle;
 use frac128::lowest;

@@ -1,17 +1,13 @@
-use Rattle.std.proofs.Common.{◌≡◌, get_or, map, pos, unsigned_abs, FitsSigned, to_z, of_z, ◌∙◌, rules}
-use Rattle.std.specs.Int.{w128}
-use Rattle.std.proofs.lemmas.Int.{to_z-of_z}
-use Rattle.office_reports.proofs.Chances.{next_greatest}
+use Rattle.std.proofs.Common.{get_or, map, max, pos, unsigned_abs, FitsSigned, to_z, rules}
+use Rattle.std.specs.Int.{int_max, w128}
+use Rattle.office_reports.proofs.Chances.{max_of_naturals, next_stored}
 use Rattle.office_reports.proofs.summaries.greatest.Goals as goal
 
 pub loop-count-preserved : goal.loop-count-preserved
 loop-count-preserved c =
     let counts = c.args.counts.now in
     let i = c.loop-count.count-index in
-    let count = get_or counts i (pos 0) in
-    let fits : FitsSigned w128 count = search rules in
-    let same : to_z w128 (of_z w128 count) ≡ count = to_z-of_z w128 count fits in
+    let fits : FitsSigned w128 (get_or counts i (pos 0)) = search rules in
     let fits_next : FitsSigned w128 c.max-greatest.result = search rules in
-    to_z-of_z w128 c.max-greatest.result fits_next
-    ∙ next_greatest counts i (get_or (map unsigned_abs counts) 0 0) (to_z w128 c.loop-count.greatest-bits) c.max-greatest.result (to_z w128 (of_z w128 count)) c.requires c.loop-count-test.true
-    c.loop-count.invariant same c.max-greatest.ensures.value
+    next_stored max int_max max_of_naturals counts i (get_or (map unsigned_abs counts) 0 0) (to_z w128 c.loop-count.greatest-bits) c.max-greatest.result fits fits_next c.requires c.loop-count-test.true c.loop-count.invariant
+    c.max-greatest.ensures.value
