@@ -10,6 +10,7 @@ use Rattle.basic_laws.proofs.Each.{each_map, each_mapped}
 use Rattle.row_definitions.specs.declared.Var.{Var}
 use Rattle.row_definitions.specs.Choice.{choice}
 use Rattle.row_definitions.specs.InOrder.{settled_count}
+use Rattle.row_definitions.specs.Laws.{MayAdd}
 use Rattle.row_definitions.specs.Pivot.{pivot}
 use Rattle.row_definitions.specs.Row.{Row, reach}
 use Rattle.row_definitions.specs.Steps.{add_column, close_stage, closed_by, enter_stage, open_row}
@@ -22,6 +23,7 @@ use Rattle.run_definitions.specs.Run.{RunLimits, Next, GoOn, Ended, NodesSpent, 
 use Rattle.spread_definitions.specs.Spreading.{spread}
 use Rattle.run_definitions.specs.Keeps.{IsPriced, KeepsRun}
 use Rattle.run_definitions.proofs.Kept.{step_kept}
+use Rattle.run_definitions.proofs.Priced.{may_be_added}
 use Rattle.panel_search.specs.Answers.{AnswersBest}
 use Rattle.panel_search.specs.declared.searching.SearchStop.{SearchStop}
 use Rattle.panel_search.specs.declared.searching.SearchStop.TheVariants.{Spent, OutOfMemory}
@@ -114,8 +116,11 @@ module _ (all : Classes) (limits : RunLimits) (table : Table) (closed : List Row
   same_price : price all closed row ≡ price all (closed_rows table) (row_at table (open_row table))
   same_price = ap₂ (λ c r. price all c r) asked.stands.closed_are asked.row_is
 
-  pub priced_so : (counts : List ℕ) → Some counts ≡ price all closed row → IsPriced all limits table counts
+  priced_so : (counts : List ℕ) → Some counts ≡ price all closed row → IsPriced all limits table counts
   priced_so counts e = record { keeps = asked.stands.keeps; open_now = asked.open_now; done = asked.done; found = sym same_price ∙ sym e }
+
+  pub column_may : (counts : List ℕ) → Some counts ≡ price all closed row → MayAdd table counts
+  column_may counts e = may_be_added all limits table counts asked.stands.limited (priced_so counts e)
 
   spent : limits.pricing < pricing_visits all closed row → step all limits table ≡ Ended (NodesSpent (Some table))
   spent l = price_due all limits table asked.open_now asked.done true (lt-ltb limits.pricing (pricing_visits all (closed_rows table) (row_at table (open_row table))) (omega (arith, l, same_visits)))
