@@ -9,13 +9,16 @@ use alike::{Bounds, ValueBounds};
 // Each category has so many places.
 pub(crate) const PLACES: usize = 50;
 
-// Adds the count at each category's value.
+// Adds the count at each category's value. Half of the counts that a search tries of classes of one are 0.
 pub(crate) fn add_to(cells: &mut [usize], values: &[usize], count: usize)
     requires cells { HaveCells values.now cells.old }
     requires small { AreAtMost 1000000 (length values.now) cells.old }
     requires count { count ≤ 1000000 }
     ensures { HasMore values.now count cells.old cells.new }
 {
+    if count == 0 {
+        return;
+    }
     for (category, value) in values.iter().enumerate() {
         cells[PLACES * category + value] += count;
     }
@@ -27,6 +30,9 @@ pub(crate) fn take_from(cells: &mut [usize], values: &[usize], count: usize)
     requires enough { CanGive values.now cells.old count }
     ensures { HasMore values.now count cells.new cells.old }
 {
+    if count == 0 {
+        return;
+    }
     for (category, value) in values.iter().enumerate() {
         cells[PLACES * category + value] -= count;
     }
