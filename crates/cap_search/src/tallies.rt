@@ -10,13 +10,16 @@ use search_definitions::Bounds;
 // Each category has so many places.
 pub(crate) const PLACES: usize = 50;
 
-// Adds the count at each category's value.
+// Adds the count at each category's value. A search often tries the count 0, which changes nothing.
 pub(crate) fn add_to(cells: &mut [usize], values: &[usize], count: usize)
     requires cells { HaveCells values.now cells.old }
     requires small { AreAtMost 1000000 (length values.now) cells.old }
     requires count { count ≤ 1000000 }
     ensures { HasMore values.now count cells.old cells.new }
 {
+    if count == 0 {
+        return;
+    }
     for (category, value) in values.iter().enumerate() {
         cells[PLACES * category + value] += count;
     }
@@ -28,6 +31,9 @@ pub(crate) fn take_from(cells: &mut [usize], values: &[usize], count: usize)
     requires enough { CanGive values.now cells.old count }
     ensures { HasMore values.now count cells.new cells.old }
 {
+    if count == 0 {
+        return;
+    }
     for (category, value) in values.iter().enumerate() {
         cells[PLACES * category + value] -= count;
     }

@@ -9,7 +9,7 @@ use alike::{Bounds, ValueBounds};
 // Each category has so many places.
 pub(crate) const PLACES: usize = 50;
 
-// Adds the count at each category's value. Half of the counts that a search tries of classes of one are 0.
+// Adds the count at each category's value. A search often tries the count 0, which changes nothing.
 pub(crate) fn add_to(cells: &mut [usize], values: &[usize], count: usize)
     requires cells { HaveCells values.now cells.old }
     requires small { AreAtMost 1000000 (length values.now) cells.old }
