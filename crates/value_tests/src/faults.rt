@@ -2,21 +2,267 @@
 //! stands in the place of that line and of those behind it. The fields are parted by `|`.
 
 /// Of the pool of two women and two men.
-pub(crate) const FOUR_FAULTS: &[u8] =
-    b"1|12|1|\n1|1|1|/\n1|12|1|pool 1\n1|12|1|pool 2\n2|12|1|pool 1/\n2|12|1|pool 2/\n2|2|1|pool 2/pool 1/\n3|1|1|pool 2/size 1/end/\n1|1|1|pool 3/\n1|1|1|pool/\n1|1|1|pool 1 /\n1|1|1|pool 01/\n1|1|1|pool_1/\n1|1|1|pool 1\r/size 2\r/end\r/\n1|1|1|\xef\xbb\xbfpool 1/size 2/end/\n1|1|1|\xff/\n1|1|1|end/\n1|1|1|size 2/pool 1/\n0|0|1|pool 1/size 1/end/\n0|0|1|pool 1/size 200/end/\n2|2|1|pool 1/size 0/end/\n2|2|1|pool 1/size 201/end/\n2|2|1|pool 1/size 257/end/\n2|2|1|pool 1/size 18446744073709551617/end/\n2|2|1|pool 1/size 00/end/\n2|2|1|pool 1/size 02/end/\n2|2|1|pool 1/size +2/end/\n2|2|1|pool 1/size -2/end/\n2|2|1|pool 1/size 2_/end/\n2|2|1|pool 1/size 2\r/end/\n2|2|1|pool 1/size two/end/\n2|2|1|pool 1/size /end/\n2|2|1|pool 1/size/end/\n2|2|1|pool 1/size 2 /end/\n2|2|1|pool 1/size 2 2/end/\n2|2|1|pool 1/Size 2/end/\n2|2|1|pool 1/category a/end/\n2|2|1|pool 1/end/\n2|2|1|pool 1//size 2/end/\n2|2|1|pool 1/size \xff/end/\n2|2|1|pool 1/\xff/end/\n2|2|1|pool 1/size 0/pool 2/\n2|12|1|pool 1/size 0\n3|12|1|pool 1/size 2/\n3|12|1|pool 1/size 2/end\n4|1|1|pool 1/size 2/end//\n4|1|1|pool 1/size 2/end/end/\n4|1|1|pool 1/size 2/end/end\n4|1|1|pool 1/size 2/end/_\n4|1|1|pool 1/size 2/end/\xff/\n4|1|1|pool 1/size 2/end/\xff\n3|1|1|pool 1/size 2/end /\n0|0|3|end/\n0|0|3|category a/end/\n3|1|3|/end/\n3|1|3|pool 1/end/\n3|1|3|size 2/end/\n3|1|3|other a/end/\n3|1|3|\xff/end/\n3|1|3|category/end/\n3|1|3|category a b/end/\n3|1|3|category \xff b/end/\n3|1|3|Category a/end/\n3|1|3|category_a/end/\n3|1|3| category a/end/\n3|1|3|value x 0 1/end/\n3|1|3|value x 1 0/end/\n3|1|3|value  0 1/end/\n3|9|3|seated a/end/\n3|9|3|gone a/end/\n4|9|3|category a/seated a/end/\n3|1|3|seated/category a/end/\n3|12|3|category\n4|12|3|category a/\n4|12|3|category a/category a\n4|3|3|category a/category a/end/\n6|3|3|category a/category b/value x 0 1/category a/end/\n0|0|3|category a/category A/end/\n4|1|3|category a/value/end/\n4|1|3|category a/value x/end/\n4|1|3|category a/value x 0/end/\n4|1|3|category a/value x 0 1 /end/\n4|1|3|category a/value x 0 1 2/end/\n4|1|3|category a/Value x 0 1/end/\n5|4|3|category a/value x 0 1/value x 0 1/end/\n5|4|3|category a/value x 0 1/value x 1 0/end/\n6|4|3|category a/value x 0 1/value y 0 1/value x 2 3/end/\n0|0|3|category a/value x 0 1/category b/value x 0 1/end/\n0|0|3|category x/value x 0 0/value y 0 999/value z 999 999/end/\n4|5|3|category a/value x 0 1000/end/\n4|5|3|category a/value x 1000 1000/end/\n4|5|3|category a/value x 1 0/end/\n4|5|3|category a/value x 999 998/end/\n4|5|3|category a/value x +0 1/end/\n4|5|3|category a/value x 0 +1/end/\n4|5|3|category a/value x 00 1/end/\n4|5|3|category a/value x 0 01/end/\n4|5|3|category a/value x -0 1/end/\n4|5|3|category a/value x  1/end/\n4|5|3|category a/value x 0 /end/\n4|5|3|category a/value x 0 1_/end/\n4|5|3|category a/value x 0 1\r/end/\n4|5|3|category a/value x 0 18446744073709551617/end/\n4|5|3|category a/value x 0 \xff/end/\n4|5|3|category a/value x\xff 1 0/end/\n4|5|3|category a/value  1 0/end/\n4|10|3|category a/value  0 1/end/\n4|10|3|category a/value \xff\x1f 0 1/end/\n4|11|3|category a/value \xff 0 1/end/\n3|10|3|category /end/\n3|10|3|category a\r/end/\n3|10|3|category \xff\x7f/end/\n3|11|3|category \xff/end/\n4|1|3|category a/end a/end/\n4|1|3|category a/end\r/end/\n5|1|3|category a/end/category b/\n4|3|3|category a/category a/other/\n0|0|6|end/\n0|0|6|volunteer a female/end/\n0|0|6|volunteer gender male/volunteer female male/end/\n6|12|6|volunteer a female\n6|12|6|volunteer a other\n7|12|6|volunteer a male/\xff\n6|3|6|category gender/end/\n6|4|6|value female 0 1/end/\n6|1|6|volunteer/end/\n6|1|6|Volunteer a female/end/\n7|1|6|volunteer a female/category age/end/\n7|1|6|volunteer a female/category gender/end/\n7|1|6|volunteer a female/category /end/\n7|1|6|volunteer a female/value other 0 1/end/\n7|1|6|volunteer a female/value male 1 0/end/\n0|0|6|volunteer a female/seated a/end/\n0|0|6|volunteer a female/gone a/end/\n7|1|6|volunteer a female/end a/\n8|1|6|volunteer a female/end/volunteer b male/\n8|1|6|volunteer a female/end/seated a/end/\n6|6|6|volunteer a other/end/\n6|6|6|volunteer a Female/end/\n6|6|6|volunteer a female_/end/\n6|6|6|volunteer a gender/end/\n6|6|6|volunteer a /end/\n6|6|6|volunteer a other male/end/\n6|6|6|volunteer  other/end/\n6|6|6|volunteer a \xff/end/\n6|6|6|volunteer \xff other/end/\n7|6|6|volunteer a female/volunteer a other/end/\n6|7|6|volunteer a/end/\n6|7|6|volunteer /end/\n6|7|6|volunteer \xff/end/\n6|7|6|volunteer a female male/end/\n6|7|6|volunteer a female other/end/\n6|7|6|volunteer a female /end/\n6|7|6|volunteer a female \xff/end/\n7|7|6|volunteer a female/volunteer a/end/\n7|8|6|volunteer a female/volunteer a female/end/\n8|8|6|volunteer a male/volunteer b male/volunteer a female/end/\n0|0|6|volunteer a male/volunteer A male/end/\n6|10|6|volunteer  female/end/\n6|10|6|volunteer \xff\x7f female/end/\n6|11|6|volunteer \xff female/end/\n6|11|6|volunteer a\xc3 female/end/\n0|0|6|volunteer \xc3\xa9 female/end/\n0|0|6|category age/value old 0 2/volunteer a male old/end/\n8|6|6|category age/value old 0 2/volunteer a old male/end/\n8|6|6|category age/value old 0 2/volunteer a male male/end/\n8|7|6|category age/value old 0 2/volunteer a male/end/\n7|6|6|category age/volunteer a male male/end/\n6|6|6|volunteer a other/end a/\n6|7|6|volunteer a/volunteer/end/end/\n0|0|10|end/\n0|0|10|gone d/end/\n0|0|10|seated a/gone b/seated c/gone d/end/\n10|12|10|seated a\n11|12|10|seated a/\n11|12|10|seated a/gone a\n10|9|10|seated e/end/\n10|9|10|seated A/end/\n10|9|10|seated a_/end/\n10|9|10|seated /end/\n10|9|10|gone female/end/\n10|9|10|gone \xff/end/\n11|9|10|seated a/seated a/end/\n11|9|10|gone c/seated c/end/\n11|9|10|seated c/gone b/end/\n12|9|10|gone a/seated d/gone b/end/\n10|1|10|seated/end/\n10|1|10|gone/end/\n10|1|10|seated a b/end/\n10|1|10|gone a /end/\n10|1|10|gone e e/end/\n10|1|10|Seated a/end/\n10|1|10|open a/end/\n11|1|10|seated a/volunteer e male/end/\n11|1|10|seated a/volunteer a other/end/\n11|1|10|gone d/category age/end/\n11|1|10|gone d/value other 0 1/end/\n11|1|10|gone d/end a/\n11|1|10|end/seated a/\n12|1|10|seated a/end/gone b\n10|1|10|household a h/end/\n10|1|10|household e /end/";
+pub(crate) const FOUR_FAULTS: &str = "\
+1|12|1|
+1|1|1|/
+1|12|1|pool 1
+2|12|1|pool 1/
+2|12|1|pool 2/
+2|2|1|pool 2/pool 1/
+3|1|1|pool 2/size 1/end/
+1|1|1|pool 3/
+0|0|1|pool 1/size 1/end/
+0|0|1|pool 1/size 200/end/
+2|2|1|pool 1/size 0/end/
+3|12|1|pool 1/size 2/
+3|12|1|pool 1/size 2/end
+4|1|1|pool 1/size 2/end//
+4|1|1|pool 1/size 2/end/end/
+3|1|1|pool 1/size 2/end /
+3|9|3|seated a/end/
+3|9|3|gone a/end/
+4|9|3|category a/seated a/end/
+4|12|3|category a/
+4|12|3|category a/category a
+4|3|3|category a/category a/end/
+6|3|3|category a/category b/value x 0 1/category a/end/
+5|4|3|category a/value x 0 1/value x 0 1/end/
+5|4|3|category a/value x 0 1/value x 1 0/end/
+6|4|3|category a/value x 0 1/value y 0 1/value x 2 3/end/
+4|5|3|category a/value x 0 1000/end/
+4|5|3|category a/value x 1000 1000/end/
+4|10|3|category a/value  0 1/end/
+4|10|3|category a/value ^\x1f 0 1/end/
+4|11|3|category a/value ^ 0 1/end/
+3|10|3|category /end/
+3|10|3|category a\r/end/
+3|11|3|category ^/end/
+5|1|3|category a/end/category b/
+4|3|3|category a/category a/other/
+6|12|6|volunteer a female
+6|12|6|volunteer a other
+7|12|6|volunteer a male/^
+6|3|6|category gender/end/
+6|4|6|value female 0 1/end/
+6|1|6|volunteer/end/
+6|1|6|Volunteer a female/end/
+7|1|6|volunteer a female/category age/end/
+7|1|6|volunteer a female/category gender/end/
+8|1|6|volunteer a female/end/volunteer b male/
+8|1|6|volunteer a female/end/seated a/end/
+6|6|6|volunteer a other/end/
+6|6|6|volunteer a Female/end/
+7|6|6|volunteer a female/volunteer a other/end/
+6|7|6|volunteer a/end/
+6|7|6|volunteer /end/
+7|7|6|volunteer a female/volunteer a/end/
+7|8|6|volunteer a female/volunteer a female/end/
+8|8|6|volunteer a male/volunteer b male/volunteer a female/end/
+6|10|6|volunteer  female/end/
+6|10|6|volunteer ^\x7f female/end/
+6|11|6|volunteer ^ female/end/
+8|6|6|category age/value old 0 2/volunteer a old male/end/
+8|6|6|category age/value old 0 2/volunteer a male male/end/
+8|7|6|category age/value old 0 2/volunteer a male/end/
+7|6|6|category age/volunteer a male male/end/
+10|12|10|seated a
+11|12|10|seated a/
+11|12|10|seated a/gone a
+10|9|10|seated e/end/
+10|9|10|seated A/end/
+11|9|10|seated a/seated a/end/
+11|9|10|gone c/seated c/end/
+12|9|10|gone a/seated d/gone b/end/
+10|1|10|seated/end/
+10|1|10|gone/end/
+11|1|10|seated a/volunteer e male/end/
+11|1|10|seated a/volunteer a other/end/
+12|1|10|seated a/end/gone b
+2|2|1|pool 1/size 201/end/
+2|2|1|pool 1/size 18446744073709551617/end/
+1|1|1|\u{feff}pool 1/size 2/end/
+4|5|3|category a/value x 1 0/end/
+4|5|3|category a/value x -0 1/end/";
 
 /// Of the same in a text of version 2, from the first household on.
-pub(crate) const HOUSED_FAULTS: &[u8] =
-    b"10|1|10|end/\n10|1|10|gone a/end/\n10|1|10|seated e/end/\n0|0|10|household d h/end/\n0|0|10|household a h/household b i/household d h/gone a/end/\n10|12|10|\n10|12|10|household a h\n11|12|10|household a h/\n10|1|10|household/end/\n10|1|10|household a/end/\n10|1|10|household e/end/\n10|1|10|household a h h/end/\n10|1|10|Household a h/end/\n10|9|10|household e h/end/\n10|9|10|household  /end/\n10|9|10|household \xff \xff/end/\n11|9|10|household c h/household a h/end/\n13|9|10|household a h/household b h/household d h/household d h/end/\n10|10|10|household a /end/\n10|10|10|household a \xff\x7f/end/\n10|11|10|household a \xff/end/\n11|1|10|household a h/volunteer e male/end/\n11|1|10|household a h/category h/end/\n12|1|10|household a h/seated d/household d /end/\n12|9|10|household d h/gone b/gone a/end/\n12|1|10|household a h/end/household b h/";
+pub(crate) const HOUSED_FAULTS: &str = "\
+10|1|10|end/
+10|1|10|gone a/end/
+0|0|10|household d h/end/
+0|0|10|household a h/household b i/household d h/gone a/end/
+10|12|10|
+10|12|10|household a h
+11|12|10|household a h/
+10|9|10|household e h/end/
+10|9|10|household  /end/
+11|9|10|household c h/household a h/end/
+13|9|10|household a h/household b h/household d h/household d h/end/
+10|10|10|household a /end/
+10|10|10|household a ^\x7f/end/
+10|11|10|household a ^/end/
+11|1|10|household a h/volunteer e male/end/
+11|1|10|household a h/category h/end/
+12|1|10|household a h/seated d/household d /end/
+12|9|10|household d h/gone b/gone a/end/
+12|1|10|household a h/end/household b h/";
 
 /// Of the bundle of the four.
-pub(crate) const FOUR_BUNDLE_FAULTS: &[u8] =
-    b"1|17|1|\n1|17|1|bundle 1\n1|13|1|/\n1|13|1|bundle/\n1|13|1|bundle 0/\n1|13|1|bundle 3/\n1|13|1|bundle 01/\n1|13|1|bundle 1 /\n1|13|1|bundle 1\r/\n1|13|1|pool 1/\n1|13|1|\xff/\n2|1|1|bundle 2/pool 1/\n2|1|2|pool 2/\n2|1|2|\xff/\n2|1|2|bundle 1/\n11|1|11|end a/\n11|1|11|household a h/\n4|1|1|bundle 2/pool 2/size 1/end/\n3|2|3|size 0/\n3|2|3|size 201/\n3|2|3|\xff/\n5|3|5|category gender/\n7|3|7|category gender/\n6|4|6|value female 1 1/\n7|4|7|value male 1 1/\n5|5|5|value female 2 1/\n7|5|7|value x 0 1000/\n7|6|7|volunteer a x/\n11|6|11|volunteer e x/\n7|7|7|volunteer a/\n11|7|11|volunteer e male male/\n8|8|8|volunteer a male/\n11|8|11|volunteer d male/\n4|9|4|gone a/\n12|9|11|gone d/seated c/\n7|9|1|bundle 2/pool 2/size 1/volunteer a/volunteer b/household b h/household a h/\n4|10|4|category /\n11|10|11|volunteer  male/\n5|10|1|bundle 2/pool 2/size 1/volunteer a/household a /\n4|11|4|category \xff/\n11|11|11|volunteer \xff male/\n2|12|2|pool 1\n11|12|11|end\n12|14|12|/\n12|14|12|end/\n12|14|12|total/\n12|14|12|total /\n12|14|12|total 0/\n12|14|12|total -1/\n12|14|12|total -0/\n12|14|12|total +1/\n12|14|12|total 01/\n12|14|12|total 2 2/\n12|14|12|total 2\r/\n12|14|12|total 2_/\n12|14|12|Total 2/\n12|14|12|total 100000000000000000000000000000000000001/\n12|14|12|total 170141183460469231731687303715884105728/\n5|14|1|bundle 1/pool 1/size 1/end/done/\n12|14|12|panel 1 0 2/\n13|17|13|\n13|17|13|panel 1 0 2\n13|17|12|total 100000000000000000000000000000000000000/\n13|15|13|/\n13|15|13|done/\n13|15|13|total 2/\n13|15|13|stage 1 1 1 0 0/\n13|15|13|stage/\n13|15|13|panel/\n13|15|13|panel 1/\n13|15|13|panel 0 0/\n13|15|13|panel -1 0/\n13|15|13|panel -0 0/\n13|15|13|panel 01 0/\n13|15|13|panel  0/\n13|15|13|panel 1 /\n13|15|13|panel 1 4/\n13|15|13|panel 1 00/\n13|15|13|panel 1 -0/\n13|15|13|panel 1 0 0/\n13|15|13|panel 1 2 1/\n13|15|13|panel 1 0\r/\n13|15|13|panel 1 0 /\n13|15|13|panel 1 \xff/\n13|15|13|panel 100000000000000000000000000000000000001 0/\n14|15|14|panel 1 1 4/\n14|15|14|total 2/\n14|15|14|done/\n15|15|15|done/\n15|15|15|Stage 1 1 1 0 0/\n15|15|15|stage_/\n14|16|14|stage/\n14|16|14|stage 1 1 1 0/\n15|16|15|stage 1 1 1 0 0 0/\n15|16|15|stage -0 0 0 0 0/\n15|16|15|stage 01 0 0 0 0/\n15|16|15|stage  0 0 0 0/\n15|16|15|stage 0 0 0 0 /\n15|16|15|stage 0 0 0 0 0\r/\n15|16|15|stage 0 0 0 0 -/\n15|16|15|stage 0 0 0 0 +1/\n15|16|15|stage 170141183460469231731687303715884105728 0 0 0 0/\n15|16|15|stage -170141183460469231731687303715884105728 0 0 0 0/\n15|16|15|stage 170141183460469231731687303715884105727 0 0 0 -1/\n16|17|15|stage 170141183460469231731687303715884105726 0 0 0 -1/\n16|16|16|/\n16|16|16|panel 1 1 3/\n16|16|16|total 2/\n16|16|16|stage 1 1 1 0/\n16|16|16|\xff/\n17|16|17|done /\n17|16|17|done\r/\n17|16|17|Done/\n17|16|17|end/\n0|0|16|done/\n17|17|17|\n17|17|17|done\n17|17|17|\xff\n18|17|17|done//\n18|17|17|done/x\n18|17|17|done/done/\n18|17|17|done/\xff";
+pub(crate) const FOUR_BUNDLE_FAULTS: &str = "\
+1|17|1|
+1|17|1|bundle 1
+1|13|1|/
+1|13|1|bundle/
+2|1|1|bundle 2/pool 1/
+2|1|2|pool 2/
+11|1|11|end a/
+11|1|11|household a h/
+4|1|1|bundle 2/pool 2/size 1/end/
+3|2|3|size 0/
+3|2|3|size 201/
+5|3|5|category gender/
+7|3|7|category gender/
+6|4|6|value female 1 1/
+7|4|7|value male 1 1/
+5|5|5|value female 2 1/
+7|5|7|value x 0 1000/
+7|6|7|volunteer a x/
+11|6|11|volunteer e x/
+7|7|7|volunteer a/
+11|7|11|volunteer e male male/
+8|8|8|volunteer a male/
+11|8|11|volunteer d male/
+4|9|4|gone a/
+12|9|11|gone d/seated c/
+7|9|1|bundle 2/pool 2/size 1/volunteer a/volunteer b/household b h/household a h/
+4|10|4|category /
+11|10|11|volunteer  male/
+5|10|1|bundle 2/pool 2/size 1/volunteer a/household a /
+4|11|4|category ^/
+11|11|11|volunteer ^ male/
+2|12|2|pool 1
+11|12|11|end
+12|14|12|/
+12|14|12|end/
+5|14|1|bundle 1/pool 1/size 1/end/done/
+13|17|13|
+13|17|13|panel 1 0 2
+13|15|13|/
+13|15|13|done/
+14|15|14|panel 1 1 4/
+14|15|14|total 2/
+15|15|15|done/
+15|15|15|Stage 1 1 1 0 0/
+14|16|14|stage/
+14|16|14|stage 1 1 1 0/
+15|16|15|stage 1 1 1 0 0 0/
+15|16|15|stage -0 0 0 0 0/
+16|17|15|stage 170141183460469231731687303715884105726 0 0 0 -1/
+16|16|16|/
+16|16|16|panel 1 1 3/
+17|16|17|done /
+17|16|17|done\r/
+0|0|16|done/
+17|17|17|
+17|17|17|done
+18|17|17|done//
+18|17|17|done/x
+12|14|12|total 0/
+12|14|12|total 01/
+12|14|12|total 2 2/
+12|14|12|total 100000000000000000000000000000000000001/
+13|17|12|total 100000000000000000000000000000000000000/
+13|15|13|panel 0 0/
+13|15|13|panel 1 4/
+13|15|13|panel 1 0 0/
+13|15|13|panel 1 2 1/
+13|15|13|panel 1 ^/
+13|15|13|panel 100000000000000000000000000000000000001 0/
+15|16|15|stage 0 0 0 0 +1/
+15|16|15|stage 170141183460469231731687303715884105727 0 0 0 -1/
+15|16|15|stage -170141183460469231731687303715884105728 0 0 0 0/";
 
 /// Of the proof of their lottery.
-pub(crate) const FOUR_PROOF_FAULTS: &[u8] =
-    b"1|23|1|\n1|23|1|proof 1\n1|21|1|/\n1|21|1|proof/\n1|21|1|proof 0/\n1|21|1|proof 2/\n1|21|1|proof 01/\n1|21|1|proof 1 /\n1|21|1|proof 1\r/\n1|21|1|Proof 1/\n1|21|1|bundle 1/\n1|21|1|\xff/\n2|23|2|\n2|23|2|bundle 1\n2|22|2|/\n2|22|2|bundle 3/\n2|22|2|bundle 1 /\n2|22|2|pool 3/\n2|22|2|proof 1/\n2|22|2|none/\n2|22|2|tree 1/\n2|22|2|\xff/\n3|12|3|\n3|1|3|pool 2/\n3|1|3|none/\n4|2|4|size 0/\n11|8|11|volunteer a male/\n12|11|12|volunteer \xff male/\n12|1|12|end a/\n12|12|12|end\n13|17|13|\n13|14|13|none/\n13|14|13|total 0/\n14|15|14|done/\n16|15|16|done/\n16|16|16|stage 1 1 1 0/\n18|16|18|panel 1 1 3/\n18|16|18|tree 1/\n18|17|18|done\n19|23|19|\n19|23|19|tree 1\n19|22|19|/\n19|22|19|tree/\n19|22|19|tree /\n19|22|19|tree 0/\n19|22|19|tree 2/\n19|22|19|tree 01/\n19|22|19|tree 1 /\n19|22|19|tree 1\r/\n19|22|19|tree_1/\n19|22|19|Tree 1/\n19|22|19|bound 1/\n19|22|19|done/\n19|22|19|none/\n19|22|19|close/\n19|22|19|\xff/\n20|23|20|\n20|23|20|split 0\n20|22|20|/\n20|22|20|close/\n20|22|20|none/\n20|22|20|tree 1/\n20|22|20|tree 3/\n20|22|20|tree 02/\n20|22|20|split/\n20|22|20|split /\n20|22|20|split 4/\n20|22|20|split 00/\n20|22|20|split -0/\n20|22|20|split 0 1/\n20|22|20|split 0\r/\n20|22|20|Split 0/\n20|22|20|bound/\n20|22|20|bound /\n20|22|20|bound -1/\n20|22|20|bound 01/\n20|22|20|bound 72057594037927937/\n20|22|20|bound 1 /\n20|22|20|bound 1 0/\n20|22|20|bound 1 0 /\n20|22|20|bound 1 0 0/\n20|22|20|bound 1 0 -0/\n20|22|20|bound 1 0 +1/\n20|22|20|bound 1 0 01/\n20|22|20|bound 1 00 1/\n20|22|20|bound 1 -1 1/\n20|22|20|bound 1 1801 1/\n20|22|20|bound 1 0 72057594037927937/\n20|22|20|bound 1 0 -72057594037927937/\n20|22|20|bound 1 0 170141183460469231731687303715884105728/\n20|22|20|bound 1 0 1 1/\n20|22|20|bound 1 0 1 1 0/\n20|22|20|bound 1 0 1\r/\n20|22|20|bound 1 2 1 2 1/\n20|22|20|bound 1 2 1 1 1/\n20|22|20|Bound 1/\n0|0|20|tree 2/close/\n0|0|20|split 3/bound 1/bound 0 2 1/tree 2/split 0/close/\n21|22|21|close/\n21|22|21|tree 3/\n22|23|22|\n22|22|22|tree 2/\n22|22|22|tree 3/\n23|22|23|tree 3/\n23|22|23|close /\n23|22|23|close\r/\n23|22|23|Close/\n23|22|23|done/\n23|23|23|\n23|23|23|close\n0|0|23|close/\n24|23|23|close/x\n24|23|23|close/\xff\n24|23|23|close//\n24|23|23|close/close/\n24|23|23|close/tree 3/";
+pub(crate) const FOUR_PROOF_FAULTS: &str = "\
+1|23|1|
+1|23|1|proof 1
+1|21|1|/
+1|21|1|proof/
+2|23|2|
+2|23|2|bundle 1
+2|22|2|/
+2|22|2|bundle 3/
+3|12|3|
+3|1|3|pool 2/
+3|1|3|none/
+4|2|4|size 0/
+11|8|11|volunteer a male/
+12|11|12|volunteer ^ male/
+12|1|12|end a/
+12|12|12|end
+13|17|13|
+13|14|13|none/
+13|14|13|total 0/
+14|15|14|done/
+16|15|16|done/
+16|16|16|stage 1 1 1 0/
+18|16|18|panel 1 1 3/
+18|16|18|tree 1/
+18|17|18|done
+19|23|19|
+19|23|19|tree 1
+19|22|19|/
+19|22|19|tree/
+20|23|20|
+20|23|20|split 0
+20|22|20|/
+20|22|20|close/
+0|0|20|tree 2/close/
+0|0|20|split 3/bound 1/bound 0 2 1/tree 2/split 0/close/
+21|22|21|close/
+21|22|21|tree 3/
+22|23|22|
+22|22|22|tree 2/
+22|22|22|tree 3/
+23|22|23|tree 3/
+23|22|23|close /
+23|23|23|
+23|23|23|close
+24|23|23|close/x
+24|23|23|close/^
+19|22|19|tree 2/
+20|22|20|split 4/
+20|22|20|split 00/
+20|22|20|bound 72057594037927937/
+20|22|20|bound 1 0/
+20|22|20|bound 1 0 0/
+20|22|20|bound 1 0 -0/
+20|22|20|bound 1 1801 1/
+20|22|20|bound 1 0 -72057594037927937/
+20|22|20|bound 1 0 170141183460469231731687303715884105728/
+20|22|20|bound 1 2 1 2 1/";
 
 /// Of the proof that a couple is no panel.
-pub(crate) const COUPLE_FAULTS: &[u8] =
-    b"2|22|2|pool 3/\n3|12|3|\n3|2|3|size 201/\n11|12|11|\n11|12|11|end\n11|1|11|end a/\n12|23|12|\n12|23|12|none\n12|22|12|/\n12|22|12|none /\n12|22|12|None/\n12|22|12|total 2/\n12|22|12|tree 0/\n12|22|12|close/\n13|23|13|\n13|22|13|none/\n13|22|13|tree/\n13|22|13|tree 1/\n13|22|13|tree 00/\n13|22|13|bound 0/\n13|22|13|close/\n14|23|14|\n14|22|14|tree 0/\n14|22|14|tree 1/\n14|22|14|split 2/\n14|22|14|bound 0 0 0/\n14|22|14|done/\n0|0|14|close/\n0|0|14|split 1/close/\n15|22|15|tree 1/\n15|22|15|close\r/\n15|23|15|close\n0|0|15|close/\n16|23|15|close/close/\n16|23|15|close/x";
+pub(crate) const COUPLE_FAULTS: &str = "\
+2|22|2|pool 3/
+3|12|3|
+3|2|3|size 201/
+11|12|11|
+11|12|11|end
+11|1|11|end a/
+12|23|12|
+12|23|12|none
+12|22|12|/
+12|22|12|none /
+13|23|13|
+13|22|13|none/
+13|22|13|tree/
+14|23|14|
+14|22|14|tree 0/
+14|22|14|tree 1/
+0|0|14|close/
+0|0|14|split 1/close/
+15|22|15|tree 1/
+15|22|15|close\r/
+15|23|15|close
+16|23|15|close/close/
+16|23|15|close/x";

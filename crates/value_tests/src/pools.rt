@@ -6,8 +6,8 @@ use pool_text::write_pool;
 use std::test::Fail;
 
 /// Two women and two men, of whom a and c are of one household, b is gone and d is seated.
-const BUILT: &[u8] =
-    b"pool 2/size 2/category gender/value female 1 1/value male 1 1/volunteer a female/volunteer b female/volunteer c male/volunteer d male/household a h/household c h/gone b/seated d/end/";
+const BUILT: &str =
+    "pool 2/size 2/category gender/value female 1 1/value male 1 1/volunteer a female/volunteer b female/volunteer c male/volunteer d male/household a h/household c h/gone b/seated d/end/";
 
 #[test]
 fn a_pool_is_built(rt: HostRuntime) -> Result<(), Fail> {

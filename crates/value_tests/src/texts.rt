@@ -19,39 +19,39 @@ enum Form {
 }
 
 /// Two women and two men, one of each to be chosen.
-const FOUR: &[u8] =
-    b"pool 1/size 2/category gender/value female 1 1/value male 1 1/volunteer a female/volunteer b female/volunteer c male/volunteer d male/end/";
+const FOUR: &str =
+    "pool 1/size 2/category gender/value female 1 1/value male 1 1/volunteer a female/volunteer b female/volunteer c male/volunteer d male/end/";
 
 /// The same, of whom two share a household, one of these is gone and somebody is seated; a name has two bytes a letter, and a blank.
-const HOUSED: &[u8] =
-    b"pool 2/size 2/category gender/value female 1 1/value male 1 1/volunteer a female/volunteer b female/volunteer c male/volunteer d male/household a \xc3\xa9_/household c \xc3\xa9_/gone a/seated d/end/";
+const HOUSED: &str =
+    "pool 2/size 2/category gender/value female 1 1/value male 1 1/volunteer a female/volunteer b female/volunteer c male/volunteer d male/household a é_/household c é_/gone a/seated d/end/";
 
 /// The bundle of the four.
-const FOUR_BUNDLE: &[u8] =
-    b"bundle 1/pool 1/size 2/category gender/value female 1 1/value male 1 1/volunteer a female/volunteer b female/volunteer c male/volunteer d male/end/total 2/panel 1 0 2/panel 1 1 3/stage 1 1 1 0 0/stage 0 -1 -1 1 1/done/";
+const FOUR_BUNDLE: &str =
+    "bundle 1/pool 1/size 2/category gender/value female 1 1/value male 1 1/volunteer a female/volunteer b female/volunteer c male/volunteer d male/end/total 2/panel 1 0 2/panel 1 1 3/stage 1 1 1 0 0/stage 0 -1 -1 1 1/done/";
 
 /// One of the four, of whom a and c share a household.
-const HOUSED_BUNDLE: &[u8] =
-    b"bundle 2/pool 2/size 2/category gender/value female 1 1/value male 1 1/volunteer a female/volunteer b female/volunteer c male/volunteer d male/household a h/household c h/end/total 2/panel 1 0 3/panel 1 1 2/stage 1 1 1 0 0/stage 0 0 -1 1 0/stage 0 -1 1 -1 1/done/";
+const HOUSED_BUNDLE: &str =
+    "bundle 2/pool 2/size 2/category gender/value female 1 1/value male 1 1/volunteer a female/volunteer b female/volunteer c male/volunteer d male/household a h/household c h/end/total 2/panel 1 0 3/panel 1 1 2/stage 1 1 1 0 0/stage 0 0 -1 1 0/stage 0 -1 1 -1 1/done/";
 
 /// A bundle of one volunteer, and numbers at the ends of their ranges.
-const WIDEST_BUNDLE: &[u8] =
-    b"bundle 1/pool 1/size 1/volunteer a/end/total 100000000000000000000000000000000000000/panel 100000000000000000000000000000000000000 0/stage -170141183460469231731687303715884105726 -1/stage 0 170141183460469231731687303715884105727/stage 0 0/done/";
+const WIDEST_BUNDLE: &str =
+    "bundle 1/pool 1/size 1/volunteer a/end/total 100000000000000000000000000000000000000/panel 100000000000000000000000000000000000000 0/stage -170141183460469231731687303715884105726 -1/stage 0 170141183460469231731687303715884105727/stage 0 0/done/";
 
 /// A proof of the answer for the four: one woman at most, and the men less the women of the first stage.
-const FOUR_PROOF: &[u8] =
-    b"proof 1/bundle 1/pool 1/size 2/category gender/value female 1 1/value male 1 1/volunteer a female/volunteer b female/volunteer c male/volunteer d male/end/total 2/panel 1 0 2/panel 1 1 3/stage 1 1 1 0 0/stage 0 -1 -1 1 1/done/tree 1/bound 1 1 1/tree 2/bound 1 2 1 3 -1/close/";
+const FOUR_PROOF: &str =
+    "proof 1/bundle 1/pool 1/size 2/category gender/value female 1 1/value male 1 1/volunteer a female/volunteer b female/volunteer c male/volunteer d male/end/total 2/panel 1 0 2/panel 1 1 3/stage 1 1 1 0 0/stage 0 -1 -1 1 1/done/tree 1/bound 1 1 1/tree 2/bound 1 2 1 3 -1/close/";
 
 /// A proof that a woman and a man of one household make no panel of two.
-const COUPLE: &[u8] =
-    b"proof 1/pool 2/size 2/category gender/value female 0 2/value male 0 2/volunteer a female/volunteer b male/household a h/household b h/end/none/tree 0/bound 0 0 -1 3 1/close/";
+const COUPLE: &str =
+    "proof 1/pool 2/size 2/category gender/value female 0 2/value male 0 2/volunteer a female/volunteer b male/household a h/household b h/end/none/tree 0/bound 0 0 -1 3 1/close/";
 
 /// A proof of one volunteer's lottery, and numbers at the ends of their ranges.
-const WIDEST_PROOF: &[u8] =
-    b"proof 1/bundle 1/pool 1/size 1/volunteer a/end/total 1/panel 1 0/stage 1 1/done/tree 1/split 0/bound 0/bound 72057594037927936 0 72057594037927936 1800 -72057594037927936/close/";
+const WIDEST_PROOF: &str =
+    "proof 1/bundle 1/pool 1/size 1/volunteer a/end/total 1/panel 1 0/stage 1 1/done/tree 1/split 0/bound 0/bound 72057594037927936 0 72057594037927936 1800 -72057594037927936/close/";
 
 /// Texts with their lengths, and for each of their lines the kind of a text that is cut there.
-const TEXTS: &[(Form, &[u8], usize, &[u8])] = &[
+const TEXTS: &[(Form, &str, usize, &[u8])] = &[
     (Form::Pool, FOUR, 138, &[12; 10]),
     (Form::Pool, HOUSED, 186, &[12; 14]),
     (
@@ -139,15 +139,14 @@ fn texts_are_written_again(rt: HostRuntime) -> Result<(), Fail> {
         let text = spelled(alloc, shown)?;
         assert_eq!(rt; text.len(), *length);
         assert!(rt; again(alloc, *form, &text)? == text, "{form:?} {length}");
-        for cut in 0..text.len() {
-            let whole = text[..cut].iter().filter(|byte| **byte == b'\n').count();
+        let mut whole = 0;
+        for (cut, byte) in text.iter().enumerate() {
             let (line, kind) = said(alloc, *form, &text[..cut]);
-            assert_eq!(rt;
-                line,
-                usize::saturating_add(whole, 1),
-                "{form:?} {length} {cut}"
-            );
-            assert_eq!(rt; kinds.get(whole), Some(&kind), "{form:?} {length} {cut}");
+            let wanted = (usize::saturating_add(whole, 1), kinds.get(whole));
+            assert_eq!(rt; (line, Some(&kind)), wanted, "{form:?} {length} {cut}");
+            if *byte == b'\n' {
+                whole = usize::saturating_add(whole, 1);
+            }
         }
     }
     Ok(())
@@ -164,10 +163,10 @@ fn first_faults_are_told(rt: HostRuntime) -> Result<(), Fail> {
         (Form::Proof, FOUR_PROOF, FOUR_PROOF_FAULTS),
         (Form::Proof, COUPLE, COUPLE_FAULTS),
     ] {
-        for row in faults.split(|byte| *byte == b'\n') {
+        for row in faults.lines() {
             let (wanted, text) = faulty(alloc, shown, row)?;
             let (line, kind) = said(alloc, form, &text);
-            assert_eq!(rt; (line, kind as usize), wanted, "at {}", row.escape_ascii());
+            assert_eq!(rt; (line, kind as usize), wanted, "at {}", row.escape_debug());
         }
     }
     Ok(())
