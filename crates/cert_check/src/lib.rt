@@ -4,8 +4,6 @@
 
 mod checking;
 mod stops;
-#[cfg(test)]
-mod tests;
 
 pub use certificate_reasons::{Refusal, Verdict};
 pub use checking::check;

@@ -9,8 +9,6 @@ mod command;
 mod lines;
 mod status;
 mod telling;
-#[cfg(test)]
-mod tests;
 
 pub use answer::Answer;
 pub use calling::{call, call_answered_by, call_without_input};

@@ -163,5 +163,3 @@ pub fn lowest(num: i128, den: i128) -> Frac
     }
 }
 
-#[cfg(test)]
-mod tests;

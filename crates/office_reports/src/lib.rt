@@ -5,8 +5,6 @@
 mod generator;
 mod made_pools;
 mod summaries;
-#[cfg(test)]
-mod tests;
 
 pub use made_pools::made_pool;
 pub use run_limits::RunSizes;

@@ -8,8 +8,6 @@ mod operations;
 mod passes;
 mod spans;
 mod stops;
-#[cfg(test)]
-mod tests;
 
 pub use budgets::Budget;
 pub use narrow::Narrow;

@@ -1,5 +1,8 @@
-//! Proofs by hand, and what is said of them with some of their lines changed, by a checker that stands on nothing of the program.
+//! Proofs by hand, and what is said of them with some of their lines changed, by a checker that stands on nothing of the program. And
+//! bundles, with the visits of the searches of a check, which another program counted over the definitions.
 
+use bundle_text::read_bundle;
+use cert_check::check;
 use cert_verify::{Verdict, verify};
 use proof_text::read_proof;
 use std::alloc::{AllocError, Global};
@@ -246,6 +249,58 @@ const HOUSE_CHANGED: &[(&str, usize, usize, &str)] = &[
     ),
 ];
 
+/// The bundle of two women and two men.
+const FOUR_BUNDLE: &str =
+    "bundle 1/pool 1/size 2/category gender/value female 1 1/value male 1 1/volunteer a female/volunteer b female/volunteer c male/volunteer d male/end/total 2/panel 1 0 2/panel 1 1 3/stage 1 1 1 0 0/stage 0 -1 -1 1 1/done/";
+
+/// A bundle of them where a and c are of one household.
+const FAMILY_BUNDLE: &str =
+    "bundle 2/pool 2/size 2/category gender/value female 1 1/value male 1 1/volunteer a female/volunteer b female/volunteer c male/volunteer d male/household a h/household c h/end/total 2/panel 1 0 3/panel 1 1 2/stage 1 1 0 1 0/done/";
+
+/// A bundle of three women and a man, of whom a and b are of one household: b with c weighs more than the cap, and isn't listed.
+const ALIKE_BUNDLE: &str =
+    "bundle 2/pool 2/size 2/category gender/value female 0 2/value male 0 2/volunteer a female/volunteer b female/volunteer c female/volunteer d male/household a h/household b h/end/total 2/panel 1 0 2/panel 1 1 3/stage 1 0 1 1 0/done/";
+
+/// A bundle, other lines in the place of those from one number to another, the visits that a search may take, and what a check says.
+const CHECKED: &[(&str, usize, usize, &str, u64, &str)] = &[
+    (FOUR_BUNDLE, 15, 16, "stage 2 1 1 1 1/", 1, "valid"),
+    (
+        FOUR_BUNDLE,
+        15,
+        16,
+        "stage 2 1 1 1 1/",
+        0,
+        "the search at stage 1 takes more visits than it may",
+    ),
+    (FOUR_BUNDLE, 15, 15, "stage 1 1 0 0 1/", 5, "1 8 [0, 3]"),
+    (
+        FOUR_BUNDLE,
+        15,
+        15,
+        "stage 1 1 0 0 1/",
+        4,
+        "the search at stage 1 takes more visits than it may",
+    ),
+    (FAMILY_BUNDLE, 0, 0, "", 3, "1 10 [1]"),
+    (
+        FAMILY_BUNDLE,
+        0,
+        0,
+        "",
+        2,
+        "the search at stage 1 takes more visits than it may",
+    ),
+    (ALIKE_BUNDLE, 0, 0, "", 5, "1 8 [1, 2]"),
+    (
+        ALIKE_BUNDLE,
+        0,
+        0,
+        "",
+        4,
+        "the search at stage 1 takes more visits than it may",
+    ),
+];
+
 /// Adds a text that is shown with a blank for TAB, and a stroke for LF.
 fn add(text: &mut Vec<u8>, shown: &str) -> Result<(), AllocError> {
     for byte in shown.as_bytes() {
@@ -313,6 +368,20 @@ fn proofs_are_checked(rt: HostRuntime) -> Result<(), Fail> {
                 "at {first}, {lines}"
             );
         }
+    }
+    Ok(())
+}
+
+#[test]
+fn bundles_are_checked(rt: HostRuntime) -> Result<(), Fail> {
+    let alloc = rt.alloc();
+    for (shown, first, last, lines, visits, wanted) in CHECKED {
+        let text = changed(alloc, shown, *first, *last, lines)?;
+        let answer = match check(alloc, &read_bundle(alloc, &text)?, *visits) {
+            Ok(verdict) => said(alloc, &verdict)?,
+            Err(stop) => format!(in alloc; "{stop}")?,
+        };
+        assert_eq!(rt; answer.as_str(), *wanted, "{shown} {lines} {visits}");
     }
     Ok(())
 }

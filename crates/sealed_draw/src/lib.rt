@@ -7,8 +7,6 @@ mod agreeing;
 mod drawing;
 mod drawn;
 mod sealing;
-#[cfg(test)]
-mod tests;
 
 pub use agreeing::total_agrees;
 pub use drawing::draw;

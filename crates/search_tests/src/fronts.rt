@@ -4,8 +4,8 @@
 ghost use Rattle.std.specs.Prelude.{◌≡◌, ◌≤◌, true, length};
 ghost use Rattle.front_laws.specs.Front.{AreWithin};
 
-use crate::given::{different, is_small};
-use alike::{Classes, classes};
+use crate::given::{APART, classes_of, is_small};
+use alike::Classes;
 use panel_search::{Front, Row, SearchStop, best_from, pieces};
 use std::test::Fail;
 
@@ -93,7 +93,7 @@ fn fits(classes: &Classes, front: &Front) -> bool
 #[test]
 fn searches_begin_at_fronts(rt: HostRuntime) -> Result<(), Fail> {
     let alloc = rt.alloc();
-    let all = classes(alloc, &different(alloc, 2, 4)?)?;
+    let all = classes_of(alloc, APART)?;
     let row = Row::new(0, vec![in alloc; 0, 0, 1, 0]?);
     assert!(rt; is_small(&all, &row));
     for below in WORKED {
@@ -118,7 +118,7 @@ fn searches_begin_at_fronts(rt: HostRuntime) -> Result<(), Fail> {
 #[test]
 fn a_search_is_divided(rt: HostRuntime) -> Result<(), Fail> {
     let alloc = rt.alloc();
-    let all = classes(alloc, &different(alloc, 2, 4)?)?;
+    let all = classes_of(alloc, APART)?;
     let row = Row::new(0, vec![in alloc; 0, 0, 1, 0]?);
     assert!(rt; is_small(&all, &row));
     let (fronts, visits) = pieces(alloc, &all, &[], &row, 9)?;

@@ -1,12 +1,17 @@
-//! Small pools by numbers and names, and rows that a search may be asked about.
+//! The classes of a pool's text, and rows that a search may be asked about.
 
 ghost use Rattle.std.specs.Prelude.{◌≡◌, [], ◌∷◌, true};
 ghost use Rattle.search_definitions.specs.Fronts.{HaveEntries, HaveReach};
 
-use alike::Classes;
+use alike::{Classes, classes};
 use panel_search::Row;
-use pool_model::{BuildStop, Name, Pool, Standing};
+use pool_text::read_pool;
 use std::alloc::Global;
+use std::test::Fail;
+
+/// Two seats, and each of four volunteers has another value.
+pub(crate) const APART: &[u8] =
+    b"pool\t1\nsize\t2\ncategory\tvalue\nvalue\tp\t0\t1\nvalue\tq\t0\t1\nvalue\tr\t0\t1\nvalue\ts\t0\t1\nvolunteer\ta\tp\nvolunteer\tb\tq\nvolunteer\tc\tr\nvolunteer\td\ts\nend\n";
 
 const GREATEST: i128 = 1_000_000_000;
 
@@ -28,59 +33,6 @@ pub(crate) fn is_small(classes: &Classes, row: &Row) -> bool
     true
 }
 
-/// A pool by its size, the bounds of its categories' values, and its volunteers' values; each is named by its number.
-pub(crate) fn pool_of(
-    alloc: Global,
-    size: usize,
-    bounds: &[&[(usize, usize)]],
-    volunteers: &[&[usize]],
-) -> Result<Pool, BuildStop> {
-    let mut pool = Pool::new(alloc, size)?;
-    for (c, values) in bounds.iter().enumerate() {
-        pool.add_category(&format!(in alloc; "{c}")?)?;
-        for (v, (lower, upper)) in values.iter().enumerate() {
-            pool.add_value(&format!(in alloc; "{v}")?, *lower, *upper)?;
-        }
-    }
-    for (i, places) in volunteers.iter().enumerate() {
-        let mut values = Vec::new(alloc);
-        for place in *places {
-            values.push(Name::new(alloc, &format!(in alloc; "{place}")?)?)?;
-        }
-        pool.add_volunteer(&format!(in alloc; "{i}")?, &values)?;
-    }
-    Ok(pool)
-}
-
-/// Sets standings and households of volunteers by their numbers.
-pub(crate) fn place(
-    pool: &mut Pool,
-    standings: &[(usize, Standing)],
-    households: &[(usize, &str)],
-) -> Result<(), BuildStop> {
-    for (number, standing) in standings {
-        if *number < pool.volunteers().len() {
-            pool.set_standing(*number, *standing);
-        }
-    }
-    for (number, name) in households {
-        if *number < pool.volunteers().len() {
-            pool.set_household(*number, name)?;
-        }
-    }
-    Ok(())
-}
-
-/// As many seats as given for volunteers who differ, of each value one at most.
-pub(crate) fn different(alloc: Global, size: usize, volunteers: usize) -> Result<Pool, BuildStop> {
-    let mut pool = Pool::new(alloc, size)?;
-    pool.add_category("value")?;
-    for value in 0..volunteers {
-        pool.add_value(&format!(in alloc; "{value}")?, 0, 1)?;
-    }
-    for value in 0..volunteers {
-        let name = format!(in alloc; "{value}")?;
-        pool.add_volunteer(&name, &[Name::new(alloc, &name)?])?;
-    }
-    Ok(pool)
+pub(crate) fn classes_of(alloc: Global, text: &[u8]) -> Result<Classes, Fail> {
+    Ok(classes(alloc, &read_pool(alloc, text)?)?)
 }

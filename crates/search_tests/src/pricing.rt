@@ -1,7 +1,6 @@
 //! Pricings of small pools by several workers. The visits are those of worked waves, which the definitions compute.
 
-use crate::given::{different, is_small};
-use alike::classes;
+use crate::given::{APART, classes_of, is_small};
 use outside::{NoWatch, Watch};
 use panel_search::{Row, SearchStop};
 use pricing_pool::best_by;
@@ -36,7 +35,7 @@ impl Watch for Holding {
 #[test]
 fn each_number_of_workers_finds_the_same(rt: HostRuntime) -> Result<(), Fail> {
     let alloc = rt.alloc();
-    let all = classes(alloc, &different(alloc, 2, 4)?)?;
+    let all = classes_of(alloc, APART)?;
     let row = Row::new(0, Vec::from_slice(alloc, &[0, 0, 1, 0])?);
     assert!(rt; is_small(&all, &row));
     for workers in [1, 2, 3, 7, 64] {
@@ -54,7 +53,7 @@ fn each_number_of_workers_finds_the_same(rt: HostRuntime) -> Result<(), Fail> {
 #[test]
 fn the_third_of_three_workers_starts_while_two_are_held(rt: HostRuntime) -> Result<(), Fail> {
     let alloc = rt.alloc();
-    let all = classes(alloc, &different(alloc, 2, 4)?)?;
+    let all = classes_of(alloc, APART)?;
     let row = Row::new(0, Vec::from_slice(alloc, &[0, 0, 1, 0])?);
     assert!(rt; is_small(&all, &row));
     let watch = Holding {

@@ -7,8 +7,6 @@ mod given;
 mod office;
 #[cfg(test)]
 mod tests;
-#[cfg(test)]
-mod words_tests;
 
 use outside::{NoWatch, StdSink, StdSource};
 use std::process::ExitCode;

@@ -103,13 +103,17 @@ const EITHER_BUNDLE: &[u8] =
 const REPLACED: &[u8] =
     b"pool\t1\nsize\t2\ncategory\tgender\nvalue\tfemale\t1\t1\nvalue\tmale\t1\t1\nvolunteer\ta\tfemale\nvolunteer\tb\tfemale\nvolunteer\tc\tmale\nvolunteer\td\tmale\ngone\ta\nseated\tc\nend\n";
 
+/// Two women and two men, of whom a woman and a man are of one household.
+const FAMILY: &[u8] =
+    b"pool\t2\nsize\t2\ncategory\tgender\nvalue\tfemale\t1\t1\nvalue\tmale\t1\t1\nvolunteer\ta\tfemale\nvolunteer\tb\tfemale\nvolunteer\tc\tmale\nvolunteer\td\tmale\nhousehold\ta\th\nhousehold\tc\th\nend\n";
+
+/// A couple of one household, of whom two are asked for.
+const COUPLE: &[u8] =
+    b"pool\t2\nsize\t2\ncategory\tgender\nvalue\tfemale\t0\t2\nvalue\tmale\t0\t2\nvolunteer\ta\tfemale\nvolunteer\tb\tmale\nhousehold\ta\th\nhousehold\tb\th\nend\n";
+
 /// Both women dropped out.
 const WOMEN_GONE: &[u8] =
     b"pool\t1\nsize\t2\ncategory\tgender\nvalue\tfemale\t1\t1\nvalue\tmale\t1\t1\nvolunteer\ta\tfemale\nvolunteer\tb\tfemale\nvolunteer\tc\tmale\nvolunteer\td\tmale\ngone\ta\ngone\tb\nseated\tc\nend\n";
-
-/// The lines behind the pool's in the bundle of `REPLACED`.
-const REPLACED_ANSWER: &[u8] =
-    b"total\t1\npanel\t1\t1\t2\nstage\t0\t1\t0\t0\t0\nstage\t0\t-1\t0\t0\t1\nstage\t1\t0\t1\t0\t-1\nstage\t0\t0\t-1\t1\t0\ndone\n";
 
 /// The bundle of one woman and three men.
 const ONE_WOMAN_BUNDLE: &[u8] =
@@ -127,13 +131,14 @@ const SURE_BUNDLE: &[u8] =
 const WIDE_BUNDLE: &[u8] =
     b"bundle\t1\npool\t1\nsize\t2\ncategory\tgender\nvalue\tfemale\t1\t1\nvalue\tmale\t1\t1\nvolunteer\tw\tfemale\nvolunteer\tx\tmale\nvolunteer\ty\tmale\nend\ntotal\t100000000000000000000000000000000000000\npanel\t10000000000000000000000000000000000000\t0\t1\npanel\t90000000000000000000000000000000000000\t0\t2\nstage\t1\t1\t0\t0\ndone\n";
 
-/// One call: its words, what the source holds, and the calls of each object that fail, counted from 1.
+/// One call: its words, what the source holds, the calls of each object that fail, counted from 1, and how many bytes `out` takes.
 #[derive(Clone, Copy)]
 struct Call<'a> {
     words: &'a [&'a str],
     text: &'a [u8],
     reads: &'a [u64],
     puts: &'a [u64],
+    lines: &'a [u64],
     room: usize,
 }
 
@@ -144,6 +149,7 @@ fn asking<'a>(words: &'a [&'a str], text: &'a [u8]) -> Call<'a> {
         text,
         reads: &[],
         puts: &[],
+        lines: &[],
         room: 1000,
     }
 }
@@ -176,7 +182,7 @@ fn answer_watched<R: Threads + Sync, W: Watch + Sync>(
     }
     let mut source = MemSource::new(alloc, call.text, call.reads)?;
     let mut out = MemSink::new(alloc, call.room, call.puts)?;
-    let mut errs = MemSink::new(alloc, 1000, &[])?;
+    let mut errs = MemSink::new(alloc, 1000, call.lines)?;
     let status = office(rt, alloc, &words, &mut source, &mut out, &mut errs, watch);
     Ok(Answer { status, out, errs })
 }
@@ -229,8 +235,6 @@ const ROWS: &[(&[&str], &[u8], u8, &[u8], &[u8])] = &[
         b"input\t2\t2\n",
     ),
     (&["lottery"], FOUR, 0, FOUR_BUNDLE, b""),
-    (&["lottery", "--workers", "2"], FOUR, 0, FOUR_BUNDLE, b""),
-    (&["lottery", "--workers=7"], FOUR, 0, FOUR_BUNDLE, b""),
     (
         &["lottery", "--workers", "3", "--nodes", "11"],
         APART,
@@ -239,6 +243,14 @@ const ROWS: &[(&[&str], &[u8], u8, &[u8], &[u8])] = &[
         b"spent\tnodes\t11\t1\t1\t1\n",
     ),
     (&["lottery"], WOMEN_GONE, 1, b"no panel\n", b""),
+    (&["lottery"], COUPLE, 1, b"no panel\n", b""),
+    (
+        &["lottery", "--nodes", "5"],
+        FAMILY,
+        5,
+        b"",
+        b"spent\tnodes\t5\t1\t1\t1\n",
+    ),
     (
         &["lottery", "--bits", "1"],
         EITHER,
@@ -290,6 +302,38 @@ const ROWS: &[(&[&str], &[u8], u8, &[u8], &[u8])] = &[
         5,
         b"",
         b"spent\tnodes\t6\t1\t1\t1\n",
+    ),
+];
+
+/// The same of words that ask for nothing, with the texts of `clap`.
+const USAGE_ROWS: &[(&[&str], &[u8], u8, &[u8], &[u8])] = &[
+    (
+        &[],
+        FOUR,
+        2,
+        b"",
+        b"error: 'sortition' requires a subcommand but one was not provided\n  [subcommands: panel, lottery, make, seal, draw, check, prove, verify, bundle, help]\n\nUsage: sortition <COMMAND>\n\nFor more information, try '--help'.\n",
+    ),
+    (
+        &["panel", "--nodes", "x"],
+        FOUR,
+        2,
+        b"",
+        b"error: invalid value 'x' for '--nodes <nodes>': invalid digit found in string\n\nFor more information, try '--help'.\n",
+    ),
+    (
+        &["panel", "--help"],
+        FOUR,
+        2,
+        b"",
+        b"Prints the first quota panel of the pool on standard input\n\nUsage: sortition panel [OPTIONS]\n\nOptions:\n      --nodes <nodes>  The most visits that a search may make [default: 50000000]\n  -h, --help           Print help\n",
+    ),
+    (
+        &["lottery", "--help"],
+        FOUR,
+        2,
+        b"",
+        b"Prints the lottery over the quota panels of the pool on standard input, with its certificate\n\nUsage: sortition lottery [OPTIONS]\n\nOptions:\n      --bits <bits>        The width in bits of the run's numbers [default: 127]\n      --pivots <pivots>    The most pivots that the run may make [default: 100000]\n      --nodes <nodes>      The most visits that a search may make [default: 50000000]\n      --workers <workers>  How many workers price, on threads [default: 1]\n  -h, --help               Print help\n",
     ),
 ];
 
@@ -527,6 +571,7 @@ fn calls_are_answered(rt: HostRuntime) -> Result<(), AllocError> {
     let alloc = rt.alloc();
     for rows in [
         ROWS,
+        USAGE_ROWS,
         BUNDLE_ROWS,
         CHECK_ROWS,
         PROOF_ROWS,
@@ -540,14 +585,6 @@ fn calls_are_answered(rt: HostRuntime) -> Result<(), AllocError> {
             assert_eq!(rt; told.errs.written(), *errs, "{words:?}");
         }
     }
-    let told = answer_of(&rt, alloc, &asking(&["lottery"], REPLACED))?;
-    assert!(rt; told.status == 0 && told.out.written().ends_with(REPLACED_ANSWER));
-    let refused = answer_of(&rt, alloc, &asking(&["bundles"], FOUR))?;
-    assert!(rt;
-        refused.status == 2
-            && refused.out.written().is_empty()
-            && !refused.errs.written().is_empty()
-    );
     Ok(())
 }
 
@@ -590,53 +627,63 @@ fn the_third_worker_starts_while_two_are_held(rt: HostRuntime) -> Result<(), All
     Ok(())
 }
 
-/// A text that is cut off runs out before its end, after as many lines as are whole; and `out` may fail at each line of a bundle.
+/// A text that is cut off runs out before its end, after as many lines as are whole; and 16 MiB are the most that is read.
 #[test]
 fn each_cut_is_told(rt: HostRuntime) -> Result<(), AllocError> {
     let alloc = rt.alloc();
-    for length in 0..FOUR.len() {
-        let line = FOUR[..length].split(|byte| *byte == b'\n').count();
-        let errs = format!(in alloc; "input\t{line}\t12\n")?;
+    let mut line = 1;
+    for (length, byte) in FOUR.iter().enumerate() {
         let told = answer_of(&rt, alloc, &asking(&["lottery"], &FOUR[..length]))?;
+        let errs = format!(in alloc; "input\t{line}\t12\n")?;
+        assert!(rt; told.status == 3 && told.errs.written() == errs.as_bytes());
+        if *byte == b'\n' {
+            line = usize::saturating_add(line, 1);
+        }
+    }
+    let long = vec![in alloc; b'x'; 16_777_217]?;
+    let told = answer_of(&rt, alloc, &asking(&["panel"], &long))?;
+    assert!(rt; told.status == 3 && told.errs.written() == b"input\t0\t10\n".as_slice());
+    Ok(())
+}
+
+/// Calls where an object fails: the reads of the source, the puts of `out` with its room and of `errs` that do; and the status, how much of
+/// the answer `out` gained, and what `errs` gained. Nothing is tried again.
+const FAILING: &[(&[u64], &[u64], usize, &[u64], u8, usize, &[u8])] = &[
+    (&[1], &[], 1000, &[], 7, 0, b"read fault\n"),
+    (&[2], &[], 1000, &[], 7, 0, b"read fault\n"),
+    (&[], &[1], 1000, &[], 8, 0, b"write fault\n"),
+    (&[], &[2], 1000, &[], 8, 9, b"write fault\n"),
+    (&[], &[17], 1000, &[], 8, 213, b"write fault\n"),
+    (&[], &[18], 1000, &[1], 0, 218, b""),
+    (&[], &[], 217, &[2], 8, 217, b"write fault\n"),
+    (&[], &[], 218, &[], 0, 218, b""),
+    (&[], &[2], 1000, &[1], 8, 9, b""),
+];
+
+#[test]
+fn each_failing_is_told(rt: HostRuntime) -> Result<(), AllocError> {
+    let alloc = rt.alloc();
+    for (reads, puts, room, lines, status, written, errs) in FAILING {
+        let call = Call {
+            reads,
+            puts,
+            lines,
+            room: *room,
+            ..asking(&["lottery"], FOUR)
+        };
+        let told = answer_of(&rt, alloc, &call)?;
+        assert_eq!(rt; told.status, *status, "{reads:?} {puts:?} {room}");
         assert!(rt;
-            told.status == 3 && told.errs.written() == errs.as_bytes(),
-            "{length}"
+            FOUR_BUNDLE.starts_with(told.out.written()) && told.out.written().len() == *written
         );
+        assert_eq!(rt; told.errs.written(), *errs, "{reads:?} {puts:?} {room}");
     }
-    let bundle = asking(&["lottery"], FOUR);
-    for (puts, room, status, written) in [
-        (&[1_u64], 1000, 8, 0),
-        (&[2], 1000, 8, 9),
-        (&[17], 1000, 8, 213),
-        (&[18], 1000, 0, 218),
-        (&[18], 217, 8, 217),
-        (&[18], 218, 0, 218),
-    ] {
-        let told = answer_of(
-            &rt,
-            alloc,
-            &Call {
-                puts,
-                room,
-                ..bundle
-            },
-        )?;
-        assert_eq!(rt; told.status, status, "{puts:?} {room}");
-        assert_eq!(rt;
-            told.out.written(),
-            &FOUR_BUNDLE[..written],
-            "{puts:?} {room}"
-        );
-    }
-    let told = answer_of(
-        &rt,
-        alloc,
-        &Call {
-            reads: &[2],
-            ..bundle
-        },
-    )?;
-    assert!(rt; told.status == 7 && told.errs.written() == b"read fault\n".as_slice());
+    let call = Call {
+        lines: &[1],
+        ..asking(&["lottery", "--bits", "1"], EITHER)
+    };
+    let told = answer_of(&rt, alloc, &call)?;
+    assert!(rt; told.status == 4 && told.errs.written().is_empty());
     Ok(())
 }
 
@@ -662,69 +709,58 @@ fn words_that_cannot_be_had(rt: HostRuntime) -> Result<(), AllocError> {
     Ok(())
 }
 
-/// The lines of the answer in a bundle, those behind the pool's.
-fn answer_lines(bundle: &str) -> &str {
-    match bundle.find("\nend\n") {
-        Some(end) => &bundle[end + 5..],
-        None => "",
-    }
-}
-
-/// Each volunteer's count and the total, as the bundle that `lottery` prints has them.
-fn counts<R: Threads + Sync>(
-    rt: &R,
-    alloc: Global,
-    text: &[u8],
-    volunteers: usize,
-) -> Result<String, AllocError> {
-    let told = answer_of(rt, alloc, &asking(&["lottery"], text))?;
-    let bundle = match std::str::from_utf8(told.out.written()) {
-        Ok(bundle) => bundle,
-        Err(_) => "",
-    };
-    let mut counts = vec![in alloc; 0_u64; volunteers]?;
-    let mut total = 0;
-    for line in answer_lines(bundle).lines() {
-        let mut fields = line.split('\t');
-        let kind = fields.next().unwrap_or("");
-        let number: u64 = number_of(fields.next());
-        if kind == "total" {
-            total = number;
-        }
-        if kind == "panel" {
-            for member in fields {
-                let member = number_of(Some(member)) as usize;
-                if member < counts.len() {
-                    counts[member] = counts[member].wrapping_add(number);
-                }
-            }
-        }
-    }
-    format!(in alloc; "{counts:?} of {total}")
-}
-
-fn number_of(field: Option<&str>) -> u64 {
-    match field {
-        Some(field) => field.parse().unwrap_or(0),
-        None => 0,
-    }
-}
+/// The first line of a bundle's text, pools, and the lines behind the pool in what `lottery` prints of it.
+const LOTTERIES: &[(&[u8], &[u8], &[u8])] = &[
+    (
+        b"bundle\t1\n",
+        FOUR,
+        b"total\t2\npanel\t1\t0\t2\npanel\t1\t1\t3\nstage\t1\t1\t1\t0\t0\nstage\t0\t-1\t-1\t1\t1\ndone\n",
+    ),
+    (
+        b"bundle\t1\n",
+        ONE_WOMAN,
+        b"total\t3\npanel\t1\t0\t1\npanel\t1\t0\t2\npanel\t1\t0\t3\nstage\t1\t0\t1\t1\t1\nstage\t2\t3\t-1\t-1\t-1\ndone\n",
+    ),
+    (
+        b"bundle\t1\n",
+        BARRED,
+        b"total\t2\npanel\t1\t1\npanel\t1\t2\nstage\t0\t1\t0\t0\nstage\t1\t-2\t1\t1\ndone\n",
+    ),
+    (
+        b"bundle\t1\n",
+        FIVE,
+        b"total\t6\npanel\t2\t0\t3\npanel\t1\t1\t3\npanel\t1\t1\t4\npanel\t2\t2\t4\nstage\t1\t1\t1\t1\t0\t0\nstage\t1\t-2\t-2\t-2\t3\t3\ndone\n",
+    ),
+    (
+        b"bundle\t1\n",
+        PAIR,
+        b"total\t1\npanel\t1\t0\t1\nstage\t1\t1\t0\nstage\t0\t-1\t1\ndone\n",
+    ),
+    (
+        b"bundle\t1\n",
+        REPLACED,
+        b"total\t1\npanel\t1\t1\t2\nstage\t0\t1\t0\t0\t0\nstage\t0\t-1\t0\t0\t1\nstage\t1\t0\t1\t0\t-1\nstage\t0\t0\t-1\t1\t0\ndone\n",
+    ),
+    (
+        b"bundle\t2\n",
+        FAMILY,
+        b"total\t2\npanel\t1\t0\t3\npanel\t1\t1\t2\nstage\t1\t1\t1\t0\t0\nstage\t0\t0\t-1\t1\t0\nstage\t0\t-1\t1\t-1\t1\ndone\n",
+    ),
+];
 
 #[test]
-fn pools_have_their_chances(rt: HostRuntime) -> Result<(), Fail> {
+fn lotteries_are_checked(rt: HostRuntime) -> Result<(), AllocError> {
     let alloc = rt.alloc();
-    for (text, volunteers, wanted) in [
-        (FOUR, 4, "[1, 1, 1, 1] of 2"),
-        (ONE_WOMAN, 4, "[3, 1, 1, 1] of 3"),
-        (BARRED, 3, "[0, 1, 1] of 2"),
-        (FIVE, 5, "[2, 2, 2, 3, 3] of 6"),
-        (PAIR, 2, "[1, 1] of 1"),
-        (REPLACED, 4, "[0, 1, 1, 0] of 1"),
-    ] {
-        assert_eq!(rt; counts(&rt, alloc, text, volunteers)?.as_str(), wanted);
-        let bundle = answer_of(&rt, alloc, &asking(&["lottery"], text))?;
-        let checked = answer_of(&rt, alloc, &asking(&["check"], bundle.out.written()))?;
-        assert_eq!(rt; checked.out.written(), b"valid\n".as_slice());
+    for (first, pool, rest) in LOTTERIES {
+        let mut bundle = Vec::from_slice(alloc, first)?;
+        bundle.extend_from_slice(pool)?;
+        bundle.extend_from_slice(rest)?;
+        for workers in ["--workers=1", "--workers=2", "--workers=7"] {
+            let told = answer_of(&rt, alloc, &asking(&["lottery", workers], pool))?;
+            assert_eq!(rt; told.out.written(), bundle.as_slice());
+        }
+        let told = answer_of(&rt, alloc, &asking(&["check"], &bundle))?;
+        assert_eq!(rt; told.out.written(), b"valid\n".as_slice());
     }
     Ok(())
 }

@@ -4,8 +4,6 @@
 
 mod numbers;
 mod splitting;
-#[cfg(test)]
-mod tests;
 mod writing;
 
 pub use numbers::{number_up_to, signed_number};

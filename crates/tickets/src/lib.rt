@@ -4,8 +4,6 @@
 
 mod dice;
 mod ranges;
-#[cfg(test)]
-mod tests;
 
 pub use dice::name_ticket;
 pub use draw_definitions::{DiceStop, Named};

@@ -1,16 +1,17 @@
-//! Tests of the crates of values and their texts: `pool_model`, `pool_text`, `bundle_text`, `proof_model` and `proof_text`. They stand
-//! above those crates, so that none of them is proved a second time for its tests.
+//! Tests of the crates of values and their texts, of what is published, and of the outside over std: `pool_model`, `pool_text`, `bundle_text`,
+//! `proof_text`, `sealed_draw`, `office_reports` and `outside`. They stand above those crates, so that none of them is proved a second time
+//! for its tests.
 #![tactic(auto)]
 
 #[cfg(test)]
-mod bundle_texts;
+mod digests;
 #[cfg(test)]
-mod pool_texts;
+mod faults;
 #[cfg(test)]
 mod pools;
 #[cfg(test)]
-mod proof_texts;
-#[cfg(test)]
 mod shown;
 #[cfg(test)]
-mod trees;
+mod std_adapters;
+#[cfg(test)]
+mod texts;
