@@ -579,14 +579,18 @@ fn made_pools_are_answered_alike(rt: HostRuntime) -> Result<(), AllocError> {
 
 #[test]
 fn the_third_worker_starts_while_two_are_held(rt: HostRuntime) -> Result<(), AllocError> {
-    let watch = Holding {
-        started: AtomicBool::new(false),
-        seen: AtomicBool::new(false),
-    };
-    let call = asking(&["lottery", "--workers", "3"], APART);
-    let told = answer_watched(&rt, rt.alloc(), &call, &watch)?;
-    assert_eq!(rt; told.status, 0);
-    assert!(rt; watch.seen.load(Ordering::SeqCst));
+    for words in [
+        ["lottery", "--workers=3"].as_slice(),
+        &["make", "--seed=7", "--volunteers=20", "--workers=3"],
+    ] {
+        let watch = Holding {
+            started: AtomicBool::new(false),
+            seen: AtomicBool::new(false),
+        };
+        let told = answer_watched(&rt, rt.alloc(), &asking(words, APART), &watch)?;
+        assert_eq!(rt; told.status, 0, "{words:?}");
+        assert!(rt; watch.seen.load(Ordering::SeqCst), "{words:?}");
+    }
     Ok(())
 }
 
