@@ -184,11 +184,11 @@ fn answer_watched<R: Threads + Sync, W: Watch + Sync>(
 /// How often a piece looks whether another one has started.
 const TURNS: u64 = 1_000_000_000;
 
-/// Holds pieces 0 and 1 of the first pricing until piece 2 has started, for so many turns at most; and keeps whether it did.
+/// Holds each piece but piece 2 of a pricing until a piece 2 has started, for so many turns at most; and keeps whether one was held in vain.
 #[derive(Drop)]
 struct Holding {
     started: AtomicBool,
-    seen: AtomicBool,
+    in_vain: AtomicBool,
 }
 
 impl Watch for Holding {
@@ -199,10 +199,10 @@ impl Watch for Holding {
         }
         for _ in 0..TURNS {
             if self.started.load(Ordering::SeqCst) {
-                self.seen.store(true, Ordering::SeqCst);
                 return;
             }
         }
+        self.in_vain.store(true, Ordering::SeqCst);
     }
 }
 
@@ -585,11 +585,12 @@ fn the_third_worker_starts_while_two_are_held(rt: HostRuntime) -> Result<(), All
     ] {
         let watch = Holding {
             started: AtomicBool::new(false),
-            seen: AtomicBool::new(false),
+            in_vain: AtomicBool::new(false),
         };
         let told = answer_watched(&rt, rt.alloc(), &asking(words, APART), &watch)?;
         assert_eq!(rt; told.status, 0, "{words:?}");
-        assert!(rt; watch.seen.load(Ordering::SeqCst), "{words:?}");
+        assert!(rt; watch.started.load(Ordering::SeqCst), "{words:?}");
+        assert!(rt; !watch.in_vain.load(Ordering::SeqCst), "{words:?}");
     }
     Ok(())
 }
