@@ -7,7 +7,7 @@ ghost use Rattle.bundle_definitions.specs.BundleText.{total_line, panel_line, st
 ghost use Rattle.bundle_definitions.specs.BundleReading.{read_bundle};
 
 use pool_model::{Answer, Lottery, LotteryRow, Pool, Stage, has_households};
-use pool_text::{push_pool, version};
+use pool_text::{version, write_pool};
 use std::alloc::{AllocError, Global};
 use text_lines::{end_line, push_line, push_numbers, push_signed, push_signed_numbers};
 
@@ -20,7 +20,8 @@ pub fn write_bundle(alloc: Global, pool: &Pool, answer: &Answer) -> Result<Vec<u
     pool.facts();
     let mut text = Vec::new(alloc);
     push_line(&mut text, b"bundle", &[version(has_households(pool))])?;
-    push_pool(&mut text, pool)?;
+    let pool_lines = write_pool(alloc, pool)?;
+    text.extend_from_slice(&pool_lines)?;
     push_answer(&mut text, answer)?;
     Ok(text)
 }

@@ -1,11 +1,11 @@
 -- When a call of a command is right, whatever the command. Its meaning says which answers are right about the bytes that the
 -- source held.
-use Rattle.std.specs.Prelude.{◌≡◌, ◌≢◌, ◌⊎◌, ◌<◌, ◌≤◌, ℕ, List, [], Some, length, IfSome}
+use Rattle.std.specs.Prelude.{◌≡◌, ◌≢◌, ◌⊎◌, ◌<◌, ◌≤◌, ℕ, List, length, IfSome}
 use Rattle.command_shell.specs.declared.status.Printed.{Printed}
 use Rattle.command_shell.specs.declared.status.Printed.TheVariants.{Done, NoPanel, Refused}
 use Rattle.command_shell.specs.declared.status.Cause.{Cause}
 use Rattle.command_shell.specs.declared.status.Cause.TheVariants.{Input, Wide, Spent, Rule}
-use Rattle.command_shell.specs.Told.{Bytes, Told, Gains, GainsLine, GainsPart, HasFaulted, HasNoFault, HeldAll, HeldMore, IsUntouched}
+use Rattle.command_shell.specs.Told.{Bytes, Told, Gains, GainsLine, GainsPart, HasFaulted, HasNoFault, HeldAll, HeldMore, IsUntouched, empty_source}
 use Rattle.command_shell.specs.Answers.{Saying, Prints, Stops, status_of}
 use Rattle.command_shell.specs.Lines.{input_limit, read_fault_line, too_long_line, want_of_memory_line, write_fault_line}
 
@@ -101,10 +101,7 @@ pub record CallIsRight (Means : List ℕ → Saying → Type 0) (told : Told) : 
   -- where the source counted no fault, the status is the one that its bytes ask for, but for 8 and 12
   pub complete : (HasFaulted told.source → ⊥) → told.status ≢ 8 → told.status ≢ 12 → IfSome told.source.before (λ bytes. IsDue Means bytes told.status)
 
--- a call of a command that reads nothing is right: as one whose source has no bytes and no fault, and the source was left alone
+-- a call of a command that reads nothing is right: the source was left alone, and the rest is right for a source without bytes and faults
 pub record ReadsNothing (Means : List ℕ → Saying → Type 0) (told : Told) : Type 0 where
   pub source : IsUntouched told.source
-  pub nothing : Bytes
-  pub empty : nothing.before ≡ Some []
-  pub no_fault : HasNoFault nothing
-  pub call : CallIsRight Means (record told { source = nothing })
+  pub call : CallIsRight Means (record told { source = empty_source })

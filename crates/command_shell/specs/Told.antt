@@ -1,5 +1,5 @@
 -- What one call of the program told of the outside.
-use Rattle.std.specs.Prelude.{◌≡◌, ℕ, List, Option}
+use Rattle.std.specs.Prelude.{◌≡◌, ℕ, List, [], Option, Some}
 use Rattle.std.specs.Io.KnownBytes.{Appends}
 use Rattle.outside.specs.Faults.{Rose}
 use Rattle.outside.specs.Content.{AppendsPart, LosesMore, ReadsAll}
@@ -19,6 +19,11 @@ object before after faults_before faults_after = record { before = before; after
 abbrev pub Bytes : Type 0
 Bytes = Object (List ℕ)
 
+-- a source that has no bytes, counted no fault and was left alone. It is one fixed object: over one whose count is at its last value,
+-- each answer `read fault` would be right
+abbrev pub empty_source : Bytes
+empty_source = object (Some []) (Some []) 0 0
+
 -- what a call told: its status, and the objects
 pub record Told : Type 0 where
   pub status : ℕ
@@ -29,7 +34,7 @@ pub record Told : Type 0 where
 abbrev pub told : ℕ → Bytes → Bytes → Bytes → Told
 told status source out errs = record { status = status; source = source; out = out; errs = errs }
 
--- the object counted a fault in this call; a count that stands at its last value is said to have risen too
+-- the object counted a fault in this call; a count at its last value, 2^64 - 1, can't rise and is said to have risen in each call
 abbrev pub HasFaulted : {Meaning : Type 0} → Object Meaning → Type 0
 HasFaulted object = Rose object.faults_before object.faults_after
 

@@ -88,6 +88,6 @@ pub fn call_without_input<
 {
     match answer() {
         Ok(answer) => tell(out, errs, &answer),
-        Err(_) => want_memory(errs),
+        Err(AllocError) => want_memory(errs),
     }
 }

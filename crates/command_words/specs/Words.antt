@@ -10,9 +10,7 @@ use Rattle.clap.specs.declared.error.Error.{Error}
 use Rattle.clap.specs.declared.error.kind.ErrorKind.TheVariants as kind
 use Rattle.clap.specs.declared.parser.matches.ArgMatches.{ArgMatches}
 use Rattle.run_definitions.specs.Run.{Limits}
-use Rattle.run_limits.specs.declared.TheConstants.{LEAST_BITS, LEAST_WORKERS, MOST_BITS, MOST_NODES, MOST_PIVOTS, MOST_WORKERS}
 use Rattle.command_words.specs.Made.{Made}
-use Rattle.command_words.specs.declared.asked.TheConstants.{LEAST_VOLUNTEERS, MOST_SEED, MOST_VOLUNTEERS}
 use Rattle.command_words.specs.declared.asked.Asked.{Asked}
 use Rattle.command_words.specs.declared.asked.Asked.TheVariants as asked_for
 use Rattle.command_words.specs.declared.asked.WordsStop.{WordsStop}
@@ -50,6 +48,34 @@ order (asked_for.Prove pivots nodes) = Prove pivots nodes
 order asked_for.Verify = Verify
 order asked_for.Bundle = Bundle
 
+-- the ranges of the numbers that words give; one that isn't named here begins with 0
+abbrev pub least_bits : ℕ
+least_bits = 1
+
+abbrev pub most_bits : ℕ
+most_bits = 127
+
+abbrev pub most_pivots : ℕ
+most_pivots = 1000000000
+
+abbrev pub most_nodes : ℕ
+most_nodes = 1000000000000
+
+abbrev pub least_workers : ℕ
+least_workers = 1
+
+abbrev pub most_workers : ℕ
+most_workers = 64
+
+abbrev pub most_seed : ℕ
+most_seed = 9223372036854775807
+
+abbrev pub least_volunteers : ℕ
+least_volunteers = 1
+
+abbrev pub most_volunteers : ℕ
+most_volunteers = 400
+
 -- an option that holds a number of a range, with the text of its default
 abbrev pub number_rule : Text → ℕ → ℕ → Text → Rule
 number_rule name least most default = record (new_rule name) {
@@ -59,16 +85,16 @@ number_rule name least most default = record (new_rule name) {
 }
 
 abbrev pub bits_rule : Rule
-bits_rule = number_rule (codes "bits") LEAST_BITS MOST_BITS (codes "127")
+bits_rule = number_rule (codes "bits") least_bits most_bits (codes "127")
 
 abbrev pub pivots_rule : Rule
-pivots_rule = number_rule (codes "pivots") 0 MOST_PIVOTS (codes "100000")
+pivots_rule = number_rule (codes "pivots") 0 most_pivots (codes "100000")
 
 abbrev pub nodes_rule : Rule
-nodes_rule = number_rule (codes "nodes") 0 MOST_NODES (codes "50000000")
+nodes_rule = number_rule (codes "nodes") 0 most_nodes (codes "50000000")
 
 abbrev pub workers_rule : Rule
-workers_rule = number_rule (codes "workers") LEAST_WORKERS MOST_WORKERS (codes "1")
+workers_rule = number_rule (codes "workers") least_workers most_workers (codes "1")
 
 -- an option that is required and holds a number of a range
 abbrev pub required_number_rule : Text → ℕ → ℕ → Rule
@@ -79,10 +105,10 @@ required_number_rule name least most = record (new_rule name) {
 }
 
 abbrev pub seed_rule : Rule
-seed_rule = required_number_rule (codes "seed") 0 MOST_SEED
+seed_rule = required_number_rule (codes "seed") 0 most_seed
 
 abbrev pub volunteers_rule : Rule
-volunteers_rule = required_number_rule (codes "volunteers") LEAST_VOLUNTEERS MOST_VOLUNTEERS
+volunteers_rule = required_number_rule (codes "volunteers") least_volunteers most_volunteers
 
 -- an option that is required and holds a text
 abbrev pub text_rule : Text → Rule
@@ -116,10 +142,10 @@ abbrev pub check_app : App
 check_app = with_rule (new_app (codes "check")) nodes_rule
 
 abbrev pub run_pivots_rule : Rule
-run_pivots_rule = number_rule (codes "pivots") 0 MOST_PIVOTS (codes "1000000")
+run_pivots_rule = number_rule (codes "pivots") 0 most_pivots (codes "1000000")
 
 abbrev pub run_nodes_rule : Rule
-run_nodes_rule = number_rule (codes "nodes") 0 MOST_NODES (codes "200000")
+run_nodes_rule = number_rule (codes "nodes") 0 most_nodes (codes "200000")
 
 abbrev pub prove_app : App
 prove_app = with_rule (with_rule (new_app (codes "prove")) run_pivots_rule) run_nodes_rule
@@ -168,7 +194,7 @@ abbrev pub number_within : Text → ℕ → ℕ → List Row → Option ℕ
 number_within name least most rows = option_and_then (within least most) (number_at name rows)
 
 abbrev pub panel_asked : List Row → Option Order
-panel_asked rows = option_map Panel (number_within (codes "nodes") 0 MOST_NODES rows)
+panel_asked rows = option_map Panel (number_within (codes "nodes") 0 most_nodes rows)
 
 -- the limits of a run, where each is in its range
 abbrev pub limits_asked : List Row → Option Limits
@@ -176,13 +202,13 @@ limits_asked rows =
     option_and_then (λ bits.
     option_and_then (λ pivots.
     option_map (λ nodes. record { bits = bits; pivots = pivots; nodes = nodes })
-    (number_within (codes "nodes") 0 MOST_NODES rows))
-    (number_within (codes "pivots") 0 MOST_PIVOTS rows))
-    (number_within (codes "bits") LEAST_BITS MOST_BITS rows)
+    (number_within (codes "nodes") 0 most_nodes rows))
+    (number_within (codes "pivots") 0 most_pivots rows))
+    (number_within (codes "bits") least_bits most_bits rows)
 
 -- how many workers, where that is in its range
 abbrev pub workers_asked : List Row → Option ℕ
-workers_asked rows = number_within (codes "workers") LEAST_WORKERS MOST_WORKERS rows
+workers_asked rows = number_within (codes "workers") least_workers most_workers rows
 
 abbrev pub lottery_asked : List Row → Option Order
 lottery_asked rows = option_and_then (λ limits. option_map (Lottery limits) (workers_asked rows)) (limits_asked rows)
@@ -192,8 +218,8 @@ abbrev pub made_asked : List Row → Option Made
 made_asked rows =
     option_and_then (λ seed.
     option_map (λ volunteers. record { seed = seed; volunteers = volunteers })
-    (number_within (codes "volunteers") LEAST_VOLUNTEERS MOST_VOLUNTEERS rows))
-    (number_within (codes "seed") 0 MOST_SEED rows)
+    (number_within (codes "volunteers") least_volunteers most_volunteers rows))
+    (number_within (codes "seed") 0 most_seed rows)
 
 abbrev pub make_asked : List Row → Option Order
 make_asked rows =
@@ -203,11 +229,11 @@ abbrev pub draw_asked : List Row → Option Order
 draw_asked rows = option_and_then (λ seal. option_map (Draw seal) (first_of (codes "digits") rows)) (first_of (codes "seal") rows)
 
 abbrev pub check_asked : List Row → Option Order
-check_asked rows = option_map Check (number_within (codes "nodes") 0 MOST_NODES rows)
+check_asked rows = option_map Check (number_within (codes "nodes") 0 most_nodes rows)
 
 abbrev pub prove_asked : List Row → Option Order
 prove_asked rows =
-    option_and_then (λ pivots. option_map (Prove pivots) (number_within (codes "nodes") 0 MOST_NODES rows)) (number_within (codes "pivots") 0 MOST_PIVOTS rows)
+    option_and_then (λ pivots. option_map (Prove pivots) (number_within (codes "nodes") 0 most_nodes rows)) (number_within (codes "pivots") 0 most_pivots rows)
 
 -- the command of a subcommand's name, with its values
 abbrev pub asked_named : Text → List Row → Option Order

@@ -37,7 +37,7 @@ impl Model for Made {
 impl Made {
     /// The pool of this number with so many volunteers, or None exactly where one of the two is out of its range.
     pub(crate) fn new(seed: u64, volunteers: u32) -> Option<Made>
-        ensures { result ≡ (if nat_le seed MOST_SEED && nat_le LEAST_VOLUNTEERS volunteers && nat_le volunteers MOST_VOLUNTEERS
+        ensures { result ≡ (if nat_le seed 9223372036854775807 && nat_le 1 volunteers && nat_le volunteers 400
             then Some (record { seed = seed; volunteers = volunteers }) else None) }
     {
         if seed <= MOST_SEED && LEAST_VOLUNTEERS <= volunteers && volunteers <= MOST_VOLUNTEERS {

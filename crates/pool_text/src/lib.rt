@@ -11,4 +11,4 @@ mod writing;
 pub use faults::{PoolFault, ReadPool};
 pub use progress::{Progress, after};
 pub use reading::read_pool;
-pub use writing::{push_pool, version, write_pool};
+pub use writing::{version, write_pool};

@@ -25,7 +25,7 @@ pub fn write_pool(alloc: Global, pool: &Pool) -> Result<Vec<u8>, AllocError>
 }
 
 /// Adds the text of the pool to another.
-pub fn push_pool(text: &mut Vec<u8>, pool: &Pool) -> Result<(), AllocError>
+fn push_pool(text: &mut Vec<u8>, pool: &Pool) -> Result<(), AllocError>
     ensures { OnOk result (text.new.items ≡ text.old.items ++ spelling pool.now) }
 {
     pool.facts();

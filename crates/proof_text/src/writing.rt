@@ -5,6 +5,7 @@ ghost use Rattle.std.specs.Fmt.{decimal};
 ghost use Rattle.std.specs.List.{flat_map};
 ghost use Rattle.line_definitions.specs.Lines.{line_of, tabbed, text_of};
 ghost use Rattle.addition_definitions.specs.ProofVerdict.{OfLottery, OfNoPanel};
+ghost use Rattle.bundle_definitions.specs.BundleText.{pool_lines};
 ghost use Rattle.proof_definitions.specs.ProofText.{bundle_lines, leaf_line, lines_before_close, multiplier_fields, node_line, proof_spelling, tree_lines, trees_from};
 ghost use Rattle.proof_definitions.specs.ProofReading.{read_proof};
 ghost use Rattle.proof_model.specs.Parts.{seen};
@@ -12,7 +13,7 @@ ghost use Rattle.proof_model.specs.Parts.{seen};
 use bundle_text::{Bundle, write_bundle};
 use itoa::Buffer;
 use pool_model::Pool;
-use pool_text::push_pool;
+use pool_text::write_pool;
 use proof_model::{Leaf, Multiplier, Node, Parts, Proof, TreeLine, TreeLines};
 use std::alloc::{AllocError, Global};
 use text_lines::{end_line, push_line, push_number, push_signed};
@@ -35,7 +36,7 @@ fn push_parts(alloc: Global, text: &mut Vec<u8>, parts: &Parts) -> Result<(), Al
 {
     match parts {
         Parts::Lottery(bundle, trees) => push_lottery(alloc, text, bundle, trees),
-        Parts::NoPanel(pool, lines) => push_no_panel(text, pool, lines),
+        Parts::NoPanel(pool, lines) => push_no_panel(alloc, text, pool, lines),
     }
 }
 
@@ -52,13 +53,25 @@ fn push_lottery(
     push_trees(text, trees)
 }
 
-fn push_no_panel(text: &mut Vec<u8>, pool: &Pool, lines: &TreeLines) -> Result<(), AllocError>
+fn push_no_panel(
+    alloc: Global,
+    text: &mut Vec<u8>,
+    pool: &Pool,
+    lines: &TreeLines,
+) -> Result<(), AllocError>
     ensures { OnOk result (text.new.items ≡ text.old.items ++ text_of (lines_before_close (OfNoPanel pool.now lines.now))) }
 {
     push_line(text, b"proof", &[b"1"])?;
-    push_pool(text, pool)?;
+    push_pool(alloc, text, pool)?;
     push_line(text, b"none", &[])?;
     push_tree(text, 0, lines)
+}
+
+fn push_pool(alloc: Global, text: &mut Vec<u8>, pool: &Pool) -> Result<(), AllocError>
+    ensures { OnOk result (text.new.items ≡ text.old.items ++ text_of (pool_lines pool.now)) }
+{
+    let bytes = write_pool(alloc, pool)?;
+    text.extend_from_slice(&bytes)
 }
 
 fn push_bundle(alloc: Global, text: &mut Vec<u8>, bundle: &Bundle) -> Result<(), AllocError>

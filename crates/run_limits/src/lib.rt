@@ -51,7 +51,7 @@ impl Model for Limits {
 impl Limits {
     /// The limits of these numbers, or None exactly where one is out of its range.
     pub fn new(bits: u32, pivots: u64, nodes: u64) -> Option<Limits>
-        ensures { result ≡ (if nat_le LEAST_BITS bits && nat_le bits MOST_BITS && nat_le pivots MOST_PIVOTS && nat_le nodes MOST_NODES
+        ensures { result ≡ (if nat_le 1 bits && nat_le bits 127 && nat_le pivots 1000000000 && nat_le nodes 1000000000000
             then Some (record { bits = bits; pivots = pivots; nodes = nodes }) else None) }
     {
         if LEAST_BITS <= bits && bits <= MOST_BITS && pivots <= MOST_PIVOTS && nodes <= MOST_NODES {
@@ -112,7 +112,7 @@ impl Model for Workers {
 impl Workers {
     /// So many workers, or None exactly where the number is out of its range.
     pub fn new(number: u32) -> Option<Workers>
-        ensures { result ≡ (if nat_le LEAST_WORKERS number && nat_le number MOST_WORKERS then Some number else None) }
+        ensures { result ≡ (if nat_le 1 number && nat_le number 64 then Some number else None) }
     {
         if LEAST_WORKERS <= number && number <= MOST_WORKERS {
             Some(Workers { number })

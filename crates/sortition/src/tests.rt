@@ -190,11 +190,11 @@ fn answer_watched<R: Threads + Sync, W: Watch + Sync>(
 /// How often a piece looks whether another one has started.
 const TURNS: u64 = 1_000_000_000;
 
-/// Holds pieces 0 and 1 of the first pricing until piece 2 has started, for so many turns at most; and keeps whether it did.
+/// Holds each piece but piece 2 of a pricing until a piece 2 has started, for so many turns at most; and keeps whether one was held in vain.
 #[derive(Drop)]
 struct Holding {
     started: AtomicBool,
-    seen: AtomicBool,
+    in_vain: AtomicBool,
 }
 
 impl Watch for Holding {
@@ -205,10 +205,10 @@ impl Watch for Holding {
         }
         for _ in 0..TURNS {
             if self.started.load(Ordering::SeqCst) {
-                self.seen.store(true, Ordering::SeqCst);
                 return;
             }
         }
+        self.in_vain.store(true, Ordering::SeqCst);
     }
 }
 
@@ -616,14 +616,19 @@ fn made_pools_are_answered_alike(rt: HostRuntime) -> Result<(), AllocError> {
 
 #[test]
 fn the_third_worker_starts_while_two_are_held(rt: HostRuntime) -> Result<(), AllocError> {
-    let watch = Holding {
-        started: AtomicBool::new(false),
-        seen: AtomicBool::new(false),
-    };
-    let call = asking(&["lottery", "--workers", "3"], APART);
-    let told = answer_watched(&rt, rt.alloc(), &call, &watch)?;
-    assert_eq!(rt; told.status, 0);
-    assert!(rt; watch.seen.load(Ordering::SeqCst));
+    for words in [
+        ["lottery", "--workers=3"].as_slice(),
+        &["make", "--seed=7", "--volunteers=20", "--workers=3"],
+    ] {
+        let watch = Holding {
+            started: AtomicBool::new(false),
+            in_vain: AtomicBool::new(false),
+        };
+        let told = answer_watched(&rt, rt.alloc(), &asking(words, APART), &watch)?;
+        assert_eq!(rt; told.status, 0, "{words:?}");
+        assert!(rt; watch.started.load(Ordering::SeqCst), "{words:?}");
+        assert!(rt; !watch.in_vain.load(Ordering::SeqCst), "{words:?}");
+    }
     Ok(())
 }
 

@@ -1,2 +1,3 @@
 pub mod ParsedNumbers
 pub mod LineByLine
+pub mod KeptText

@@ -1,6 +1,8 @@
-//! Adding lines to a growing text, field by field. Numbers take no memory of their own.
+//! Adding lines to a growing text, field by field. Numbers take no memory of their own. After want of memory the text still begins with what
+//! was in it before, and some of what was to be added may follow.
 
-ghost use Rattle.std.specs.Prelude.{◌≡◌, ◌++◌, ◌∷◌, [], map, OnOk};
+ghost use Rattle.std.specs.Prelude.{◌≡◌, ◌++◌, ◌∷◌, [], map, OnErr, OnOk};
+ghost use Rattle.std.specs.Io.{StartsWith};
 ghost use Rattle.std.specs.Fmt.{decimal, signed_decimal};
 ghost use Rattle.line_definitions.specs.Lines.{tab, line_feed, tabbed, line_of, text_of};
 
@@ -13,7 +15,8 @@ const LINE_FEED: u8 = 10;
 
 /// Adds a TAB and a field.
 pub fn push_field(text: &mut Vec<u8>, field: &[u8]) -> Result<(), AllocError>
-    ensures { OnOk result (text.new.items ≡ text.old.items ++ (tab ∷ field.now)) }
+    ensures whole { OnOk result (text.new.items ≡ text.old.items ++ (tab ∷ field.now)) }
+    ensures kept { OnErr result (StartsWith text.new.items text.old.items) }
 {
     text.push(TAB)?;
     text.extend_from_slice(field)
@@ -21,7 +24,8 @@ pub fn push_field(text: &mut Vec<u8>, field: &[u8]) -> Result<(), AllocError>
 
 /// Adds a TAB and a number.
 pub fn push_number(text: &mut Vec<u8>, number: usize) -> Result<(), AllocError>
-    ensures { OnOk result (text.new.items ≡ text.old.items ++ (tab ∷ decimal number)) }
+    ensures whole { OnOk result (text.new.items ≡ text.old.items ++ (tab ∷ decimal number)) }
+    ensures kept { OnErr result (StartsWith text.new.items text.old.items) }
 {
     let mut digits = Buffer::new();
     push_field(text, digits.format(number).as_bytes())
@@ -29,7 +33,8 @@ pub fn push_number(text: &mut Vec<u8>, number: usize) -> Result<(), AllocError>
 
 /// Adds a TAB and a number, with its sign where it is below 0.
 pub fn push_signed(text: &mut Vec<u8>, number: i128) -> Result<(), AllocError>
-    ensures { OnOk result (text.new.items ≡ text.old.items ++ (tab ∷ signed_decimal number)) }
+    ensures whole { OnOk result (text.new.items ≡ text.old.items ++ (tab ∷ signed_decimal number)) }
+    ensures kept { OnErr result (StartsWith text.new.items text.old.items) }
 {
     let mut digits = Buffer::new();
     push_field(text, digits.format(number).as_bytes())
@@ -37,7 +42,8 @@ pub fn push_signed(text: &mut Vec<u8>, number: i128) -> Result<(), AllocError>
 
 /// Adds numbers, each behind a TAB.
 pub fn push_numbers(text: &mut Vec<u8>, numbers: &[usize]) -> Result<(), AllocError>
-    ensures { OnOk result (text.new.items ≡ text.old.items ++ tabbed (map decimal numbers.now)) }
+    ensures whole { OnOk result (text.new.items ≡ text.old.items ++ tabbed (map decimal numbers.now)) }
+    ensures kept { OnErr result (StartsWith text.new.items text.old.items) }
 {
     for number in numbers {
         push_number(text, *number)?;
@@ -47,7 +53,8 @@ pub fn push_numbers(text: &mut Vec<u8>, numbers: &[usize]) -> Result<(), AllocEr
 
 /// Adds numbers with their signs, each behind a TAB.
 pub fn push_signed_numbers(text: &mut Vec<u8>, numbers: &[i128]) -> Result<(), AllocError>
-    ensures { OnOk result (text.new.items ≡ text.old.items ++ tabbed (map signed_decimal numbers.now)) }
+    ensures whole { OnOk result (text.new.items ≡ text.old.items ++ tabbed (map signed_decimal numbers.now)) }
+    ensures kept { OnErr result (StartsWith text.new.items text.old.items) }
 {
     for number in numbers {
         push_signed(text, *number)?;
@@ -57,7 +64,8 @@ pub fn push_signed_numbers(text: &mut Vec<u8>, numbers: &[i128]) -> Result<(), A
 
 /// Adds the LF that ends a line.
 pub fn end_line(text: &mut Vec<u8>) -> Result<(), AllocError>
-    ensures { OnOk result (text.new.items ≡ text.old.items ++ line_feed ∷ []) }
+    ensures whole { OnOk result (text.new.items ≡ text.old.items ++ line_feed ∷ []) }
+    ensures kept { OnErr result (StartsWith text.new.items text.old.items) }
 {
     text.push(LINE_FEED)?;
     Ok(())
@@ -65,7 +73,8 @@ pub fn end_line(text: &mut Vec<u8>) -> Result<(), AllocError>
 
 /// Adds a line of a word and fields.
 pub fn push_line(text: &mut Vec<u8>, word: &[u8], fields: &[&[u8]]) -> Result<(), AllocError>
-    ensures { OnOk result (text.new.items ≡ text.old.items ++ text_of (line_of (word.now ∷ map (λ field. field.now) fields.now) ∷ [])) }
+    ensures whole { OnOk result (text.new.items ≡ text.old.items ++ text_of (line_of (word.now ∷ map (λ field. field.now) fields.now) ∷ [])) }
+    ensures kept { OnErr result (StartsWith text.new.items text.old.items) }
 {
     text.extend_from_slice(word)?;
     for field in fields {

@@ -15,7 +15,7 @@ loop-number-preserved c =
     let inside : get_or members c.loop-number.number-index 0 < length c.args.pool.now.volunteers =
     rw same (number_in_range (length c.args.pool.now.volunteers) c.args.panel.now c.loop-number.number-index c.requires (rw same at c.loop-number-test.true)) in
     one_id (c.args.text.now.items ++ codes "panel") c.args.pool.now.volunteers members c.loop-number.number-index _ _ c.index-volunteers-number.result
-    c.loop-number.invariant c.loop-number-test.true (rw (c.as_bytes.ensures ∙ c.id.ensures) at c.in_ok-push_field.ensures)
+    c.loop-number.invariant c.loop-number-test.true (rw (c.as_bytes.ensures ∙ c.id.ensures) at c.in_ok-push_field.ensures.whole)
     (rw c.volunteers.ensures at c.index-volunteers-number.is) inside
 
 pub returns : goal.returns
@@ -29,4 +29,4 @@ returns c =
     on_ok_weaker c.end_line.result
     (λ e. e ∙ (ap (λ text. text ++ line_feed ∷ []) (stood ∙ append_assoc before (codes "panel") words)
     ∙ (append_assoc before (codes "panel" ++ words) (line_feed ∷ []) ∙ ap (λ line. before ++ line) (line_written (codes "panel") (ids c.args.panel.now)))))
-    c.end_line.ensures
+    c.end_line.ensures.whole

@@ -14,8 +14,8 @@ returns c =
     let members = map decimal c.args.row.now.panel in
     let weighed : c.push_signed.new.text.items ≡ start ++ (9 ∷ weight) = grind (arith, common_steps) in
     let stood : c.push_numbers.new.text.items ≡ (start ++ (9 ∷ weight)) ++ tabbed members =
-    c.in_ok-push_numbers.ensures ∙ (ap (λ before. before ++ tabbed (map decimal c.members.result.now)) weighed
+    c.in_ok-push_numbers.ensures.whole ∙ (ap (λ before. before ++ tabbed (map decimal c.members.result.now)) weighed
     ∙ ap (λ numbers. (start ++ (9 ∷ weight)) ++ tabbed (map decimal numbers)) (c.members.ensures.value ∙ c.panel.ensures)) in
     on_ok_weaker c.end_line.result
     (λ e. e ∙ (ap (λ before. before ++ 10 ∷ []) stood ∙ line_added c.args.text.now.items (codes "panel") weight members))
-    c.end_line.ensures
+    c.end_line.ensures.whole

@@ -14,8 +14,8 @@ returns c =
     let weights = map signed_decimal c.args.stage.now.weights in
     let capped : c.push_signed.new.text.items ≡ start ++ (9 ∷ cap) = grind (arith, common_steps) in
     let stood : c.push_signed_numbers.new.text.items ≡ (start ++ (9 ∷ cap)) ++ tabbed weights =
-    c.in_ok-push_signed_numbers.ensures ∙ (ap (λ before. before ++ tabbed (map signed_decimal c.weights.result.now)) capped
+    c.in_ok-push_signed_numbers.ensures.whole ∙ (ap (λ before. before ++ tabbed (map signed_decimal c.weights.result.now)) capped
     ∙ ap (λ numbers. (start ++ (9 ∷ cap)) ++ tabbed (map signed_decimal numbers)) c.weights.ensures) in
     on_ok_weaker c.end_line.result
     (λ e. e ∙ (ap (λ before. before ++ 10 ∷ []) stood ∙ line_added c.args.text.now.items (codes "stage") cap weights))
-    c.end_line.ensures
+    c.end_line.ensures.whole

@@ -13,5 +13,5 @@ returns c =
     let x : FitsSigned w128 pass.x = search rules in
     let y : FitsSigned w128 pass.y = search rules in
     written_in_turn (codes "wide") (place (stood c.args.at.now)) (decimal pass.row) (operation pass.op) (signed_decimal pass.x) (signed_decimal pass.y) _ _ _ _ _ _ _
-    (rw c.new-line.ensures.items at c.in_ok-extend_from_slice.ensures.items) c.in_ok-push_place.ensures c.in_ok-push_number.ensures (rw c.operation.ensures at c.in_ok-push_field.ensures) (rw (to_z-of_z w128 pass.x x) at c.in_ok-push_signed.ensures)
-    (rw (to_z-of_z w128 pass.y y) at c.in_ok-push_signed-2.ensures) c.in_ok-end_line.ensures
+    (rw c.new-line.ensures.items at c.in_ok-extend_from_slice.ensures.items) c.in_ok-push_place.ensures c.in_ok-push_number.ensures.whole (rw c.operation.ensures at c.in_ok-push_field.ensures.whole) (rw (to_z-of_z w128 pass.x x) at c.in_ok-push_signed.ensures.whole)
+    (rw (to_z-of_z w128 pass.y y) at c.in_ok-push_signed-2.ensures.whole) c.in_ok-end_line.ensures.whole

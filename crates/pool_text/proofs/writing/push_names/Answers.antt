@@ -34,7 +34,7 @@ loop-category-preserved c =
     ∙ ap (λ place. get_or (value_names (get_or categories i category).values) place []) (turn.3 0)) in
     let so_far = tabbed (names_at (take i categories) (take i places)) in
     let last = 9 ∷ get_or (value_names (get_or categories i category).values) (get_or places i 0) [] in
-    c.in_ok-push_field.ensures
+    c.in_ok-push_field.ensures.whole
     ∙ (ap (λ before. before ++ (9 ∷ c.name_at.result.now)) c.loop-category.invariant
     ∙ (ap (λ name. (text ++ so_far) ++ (9 ∷ name)) name
     ∙ (append_assoc text so_far last

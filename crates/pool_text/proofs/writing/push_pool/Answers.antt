@@ -13,7 +13,7 @@ returns c =
     let text = c.args.text.now.items in
     let pool = c.args.pool.now in
     let versioned : c.push_line.new.text.items ≡ text ++ text_of (version_line (has_households pool) ∷ []) =
-    c.in_ok-push_line.ensures ∙ (ap (λ v. text ++ text_of (line_of (codes "pool" ∷ v ∷ []) ∷ [])) c.version.ensures ∙ ap (λ second. text ++ text_of (version_line second ∷ [])) c.has_households.ensures) in
+    c.in_ok-push_line.ensures.whole ∙ (ap (λ v. text ++ text_of (line_of (codes "pool" ∷ v ∷ []) ∷ [])) c.version.ensures ∙ ap (λ second. text ++ text_of (version_line second ∷ [])) c.has_households.ensures) in
     let first = text ++ text_of (version_line (has_households pool) ∷ []) in
     let sized : c.push_size.new.text.items ≡ first ++ text_of (size_line pool.size ∷ []) =
     c.in_ok-push_size.ensures ∙ (ap (λ t. t ++ text_of (size_line c.size.result ∷ [])) versioned ∙ ap (λ n. first ++ text_of (size_line n ∷ [])) c.size.ensures) in
@@ -26,4 +26,4 @@ returns c =
     let with_households = c.in_ok-push_households.ensures ∙ (ap (λ t. t ++ text_of (household_lines c.volunteers-2.result.now)) with_volunteers ∙ ap (λ vs. listed ++ text_of (household_lines vs)) c.volunteers-2.ensures) in
     let housed = listed ++ text_of (household_lines pool.volunteers) in
     let with_standings = c.in_ok-push_standings.ensures ∙ (ap (λ t. t ++ text_of (standing_lines c.volunteers-3.result.now)) with_households ∙ ap (λ vs. housed ++ text_of (standing_lines vs)) c.volunteers-3.ensures) in
-    on_ok_weaker c.push_line-2.result (λ e. e ∙ (ap (λ t. t ++ text_of (end_line ∷ [])) with_standings ∙ pool_written text pool)) c.push_line-2.ensures
+    on_ok_weaker c.push_line-2.result (λ e. e ∙ (ap (λ t. t ++ text_of (end_line ∷ [])) with_standings ∙ pool_written text pool)) c.push_line-2.ensures.whole

@@ -13,10 +13,10 @@ returns c =
     let id = c.args.volunteer.now.id in
     let names = names_at c.args.categories.now c.args.volunteer.now.values in
     let named : c.push_field.new.text.items ≡ (text ++ word) ++ (9 ∷ id) =
-    c.in_ok-push_field.ensures ∙ (ap (λ before. before ++ (9 ∷ c.as_bytes.result.now)) c.in_ok-extend_from_slice.ensures.items ∙ ap (λ i. (text ++ word) ++ (9 ∷ i)) (c.as_bytes.ensures ∙ c.id.ensures)) in
+    c.in_ok-push_field.ensures.whole ∙ (ap (λ before. before ++ (9 ∷ c.as_bytes.result.now)) c.in_ok-extend_from_slice.ensures.items ∙ ap (λ i. (text ++ word) ++ (9 ∷ i)) (c.as_bytes.ensures ∙ c.id.ensures)) in
     let stood : c.push_names.new.text.items ≡ ((text ++ word) ++ (9 ∷ id)) ++ tabbed names =
     c.in_ok-push_names.ensures ∙ (ap (λ before. before ++ tabbed (names_at c.args.categories.now c.values.result.now)) named
     ∙ ap (λ places. ((text ++ word) ++ (9 ∷ id)) ++ tabbed (names_at c.args.categories.now places)) c.values.ensures) in
     on_ok_weaker c.end_line.result
     (λ e. e ∙ (ap (λ before. before ++ 10 ∷ []) stood ∙ line_added text word id names))
-    c.end_line.ensures
+    c.end_line.ensures.whole

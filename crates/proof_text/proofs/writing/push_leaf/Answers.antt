@@ -20,4 +20,4 @@ returns c =
     ∙ ap (λ multipliers. (start ++ (9 ∷ scale)) ++ tabbed (flat_map multiplier_fields multipliers)) c.multipliers.ensures) in
     on_ok_weaker c.end_line.result
     (λ e. e ∙ (ap (λ before. before ++ 10 ∷ []) stood ∙ line_added c.args.text.now.items (codes "bound") scale fields))
-    c.end_line.ensures
+    c.end_line.ensures.whole

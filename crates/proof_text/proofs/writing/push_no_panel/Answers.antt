@@ -11,9 +11,9 @@ returns c =
     let text = c.args.text.now.items in
     let pool = c.args.pool.now in
     let lines = c.args.lines.now in
-    let first : c.push_line.new.text.items ≡ text ++ text_of (proof_line ∷ []) = c.in_ok-push_line.ensures in
+    let first : c.push_line.new.text.items ≡ text ++ text_of (proof_line ∷ []) = c.in_ok-push_line.ensures.whole in
     let second : c.push_pool.new.text.items ≡ (text ++ text_of (proof_line ∷ [])) ++ text_of (pool_lines pool) =
     c.in_ok-push_pool.ensures ∙ ap (λ before. before ++ text_of (pool_lines pool)) first in
     let third : c.push_line-2.new.text.items ≡ ((text ++ text_of (proof_line ∷ [])) ++ text_of (pool_lines pool)) ++ text_of (none_line ∷ []) =
-    c.in_ok-push_line-2.ensures ∙ ap (λ before. before ++ text_of (none_line ∷ [])) second in
+    c.in_ok-push_line-2.ensures.whole ∙ ap (λ before. before ++ text_of (none_line ∷ [])) second in
     on_ok_weaker c.push_tree.result (λ e. e ∙ (ap (λ before. before ++ text_of (tree_lines 0 lines)) third ∙ no_panel_text text pool lines)) c.push_tree.ensures

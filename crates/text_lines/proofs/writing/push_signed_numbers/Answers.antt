@@ -1,0 +1,10 @@
+use Rattle.std.proofs.Common.{map, take}
+use Rattle.std.specs.Fmt.{signed_decimal}
+use Rattle.line_definitions.specs.Lines.{tabbed}
+use Rattle.text_lines.proofs.KeptText.{kept_at_err}
+use Rattle.text_lines.proofs.writing.push_signed_numbers.Goals as goal
+
+pub returns-in_err-push_signed-clause-kept : goal.returns-in_err-push_signed-clause-kept
+returns-in_err-push_signed-clause-kept c =
+    kept_at_err c.args.text.now.items (tabbed (map signed_decimal (take c.loop-number.number-index c.args.numbers.now))) c.loop-number.text.items
+    c.push_signed.new.text.items c.from_residual.result c.loop-number.invariant c.in_err-push_signed.ensures.kept
