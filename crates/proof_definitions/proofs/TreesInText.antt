@@ -1,14 +1,19 @@
 -- Where the lines of a proof's trees stand in its text.
-use Rattle.std.proofs.Common.{◌≡◌, ℕ, zero, suc, ◌+◌, ◌-◌, ◌≤◌, ◌<◌, List, [], ◌∷◌, ◌++◌, get_or, length, map, take, drop, refl, sym, ap, ap₂, ◌∙◌, arith, length-append}
-use Rattle.std.proofs.lemmas.List.{append_assoc, length-map}
+use Rattle.std.proofs.Common.{◌≡◌, ℕ, zero, suc, ◌+◌, ◌-◌, ◌≤◌, ◌<◌, List, [], ◌∷◌, ◌++◌, get_or, length, map, take, drop, reverse, Some, refl, sym, ap, ◌∙◌, ◌⊎◌, arith, length-append}
+use Rattle.std.proofs.lemmas.List.{append_assoc, length-map, length-reverse}
+use Rattle.check_definitions.specs.Reasons.{Refusal, Refused}
+use Rattle.pool_definitions.specs.declared.Standing.{Standing}
 use Rattle.pool_definitions.specs.Certificate.{Answer}
 use Rattle.pool_definitions.specs.Pool.{Pool}
 use Rattle.bundle_definitions.specs.BundleText.{done_line, lines_before_done, pool_lines}
-use Rattle.addition_definitions.specs.ProofVerdict.{OfLottery, OfNoPanel, Proof, lines_before_tree}
+use Rattle.addition_definitions.specs.Leaves.{Problem, no_panel_problem, stage_problem, standings}
+use Rattle.addition_definitions.specs.ProofVerdict.{OfLottery, OfNoPanel, Proof, lines_before_tree, verdict}
 use Rattle.addition_definitions.specs.Refusals.{lines_before, lines_of_trees, tree_of}
-use Rattle.addition_definitions.specs.TreeLines.{TreeLine}
-use Rattle.proof_definitions.specs.LinesInText.{HasTree, lines_behind, proof_lines}
-use Rattle.proof_definitions.specs.ProofText.{bundle_lines, close_line, lines_before_close, node_line, none_line, proof_line, tree_line, tree_lines, trees_from}
+use Rattle.addition_definitions.specs.TreeLines.{TreeLine, fault, tree_fault}
+use Rattle.addition_definitions.proofs.Refused.{names_line}
+use Rattle.addition_definitions.proofs.StepByStep.{fault_within}
+use Rattle.proof_definitions.specs.LinesInText.{HasTree, NamesTextLine, lines_behind, proof_lines}
+use Rattle.proof_definitions.specs.ProofText.{IsProof, bundle_lines, close_line, lines_before_close, node_line, none_line, proof_line, tree_line, tree_lines, trees_from}
 
 -- behind some lines and more
 drop_behind : (xs ys : List (List ℕ)) (many : ℕ) → drop (length xs + many) (xs ++ ys) ≡ drop many ys
@@ -85,3 +90,37 @@ pub tree_lines_stand : (proof : Proof) (stage place : ℕ) → HasTree proof sta
     drop (lines_before proof stage + place) (proof_lines proof) ≡ map node_line (drop place (tree_of proof stage)) ++ lines_behind proof stage
 tree_lines_stand (OfLottery pool answer trees) stage place has m = of_stage pool answer trees stage place has.0 has.1 m
 tree_lines_stand (OfNoPanel pool lines) stage place has m = of_none pool lines place m
+
+-- ---- the line that a refusal names
+
+-- where a tree of the proof has its first fault in a line
+in_text : (proof : Proof) (refusal : Refusal) (problem : Problem) (all : List Standing) (line : ℕ) → HasTree proof refusal.stage → refusal.who ≡ line ∷ [] →
+    tree_fault problem all (lines_before proof refusal.stage + 1) (tree_of proof refusal.stage) ≡ fault line refusal.reason → NamesTextLine proof refusal
+in_text proof refusal problem all line has who first =
+    let before = lines_before proof refusal.stage in
+    let lines = tree_of proof refusal.stage in
+    let found = fault_within problem all (before + 1) (Some []) lines (record { line = line; reason = refusal.reason }) first in
+    let from : before + 1 ≤ line = found.from in
+    let to : line ≤ before + 1 + length lines = found.to in
+    let within : line - (before + 1) ≤ length lines = omega (arith, from, to) in
+    let same : line ≡ before + (line - (before + 1)) + 1 = omega (arith, from) in
+    record {
+      place = line - (before + 1);
+      within = within;
+      who = who ∙ ap (λ n. n ∷ []) same;
+      text = tree_lines_stand proof refusal.stage (line - (before + 1)) has within;
+    }
+
+pub line_is_named : (proof : Proof) (refusal : Refusal) → IsProof proof → verdict proof ≡ Refused refusal → (refusal.reason ≡ 11) ⊎ (refusal.reason ≡ 12) → NamesTextLine proof refusal
+line_is_named (OfLottery pool answer trees) refusal is refused reason =
+    let named = names_line (OfLottery pool answer trees) refusal is.one_each refused reason in
+    let number = named.number in
+    let long : length answer.stages ≡ length named.earlier + suc (length named.later) =
+        ap length named.stages ∙ length-append (reverse named.earlier) (named.stage ∷ named.later) ∙ ap (λ n. n + suc (length named.later)) (length-reverse named.earlier) in
+    let one_each = is.one_each in
+    let some : 1 ≤ refusal.stage = omega (arith, number) in
+    let few : refusal.stage ≤ length trees = omega (arith, number, long, one_each) in
+    in_text (OfLottery pool answer trees) refusal (stage_problem pool named.earlier named.stage) (standings pool) named.line (some, few) named.who named.first_fault
+line_is_named (OfNoPanel pool lines) refusal is refused reason =
+    let named = names_line (OfNoPanel pool lines) refusal tt refused reason in
+    in_text (OfNoPanel pool lines) refusal (no_panel_problem pool) (standings pool) named.line named.number named.who named.first_fault
