@@ -7,3 +7,4 @@ pub mod Verdicts
 pub mod Reaches
 pub mod NarrowSums
 pub mod StepByStep
+pub mod Refused

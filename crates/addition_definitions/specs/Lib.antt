@@ -7,4 +7,5 @@ pub mod LeafSums
 pub mod CapsHold
 pub mod ProofVerdict
 pub mod ProofSteps
+pub mod Refusals
 pub mod WorkedTrees

@@ -14,13 +14,14 @@ ghost use Rattle.pool_definitions.specs.Certificate.{Answer, Certifies, Stage, i
 ghost use Rattle.pool_definitions.specs.Lottery.{LeximinGreatest};
 ghost use Rattle.pool_definitions.specs.Pool.{IsPool, Pool, is_quota_panel, panels};
 ghost use Rattle.pool_definitions.specs.WorkedExamples.{after_dropout, family, four, stage};
-ghost use Rattle.check_definitions.specs.Reasons.{Valid};
+ghost use Rattle.check_definitions.specs.Reasons.{Refusal, Refused, Valid};
 ghost use Rattle.check_definitions.specs.WorkedChecks.{below_zero, one_stage, refused, two_women};
 ghost use Rattle.addition_definitions.specs.CapsHold.{CapsHold, EarlierCapsHold};
 ghost use Rattle.addition_definitions.specs.Constraints.{constraints};
 ghost use Rattle.addition_definitions.specs.LeafSums.{charges_and_rests, first_charges, first_multipliers, is_in_reach, is_problem_in_reach, is_stage_in_reach};
 ghost use Rattle.addition_definitions.specs.Leaves.{Leaf, Problem, charge, multiplied, no_panel, no_panel_problem, rest, stage_problem, standings};
-ghost use Rattle.addition_definitions.specs.ProofVerdict.{OfLottery, OfNoPanel, TreesShow, verdict};
+ghost use Rattle.addition_definitions.specs.ProofVerdict.{OfLottery, OfNoPanel, Proof, TreesShow, verdict};
+ghost use Rattle.addition_definitions.specs.Refusals.{HasTrees, NamesLine, RefusalMeans};
 ghost use Rattle.addition_definitions.specs.TreeRanges.{is_leaf};
 ghost use Rattle.addition_definitions.specs.ProofSteps.{BeginsWithLottery, GoesOnByStages};
 ghost use Rattle.addition_definitions.specs.Trees.{Tree, is_undecided, tree_shows};
@@ -84,6 +85,17 @@ pub fn valid_is_greatest()
 pub fn valid_no_panel()
     ensures where_shown { (pool : Pool) (lines : List TreeLine) → verdict (OfNoPanel pool lines) ≡ Valid ↔ AreOfTree (no_panel_problem pool) (standings pool) lines }
     ensures none { (pool : Pool) (lines : List TreeLine) → verdict (OfNoPanel pool lines) ≡ Valid → panels pool ≡ [] }
+{}
+
+/// A proof is refused for a reason below 11 only where its certificate doesn't hold.
+pub fn refused_is_not_certified()
+    ensures { (proof : Proof) (refusal : Refusal) → verdict proof ≡ Refused refusal → RefusalMeans proof refusal }
+{}
+
+/// Where a proof is refused for a line of a tree, the refusal names the tree's first fault, by the number that this line has in the text.
+pub fn refused_line_is_named()
+    ensures { (proof : Proof) (refusal : Refusal) → HasTrees proof → verdict proof ≡ Refused refusal → (refusal.reason ≡ 11) ⊎ (refusal.reason ≡ 12) →
+        NamesLine proof refusal }
 {}
 
 /// The constraints of a stage are within reach, where the earlier stages are, and so is the stage of a pool that is to have no quota panel.

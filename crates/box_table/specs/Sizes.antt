@@ -18,8 +18,10 @@ pub record SameSizes (old new : Sizes) : Type 0 where
   pub columns : new.columns ≡ old.columns
   pub limit : new.limit ≡ old.limit
 
--- only pivots were spent
+-- the budget is the same, and only pivots were spent of it
 pub record Spends (old new : Left) : Type 0 where
+  pub most_pivots : new.most_pivots ≡ old.most_pivots
+  pub most_nodes : new.most_nodes ≡ old.most_nodes
   pub pivots : new.pivots ≤ old.pivots
   pub nodes : new.nodes ≡ old.nodes
 

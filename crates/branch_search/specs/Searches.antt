@@ -28,11 +28,6 @@ IsFound spans most old new (Point point) = IsWithin spans point.items
 IsFound spans most old new Nothing = Unit {0}
 IsFound spans most old new Doubt = old.nodes ≡ new.nodes + (most + 1)
 
--- pivots and nodes are spent
-pub record SearchSpends (old new : Left) : Type 0 where
-  pub pivots : new.pivots ≤ old.pivots
-  pub nodes : new.nodes ≤ old.nodes
-
 -- a stop of a search: as of a run of the table; or no node is left; or the table was wrong
 abbrev pub SearchStops : Sizes → Left → Stop → Type 0
 SearchStops table left (Wide pass) = Unit {0}

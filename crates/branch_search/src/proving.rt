@@ -2,7 +2,8 @@
 
 ghost use Rattle.std.specs.Prelude.{◌≡◌, ◌<◌, IfErr, IfSome, OnOk, length};
 ghost use Rattle.box_table.specs.Sizes.{SameSizes};
-ghost use Rattle.branch_search.specs.Searches.{SearchSpends, SearchStops};
+ghost use Rattle.branch_search.specs.Searches.{SearchStops};
+ghost use Rattle.proof_limits.specs.Budgets.{SpendsOn};
 
 use crate::leaves::{leaf_of, rows_by_name};
 use crate::nodes::{Node, look};
@@ -30,7 +31,7 @@ pub fn prove_empty(
     requires weight_row { IfSome weight_row (λ row. row < table.old.rows) }
     ensures sizes { SameSizes table.old table.new }
     ensures looks { OnOk result (budget.new.nodes < budget.old.nodes) }
-    ensures spends { SearchSpends budget.old budget.new }
+    ensures spends { SpendsOn budget.old budget.new }
     ensures stops { IfErr result (SearchStops table.new budget.new) }
 {
     let order = rows_by_name(alloc, names, weight_row)?;

@@ -2,7 +2,8 @@
 
 ghost use Rattle.std.specs.Prelude.{◌≡◌, ◌<◌, IfOk, IfErr, OnOk, length};
 ghost use Rattle.box_table.specs.Sizes.{SameSizes};
-ghost use Rattle.branch_search.specs.Searches.{IsFound, SearchSpends, SearchStops};
+ghost use Rattle.branch_search.specs.Searches.{IsFound, SearchStops};
+ghost use Rattle.proof_limits.specs.Budgets.{SpendsOn};
 
 use crate::nodes::{Node, look};
 use crate::path::Path;
@@ -36,7 +37,7 @@ pub fn search(
     ensures found { IfOk result (IsFound columns.now most budget.old budget.new) }
     ensures looks { OnOk result (budget.new.nodes < budget.old.nodes) }
     ensures sizes { SameSizes table.old table.new }
-    ensures spends { SearchSpends budget.old budget.new }
+    ensures spends { SpendsOn budget.old budget.new }
     ensures stops { IfErr result (SearchStops table.new budget.new) }
 {
     let mut path = Path::new(alloc, columns)?;

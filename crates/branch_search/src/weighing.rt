@@ -2,7 +2,8 @@
 
 ghost use Rattle.std.specs.Prelude.{◌≡◌, ◌+◌, ◌<◌, ◌≤ℤ◌, pos, IfErr, IfOk, OnOk, length};
 ghost use Rattle.box_table.specs.Sizes.{SameSizes};
-ghost use Rattle.branch_search.specs.Searches.{IsFound, SearchSpends, SearchStops, rounded_up};
+ghost use Rattle.branch_search.specs.Searches.{IsFound, SearchStops, rounded_up};
+ghost use Rattle.proof_limits.specs.Budgets.{SpendsOn};
 ghost use Rattle.proof_limits.specs.Stops.{IsWideOrMemory};
 
 use crate::searching::{Found, search};
@@ -28,7 +29,7 @@ pub fn search_weighing(
     ensures found { IfOk result (IsFound columns.now most budget.old budget.new) }
     ensures looks { OnOk result (budget.new.nodes < budget.old.nodes) }
     ensures sizes { OnOk result (SameSizes table.old table.new) }
-    ensures spends { SearchSpends budget.old budget.new }
+    ensures spends { SpendsOn budget.old budget.new }
     ensures stops { IfErr result (SearchStops table.new budget.new) }
 {
     let mut rows = Vec::from_slice(alloc, rows)?;

@@ -2,6 +2,7 @@
 
 ghost use Rattle.std.specs.Prelude.{◌≡◌, ◌<◌, IfOk, IfSome, OnOk, length};
 ghost use Rattle.column_stages.specs.Shapes.{IsFinder};
+ghost use Rattle.proof_limits.specs.Budgets.{SpendsOn};
 
 use box_table::Table;
 use branch_search::{Found, search, search_weighing};
@@ -38,6 +39,7 @@ impl<'a> Finder<'a> {
     pub(crate) fn any(&mut self, budget: &mut Budget) -> Result<Option<Vec<Narrow>>, Stop>
         requires { IsFinder self.old.table.columns self.old }
         ensures finder { IsFinder self.old.table.columns self.new }
+        ensures spends { SpendsOn budget.old budget.new }
         ensures counts { IfOk result (λ found. IfSome found (λ counts. length counts.items ≡ self.old.table.columns)) }
     {
         let spans = self.program.spans();
@@ -63,6 +65,7 @@ impl<'a> Finder<'a> {
         requires weights { length weights.now ≡ self.old.table.columns }
         ensures finder { OnOk result (IsFinder self.old.table.columns self.new) }
         ensures counts { IfOk result (λ found. IfSome found (λ counts. length counts.items ≡ self.old.table.columns)) }
+        ensures spends { SpendsOn budget.old budget.new }
         ensures nodes { OnOk result (budget.new.nodes < budget.old.nodes) }
     {
         let span = Span::reaching(need, reach(self.program, weights)?);

@@ -1,6 +1,7 @@
 //! The program of the compositions that were found.
 
 ghost use Rattle.std.specs.Prelude.{◌≡◌, IfOk, OnOk, length};
+ghost use Rattle.box_table.specs.Sizes.{Spends};
 ghost use Rattle.column_stages.specs.Shapes.{IsMix};
 
 use box_table::{Dice, Table};
@@ -75,7 +76,7 @@ impl Mix {
     ) -> Result<bool, Stop>
         requires { IsMix (length boxes.now) self.old }
         ensures mix { IsMix (length boxes.now) self.new }
-        ensures nodes { budget.new.nodes ≡ budget.old.nodes }
+        ensures spends { Spends budget.old budget.new }
     {
         let mut columns = Vec::new(self.alloc);
         for number in 0..self.known.len() {

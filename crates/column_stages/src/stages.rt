@@ -2,6 +2,7 @@
 
 ghost use Rattle.std.specs.Prelude.{◌≡◌, ◌<◌, IfOk, OnOk, length};
 ghost use Rattle.column_stages.specs.Shapes.{IsFinder, IsMix};
+ghost use Rattle.proof_limits.specs.Budgets.{SpendsOn};
 
 use crate::finders::Finder;
 use crate::mixes::{Mix, weight_of};
@@ -21,13 +22,14 @@ pub enum Columned {
     Settled(Vec<KindStage>, Chances),
 }
 
-/// The stages of a pool over its compositions. Its contract says only that it is safe and ends, since what a run makes is verified before it is
-/// told.
+/// The stages of a pool over its compositions. Of these its contract says nothing, since what a run makes is verified before it is told.
 pub fn column_stages(
     alloc: Global,
     program: &Program,
     budget: &mut Budget,
-) -> Result<Columned, Stop> {
+) -> Result<Columned, Stop>
+    ensures { SpendsOn budget.old budget.new }
+{
     let mut finder = Finder::new(alloc, program)?;
     let Some(first) = finder.any(budget)? else {
         return Ok(Columned::Empty);
@@ -63,6 +65,7 @@ fn stage(
     requires finder { IsFinder (length program.now.firsts) finder.old }
     ensures mix { OnOk result (IsMix (length program.now.firsts) mix.new) }
     ensures finder { OnOk result (IsFinder (length program.now.firsts) finder.new) }
+    ensures spends { SpendsOn budget.old budget.new }
     ensures weights { IfOk result (λ found. length found.0.weights.items ≡ length program.now.firsts) }
 {
     let mut share = Share::ONE;
@@ -114,6 +117,7 @@ fn raised_cap(
     requires finder { IsFinder (length weights.now) finder.old }
     ensures mix { OnOk result (IsMix (length weights.now) mix.new) }
     ensures finder { OnOk result (IsFinder (length weights.now) finder.new) }
+    ensures spends { SpendsOn budget.old budget.new }
     ensures nodes { OnOk result (budget.new.nodes < budget.old.nodes) }
 {
     let mut cap = mix.most(weights)?;

@@ -2,6 +2,7 @@
 
 ghost use Rattle.std.specs.Prelude.{◌≡◌, length, IfOk, OnOk};
 ghost use Rattle.panel_peeling.specs.Shapes.{HasTable, IsRun};
+ghost use Rattle.proof_limits.specs.Budgets.{SpendsOn};
 
 use crate::peels::{Turn, peel};
 use crate::rests::Rest;
@@ -60,8 +61,8 @@ struct Run<'a> {
     best: Option<Rest>,
 }
 
-/// The lottery of the point that chances of columns give, over panels of a size that meet the rows. Its contract says only that it is safe and
-/// ends, since what a run makes is verified before it is told.
+/// The lottery of the point that chances of columns give, over panels of a size that meet the rows. Of it its contract says nothing, since what
+/// a run makes is verified before it is told.
 pub fn lottery_of(
     alloc: Global,
     program: &Program,
@@ -70,7 +71,9 @@ pub fn lottery_of(
     chances: &Chances,
     size: usize,
     budget: &mut Budget,
-) -> Result<Lottery, Stop> {
+) -> Result<Lottery, Stop>
+    ensures { SpendsOn budget.old budget.new }
+{
     let rest = rest_of(alloc, kinds, chances)?;
     if rest.parts.len() != program.columns() {
         return Err(Stop::Lost);
@@ -136,6 +139,7 @@ impl Run<'_> {
     fn answer(&mut self, budget: &mut Budget) -> Result<Lottery, Stop>
         requires run { IsRun self.old }
         requires table { HasTable self.old }
+        ensures { SpendsOn budget.old budget.new }
     {
         if self.peel(0, 0, budget)? {
             return self.found(&[], Narrow::ONE);
@@ -164,6 +168,7 @@ impl Run<'_> {
         requires table { HasTable self.old }
         ensures run { IsRun self.new }
         ensures table { HasTable self.new }
+        ensures spends { SpendsOn budget.old budget.new }
     {
         for turn in first..end {
             self.begin_turn(turn)?;
@@ -179,6 +184,7 @@ impl Run<'_> {
         requires table { HasTable self.old }
         ensures run { IsRun self.new }
         ensures table { HasTable self.new }
+        ensures spends { SpendsOn budget.old budget.new }
     {
         let turn = Turn { number, wildness };
         peel(
@@ -292,7 +298,8 @@ impl Run<'_> {
     fn tails(&mut self, is_last: bool, budget: &mut Budget) -> Result<Lottery, Stop>
         requires run { IsRun self.old }
         requires table { HasTable self.old }
-        ensures { IsRun self.new }
+        ensures run { IsRun self.new }
+        ensures spends { SpendsOn budget.old budget.new }
     {
         let width = if is_last {
             Narrow::GREATEST

@@ -2,6 +2,7 @@
 
 ghost use Rattle.std.specs.Prelude.{◌≡◌, length};
 ghost use Rattle.box_table.specs.Sizes.{SameSizes};
+ghost use Rattle.proof_limits.specs.Budgets.{SpendsOn};
 
 use crate::faces::Face;
 use crate::odds::log;
@@ -37,6 +38,7 @@ pub(crate) fn peel(
     requires columns { length rest.old.parts.items ≡ table.old.columns }
     requires rows { length rows.now ≡ table.old.rows }
     ensures sizes { SameSizes table.old table.new }
+    ensures spends { SpendsOn budget.old budget.new }
     ensures parts { length rest.new.parts.items ≡ length rest.old.parts.items }
 {
     let mut dice = Dice::new(turn.number.wrapping_mul(7919).wrapping_add(1));

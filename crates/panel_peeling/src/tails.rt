@@ -1,8 +1,9 @@
 //! The exact tail: a program of the panels that were seen makes up what peeling left, and its multipliers ask for further panels.
 
 ghost use Rattle.std.specs.Prelude.{◌≡◌, length, IfOk, OnOk};
-ghost use Rattle.box_table.specs.Sizes.{SameSizes};
+ghost use Rattle.box_table.specs.Sizes.{SameSizes, Spends};
 ghost use Rattle.panel_peeling.specs.Shapes.{IsMix};
+ghost use Rattle.proof_limits.specs.Budgets.{SpendsOn};
 
 use crate::faces::Face;
 use crate::peels::MOST_NODES;
@@ -54,7 +55,8 @@ pub(crate) fn tail_of(
 ) -> Result<Tail, Stop>
     requires columns { length rest.now.parts.items ≡ table.old.columns }
     requires rows { length rows.now ≡ table.old.rows }
-    ensures { OnOk result (SameSizes table.old table.new) }
+    ensures sizes { OnOk result (SameSizes table.old table.new) }
+    ensures spends { SpendsOn budget.old budget.new }
 {
     let face = Face::of(alloc, rest, rows)?;
     let mut mix = Mix::new(alloc, rest, &face, width)?;
@@ -124,7 +126,8 @@ fn beat(
     requires wishes { length wishes.now ≡ table.old.columns }
     requires columns { length face.now.columns.items ≡ table.old.columns }
     requires rows { length face.now.rows.items ≡ table.old.rows }
-    ensures { OnOk result (SameSizes table.old table.new) }
+    ensures sizes { OnOk result (SameSizes table.old table.new) }
+    ensures spends { SpendsOn budget.old budget.new }
 {
     let span = Span::reaching(need, reach_of(wishes)?);
     search_weighing(
@@ -188,7 +191,8 @@ impl Mix {
 
     fn has_point(&mut self, budget: &mut Budget) -> Result<bool, Stop>
         requires { IsMix self.old }
-        ensures { IsMix self.new }
+        ensures mix { IsMix self.new }
+        ensures spends { Spends budget.old budget.new }
     {
         self.table.run(&self.columns, &self.rows, budget)
     }

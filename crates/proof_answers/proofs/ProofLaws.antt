@@ -20,13 +20,13 @@ of_proof_once Means once bytes a b (AboutFault fault f e) (AboutFault other g h)
 pub verify_once : AnswersOnce VerifyMeans
 verify_once proof a b (IsValid pool its trees is v g e) (IsValid other theirs those was w h f) = e ∙ sym f
 verify_once proof a b (IsValid pool its trees is v g e) (IsValidNone other lines was w h f) = absurd (cc (is, was))
-verify_once proof a b (IsValid pool its trees is v g e) (IsRefused refusal w f) = absurd (cc (v, w))
+verify_once proof a b (IsValid pool its trees is v g e) (IsRefused refusal w m f) = absurd (cc (v, w))
 verify_once proof a b (IsValidNone pool lines is v n e) (IsValid other theirs those was w h f) = absurd (cc (is, was))
 verify_once proof a b (IsValidNone pool lines is v n e) (IsValidNone other those was w h f) = e ∙ sym f
-verify_once proof a b (IsValidNone pool lines is v n e) (IsRefused refusal w f) = absurd (cc (v, w))
-verify_once proof a b (IsRefused refusal v e) (IsValid pool its trees is w g f) = absurd (cc (v, w))
-verify_once proof a b (IsRefused refusal v e) (IsValidNone pool lines is w n f) = absurd (cc (v, w))
-verify_once proof a b (IsRefused r v e) (IsRefused q w f) =
+verify_once proof a b (IsValidNone pool lines is v n e) (IsRefused refusal w m f) = absurd (cc (v, w))
+verify_once proof a b (IsRefused refusal v n e) (IsValid pool its trees is w g f) = absurd (cc (v, w))
+verify_once proof a b (IsRefused refusal v m e) (IsValidNone pool lines is w n f) = absurd (cc (v, w))
+verify_once proof a b (IsRefused r v n e) (IsRefused q w m f) =
     let same : r ≡ q = cc (v, w) in
     e ∙ (ap (λ refusal. Prints printed.Refused (refused_line refusal)) same ∙ sym f)
 

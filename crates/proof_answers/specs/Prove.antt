@@ -3,6 +3,7 @@
 use Rattle.std.specs.Prelude.{◌≡◌, ℕ, Bool, true, false, List, [], ◌∷◌, take, codes, bytes_eq, Option, None, Some, Ok, Err, ⊤}
 use Rattle.std.specs.Fmt.{decimal, signed_decimal}
 use Rattle.addition_definitions.specs.ProofVerdict.{OfLottery, OfNoPanel, verdict}
+use Rattle.addition_definitions.specs.Refusals.{RefusalMeans}
 use Rattle.addition_definitions.specs.TreeLines.{TreeLine}
 use Rattle.bundle_answers.specs.Check.{IsGreatest, refused_line}
 use Rattle.bundle_answers.specs.OfBundle.{IsTextOf as IsBundleText}
@@ -18,6 +19,7 @@ use Rattle.pool_answers.specs.OfPool.{IsTextOf as IsPoolText}
 use Rattle.pool_definitions.specs.Certificate.{Answer}
 use Rattle.pool_definitions.specs.Pool.{Pool, panels}
 use Rattle.proof_definitions.specs.ProofText.{proof_spelling}
+use Rattle.proof_limits.specs.Budgets.{Left, SpendsOn, unspent}
 use Rattle.proof_limits.specs.declared.passes.Op.{Op}
 use Rattle.proof_limits.specs.declared.passes.Op.TheVariants.{Mul, Add, Sub, Div}
 use Rattle.proof_limits.specs.Operations.{Operation, Passes}
@@ -77,28 +79,37 @@ abbrev pub IsGiven : Option Answer → Answer → Type 0
 IsGiven None its = ⊤
 IsGiven (Some given) its = its ≡ given
 
--- the line that tells what is spent
-pub data IsSpentLine (pivots nodes : ℕ) (said : List ℕ) : Type 0 where
-  -- the pivots of the whole run, its nodes, or the tries to make a lottery
-  PivotsSpent : said ≡ spent_line (codes "pivots") pivots → IsSpentLine pivots nodes said
-  NodesSpent : said ≡ spent_line (codes "nodes") nodes → IsSpentLine pivots nodes said
-  LotterySpent : said ≡ spent_line (codes "lottery") lottery_tries → IsSpentLine pivots nodes said
+-- the line that tells what is spent, where this is left of the budget
+pub data IsSpentLine (left : Left) (said : List ℕ) : Type 0 where
+  -- all pivots of the run, all its nodes, or the tries to make a lottery
+  PivotsSpent : left.pivots ≡ 0 → said ≡ spent_line (codes "pivots") left.most_pivots → IsSpentLine left said
+  NodesSpent : left.nodes ≡ 0 → said ≡ spent_line (codes "nodes") left.most_nodes → IsSpentLine left said
+  LotterySpent : said ≡ spent_line (codes "lottery") lottery_tries → IsSpentLine left said
   -- nothing: a step of the run led to a state that exact arithmetic never leads to, or its proof was refused
-  StepLost : said ≡ spent_line (codes "lost") 0 → IsSpentLine pivots nodes said
+  StepLost : said ≡ spent_line (codes "lost") 0 → IsSpentLine left said
 
-pub data ProveMeans (pivots nodes : ℕ) (subject : Subject) (answer : Saying) : Type 0 where
+-- what is right to answer about a subject, where the run leaves this of its budget
+pub data ProveMeans (left : Left) (subject : Subject) (answer : Saying) : Type 0 where
   -- 0: the text of a proof that is valid, so no lottery over the pool's quota panels is above its lottery, which is the given one where one is given
   IsProved : (its : Answer) → IsGiven subject.given its → (trees : List (List TreeLine)) → verdict (OfLottery subject.pool its trees) ≡ Valid →
       IsGreatest (record { pool = subject.pool; answer = its }) → answer ≡ Prints printed.Done (proof_spelling (OfLottery subject.pool its trees)) →
-      ProveMeans pivots nodes subject answer
+      ProveMeans left subject answer
   -- 1: the text of a proof that there is no quota panel, which is valid, so there is none
   IsNone : (lines : List TreeLine) → verdict (OfNoPanel subject.pool lines) ≡ Valid → panels subject.pool ≡ [] →
-      answer ≡ Prints printed.NoPanel (proof_spelling (OfNoPanel subject.pool lines)) → ProveMeans pivots nodes subject answer
+      answer ≡ Prints printed.NoPanel (proof_spelling (OfNoPanel subject.pool lines)) → ProveMeans left subject answer
   -- 4: the exact result of an operation of the run is above 2^62 by absolute value
-  IsWide : (passed : Operation) → Passes passed → answer ≡ Stops cause.Wide (wide_line passed) → ProveMeans pivots nodes subject answer
+  IsWide : (passed : Operation) → Passes passed → answer ≡ Stops cause.Wide (wide_line passed) → ProveMeans left subject answer
   -- 5: nothing is left of what may be spent
-  IsSpent : (said : List ℕ) → IsSpentLine pivots nodes said → answer ≡ Stops cause.Spent said → ProveMeans pivots nodes subject answer
-  -- 11: the given lottery with its stages and with the trees that were found is refused as a proof
+  IsSpent : (said : List ℕ) → IsSpentLine left said → answer ≡ Stops cause.Spent said → ProveMeans left subject answer
+  -- 11: the given lottery with its stages and with the trees that were found is refused as a proof. Its certificate doesn't hold, unless the reason
+  -- is one of the trees
   IsRefused : (its : Answer) → subject.given ≡ Some its → (trees : List (List TreeLine)) → (refusal : Refusal) →
-      verdict (OfLottery subject.pool its trees) ≡ Refused refusal → answer ≡ Prints printed.Refused (refused_line refusal) →
-      ProveMeans pivots nodes subject answer
+      verdict (OfLottery subject.pool its trees) ≡ Refused refusal → RefusalMeans (OfLottery subject.pool its trees) refusal →
+      answer ≡ Prints printed.Refused (refused_line refusal) → ProveMeans left subject answer
+
+-- what is right to answer about a text by a run of at most so many pivots and nodes. It begins with a budget of these numbers, of which nothing is
+-- spent
+pub record ProveWithin (pivots nodes : ℕ) (bytes : List ℕ) (answer : Saying) : Type 0 where
+  pub left : Left
+  pub spends : SpendsOn (unspent pivots nodes) left
+  pub means : OfSubject (ProveMeans left) bytes answer

@@ -1,5 +1,5 @@
 pub mod NodeLines
 pub mod Spelled
 pub mod ReadAgain
-pub mod FirstTree
+pub mod TreesInText
 pub mod KindsRise

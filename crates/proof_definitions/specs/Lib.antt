@@ -1,3 +1,4 @@
 pub mod ProofText
+pub mod LinesInText
 pub mod ProofReading
 pub mod WorkedProofs

@@ -4,15 +4,16 @@
 //! The functions here have no body: their contracts are laws over the definitions, and worked examples.
 #![tactic(auto)]
 
-ghost use Rattle.std.specs.Prelude.{◌≡◌, ◌≢◌, ◌-◌, ◌^◌, ◌++◌, [], ◌∷◌, codes, drop, map, pos, negsuc, ℕ, List, IsTrue, Ok, Err, MatchResult};
+ghost use Rattle.std.specs.Prelude.{◌≡◌, ◌≢◌, ◌⊎◌, ◌≤◌, ◌+◌, ◌-◌, ◌^◌, ◌++◌, [], ◌∷◌, codes, drop, length, map, pos, negsuc, ℕ, List, IsTrue, Ok, Err, MatchResult};
+ghost use Rattle.check_definitions.specs.Reasons.{Refusal, Refused};
 ghost use Rattle.line_definitions.specs.Lines.{line_of, text_of};
-ghost use Rattle.pool_definitions.specs.Certificate.{Answer};
 ghost use Rattle.pool_definitions.specs.Lists.{is_increasing};
-ghost use Rattle.pool_definitions.specs.Pool.{Pool};
-ghost use Rattle.addition_definitions.specs.ProofVerdict.{OfLottery, OfNoPanel, Proof, lines_before_tree};
-ghost use Rattle.addition_definitions.specs.TreeLines.{OfLeaf, OfSplit, TreeLine};
+ghost use Rattle.addition_definitions.specs.ProofVerdict.{Proof, verdict};
+ghost use Rattle.addition_definitions.specs.Refusals.{lines_before, tree_of};
+ghost use Rattle.addition_definitions.specs.TreeLines.{OfLeaf, OfSplit};
 ghost use Rattle.addition_definitions.specs.WorkedTrees.{couple_lines, couple_proof, four_proof, four_trees, leaf, split_lines, times};
-ghost use Rattle.proof_definitions.specs.ProofText.{IsProof, close_line, lines_before_close, node_line, proof_spelling, trees_from};
+ghost use Rattle.proof_definitions.specs.LinesInText.{HasTree, NamesTextLine, lines_behind, proof_lines};
+ghost use Rattle.proof_definitions.specs.ProofText.{IsProof, close_line, lines_before_close, node_line, proof_spelling};
 ghost use Rattle.proof_definitions.specs.ProofReading.{NextTree, OfNode, Progress, TheClose, Unknown, line_in_tree, line_kinds, read_proof};
 ghost use Rattle.proof_definitions.specs.WorkedProofs.{faulty, one_tree, read_text, second_version, three_trees, whole, without_done, without_end, without_pool, without_size, without_tree};
 
@@ -38,13 +39,17 @@ pub fn kinds_rise()
     ensures { (progress : Progress) (line : List ℕ) → IsTrue (is_increasing (map (λ one. one.0) (line_kinds progress line))) }
 {}
 
-/// The lines of the first tree stand behind those that a proof counts before it.
-pub fn lines_before_first_tree()
-    ensures lottery { (pool : Pool) (answer : Answer) (lines : List TreeLine) (later : List (List TreeLine)) →
-        drop (lines_before_tree (OfLottery pool answer (lines ∷ later))) (lines_before_close (OfLottery pool answer (lines ∷ later)))
-        ≡ map node_line lines ++ trees_from 2 later }
-    ensures no_panel { (pool : Pool) (lines : List TreeLine) →
-        drop (lines_before_tree (OfNoPanel pool lines)) (lines_before_close (OfNoPanel pool lines)) ≡ map node_line lines }
+/// In the text, the lines of each tree stand behind those that are counted before them, one after the other, and the next tree or the last
+/// line behind them. So the line that has a number behind these is the tree's, or, where the tree has no more, the next line of the text.
+pub fn tree_lines_in_text()
+    ensures { (proof : Proof) (stage place : ℕ) → HasTree proof stage → place ≤ length (tree_of proof stage) →
+        drop (lines_before proof stage + place) (proof_lines proof) ≡ map node_line (drop place (tree_of proof stage)) ++ lines_behind proof stage }
+{}
+
+/// Where a proof is refused for a line of a tree, the number that the refusal names is that of the line in the text.
+pub fn refused_line_in_text()
+    ensures { (proof : Proof) (refusal : Refusal) → IsProof proof → verdict proof ≡ Refused refusal → (refusal.reason ≡ 11) ⊎ (refusal.reason ≡ 12) →
+        NamesTextLine proof refusal }
 {}
 
 /// The trees of two women and two men, and of a woman and a man of one household, as they are spelled.

@@ -1,7 +1,25 @@
--- What is left to a run.
-use Rattle.std.specs.Prelude.{ℕ}
+-- The budget of a run: how much it may spend, and what of that is left.
+use Rattle.std.specs.Prelude.{◌≡◌, ℕ, ◌≤◌}
 
--- how many pivots and how many nodes are left
+-- how many pivots and how many nodes are left, and the most of the whole run
 pub record Left : Type 0 where
   pub pivots : ℕ
   pub nodes : ℕ
+  pub most_pivots : ℕ
+  pub most_nodes : ℕ
+
+-- a budget of which nothing is spent
+abbrev pub unspent : ℕ → ℕ → Left
+unspent pivots nodes = record { pivots = pivots; nodes = nodes; most_pivots = pivots; most_nodes = nodes }
+
+-- no more is left than the most
+pub record IsWithinMost (left : Left) : Type 0 where
+  pub pivots : left.pivots ≤ left.most_pivots
+  pub nodes : left.nodes ≤ left.most_nodes
+
+-- the budget is the same, and nothing that was spent of it was given back
+pub record SpendsOn (old new : Left) : Type 0 where
+  pub most_pivots : new.most_pivots ≡ old.most_pivots
+  pub most_nodes : new.most_nodes ≡ old.most_nodes
+  pub pivots : new.pivots ≤ old.pivots
+  pub nodes : new.nodes ≤ old.nodes

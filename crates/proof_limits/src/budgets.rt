@@ -1,31 +1,41 @@
-//! What a run may still spend.
+//! What a run may spend, and what of it is left.
 
 ghost use Rattle.std.specs.Prelude.{◌≡◌, ◌-◌, nat_lt, if◌then◌else◌, Ok, Err};
+ghost use Rattle.proof_limits.specs.Budgets.{unspent};
 
 use crate::stops::{Limit, Stop};
 use std::marker::Model;
 
-/// The pivots and the nodes of search trees that are left to a run.
+/// The pivots and the nodes of search trees that are left to a run, and the most of the whole run.
 #[derive(Debug, Drop)]
 pub struct Budget {
     pivots: u64,
     nodes: u64,
+    most_pivots: u64,
+    most_nodes: u64,
 }
 
 impl Model for Budget {
-    ghost use Rattle.proof_limits.specs.Budgets.{Left};
+    ghost use Rattle.proof_limits.specs.Budgets.{IsWithinMost, Left};
 
     ghost Value = { Left };
 
-    ghost view = { λ b. record { pivots = b.pivots; nodes = b.nodes } };
+    ghost view = { λ b. record { pivots = b.pivots; nodes = b.nodes; most_pivots = b.most_pivots; most_nodes = b.most_nodes } };
+
+    ghost invariant = { λ b. IsWithinMost (record { pivots = b.pivots; nodes = b.nodes; most_pivots = b.most_pivots; most_nodes = b.most_nodes }) };
 }
 
 impl Budget {
-    /// So many pivots and so many nodes.
+    /// A budget of which nothing is spent.
     pub fn new(pivots: u64, nodes: u64) -> Budget
-        ensures { result ≡ record { pivots = pivots; nodes = nodes } }
+        ensures { result ≡ unspent pivots nodes }
     {
-        Budget { pivots, nodes }
+        Budget {
+            pivots,
+            nodes,
+            most_pivots: pivots,
+            most_nodes: nodes,
+        }
     }
 
     /// How many pivots are left.
@@ -40,6 +50,20 @@ impl Budget {
         ensures { result ≡ self.now.nodes }
     {
         self.nodes
+    }
+
+    /// The most pivots of the whole run.
+    pub fn most_pivots(&self) -> u64
+        ensures { result ≡ self.now.most_pivots }
+    {
+        self.most_pivots
+    }
+
+    /// The most nodes of the whole run.
+    pub fn most_nodes(&self) -> u64
+        ensures { result ≡ self.now.most_nodes }
+    {
+        self.most_nodes
     }
 
     /// Takes a pivot. It is refused exactly where none is left.

@@ -1,6 +1,7 @@
 //! The search for quota panels, and for those above the caps of stages.
 
 ghost use Rattle.std.specs.Prelude.{◌≡◌, ◌<◌, ◌^◌, IfOk, OnOk, length};
+ghost use Rattle.proof_limits.specs.Budgets.{SpendsOn};
 ghost use Rattle.proof_run.specs.Shapes.{IsCapSearch};
 
 use box_table::Table;
@@ -16,7 +17,9 @@ pub(crate) fn tree_of_none(
     alloc: Global,
     program: &Program,
     budget: &mut Budget,
-) -> Result<TreeLines, Stop> {
+) -> Result<TreeLines, Stop>
+    ensures { SpendsOn budget.old budget.new }
+{
     let mut table = table_of(alloc, program)?;
     table.aim(&[], 1)?;
     let rows = row_spans(alloc, program, Narrow::ONE)?;
@@ -85,7 +88,8 @@ impl<'a> CapSearch<'a> {
         budget: &mut Budget,
     ) -> Result<Option<TreeLines>, Stop>
         requires { IsCapSearch self.old }
-        ensures { OnOk result (IsCapSearch self.new) }
+        ensures search { OnOk result (IsCapSearch self.new) }
+        ensures spends { SpendsOn budget.old budget.new }
     {
         let earlier = self.stages.len();
         let mut numbers = numbers_after(self.alloc, self.program, earlier)?;

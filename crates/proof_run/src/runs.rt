@@ -1,6 +1,7 @@
 //! The whole run.
 
 ghost use Rattle.std.specs.Prelude.{IfErr, IfOk};
+ghost use Rattle.proof_limits.specs.Budgets.{SpendsOn};
 ghost use Rattle.proof_run.specs.Made.{IsOfBundle, IsOfPool, StopsSo};
 
 use crate::answers::answer_of;
@@ -26,6 +27,7 @@ pub(crate) struct Programs {
 /// A proof of a lottery over a pool's quota panels, or that there is none, by a run under a budget.
 pub fn make_proof(alloc: Global, pool: &Pool, budget: &mut Budget) -> Result<Proof, Stop>
     ensures about { IfOk result (IsOfPool pool.now) }
+    ensures spends { SpendsOn budget.old budget.new }
     ensures stops { IfErr result (StopsSo budget.new) }
 {
     match made(alloc, pool, budget) {
@@ -38,6 +40,7 @@ pub fn make_proof(alloc: Global, pool: &Pool, budget: &mut Budget) -> Result<Pro
 /// quota panel is, the trees have no lines.
 pub fn prove_bundle(alloc: Global, bundle: &Bundle, budget: &mut Budget) -> Result<Proof, Stop>
     ensures about { IfOk result (IsOfBundle bundle.now) }
+    ensures spends { SpendsOn budget.old budget.new }
     ensures stops { IfErr result (StopsSo budget.new) }
 {
     match searched(alloc, bundle, budget) {
@@ -59,7 +62,8 @@ fn told(stop: Stop, budget: &Budget) -> Stop
 }
 
 fn made(alloc: Global, pool: &Pool, budget: &mut Budget) -> Result<Proof, Stop>
-    ensures { IfOk result (IsOfPool pool.now) }
+    ensures about { IfOk result (IsOfPool pool.now) }
+    ensures spends { SpendsOn budget.old budget.new }
 {
     let programs = Programs {
         kinds: Program::by_kind(alloc, pool)?,
@@ -87,7 +91,8 @@ fn by_columns(
     programs: &Programs,
     budget: &mut Budget,
 ) -> Result<Proof, Stop>
-    ensures { IfOk result (IsOfPool pool.now) }
+    ensures about { IfOk result (IsOfPool pool.now) }
+    ensures spends { SpendsOn budget.old budget.new }
 {
     match column_stages(alloc, &programs.kinds, budget)? {
         Columned::Empty => of_no_panel(alloc, pool, programs, budget),
@@ -111,7 +116,9 @@ fn point_lottery(
     rows: &PanelRows,
     chances: &Chances,
     budget: &mut Budget,
-) -> Result<Lottery, Stop> {
+) -> Result<Lottery, Stop>
+    ensures { SpendsOn budget.old budget.new }
+{
     let (single, kinds) = (&programs.single, &programs.kinds);
     lottery_of(alloc, single, rows, kinds, chances, pool.size(), budget)
 }
@@ -125,7 +132,8 @@ fn of_lottery(
     parts: &[Part],
     budget: &mut Budget,
 ) -> Result<Proof, Stop>
-    ensures { IfOk result (IsOfPool pool.now) }
+    ensures about { IfOk result (IsOfPool pool.now) }
+    ensures spends { SpendsOn budget.old budget.new }
 {
     let answer = answer_of(alloc, &programs.kinds, &stages, parts)?;
     let trees = stage_trees(alloc, programs, quotas_of(pool), stages, budget)?;
@@ -140,14 +148,16 @@ fn of_no_panel(
     programs: &Programs,
     budget: &mut Budget,
 ) -> Result<Proof, Stop>
-    ensures { IfOk result (IsOfPool pool.now) }
+    ensures about { IfOk result (IsOfPool pool.now) }
+    ensures spends { SpendsOn budget.old budget.new }
 {
     let lines = tree_of_none(alloc, &programs.single, budget)?;
     Proof::of_no_panel(pool.copy()?, lines).ok_or(Stop::Lost)
 }
 
 fn searched(alloc: Global, bundle: &Bundle, budget: &mut Budget) -> Result<Proof, Stop>
-    ensures { IfOk result (IsOfBundle bundle.now) }
+    ensures about { IfOk result (IsOfBundle bundle.now) }
+    ensures spends { SpendsOn budget.old budget.new }
 {
     let program = Program::by_volunteer(alloc, bundle.pool())?;
     let search = CapSearch::new(alloc, &program, quotas_of(bundle.pool()))?;

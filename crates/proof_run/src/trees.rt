@@ -1,5 +1,6 @@
 //! The trees of a proof.
 
+ghost use Rattle.proof_limits.specs.Budgets.{SpendsOn};
 ghost use Rattle.proof_run.specs.Shapes.{IsCapSearch};
 
 use crate::caps::CapSearch;
@@ -18,7 +19,9 @@ pub(crate) fn stage_trees(
     quotas: usize,
     stages: Vec<KindStage>,
     budget: &mut Budget,
-) -> Result<Vec<TreeLines>, Stop> {
+) -> Result<Vec<TreeLines>, Stop>
+    ensures { SpendsOn budget.old budget.new }
+{
     let mut search = CapSearch::new(alloc, &programs.single, quotas)?;
     let mut trees = Vec::new(alloc);
     for stage in stages {
@@ -50,6 +53,7 @@ pub(crate) fn searched_trees(
     budget: &mut Budget,
 ) -> Result<Vec<TreeLines>, Stop>
     requires { IsCapSearch search }
+    ensures { SpendsOn budget.old budget.new }
 {
     let mut trees = Vec::new(alloc);
     let mut is_shown = true;

@@ -7,3 +7,4 @@ mod proving;
 mod subjects;
 
 pub use proving::{ProofRun, call_prove};
+pub use subjects::answer_within;

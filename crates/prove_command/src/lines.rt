@@ -5,24 +5,25 @@ ghost use Rattle.command_shell.specs.declared.status.Cause.TheVariants as cause;
 ghost use Rattle.command_shell.specs.Answers.{Stops, saying};
 ghost use Rattle.proof_answers.specs.Prove.{ProveMeans, Subject, operation as words_of_operation, spent_line as words_of_spent, wide_line as words_of_wide};
 ghost use Rattle.proof_limits.specs.Operations.{Passes};
+ghost use Rattle.proof_run.specs.Made.{StopsSo};
 
-use crate::proving::ProofRun;
 use command_shell::{Answer, Cause};
-use proof_limits::{Limit, Op, Pass, Stop};
+use proof_limits::{Budget, Limit, Op, Pass, Stop};
 use std::alloc::{AllocError, Global};
 use text_lines::{end_line, push_field, push_number, push_signed};
 
 /// How many turns of tries there are to make the lottery of a point out of panels.
 const LOTTERY_TRIES: u64 = 168;
 
-/// What is answered where a run under limits stops.
-pub(crate) fn stopped(alloc: Global, run: ProofRun, stop: &Stop) -> Result<Answer, AllocError>
-    ensures { IfOk result (λ answer. (subject : Subject) → ProveMeans run.pivots run.nodes subject (saying answer)) }
+/// What is answered where a run stops that leaves this of its budget.
+pub(crate) fn stopped(alloc: Global, left: &Budget, stop: &Stop) -> Result<Answer, AllocError>
+    requires { StopsSo left.now stop.now }
+    ensures { IfOk result (λ answer. (subject : Subject) → ProveMeans left.now subject (saying answer)) }
 {
     match stop {
         Stop::Wide(pass) => wide(alloc, pass),
-        Stop::Spent(Limit::Pivots) => spent(alloc, b"pivots", run.pivots),
-        Stop::Spent(Limit::Nodes) => spent(alloc, b"nodes", run.nodes),
+        Stop::Spent(Limit::Pivots) => spent(alloc, b"pivots", left.most_pivots()),
+        Stop::Spent(Limit::Nodes) => spent(alloc, b"nodes", left.most_nodes()),
         Stop::Spent(Limit::Lottery) => spent(alloc, b"lottery", LOTTERY_TRIES),
         Stop::Lost => lost(alloc),
         Stop::Limited => lost(alloc),

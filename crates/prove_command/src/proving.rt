@@ -1,18 +1,19 @@
 //! What `prove` answers about a pool and about a bundle.
 
-ghost use Rattle.std.specs.Prelude.{◌≡◌, ℕ, IfOk};
+ghost use Rattle.std.specs.Prelude.{◌≡◌, IfOk};
 ghost use Rattle.bundle_definitions.specs.BundleText.{Bundle as SeenBundle};
 ghost use Rattle.command_shell.specs.Answers.{number_of, saying};
 ghost use Rattle.command_shell.specs.Calls.{TellsByStatus};
 ghost use Rattle.command_shell.specs.Told.{object, told};
-ghost use Rattle.proof_answers.specs.Prove.{OfSubject, ProveMeans, of_bundle, of_pool};
+ghost use Rattle.proof_answers.specs.Prove.{ProveMeans, ProveWithin, of_bundle, of_pool};
 ghost use Rattle.pool_definitions.specs.Pool.{Pool as SeenPool};
+ghost use Rattle.proof_limits.specs.Budgets.{Left, SpendsOn};
 ghost use Rattle.proof_model.specs.Parts.{seen};
 ghost use Rattle.proof_run.specs.Made.{IsOfBundle, IsOfPool};
 ghost use Rattle.prove_command.specs.Proved.{TellsOfBundle, TellsOfPool, ending, proof_said};
 
 use crate::lines::{lost, stopped};
-use crate::subjects::answer_of_text;
+use crate::subjects::answer_within;
 use bundle_commands::refused_line;
 use bundle_text::Bundle;
 use cert_verify::{Verdict, verify};
@@ -35,9 +36,9 @@ pub struct ProofRun {
 }
 
 impl TextMeaning for ProofRun {
-    ghost use Rattle.proof_answers.specs.Prove.{OfSubject, ProveMeans};
+    ghost use Rattle.proof_answers.specs.Prove.{ProveWithin};
 
-    ghost means = { λ command. OfSubject (ProveMeans command.pivots command.nodes) };
+    ghost means = { λ command. ProveWithin command.pivots command.nodes };
 }
 
 /// One call of `prove`.
@@ -48,7 +49,7 @@ pub fn call_prove<S: Source, O: Sink, E: Sink>(
     out: &mut O,
     errs: &mut E,
 ) -> Status
-    ensures { TellsByStatus (OfSubject (ProveMeans run.pivots run.nodes)) (told (number_of result)
+    ensures { TellsByStatus (ProveWithin run.pivots run.nodes) (told (number_of result)
         (object (S.left source.old) (S.left source.new) (S.faults source.old) (S.faults source.new))
         (object (O.written out.old) (O.written out.new) (O.faults out.old) (O.faults out.new))
         (object (E.written errs.old) (E.written errs.new) (E.faults errs.old) (E.faults errs.new))) }
@@ -57,43 +58,55 @@ pub fn call_prove<S: Source, O: Sink, E: Sink>(
         alloc,
         &run,
         |bytes: &[u8]| -> Result<Answer, AllocError>
-            ensures { IfOk result (λ answer. OfSubject (ProveMeans run.pivots run.nodes) bytes.now (saying answer)) }
-        { answer_of_text(alloc, run, bytes) },
+            ensures { IfOk result (λ answer. ProveWithin run.pivots run.nodes bytes.now (saying answer)) }
+        { answer_of_run(alloc, run, bytes) },
         source,
         out,
         errs,
     )
 }
 
-/// What `prove` answers about a pool.
-pub(crate) fn about_pool(alloc: Global, run: ProofRun, pool: &Pool) -> Result<Answer, AllocError>
-    ensures { IfOk result (λ answer. ProveMeans run.pivots run.nodes (of_pool pool.now) (saying answer)) }
+/// What `prove` answers about a text.
+fn answer_of_run(alloc: Global, run: ProofRun, bytes: &[u8]) -> Result<Answer, AllocError>
+    ensures { IfOk result (λ answer. ProveWithin run.pivots run.nodes bytes.now (saying answer)) }
 {
     let mut budget = Budget::new(run.pivots, run.nodes);
-    match make_proof(alloc, pool, &mut budget) {
+    answer_within(alloc, &mut budget, bytes)
+}
+
+/// What `prove` answers about a pool, by a run under a budget.
+pub(crate) fn about_pool(
+    alloc: Global,
+    budget: &mut Budget,
+    pool: &Pool,
+) -> Result<Answer, AllocError>
+    ensures means { IfOk result (λ answer. ProveMeans budget.new (of_pool pool.now) (saying answer)) }
+    ensures spends { SpendsOn budget.old budget.new }
+{
+    match make_proof(alloc, pool, budget) {
         Ok(proof) => told_of_pool(alloc, &proof),
-        Err(stop) => stopped(alloc, run, &stop),
+        Err(stop) => stopped(alloc, budget, &stop),
     }
 }
 
-/// What `prove` answers about a bundle.
+/// What `prove` answers about a bundle, by a run under a budget.
 pub(crate) fn about_bundle(
     alloc: Global,
-    run: ProofRun,
+    budget: &mut Budget,
     bundle: &Bundle,
 ) -> Result<Answer, AllocError>
-    ensures { IfOk result (λ answer. ProveMeans run.pivots run.nodes (of_bundle bundle.now) (saying answer)) }
+    ensures means { IfOk result (λ answer. ProveMeans budget.new (of_bundle bundle.now) (saying answer)) }
+    ensures spends { SpendsOn budget.old budget.new }
 {
-    let mut budget = Budget::new(run.pivots, run.nodes);
-    match prove_bundle(alloc, bundle, &mut budget) {
+    match prove_bundle(alloc, bundle, budget) {
         Ok(proof) => told_of_bundle(alloc, &proof),
-        Err(stop) => stopped(alloc, run, &stop),
+        Err(stop) => stopped(alloc, budget, &stop),
     }
 }
 
 /// What is told of a proof of a pool, which is verified first.
 fn told_of_pool(alloc: Global, proof: &Proof) -> Result<Answer, AllocError>
-    ensures { IfOk result (λ answer. (pivots nodes : ℕ) (pool : SeenPool) → IsOfPool pool proof.now → ProveMeans pivots nodes (of_pool pool) (saying answer)) }
+    ensures { IfOk result (λ answer. (left : Left) (pool : SeenPool) → IsOfPool pool proof.now → ProveMeans left (of_pool pool) (saying answer)) }
 {
     let verdict = verify(alloc, proof)?;
     proof_or_lost(alloc, proof, &verdict)
@@ -101,7 +114,7 @@ fn told_of_pool(alloc: Global, proof: &Proof) -> Result<Answer, AllocError>
 
 /// What is told of a proof of a bundle, which is verified first.
 fn told_of_bundle(alloc: Global, proof: &Proof) -> Result<Answer, AllocError>
-    ensures { IfOk result (λ answer. (pivots nodes : ℕ) (bundle : SeenBundle) → IsOfBundle bundle proof.now → ProveMeans pivots nodes (of_bundle bundle) (saying answer)) }
+    ensures { IfOk result (λ answer. (left : Left) (bundle : SeenBundle) → IsOfBundle bundle proof.now → ProveMeans left (of_bundle bundle) (saying answer)) }
 {
     let verdict = verify(alloc, proof)?;
     proof_or_refusal(alloc, proof, &verdict)

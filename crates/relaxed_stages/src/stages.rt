@@ -1,7 +1,8 @@
 //! Stage after stage of a pool, by the relaxation of its quotas.
 
 ghost use Rattle.std.specs.Prelude.{◌≡◌, ◌<◌, ◌≤◌, ◌^◌, length, IfOk, IfSome};
-ghost use Rattle.box_table.specs.Sizes.{SameSizes};
+ghost use Rattle.box_table.specs.Sizes.{SameSizes, Spends};
+ghost use Rattle.proof_limits.specs.Budgets.{SpendsOn};
 
 use crate::chances::Chances;
 use crate::levels::level_of;
@@ -35,13 +36,15 @@ pub enum Relaxed {
     Settled(Vec<KindStage>, Chances, bool),
 }
 
-/// The stages of a pool by the relaxation of its quotas. Its contract says only that it is safe and ends, since what a run makes is verified
-/// before it is told.
+/// The stages of a pool by the relaxation of its quotas. Of these its contract says nothing, since what a run makes is verified before it is
+/// told.
 pub fn relaxed_stages(
     alloc: Global,
     program: &Program,
     budget: &mut Budget,
-) -> Result<Relaxed, Stop> {
+) -> Result<Relaxed, Stop>
+    ensures { SpendsOn budget.old budget.new }
+{
     let mut table = table_of(alloc, program)?;
     table.aim(&[], 1)?;
     let rows = row_spans(alloc, program, Narrow::ONE)?;
@@ -98,6 +101,7 @@ fn stage(
     requires columns { table.old.columns ≡ length program.now.firsts }
     requires few { earlier < 2 ^ 63 }
     ensures sizes { SameSizes table.old table.new }
+    ensures spends { SpendsOn budget.old budget.new }
     ensures one_each { IfOk result (λ found. length found.stage.weights.items ≡ length program.now.firsts) }
 {
     if let Some(weights) = gone_weights(alloc, program, chances)? {
@@ -142,7 +146,7 @@ fn has_point(
     requires rows { table.old.rows ≡ length program.now.rows }
     requires columns { table.old.columns ≡ length program.now.firsts }
     ensures sizes { SameSizes table.old table.new }
-    ensures nodes { budget.new.nodes ≡ budget.old.nodes }
+    ensures spends { Spends budget.old budget.new }
 {
     let multiple = chances.common_with(share)?;
     let columns = chances.boxes(alloc, program, share, multiple, false)?;

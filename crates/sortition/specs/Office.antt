@@ -13,7 +13,7 @@ use Rattle.pool_answers.specs.Make.{MakeMeans}
 use Rattle.pool_answers.specs.Panel.{PanelIsRight}
 use Rattle.proof_answers.specs.ItsBundle.{BundleMeans}
 use Rattle.proof_answers.specs.OfProof.{OfProof}
-use Rattle.proof_answers.specs.Prove.{OfSubject, ProveMeans}
+use Rattle.proof_answers.specs.Prove.{ProveWithin}
 use Rattle.proof_answers.specs.Verify.{VerifyMeans}
 
 -- words that are not of the forms, or ask for help
@@ -39,7 +39,7 @@ AnswersRightly (Some Order.Seal) told = CallIsRight (OfBundle SealMeans) told
 AnswersRightly (Some (Order.Draw seal digits)) told = CallIsRight (OfBundle (DrawMeans seal digits)) told
 AnswersRightly (Some (Order.Check nodes)) told = CallIsRight (OfBundle (CheckMeans nodes)) told
 -- the run that makes a proof is no definition, so which of 0, 1, 4 and 5 comes is not said
-AnswersRightly (Some (Order.Prove pivots nodes)) told = TellsByStatus (OfSubject (ProveMeans pivots nodes)) told
+AnswersRightly (Some (Order.Prove pivots nodes)) told = TellsByStatus (ProveWithin pivots nodes) told
 AnswersRightly (Some Order.Verify) told = CallIsRight (OfProof VerifyMeans) told
 AnswersRightly (Some Order.Bundle) told = CallIsRight (OfProof BundleMeans) told
 

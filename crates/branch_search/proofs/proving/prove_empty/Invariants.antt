@@ -1,12 +1,12 @@
 use Rattle.std.proofs.Common.{◌≡◌, length}
 use Rattle.box_table.specs.Sizes.{SameSizes}
-use Rattle.branch_search.specs.Searches.{SearchSpends}
+use Rattle.proof_limits.specs.Budgets.{SpendsOn}
 use Rattle.branch_search.proofs.proving.prove_empty.Given as goal
 
 abbrev pub invariant-nodes : goal.invariant-nodes
 invariant-nodes l = record {
   sizes : SameSizes l.fn.table l.table;
-  spends : SearchSpends l.fn.budget l.budget;
+  spends : SpendsOn l.fn.budget l.budget;
   path : l.path ≡ length l.columns;
 }
 

@@ -1,12 +1,14 @@
 use Rattle.std.proofs.Common.{◌≡◌, length}
 use Rattle.std.specs.Prelude.{IfSome}
 use Rattle.column_stages.specs.Shapes.{IsFinder, IsMix}
+use Rattle.proof_limits.specs.Budgets.{SpendsOn}
 use Rattle.column_stages.proofs.stages.stage.Given as goal
 
 abbrev pub invariant-loop-last : goal.invariant-loop-last
 invariant-loop-last l = record {
   mix : IsMix (length l.program.firsts) l.mix;
   finder : IsFinder (length l.program.firsts) l.finder;
+  spends : SpendsOn l.fn.budget l.budget;
   last : IfSome l.last (λ last. length last.0.items ≡ length l.program.firsts);
 }
 

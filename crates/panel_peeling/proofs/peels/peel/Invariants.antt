@@ -1,10 +1,12 @@
 use Rattle.std.proofs.Common.{◌≡◌, length}
 use Rattle.box_table.specs.Sizes.{SameSizes}
+use Rattle.proof_limits.specs.Budgets.{SpendsOn}
 use Rattle.panel_peeling.proofs.peels.peel.Given as goal
 
 abbrev pub invariant-panels : goal.invariant-panels
 invariant-panels l = record {
   sizes : SameSizes l.fn.table l.table;
+  spends : SpendsOn l.fn.budget l.budget;
   parts : length l.rest.parts.items ≡ length l.fn.rest.parts.items;
 }
 

@@ -7,5 +7,5 @@ pub returns : goal.returns
 returns c =
     let said = c.in_ok-verdict.ensures in
     IfOk-weaker c.proof_or_refusal.result _ _
-    (λ answer tells. λ pivots nodes bundle is. bundle_told pivots nodes (saying answer) bundle c.args.proof.now c.in_ok-verdict.verdict is said.answer said.greatest tells)
+    (λ answer tells. λ left bundle is. bundle_told left (saying answer) bundle c.args.proof.now c.in_ok-verdict.verdict is said.answer said.greatest tells)
     c.proof_or_refusal.ensures

@@ -7,5 +7,5 @@ pub returns : goal.returns
 returns c =
     let said = c.in_ok-verdict.ensures in
     IfOk-weaker c.proof_or_lost.result _ _
-    (λ answer tells. λ pivots nodes pool is. pool_told pivots nodes (saying answer) pool c.args.proof.now c.in_ok-verdict.verdict is said.answer said.greatest said.none tells)
+    (λ answer tells. λ left pool is. pool_told left (saying answer) pool c.args.proof.now c.in_ok-verdict.verdict is said.answer said.greatest said.none tells)
     c.proof_or_lost.ensures
