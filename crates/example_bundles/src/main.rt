@@ -1,5 +1,5 @@
-//! Compares the examples with what `lottery` prints: for each pool in `data/` the bundle that stands beside it, or that no quota panel
-//! exists. Below stand the shell and the command.
+//! Compares bundles with what `lottery` prints: for each bundle in `data/`, that of the pool whose text it holds. Below stand the shell
+//! and the command.
 #![tactic(auto)]
 
 use outside::{MemSink, MemSource, NoWatch};
@@ -9,29 +9,30 @@ use std::alloc::Global;
 use std::thread::Threads;
 use std::{fs, io};
 
-/// The pools that have a bundle beside them.
-const WITH_BUNDLE: &[&str] = &["districts", "dropout", "family", "small"];
-
-/// The pools that have no quota panel.
-const WITHOUT_PANEL: &[&str] = &["no_panel"];
+/// The bundles, each of the pool of its name in `examples/`.
+const NAMES: &[&str] = &["districts", "dropout", "family", "small"];
 
 /// How many bytes `out` may take.
 const ROOM: usize = 1_000_000;
 
 fn main(rt: HostRuntime) -> io::Result<()> {
     let alloc = rt.alloc();
-    for name in WITH_BUNDLE {
-        let pool = fs::read(&rt, format!(in alloc; "{name}.pool")?)?;
-        let bundle = fs::read(&rt, format!(in alloc; "{name}.bundle")?)?;
-        let is_same = printed(&rt, alloc, &pool)? == bundle;
-        println!(rt; "{name}\t{is_same}")?;
-    }
-    for name in WITHOUT_PANEL {
-        let pool = fs::read(&rt, format!(in alloc; "{name}.pool")?)?;
-        let is_same = printed(&rt, alloc, &pool)?.as_slice() == b"no panel\n".as_slice();
+    for name in NAMES {
+        let bundle = fs::read_to_string(&rt, format!(in alloc; "{name}.bundle")?)?;
+        let pool = format!(in alloc; "{}\n", pool_of(&bundle))?;
+        let is_same = printed(&rt, alloc, pool.as_bytes())?.as_slice() == bundle.as_bytes();
         println!(rt; "{name}\t{is_same}")?;
     }
     Ok(())
+}
+
+/// The text of the pool in that of a bundle, without its last byte: what stands between the first line and the one that begins with
+/// `total`. Of another text nothing.
+fn pool_of(bundle: &str) -> &str {
+    bundle
+        .split_once('\n')
+        .and_then(|(_, rest)| rest.split_once("\ntotal\t"))
+        .map_or("", |(pool, _)| pool)
 }
 
 /// What `lottery` prints of a pool's text, under the limits that it has without options.
