@@ -17,6 +17,7 @@ was written from that page alone, stands on nothing of `sortition`, and isn't pr
 """
 import os
 import sys
+from functools import partial
 
 MOST_BYTES = 16_777_216        # of a text
 MOST_WEIGHT = 10 ** 38         # of a panel, and the greatest total
@@ -92,19 +93,12 @@ def is_utf8(line):
         return False
 
 
-class Value:
-    """A value's bounds, and the numbers of the volunteers who have it."""
-
-    def __init__(self, least, most):
-        self.least, self.most, self.members = least, most, set()
-
-
 class Pool:
-    """A pool, to which its lines are added. `refuse` is that of the lines."""
+    """A pool, to which its lines are added, each by a function. `refuse` is that of the lines."""
 
     def __init__(self, size, version, refuse):
         self.size, self.version, self.refuse = size, version, refuse
-        self.categories = {}       # by name: its values by name
+        self.categories = {}       # by name: its values by name, each as (numbers of those who have it, least, most)
         self.numbers = {}          # by id: the volunteer's number
         self.standings = []        # of each volunteer: 'open', 'seated' or 'gone'
         self.homes = {}            # by name: the numbers of a household's members
@@ -124,7 +118,7 @@ class Pool:
         least, most = number_of(least, 0, 999), number_of(most, 0, 999)
         self.refuse(5, least is None or most is None or most < least)
         self.refuse(10, not is_name(name) or len(values) == 50)
-        values[name] = Value(least, most)
+        values[name] = (set(), least, most)
 
     def volunteer(self, name, *values):
         self.refuse(1, self.homes or self.standing_from > 0)
@@ -134,7 +128,7 @@ class Pool:
         self.refuse(8, name in self.numbers)
         self.refuse(10, not is_name(name) or len(self.numbers) == 400)
         for value, category in given:
-            category[value].members.add(len(self.numbers))
+            category[value][0].add(len(self.numbers))
         self.numbers[name] = len(self.numbers)
         self.standings.append('open')
 
@@ -146,26 +140,22 @@ class Pool:
         self.homes.setdefault(home, set()).add(number)
         self.home_from = number + 1
 
-    def stand(self, name, standing):
+    def standing(self, word, name):
         self.refuse(1, self.version == b'2' and not self.homes)
         number = self.numbers.get(name, -1)
         self.refuse(9, number < self.standing_from)
-        self.standings[number] = standing
+        self.standings[number] = word
         self.standing_from = number + 1
-
-    def seated(self, name):
-        self.stand(name, 'seated')
-
-    def gone(self, name):
-        self.stand(name, 'gone')
 
     def end(self):
         self.refuse(1, self.version == b'2' and not self.homes)
 
-    def bounded(self):
-        """The values, and the households of two members or more, as (members, least, greatest)."""
-        values = [(value.members, value.least, value.most) for values in self.categories.values() for value in values.values()]
-        return values, [(home, 0, 1) for home in sorted(self.homes.values(), key=min) if len(home) > 1]
+    def all_values(self):
+        return [value for values in self.categories.values() for value in values.values()]
+
+    def shared_homes(self):
+        """The households of two members or more, as (members, least, most)."""
+        return [(home, 0, 1) for home in sorted(self.homes.values(), key=min) if len(home) > 1]
 
 
 def read_pool(lines, version):
@@ -175,7 +165,7 @@ def read_pool(lines, version):
     lines.refuse(2, size is None)
     pool = Pool(size, version, lines.refuse)
     forms = {(b'category', 1): pool.category, (b'value', 3): pool.value, (b'household', 2): pool.household,
-             (b'seated', 1): pool.seated, (b'gone', 1): pool.gone, (b'end', 0): pool.end}
+             (b'seated', 1): partial(pool.standing, 'seated'), (b'gone', 1): partial(pool.standing, 'gone'), (b'end', 0): pool.end}
     while True:
         line = lines.take(12)
         word, *fields = line.split(b'\t')
@@ -300,20 +290,19 @@ def check_tree(stage, constraints, cap, weights, standings, tree):
 
 
 def constraints_of(pool):
-    """The constraints before those of the earlier stages, and those behind, as (pairs of volunteer and coefficient, least, greatest)."""
-    values, homes = pool.bounded()
-    before = [(range(len(pool.numbers)), pool.size, pool.size), *values]
-    return [[([(i, 1) for i in members], least, most) for members, least, most in part] for part in (before, homes)]
+    """The constraints before those of the earlier stages, and those behind, as (pairs of volunteer and coefficient, least, most)."""
+    before = [(range(len(pool.numbers)), pool.size, pool.size), *pool.all_values()]
+    return [[([(i, 1) for i in members], least, most) for members, least, most in part] for part in (before, pool.shared_homes())]
 
 
 def check_panels(pool, total, panels):
     """Refuses what is no lottery over the pool's quota panels."""
-    values, homes = pool.bounded()
+    bounded = pool.all_values() + pool.shared_homes()
     for members, _ in panels:
         panel = set(members)
         if (len(panel) != pool.size
                 or any(standing != 'open' and (standing == 'seated') != (i in panel) for i, standing in enumerate(pool.standings))
-                or not all(least <= len(having & panel) <= most for having, least, most in values + homes)):
+                or not all(least <= len(having & panel) <= most for having, least, most in bounded)):
             raise Refusal(0, 1, members)
     seen = set()
     for members, _ in panels:
