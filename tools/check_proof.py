@@ -1,279 +1,437 @@
 #!/usr/bin/env python3
-"""Checks a proof that a lottery is leximin greatest, or that a pool has no quota panel, by additions and comparisons of whole numbers.
+"""Checks proofs that a lottery is leximin greatest, or that a pool has no quota panel, by sums of whole numbers.
 
-    check_proof.py FILE..
+    check_proof.py [FILE ..]     without a file it reads standard input
 
-prints for each file 'valid', 'valid none' (the pool has no quota panel), 'refused' with the stage, the reason and what shows it, or
-'input' with the first line that is not of the format. It stands on nothing of the program, searches nothing and divides nothing. What it
-checks, and why that suffices, is said in docs/PROOFS.md. It doesn't judge names and ids, nor how many there are. Reasons: 1 a listed panel is no quota panel; 2 a panel is listed twice; 3 the
-weights don't sum to the total; 4 somebody unsettled has a weight below 0; 5 nobody unsettled has one above 0; 6 those whom the stage
-settles don't have one count; 7 somebody unsettled has a lower count; 9 a listed panel doesn't weigh the cap; 10 somebody is unsettled at
-the end; 11 a line is not the next one of its tree; 12 the multipliers don't show the cap; 13 a stage reaches too far. The eighth reason,
-that a quota panel passes the cap, is what the trees rule out.
+It prints, as fields parted by TABs,
+
+    valid                             status 0: the lottery is leximin greatest
+    valid, none                       status 0: the pool has no quota panel
+    refused, stage, reason, ..        status 11: the proof doesn't hold, and who or which line shows it
+    input, line, kind                 status 3, on standard error: the text is no proof, and its first faulty line
+    read fault, why                   status 7, on standard error: the file can't be read
+
+Of several files each line begins with the file's name, and the status is the greatest of theirs. Wrong words have status 2, and a fault of
+writing has 8. docs/PROOFS.md says what a proof is, how it is checked, why that suffices, and what each reason and kind means. This program
+was written from that page alone, stands on nothing of `sortition`, and isn't proved.
 """
+import os
 import sys
+from functools import partial
 
-LIMIT = 1 << 56                # the farthest that a factor, a scale and a stage may reach
-MOST_TOTAL = 10 ** 38
-
-
-class Refused(Exception):
-    """A stage, a reason, and what shows it."""
-
-
-class Faulty(Exception):
-    """A line that is not of the format."""
+MOST_BYTES = 16_777_216        # of a text
+MOST_WEIGHT = 10 ** 38         # of a panel, and the greatest total
+FAR = 2 ** 127 - 1             # how far the numbers of a stage may reach in a text
+LIMIT = 2 ** 56                # the greatest scale and multiplier, and how far a stage may reach that is shown
+LAST_CONSTRAINT = 1800
+MOST_TREES = 400
 
 
-def number(field, least, most, line):
-    """A number in its one spelling: digits without a leading zero, and '-' before those of a negative one."""
-    digits = field[1:] if field[:1] == '-' else field
-    if not (digits.isascii() and digits.isdigit()) or (len(digits) > 1 and digits[0] == '0') or field == '-0' or len(digits) > 40:
-        raise Faulty(line)
-    if not least <= int(field) <= most:
-        raise Faulty(line)
-    return int(field)
+class Fault(Exception):
+    """The text is no proof: the number of its first faulty line, and the lowest kind of fault in it."""
+
+
+class Refusal(Exception):
+    """The proof is refused: the stage, the reason, and the numbers that show it."""
+
+
+# ---- the text
 
 
 class Lines:
-    """The lines of a text, each as its fields."""
+    """The lines of a text, which are taken one after another. `number` is that of the line that was taken last."""
 
     def __init__(self, text):
-        self.lines, self.at = text.split('\n'), 0
-        if self.lines.pop() != '':
-            raise Faulty(len(self.lines) + 1)
+        *self.lines, self.behind = text.split(b'\n')
+        self.number = 0
 
-    def word(self):
-        return self.lines[self.at].split('\t')[0] if self.at < len(self.lines) else None
+    def take(self, missing):
+        """The next line; `missing` is the kind of fault if there is none."""
+        if self.number == len(self.lines):
+            raise Fault(self.number + 1, missing)
+        self.number += 1
+        return self.lines[self.number - 1]
 
-    def take(self, word=None, fields=None):
-        self.at += 1
-        if self.at > len(self.lines):
-            raise Faulty(self.at)
-        line = self.lines[self.at - 1].split('\t')
-        if (word is not None and line[0] != word) or (fields is not None and len(line) != fields):
-            raise Faulty(self.at)
-        return line
+    def refuse(self, kind, applies):
+        """Ends the reading if a kind of fault applies to the line that was taken last. Of one line, lower kinds are tried first."""
+        if applies:
+            raise Fault(self.number, kind)
+
+    def end(self, missing):
+        """Nothing follows the line that was taken last."""
+        if self.number < len(self.lines) or self.behind:
+            raise Fault(self.number + 1, missing)
+
+
+def number_of(field, least, most):
+    """The number from `least` to `most` that a field spells, or None."""
+    digits = field[1:] if field.startswith(b'-') else field
+    if not digits.isdigit() or len(digits) > 39 or str(int(field)).encode() != field:
+        return None
+    return int(field) if least <= int(field) <= most else None
+
+
+def numbers_of(fields, least, most):
+    """The numbers that fields spell, or None if one doesn't."""
+    numbers = [number_of(field, least, most) for field in fields]
+    return None if None in numbers else numbers
+
+
+def rise(numbers):
+    return all(first < second for first, second in zip(numbers, numbers[1:]))
+
+
+def is_name(name):
+    return 1 <= len(name) <= 200 and all(byte >= 32 and byte != 127 for byte in name)
+
+
+def is_utf8(line):
+    try:
+        line.decode('utf-8')
+        return True
+    except UnicodeDecodeError:
+        return False
 
 
 class Pool:
-    """Each volunteer's standing ('open', 'seated' or 'gone'), and the constraints of a quota panel as (members, least, most)."""
+    """A pool, to which its lines are added, each by a function. `refuse` is that of the lines."""
 
-    def __init__(self, lines):
-        self.version = lines.take('pool', 2)[1]
-        if self.version not in ('1', '2'):
-            raise Faulty(lines.at)
-        self.size = number(lines.take('size', 2)[1], 1, 200, lines.at)
-        categories, self.values = [], []
-        while lines.word() == 'category':
-            lines.take(fields=2)
-            categories.append({})
-            while lines.word() == 'value':
-                _, name, least, most = lines.take(fields=4)
-                least, most = number(least, 0, 999, lines.at), number(most, 0, 999, lines.at)
-                if name in categories[-1] or most < least:
-                    raise Faulty(lines.at)
-                categories[-1][name] = (set(), least, most)
-                self.values.append(categories[-1][name])
-        numbers = {}
-        while lines.word() == 'volunteer':
-            _, name, *values = lines.take()
-            if name in numbers or len(values) != len(categories):
-                raise Faulty(lines.at)
-            for category, value in zip(categories, values):
-                if value not in category:
-                    raise Faulty(lines.at)
-                category[value][0].add(len(numbers))
-            numbers[name] = len(numbers)
-        homes, last = {}, -1
-        while lines.word() == 'household':
-            _, name, home = lines.take(fields=3)
-            if self.version == '1' or numbers.get(name, -1) <= last:
-                raise Faulty(lines.at)
-            last = numbers[name]
-            homes.setdefault(home, set()).add(last)
-        if self.version == '2' and not homes:
-            raise Faulty(lines.at + 1)
-        self.standings, last = ['open'] * len(numbers), -1
-        while lines.word() in ('seated', 'gone'):
-            word, name = lines.take(fields=2)
-            if numbers.get(name, -1) <= last:
-                raise Faulty(lines.at)
-            last = numbers[name]
-            self.standings[last] = word
-        lines.take('end', 1)
-        everybody = set(range(len(numbers)))
-        self.before = [(everybody, self.size, self.size)] + self.values
-        self.homes = [(home, 0, 1) for home in sorted(homes.values(), key=min) if len(home) > 1]
+    def __init__(self, size, version, refuse):
+        self.size, self.version, self.refuse = size, version, refuse
+        self.categories = {}       # by name: its values by name, each as (numbers of those who have it, least, most)
+        self.numbers = {}          # by id: the volunteer's number
+        self.standings = []        # of each volunteer: 'open', 'seated' or 'gone'
+        self.homes = {}            # by name: the numbers of a household's members
+        self.home_from = 0         # the least number that the next household line may have
+        self.standing_from = 0     # and the next line `seated` or `gone`
 
-    def count(self):
-        return len(self.standings)
+    def category(self, name):
+        self.refuse(1, self.numbers)
+        self.refuse(3, name in self.categories)
+        self.refuse(10, not is_name(name) or len(self.categories) == 20)
+        self.categories[name] = {}
 
-    def is_quota_panel(self, panel):
-        return (all(standing == 'open' or (standing == 'seated') == (i in panel) for i, standing in enumerate(self.standings))
-                and all(least <= len(members & panel) <= most for members, least, most in self.before + self.homes))
+    def value(self, name, least, most):
+        self.refuse(1, not self.categories or self.numbers)
+        values = list(self.categories.values())[-1]
+        self.refuse(4, name in values)
+        least, most = number_of(least, 0, 999), number_of(most, 0, 999)
+        self.refuse(5, least is None or most is None or most < least)
+        self.refuse(10, not is_name(name) or len(values) == 50)
+        values[name] = (set(), least, most)
 
+    def volunteer(self, name, *values):
+        self.refuse(1, self.homes or self.standing_from > 0)
+        given = list(zip(values, self.categories.values()))
+        self.refuse(6, any(value not in category for value, category in given))
+        self.refuse(7, len(values) != len(self.categories))
+        self.refuse(8, name in self.numbers)
+        self.refuse(10, not is_name(name) or len(self.numbers) == 400)
+        for value, category in given:
+            category[value][0].add(len(self.numbers))
+        self.numbers[name] = len(self.numbers)
+        self.standings.append('open')
 
-def read_panels(lines, pool):
-    panels = []
-    while lines.word() == 'panel':
-        _, weight, *members = lines.take()
-        members = [number(i, 0, pool.count() - 1, lines.at) for i in members]
-        if not members or any(j <= i for i, j in zip(members, members[1:])):
-            raise Faulty(lines.at)
-        panels.append((members, number(weight, 1, MOST_TOTAL, lines.at)))
-    if not panels:
-        raise Faulty(lines.at + 1)
-    return panels
+    def household(self, name, home):
+        self.refuse(1, self.version == b'1' or self.standing_from > 0)
+        number = self.numbers.get(name, -1)
+        self.refuse(9, number < self.home_from)
+        self.refuse(10, not is_name(home))
+        self.homes.setdefault(home, set()).add(number)
+        self.home_from = number + 1
+
+    def standing(self, word, name):
+        self.refuse(1, self.version == b'2' and not self.homes)
+        number = self.numbers.get(name, -1)
+        self.refuse(9, number < self.standing_from)
+        self.standings[number] = word
+        self.standing_from = number + 1
+
+    def end(self):
+        self.refuse(1, self.version == b'2' and not self.homes)
+
+    def all_values(self):
+        return [value for values in self.categories.values() for value in values.values()]
+
+    def shared_homes(self):
+        """The households of two members or more, as (members, least, most)."""
+        return [(home, 0, 1) for home in sorted(self.homes.values(), key=min) if len(home) > 1]
 
 
-def read_stages(lines, pool):
-    stages, far = [], (1 << 127) - 1
-    while lines.word() == 'stage':
-        _, cap, *weights = lines.take()
-        cap, weights = number(cap, -far, far, lines.at), [number(w, -far, far, lines.at) for w in weights]
-        if len(weights) != pool.count() or abs(cap) + sum(map(abs, weights)) > far:
-            raise Faulty(lines.at)
-        stages.append((cap, weights))
-    if not stages:
-        raise Faulty(lines.at + 1)
-    return stages
+def read_pool(lines, version):
+    """A pool, from its second line up to `end`."""
+    word, *fields = lines.take(12).split(b'\t')
+    size = number_of(fields[0], 1, 200) if word == b'size' and len(fields) == 1 else None
+    lines.refuse(2, size is None)
+    pool = Pool(size, version, lines.refuse)
+    forms = {(b'category', 1): pool.category, (b'value', 3): pool.value, (b'household', 2): pool.household,
+             (b'seated', 1): partial(pool.standing, 'seated'), (b'gone', 1): partial(pool.standing, 'gone'), (b'end', 0): pool.end}
+    while True:
+        line = lines.take(12)
+        word, *fields = line.split(b'\t')
+        add = pool.volunteer if word == b'volunteer' and fields else forms.get((word, len(fields)))
+        lines.refuse(1, add is None)
+        add(*fields)
+        lines.refuse(11, not is_utf8(line))
+        if word == b'end':
+            return pool
 
 
-def read_tree(lines, stage, pool):
-    """The lines of a tree with their numbers: ('split', i) or ('bound', scale, multipliers)."""
-    if number(lines.take('tree', 2)[1], 0, 400, lines.at) != stage:
-        raise Faulty(lines.at)
+def panel_of(fields, volunteers):
+    """A panel's members and weight, or None."""
+    weight = number_of(fields[0], 1, MOST_WEIGHT) if fields else None
+    members = numbers_of(fields[1:], 0, volunteers - 1)
+    return (members, weight) if weight and members and rise(members) else None
+
+
+def stage_of(fields, volunteers):
+    """A stage's cap and weights, or None."""
+    numbers = numbers_of(fields, -FAR, FAR)
+    if numbers is None or len(numbers) != 1 + volunteers or sum(map(abs, numbers)) > FAR:
+        return None
+    return numbers[0], numbers[1:]
+
+
+def read_lottery(lines, volunteers):
+    """The total, the panels and the stages of a bundle, up to `done`."""
+    word, *fields = lines.take(17).split(b'\t')
+    total = number_of(fields[0], 1, MOST_WEIGHT) if word == b'total' and len(fields) == 1 else None
+    lines.refuse(14, total is None)
+    panels, stages = [], []
+    while True:
+        word, *fields = lines.take(17).split(b'\t')
+        if word == b'panel' and not stages:
+            panels.append(panel_of(fields, volunteers))
+            lines.refuse(15, panels[-1] is None)
+        elif word == b'stage' and panels:
+            stages.append(stage_of(fields, volunteers))
+            lines.refuse(16, stages[-1] is None)
+        else:
+            lines.refuse(16 if stages else 15, word != b'done' or fields or not stages)
+            return total, panels, stages
+
+
+def node_of(line, volunteers):
+    """What a line of a tree says: ('split', volunteer) or ('bound', scale, constraints with their multipliers), or None."""
+    word, *fields = line.split(b'\t')
+    if word == b'split' and len(fields) == 1:
+        volunteer = number_of(fields[0], 0, volunteers - 1)
+        return None if volunteer is None else ('split', volunteer)
+    if word == b'bound' and len(fields) % 2 == 1:
+        scale = number_of(fields[0], 0, LIMIT)
+        constraints, multipliers = numbers_of(fields[1::2], 0, LAST_CONSTRAINT), numbers_of(fields[2::2], -LIMIT, LIMIT)
+        if None not in (scale, constraints, multipliers) and rise(constraints) and 0 not in multipliers:
+            return 'bound', scale, list(zip(constraints, multipliers))
+    return None
+
+
+def read_tree(lines, behind, volunteers):
+    """The nodes of a tree with the numbers of their lines, up to the line that has to follow; last the number of that line, and None."""
     tree = []
-    while lines.word() in ('split', 'bound'):
-        word, *fields = lines.take()
-        if word == 'split':
-            if len(fields) != 1:
-                raise Faulty(lines.at)
-            tree.append((lines.at, 'split', number(fields[0], 0, pool.count() - 1, lines.at), None))
-            continue
-        if len(fields) % 2 != 1:
-            raise Faulty(lines.at)
-        rows = [number(f, 0, 1800, lines.at) for f in fields[1::2]]
-        factors = [number(f, -LIMIT, LIMIT, lines.at) for f in fields[2::2]]
-        if 0 in factors or any(s <= r for r, s in zip(rows, rows[1:])):
-            raise Faulty(lines.at)
-        tree.append((lines.at, 'bound', number(fields[0], 0, LIMIT, lines.at), list(zip(rows, factors))))
-    return tree, lines.at + 1
+    while True:
+        line = lines.take(23)
+        node = None if line == behind else node_of(line, volunteers)
+        lines.refuse(22, line != behind and node is None)
+        tree.append((lines.number, node))
+        if line == behind:
+            return tree
+
+
+def read_trees(lines, first, last, volunteers):
+    """The trees from the number `first` to `last`, and the end of the text."""
+    lines.refuse(22, lines.take(23) != b'tree\t%d' % first)
+    trees = []
+    for number in range(first, last + 1):
+        behind = b'close' if number == last else b'tree\t%d' % (number + 1) if number < MOST_TREES else None
+        trees.append(read_tree(lines, behind, volunteers))
+    lines.end(23)
+    return trees
+
+
+# ---- the check
 
 
 def leaf_shows(constraints, cap, weights, standings, scale, multipliers):
-    """Do the multiplied constraints and the rest show that no panel weighs more than the cap?"""
-    rest, charges = [scale * w for w in weights], 0
-    for row, factor in multipliers:
-        if row >= len(constraints):
+    """Is it shown by the multiplied constraints and the rests that no panel weighs more than the cap?"""
+    rests, charges = [scale * weight for weight in weights], 0
+    for constraint, multiplier in multipliers:
+        if constraint >= len(constraints):
             return False
-        coefficients, least, most = constraints[row]
-        charges += factor * (most if factor > 0 else least)
-        for i, coefficient in coefficients.items():
-            rest[i] -= factor * coefficient
-    for standing, r in zip(standings, rest):
-        charges += r if standing == 'seated' else max(r, 0) if standing == 'open' else 0
+        coefficients, least, most = constraints[constraint]
+        charges += multiplier * (most if multiplier > 0 else least)
+        for volunteer, coefficient in coefficients:
+            rests[volunteer] -= multiplier * coefficient
+    for standing, rest in zip(standings, rests):
+        if standing == 'seated' or (standing == 'open' and rest > 0):
+            charges += rest
     return charges < scale * (cap + 1)
 
 
-def check_tree(pool, earlier, stage, cap, weights, tree, behind):
-    """Refuses the first line that is not the next one of a tree, or whose multipliers don't show the cap."""
-    constraints = [(dict.fromkeys(members, 1), least, most) for members, least, most in pool.before]
-    constraints += [(dict(enumerate(w)), c, c) for c, w in earlier]
-    constraints += [(dict.fromkeys(members, 1), least, most) for members, least, most in pool.homes]
-    standings, path, ended = list(pool.standings), [], False
-    for line, word, first, multipliers in tree:
-        if ended or (word == 'split' and standings[first] != 'open'):
-            raise Refused(stage, 11, [line])
-        if word == 'split':
-            standings[first] = 'gone'
-            path.append(first)
-            continue
-        if not leaf_shows(constraints, cap, weights, standings, first, multipliers):
-            raise Refused(stage, 12, [line])
-        while path and standings[path[-1]] == 'seated':
-            standings[path.pop()] = 'open'
-        if path:
-            standings[path[-1]] = 'seated'
+def check_tree(stage, constraints, cap, weights, standings, tree):
+    """Refuses the first line that isn't the next one of a tree, or that doesn't show the cap."""
+    standings, path, complete = list(standings), [], False
+    for line, node in tree:
+        if node is None:
+            if not complete:
+                raise Refusal(stage, 11, [line])
+        elif complete or (node[0] == 'split' and standings[node[1]] != 'open'):
+            raise Refusal(stage, 11, [line])
+        elif node[0] == 'split':
+            standings[node[1]] = 'gone'
+            path.append(node[1])
         else:
-            ended = True
-    if not ended:
-        raise Refused(stage, 11, [behind])
+            if not leaf_shows(constraints, cap, weights, standings, *node[1:]):
+                raise Refusal(stage, 12, [line])
+            while path and standings[path[-1]] == 'seated':
+                standings[path.pop()] = 'open'
+            complete = not path
+            if path:
+                standings[path[-1]] = 'seated'
 
 
-def check_lottery(pool, total, panels, stages, trees):
+def constraints_of(pool):
+    """The constraints before those of the earlier stages, and those behind, as (pairs of volunteer and coefficient, least, most)."""
+    before = [(range(len(pool.numbers)), pool.size, pool.size), *pool.all_values()]
+    return [[([(i, 1) for i in members], least, most) for members, least, most in part] for part in (before, pool.shared_homes())]
+
+
+def check_panels(pool, total, panels):
+    """Refuses what is no lottery over the pool's quota panels."""
+    bounded = pool.all_values() + pool.shared_homes()
     for members, _ in panels:
-        if not pool.is_quota_panel(set(members)):
-            raise Refused(0, 1, members)
+        panel = set(members)
+        if (len(panel) != pool.size
+                or any(standing != 'open' and (standing == 'seated') != (i in panel) for i, standing in enumerate(pool.standings))
+                or not all(least <= len(having & panel) <= most for having, least, most in bounded)):
+            raise Refusal(0, 1, members)
     seen = set()
     for members, _ in panels:
         if tuple(members) in seen:
-            raise Refused(0, 2, members)
+            raise Refusal(0, 2, members)
         seen.add(tuple(members))
     if sum(weight for _, weight in panels) != total:
-        raise Refused(0, 3, [])
-    counts = [0] * pool.count()
+        raise Refusal(0, 3, [])
+
+
+def check_settled(stage, weights, counts, unsettled):
+    """Refuses a stage by its weights and by the counts of the unsettled."""
+    for i in unsettled:
+        if weights[i] < 0:
+            raise Refusal(stage, 4, [i])
+    settling = [i for i in unsettled if weights[i] > 0]
+    if not settling:
+        raise Refusal(stage, 5, [])
+    common = counts[settling[0]]
+    for i in settling:
+        if counts[i] != common:
+            raise Refusal(stage, 6, [i])
+    for i in unsettled:
+        if counts[i] < common:
+            raise Refusal(stage, 7, [i])
+
+
+def check_lottery(pool, total, panels, stages, trees):
+    check_panels(pool, total, panels)
+    counts = [0] * len(pool.numbers)
     for members, weight in panels:
         for i in members:
             counts[i] += weight
-    unsettled = list(range(pool.count()))
-    for s, ((cap, weights), (tree, behind)) in enumerate(zip(stages, trees), 1):
-        settling = [i for i in unsettled if weights[i] > 0]
-        common = counts[settling[0]] if settling else 0
-        for reason, shown in ((4, [i for i in unsettled if weights[i] < 0][:1]), (5, [] if settling else [None]),
-                              (6, [i for i in settling if counts[i] != common][:1]), (7, [i for i in unsettled if counts[i] < common][:1])):
-            if shown:
-                raise Refused(s, reason, [i for i in shown if i is not None])
+    unsettled = range(len(pool.numbers))
+    before, homes = constraints_of(pool)
+    for stage, ((cap, weights), tree) in enumerate(zip(stages, trees), 1):
+        check_settled(stage, weights, counts, unsettled)
         if abs(cap) + sum(map(abs, weights)) > LIMIT:
-            raise Refused(s, 13, [])
-        check_tree(pool, stages[:s - 1], s, cap, weights, tree, behind)
+            raise Refusal(stage, 13, [])
+        check_tree(stage, before + homes, cap, weights, pool.standings, tree)
         for members, _ in panels:
             if sum(weights[i] for i in members) != cap:
-                raise Refused(s, 9, members)
+                raise Refusal(stage, 9, members)
         unsettled = [i for i in unsettled if weights[i] <= 0]
-    if unsettled:
-        raise Refused(len(stages), 10, unsettled[:1])
+        before.append(([(i, weight) for i, weight in enumerate(weights) if weight], cap, cap))
+    for i in unsettled:
+        raise Refusal(len(stages), 10, [i])
 
 
 def check(text):
+    """What a valid proof is told as. Raises a Fault where the text is no proof, and a Refusal where the proof doesn't hold."""
     lines = Lines(text)
-    if lines.take('proof', 2)[1] != '1':
-        raise Faulty(1)
-    if lines.word() == 'bundle':
-        version = lines.take(fields=2)[1]
-        pool = Pool(lines)
-        if version not in ('1', '2') or pool.version != version:
-            raise Faulty(2)
-        total = number(lines.take('total', 2)[1], 1, MOST_TOTAL, lines.at)
-        panels, stages = read_panels(lines, pool), read_stages(lines, pool)
-        lines.take('done', 1)
-        trees = [read_tree(lines, s, pool) for s in range(1, len(stages) + 1)]
-    else:
-        pool = Pool(lines)
-        lines.take('none', 1)
-        trees = [read_tree(lines, 0, pool)]
-    lines.take('close', 1)
-    if lines.word() is not None:
-        raise Faulty(lines.at + 1)
-    if len(trees) == 1 and text.split('\n')[1].startswith('pool'):
-        check_tree(pool, [], 0, -1, [0] * pool.count(), *trees[0])
-        return 'valid none'
-    check_lottery(pool, total, panels, stages, trees)
-    return 'valid'
+    lines.refuse(21, lines.take(23) != b'proof\t1')
+    line = lines.take(23)
+    word, version = line[:-2], line[-1:]
+    lines.refuse(22, line not in (b'bundle\t1', b'bundle\t2', b'pool\t1', b'pool\t2'))
+    if word == b'bundle':
+        lines.refuse(1, lines.take(12) != b'pool\t' + version)
+        pool = read_pool(lines, version)
+        total, panels, stages = read_lottery(lines, len(pool.numbers))
+        check_lottery(pool, total, panels, stages, read_trees(lines, 1, len(stages), len(pool.numbers)))
+        return ['valid']
+    pool = read_pool(lines, version)
+    lines.refuse(22, lines.take(23) != b'none')
+    tree, = read_trees(lines, 0, 0, len(pool.numbers))
+    before, homes = constraints_of(pool)
+    check_tree(0, before + homes, -1, [0] * len(pool.numbers), pool.standings, tree)
+    return ['valid', 'none']
 
 
-def main():
-    for name in sys.argv[1:]:
-        try:
-            with open(name, encoding='utf-8', newline='') as file:
-                print(check(file.read()))
-        except Refused as refused:
-            stage, reason, who = refused.args
-            print('\t'.join(map(str, ['refused', stage, reason, *who])))
-        except Faulty as fault:
-            print('\t'.join(map(str, ['input', *fault.args])))
+# ---- the answer
+
+
+def answer(text):
+    """The status and the line for a text of bytes."""
+    status = 3
+    try:
+        if len(text) > MOST_BYTES:
+            raise Fault(0, 10)
+        status, fields = 0, check(text)
+    except Fault as fault:
+        fields = ['input', *fault.args]
+    except Refusal as refusal:
+        stage, reason, shown = refusal.args
+        status, fields = 11, ['refused', stage, reason, *shown]
+    return status, '\t'.join(map(str, fields)).encode()
+
+
+def answer_of(file):
+    """The status and the line for a file, or for standard input where it is None."""
+    try:
+        with open(0 if file is None else file, 'rb', closefd=file is not None) as source:
+            text = source.read(MOST_BYTES + 1)
+    except OSError as fault:
+        return 7, b'read fault' if file is None else b'read fault\t' + os.strerror(fault.errno or 0).encode()
+    return answer(text)
+
+
+def tell(stream, text):
+    """Writes to standard output, which is stream 1, or to standard error, 2. True where it was written."""
+    try:
+        with open(stream, 'wb', closefd=False) as sink:
+            sink.write(text)
+        return True
+    except OSError:
+        return False
+
+
+def main(words):
+    usage = __doc__.encode()
+    if any(word in ('-h', '--help') for word in words):
+        return 0 if tell(1, usage) else 8
+    if any(word.startswith('-') for word in words):
+        tell(2, usage)
+        return 2
+    statuses = []
+    for file in words or [None]:
+        status, line = answer_of(file)
+        name = os.fsencode(file) + b'\t' if len(words) > 1 else b''
+        if not tell(1 if status in (0, 11) else 2, name + line + b'\n'):
+            if status in (0, 11):
+                tell(2, b'write fault\n')
+                return 8
+        statuses.append(status)
+    return max(statuses)
 
 
 if __name__ == '__main__':
-    main()
+    try:
+        sys.exit(main(sys.argv[1:]))
+    except KeyboardInterrupt:
+        sys.exit(130)
