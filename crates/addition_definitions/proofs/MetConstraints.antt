@@ -7,7 +7,7 @@ use Rattle.std.proofs.lemmas.Int.{ints}
 use Rattle.std.proofs.lemmas.List.FromFn.{get_or-map-range_with_len}
 use mathlib.Core.List.{reverse_aux}
 use borrow.Author.Differences.{le-true}
-use Rattle.basic_laws.proofs.Each.{each_append, each_everywhere, each_from_list_all, each_map, each_mapped}
+use Rattle.basic_laws.proofs.Each.{each_append, each_everywhere, each_from_list_all, each_map, each_mapped, each_flat_map}
 use Rattle.basic_laws.proofs.Tests.{implied}
 use Rattle.pool_definitions.specs.Certificate.{Stage, attains, is_capped, panel_weight, weight_of}
 use Rattle.pool_definitions.specs.Pool.{BoundedValue, Category, Pool, is_quota_panel, is_within, members_with, panels, volunteer}
@@ -32,10 +32,6 @@ each_reversed_onto P (x ∷ xs) ys h k = each_reversed_onto P xs (x ∷ ys) h.1 
 
 pub each_reversed : {X : Type 0} (P : X → Type 0) (xs : List X) → AllByRecursion P xs → AllByRecursion P (reverse xs)
 each_reversed P xs h = each_reversed_onto P xs [] h tt
-
-pub each_flat : {X Y : Type 0} (P : Y → Type 0) (f : X → List Y) (xs : List X) → AllByRecursion (λ x. AllByRecursion P (f x)) xs → AllByRecursion P (flat_map f xs)
-each_flat P f [] h = tt
-each_flat P f (x ∷ xs) h = each_append P (f x) (flat_map f xs) h.0 (each_flat P f xs h.1)
 
 module _ (pool : Pool) (panel : List ℕ) (quota : is_quota_panel pool panel ≡ true) where
   abbrev n : ℕ
@@ -96,7 +92,7 @@ module _ (pool : Pool) (panel : List ℕ) (quota : is_quota_panel pool panel ≡
   values_met =
       let categories = enumerate_from 0 pool.categories in
       let meets : ℕ × Category → Bool = λ category. list_all (λ value. is_within value.1 (members_with pool.volunteers panel category.0 value.0)) (enumerate_from 0 category.1.values) in
-      each_flat (Meets panel) (category_constraints pool) categories
+      each_flat_map (Meets panel) (category_constraints pool) categories
       (each_map (λ category. meets category ≡ true) (λ category. AllByRecursion (Meets panel) (category_constraints pool category)) category_met categories
       (each_from_list_all meets categories parts.quotas))
 

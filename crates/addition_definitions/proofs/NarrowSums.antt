@@ -1,11 +1,13 @@
 -- No sum that a check of a leaf makes on its way passes 128 bits.
-use Rattle.std.proofs.Common.{◌≡◌, ℕ, zero, suc, ◌+◌, ◌-◌, ◌*◌, ◌^◌, ◌≤◌, ◌<◌, Bool, true, false, cond, ◌&&◌, leb, ltb, List, [], ◌∷◌, map, take, length, get_or, sum_by, ℤ, pos, ◌+ℤ◌, ◌-ℤ◌, ◌*ℤ◌, refl, sym, ap, subst, arith, lit<, le_of_eq, mul-le-mul_left, mul-le-mul_right}
+use Rattle.std.proofs.Common.{◌≡◌, ℕ, zero, suc, ◌+◌, ◌-◌, ◌*◌, ◌^◌, ◌≤◌, ◌<◌, Bool, true, false, cond, ◌&&◌, leb, ltb, List, [], ◌∷◌, map, take, length, get_or, sum_by, ℤ, pos, ◌+ℤ◌, ◌*ℤ◌, refl, sym, ap, subst, arith, lit<, le_of_eq, mul-le-mul_left, mul-le-mul_right}
 use Rattle.std.specs.Prelude.{int_lt, unsigned_abs}
 use Rattle.std.specs.List.{AllByRecursion, enumerate_from, list_all}
 use Rattle.std.proofs.lemmas.Bool.{and_parts, leb-true, ltb-true}
-use Rattle.std.proofs.lemmas.Int.{ints, unsigned_abs-mul}
+use Rattle.std.proofs.lemmas.Int.{unsigned_abs-mul}
+use Rattle.std.proofs.Math.Seq.{take-length}
 use Rattle.basic_laws.proofs.Each.{each_everywhere, each_from_list_all, each_map}
 use Rattle.basic_laws.proofs.Sums as naturals
+use Rattle.basic_laws.proofs.Integers.{abs-add, abs-sub}
 use Rattle.bundle_definitions.specs.Ranges.{reach}
 use Rattle.pool_definitions.specs.Certificate.{weight_of}
 use Rattle.pool_definitions.specs.Lists.{is_increasing}
@@ -18,12 +20,6 @@ use Rattle.addition_definitions.specs.TreeRanges.{is_leaf, is_multiplier, last_c
 use Rattle.addition_definitions.proofs.SignedSums.{sum-is-total, total}
 
 -- ---- sums and absolute values
-
-abs-add : (a b : ℤ) → unsigned_abs (a +ℤ b) ≤ unsigned_abs a + unsigned_abs b
-abs-add a b = omega (arith, ints)
-
-abs-sub : (a b : ℤ) → unsigned_abs (a -ℤ b) ≤ unsigned_abs a + unsigned_abs b
-abs-sub a b = omega (arith, ints)
 
 abs-total : {X : Type 0} (f : X → ℤ) (xs : List X) → unsigned_abs (total f xs) ≤ naturals.total (λ x. unsigned_abs (f x)) xs
 abs-total f [] = omega arith
@@ -277,11 +273,7 @@ module _ (problem : Problem) (near : is_problem_in_reach problem ≡ true) (leaf
       where
         whole_rest : (i : ℕ) → unsigned_abs (rest problem leaf i) ≤ leaf.scale * unsigned_abs (weight_of problem.stage i) + naturals.total (λ m. unsigned_abs (multiplied all i m)) ms
         whole_rest i = subst (λ those. unsigned_abs (rest problem (record leaf { multipliers = those }) i) ≤ leaf.scale * unsigned_abs (weight_of problem.stage i) + naturals.total (λ m. unsigned_abs (multiplied all i m)) ms)
-            (take_whole ms) (rest_apart (length ms) i)
-          where
-            take_whole : (xs : List Multiplier) → take (length xs) xs ≡ xs
-            take_whole [] = refl
-            take_whole (x ∷ xs) = ap (λ rest. x ∷ rest) (take_whole xs)
+            (take-length ms) (rest_apart (length ms) i)
 
     total_within : (k : ℕ) → unsigned_abs (charges_and_rests problem standings k leaf) ≤ 3603 * square
     total_within k =
@@ -295,12 +287,8 @@ module _ (problem : Problem) (near : is_problem_in_reach problem ≡ true) (leaf
         (each_everywhere (λ pair. unsigned_abs (f pair) ≤ unsigned_abs (rest problem leaf pair.0)) (λ pair. charge_of_rest pair.1 (rest problem leaf pair.0)) places) in
         let rests = all_rests in omega (arith, charges, two, same, apart, part, each, rests)
       where
-        take_whole : (xs : List Multiplier) → take (length xs) xs ≡ xs
-        take_whole [] = refl
-        take_whole (x ∷ xs) = ap (λ rest. x ∷ rest) (take_whole xs)
-
         charges_whole : unsigned_abs (signed_sum (charge all) ms) ≤ 1801 * square
-        charges_whole = subst (λ those. unsigned_abs (signed_sum (charge all) those) ≤ 1801 * square) (take_whole ms) (charges_within (length ms))
+        charges_whole = subst (λ those. unsigned_abs (signed_sum (charge all) those) ≤ 1801 * square) (take-length ms) (charges_within (length ms))
 
   -- ---- below 2^127
 

@@ -4,7 +4,7 @@ use Rattle.std.specs.Prelude.{slice_index, unsigned_abs}
 use Rattle.std.specs.List.{AllByRecursion, enumerate_from, flat_map, list_all}
 use Rattle.std.proofs.lemmas.Bool.{and_from, and_parts, le-leb, leb-true}
 use Rattle.std.proofs.lemmas.List.FromFn.{length-range_with_len}
-use Rattle.basic_laws.proofs.Each.{each_append, each_everywhere, each_from_list_all, each_map, each_mapped, list_all_from_each}
+use Rattle.basic_laws.proofs.Each.{each_append, each_everywhere, each_from_list_all, each_map, each_mapped, list_all_from_each, each_flat_map}
 use Rattle.basic_laws.proofs.Sums.{sum_by-is-total, total}
 use Rattle.bundle_definitions.specs.Ranges.{reach}
 use Rattle.pool_definitions.specs.Certificate.{Stage}
@@ -16,7 +16,7 @@ use Rattle.addition_definitions.specs.Constraints.{Constraint, category_constrai
 use Rattle.addition_definitions.specs.LeafSums.{is_in_reach, is_stage_in_reach}
 use Rattle.addition_definitions.specs.Leaves.{no_panel}
 use Rattle.addition_definitions.specs.TreeRanges.{number_limit}
-use Rattle.addition_definitions.proofs.MetConstraints.{each_flat, each_reversed}
+use Rattle.addition_definitions.proofs.MetConstraints.{each_reversed}
 
 thousand_small : 1000 < number_limit
 thousand_small = lit< tt
@@ -70,7 +70,7 @@ module _ (pool : Pool) (is : IsPool pool) where
   values_in_reach : AllByRecursion (λ it. is_in_reach it ≡ true) (flat_map (category_constraints pool) (enumerate_from 0 pool.categories))
   values_in_reach =
       let categories = enumerate_from 0 pool.categories in
-      each_flat (λ it. is_in_reach it ≡ true) (category_constraints pool) categories
+      each_flat_map (λ it. is_in_reach it ≡ true) (category_constraints pool) categories
       (each_map (λ category. is_category category.1 ≡ true) (λ category. AllByRecursion (λ it. is_in_reach it ≡ true) (category_constraints pool category)) category_in_reach categories
       (each_numbered (λ category. is_category category ≡ true) 0 pool.categories (each_from_list_all is_category pool.categories is.categories)))
 

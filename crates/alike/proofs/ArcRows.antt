@@ -15,6 +15,7 @@ use Rattle.spread_definitions.proofs.Cuts.{cuts_increase}
 use Rattle.spread_definitions.proofs.Dials.{Cut, cuts_are}
 use Rattle.spread_definitions.proofs.Lotteries.{row_at}
 use Rattle.alike.specs.Steps.{arc_row}
+use Rattle.spread_definitions.proofs.FewPanels.{length-arcs}
 
 -- ---- arcs by their number
 
@@ -50,11 +51,6 @@ pub map-take_more : {X Y : Type 0} (f : X → Y) (xs : List X) (k : ℕ) (d : X)
 map-take_more f [] k d l = absurd (omega arith)
 map-take_more f (x ∷ xs) zero d l = refl
 map-take_more f (x ∷ xs) (suc k) d l = ap (λ rest. f x ∷ rest) (map-take_more f xs k d (omega arith))
-
-pub length-arcs : (end : ℕ) (xs : List ℕ) → length (arcs_between end xs) ≡ length xs
-length-arcs end [] = refl
-length-arcs end (x ∷ []) = refl
-length-arcs end (x ∷ (y ∷ ys)) = omega (arith, length-arcs end (y ∷ ys))
 
 -- ---- weights
 

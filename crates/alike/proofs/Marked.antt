@@ -1,45 +1,15 @@
 -- Marks at volunteers' numbers, and the numbers that are marked.
-use Rattle.std.proofs.Common.{◌≡◌, ℕ, suc, ◌+◌, ◌-◌, ◌≤◌, ◌<◌, Bool, true, false, cond, ◌||◌, List, [], ◌∷◌, ◌++◌, filter, take, drop, length, slice_index_or, refl, sym, ap, ◌∙◌, ⊎_elim, arith, min}
-use Rattle.std.specs.List.{range_with_len}
+use Rattle.std.proofs.Common.{◌≡◌, ℕ, ◌+◌, ◌-◌, ◌≤◌, ◌<◌, Bool, false, ◌||◌, List, ◌++◌, take, drop, length, slice_index_or, sym, ap, ◌∙◌, ⊎_elim, arith, min}
 use Rattle.std.proofs.lemmas.Bool.{cases_lt}
-use Rattle.std.proofs.lemmas.List.{take-append-le, take_all}
+use Rattle.std.proofs.lemmas.List.{take-append-le, take_all, append-nil}
 use Rattle.std.proofs.Math.Seq.{take-append-add}
-use Rattle.basic_laws.proofs.Lists.{range-more}
+use Rattle.std.proofs.Math.Bool.{or_assoc}
 use Rattle.pool_definitions.specs.Lists.{includes}
 use Rattle.alike.specs.Steps.{AreMarked}
 use Rattle.spread_definitions.specs.Spreading.{turned}
 use Rattle.spread_definitions.proofs.Cuts.{includes-append}
 
 -- ---- the numbers that pass
-
-filter-append : (p : ℕ → Bool) (xs ys : List ℕ) → filter p (xs ++ ys) ≡ filter p xs ++ filter p ys
-filter-append p [] ys = refl
-filter-append p (x ∷ xs) ys =
-    let rest = filter-append p xs ys in
-    elim (p x) as (λ b. cond b (x ∷ filter p (xs ++ ys)) (filter p (xs ++ ys)) ≡ cond b (x ∷ filter p xs) (filter p xs) ++ filter p ys) [
-      | true ↦ ap (λ zs. x ∷ zs) rest
-      | false ↦ rest
-    ]
-
--- one number more
-pub passes-more : (p : ℕ → Bool) (count : ℕ) → p count ≡ true → filter p (range_with_len 0 (suc count)) ≡ filter p (range_with_len 0 count) ++ count ∷ []
-passes-more p count e =
-    let zero_first : 0 + count ≡ count = omega arith in
-    ap (filter p) (range-more 0 count) ∙ filter-append p (range_with_len 0 count) ((0 + count) ∷ [])
-    ∙ ap (λ n. filter p (range_with_len 0 count) ++ filter p (n ∷ [])) zero_first
-    ∙ ap (λ b. filter p (range_with_len 0 count) ++ cond b (count ∷ []) []) e
-
-pub fails-more : (p : ℕ → Bool) (count : ℕ) → p count ≡ false → filter p (range_with_len 0 (suc count)) ≡ filter p (range_with_len 0 count)
-fails-more p count e =
-    let zero_first : 0 + count ≡ count = omega arith in
-    ap (filter p) (range-more 0 count) ∙ filter-append p (range_with_len 0 count) ((0 + count) ∷ [])
-    ∙ ap (λ n. filter p (range_with_len 0 count) ++ filter p (n ∷ [])) zero_first
-    ∙ ap (λ b. filter p (range_with_len 0 count) ++ cond b (count ∷ []) []) e
-    ∙ append_nil (filter p (range_with_len 0 count))
-  where
-    append_nil : (xs : List ℕ) → xs ++ [] ≡ xs
-    append_nil [] = refl
-    append_nil (x ∷ xs) = ap (λ rest. x ∷ rest) (append_nil xs)
 
 -- ---- windows in two pieces
 
@@ -56,11 +26,7 @@ take-both c xs ys = ⊎_elim beyond within (cases_lt (length xs) c)
     within l =
         let e : min c (length xs) ≡ c = omega arith in
         let f : min (length ys) (c - c) ≡ 0 = omega arith in
-        rw (e, f) (take-append-le c xs ys l ∙ sym (append_nil (take c xs)))
-      where
-        append_nil : (xs : List ℕ) → xs ++ [] ≡ xs
-        append_nil [] = refl
-        append_nil (x ∷ xs) = ap (λ rest. x ∷ rest) (append_nil xs)
+        rw (e, f) (take-append-le c xs ys l ∙ sym (append-nil (take c xs)))
 
     beyond : length xs < c → take c (xs ++ ys) ≡ take (min c (length xs)) xs ++ take (min (length ys) (c - min c (length xs))) ys
     beyond l =
@@ -81,10 +47,6 @@ window_marked before mid after start count members first second e f one two =
       marked = λ i within.
           let long = one.long in
           two.marked i (omega arith) ∙ ap (λ b. b || includes second i) (one.marked i within)
-          ∙ assoc (slice_index_or before i false) (includes first i) (includes second i)
+          ∙ or_assoc (slice_index_or before i false) (includes first i) (includes second i)
           ∙ ap (λ b. slice_index_or before i false || b) (sym (ap (λ zs. includes zs i) window ∙ includes-append first second i));
     }
-  where
-    assoc : (a b c : Bool) → ((a || b) || c) ≡ (a || (b || c))
-    assoc true b c = refl
-    assoc false b c = refl

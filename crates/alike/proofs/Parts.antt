@@ -4,6 +4,7 @@ use Rattle.std.specs.Int.{◌∣◌}
 use Rattle.std.specs.List.{All}
 use Rattle.std.proofs.lemmas.List.Elements.{All-from_recursion}
 use Rattle.std.proofs.Math.Nat.{dvd-mul_left}
+use Rattle.std.proofs.Math.Bool.{or-false, or_assoc}
 use Rattle.basic_laws.proofs.Each.{each_map}
 use Rattle.pool_definitions.specs.Lists.{includes}
 use Rattle.search_definitions.specs.Classes.{Class, Classes}
@@ -47,19 +48,11 @@ pub given-more : (len at : ℕ) (classes : List Class) (counts : List ℕ) (k : 
 given-more len at [] counts k class count i l m e f = absurd (omega arith)
 given-more len at (x ∷ classes) [] k class count i l m e f = absurd (omega arith)
 given-more len at (x ∷ classes) (c ∷ counts) zero class count i l m e f =
-    let s : x ≡ class = sym e in let t : c ≡ count = sym f in rw (s, t) (or_false (includes (turned (at * length class.members / len) count class.members) i))
-  where
-    or_false : (b : Bool) → (b || false) ≡ b
-    or_false true = refl
-    or_false false = refl
+    let s : x ≡ class = sym e in let t : c ≡ count = sym f in rw (s, t) (or-false (includes (turned (at * length class.members / len) count class.members) i))
 given-more len at (x ∷ classes) (c ∷ counts) (suc k) class count i l m e f =
     let rest = given-more len at classes counts k class count i (omega arith) (omega arith) e f in
     let here = includes (turned (at * length x.members / len) c x.members) i in
-    ap (λ b. here || b) rest ∙ assoc here (is_given len at (take k classes) (take k counts) i) (includes (turned (at * length class.members / len) count class.members) i)
-  where
-    assoc : (a b c : Bool) → (a || (b || c)) ≡ ((a || b) || c)
-    assoc true b c = refl
-    assoc false b c = refl
+    ap (λ b. here || b) rest ∙ sym (or_assoc here (is_given len at (take k classes) (take k counts) i) (includes (turned (at * length class.members / len) count class.members) i))
 
 pub given-whole : (len at : ℕ) (classes : List Class) (counts : List ℕ) (k i : ℕ) → (length classes ≤ k) ⊎ (length counts ≤ k) → is_given len at (take k classes) (take k counts) i ≡ is_given len at classes counts i
 given-whole len at [] counts zero i l = refl

@@ -7,6 +7,7 @@ use Rattle.std.proofs.lemmas.Bool.{and_parts, cases_Bool, cases_lt, eqb-true, eq
 use Rattle.std.proofs.lemmas.List.Kept.{Contains-dedup_nat, Contains-from_dedup}
 use Rattle.std.proofs.lemmas.Map.Keys.{IsStrictlyIncreasing-dedup}
 use Rattle.std.proofs.lemmas.List.Sorted.{Contains-permutation, IsPermutation-sym}
+use Rattle.std.proofs.Math.Bool.{or-true}
 use Rattle.pool_definitions.specs.Lists.{includes, is_increasing, rising}
 use Rattle.pool_definitions.proofs.Increasing.{is_increasing-from_neighbours}
 use Rattle.spread_definitions.specs.Spreading.{once_each}
@@ -63,11 +64,7 @@ contained (x ∷ xs) z h = by (eqb x z) refl h (λ later. contained xs z later)
 pub included : (xs : List ℕ) (z : ℕ) → Contains xs z → includes xs z ≡ true
 included [] z (k, l, e) = absurd (omega arith)
 included (x ∷ xs) z (zero, l, e) = let s : eqb x z ≡ true = eq-eqb x z e in rw s refl
-included (x ∷ xs) z (suc k, l, e) = let rest = included xs z (k, omega arith, e) in rw rest (or_true (eqb x z))
-  where
-    or_true : (b : Bool) → (b || true) ≡ true
-    or_true true = refl
-    or_true false = refl
+included (x ∷ xs) z (suc k, l, e) = let rest = included xs z (k, omega arith, e) in rw rest (or-true (eqb x z))
 
 -- lists that contain the same numbers include the same
 pub same_includes : (xs ys : List ℕ) → ((z : ℕ) → Contains xs z → Contains ys z) → ((z : ℕ) → Contains ys z → Contains xs z) → (z : ℕ) → includes xs z ≡ includes ys z

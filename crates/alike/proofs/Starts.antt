@@ -1,11 +1,13 @@
 -- Where the windows of classes begin, and whom the classes give.
-use Rattle.std.proofs.Common.{◌≡◌, ◌⊎◌, inl, inr, ℕ, zero, suc, ◌+◌, ◌*◌, ◌/◌, ◌≤◌, ◌<◌, Bool, true, false, ◌&&◌, ◌||◌, ltb, List, [], ◌∷◌, ◌++◌, map, filter, take, drop, length, get_or, slice_get, slice_index_or, replicate, Some, refl, sym, ap, ◌∙◌, ⊎_elim, arith, subst, length-append, length-drop, mul-le-mul_right}
+use Rattle.std.proofs.Common.{◌≡◌, ◌⊎◌, inl, inr, ℕ, zero, suc, ◌+◌, ◌*◌, ◌/◌, ◌≤◌, ◌<◌, Bool, true, false, ◌&&◌, ◌||◌, ltb, List, [], ◌∷◌, ◌++◌, map, filter, take, drop, length, get_or, slice_index_or, replicate, refl, sym, ap, ◌∙◌, ⊎_elim, arith, subst, length-append, length-drop, mul-le-mul_right}
 use Rattle.std.specs.Int.{◌∣◌}
 use Rattle.std.specs.List.{range_with_len}
 use Rattle.std.proofs.lemmas.Bool.{and_parts, and_from, cases_lt, lt-ltb, ltb-true, false≢true}
-use Rattle.std.proofs.lemmas.List.{length-take, length-replicate, take-append-drop, take_all}
+use Rattle.std.proofs.lemmas.List.{length-take, length-replicate, take-append-drop, take_all, get_or_default}
 use Rattle.std.proofs.lemmas.List.FromFn.{length-map-range_with_len}
 use Rattle.std.proofs.Math.Nat.{div-le_of_le-mul, dvd-mul_left}
+use Rattle.std.proofs.Math.Bool.{or_assoc}
+use Rattle.basic_laws.proofs.Lists.{slice_get-at, filter_range_same}
 use Rattle.pool_definitions.specs.Lists.{includes}
 use Rattle.search_definitions.specs.Classes.{Class, Classes}
 use Rattle.spread_definitions.specs.Spreading.{dial, is_partly_taken, partly_taken, turned}
@@ -52,22 +54,12 @@ any_start class count j i e within = by (whole_or_none count (length class.membe
 
 -- ---- classes at places of a list
 
-slice_get-at : {X : Type 0} (xs : List X) (k : ℕ) (x : X) → k < length xs → x ≡ get_or xs k x → slice_get xs k ≡ Some x
-slice_get-at [] k x l e = absurd (omega arith)
-slice_get-at (y ∷ xs) zero x l e = ap Some (sym e)
-slice_get-at (y ∷ xs) (suc k) x l e = slice_get-at xs k x (omega arith) e
-
-get_or-other : (xs : List ℕ) (k d e : ℕ) → k < length xs → get_or xs k d ≡ get_or xs k e
-get_or-other [] k d e l = absurd (omega arith)
-get_or-other (x ∷ xs) zero d e l = refl
-get_or-other (x ∷ xs) (suc k) d e l = get_or-other xs k d e (omega arith)
-
 -- the dial is a multiple of the size of a class that is taken in part
 pub size_divides : (all : Classes) (counts : List ℕ) (k : ℕ) (class : Class) (count : ℕ) → k < length all.classes → k < length counts → class ≡ get_or all.classes k class → count ≡ get_or counts k count →
     is_partly_taken class count ≡ true → length class.members ∣ dial all counts
 size_divides all counts k class count l m e f taken =
-    let same : count ≡ get_or counts k 0 = f ∙ get_or-other counts k count 0 m in
-    let there = includes-partly all.classes counts k class (slice_get-at all.classes k class l e) m (ap (λ n. is_partly_taken class n) (sym same) ∙ taken) in
+    let same : count ≡ get_or counts k 0 = f ∙ get_or_default counts k count 0 m in
+    let there = includes-partly all.classes counts k class (slice_get-at all.classes k class class l e) m (ap (λ n. is_partly_taken class n) (sym same) ∙ taken) in
     let d : Divided (length class.members) (dial all counts) = each_included (λ size. Divided size (dial all counts)) (partly_taken all.classes counts) (length class.members) (divided_dial all counts) there in
     subst (λ n. length class.members ∣ n) d.is (dvd-mul_left (length class.members) d.step)
 
@@ -82,15 +74,11 @@ given_more len at classes counts k n class count start before mid after l m e f 
   marked = λ i within.
       let long = one.long in
       two.marked i (omega arith) ∙ ap (λ b. b || includes (turned start count class.members) i) (one.marked i within)
-      ∙ assoc (slice_index_or before i false) (is_given len at (take k classes) (take k counts) i) (includes (turned start count class.members) i)
+      ∙ or_assoc (slice_index_or before i false) (is_given len at (take k classes) (take k counts) i) (includes (turned start count class.members) i)
       ∙ ap (λ b. slice_index_or before i false || (is_given len at (take k classes) (take k counts) i || b)) (same i)
       ∙ ap (λ b. slice_index_or before i false || b) (sym (given-more len at classes counts k class count i l m e f))
       ∙ ap (λ n. slice_index_or before i false || is_given len at (take n classes) (take n counts) i) (sym next);
 }
-  where
-    assoc : (a b c : Bool) → ((a || b) || c) ≡ (a || (b || c))
-    assoc true b c = refl
-    assoc false b c = refl
 
 -- all classes have
 pub given_all : (len at : ℕ) (classes : List Class) (counts : List ℕ) (k : ℕ) (before after : List Bool) → (length classes ≤ k) ⊎ (length counts ≤ k) →
@@ -131,10 +119,6 @@ at_place : (p : ℕ → Bool) (first n i : ℕ) → i < n → get_or (map p (ran
 at_place p first zero i l = absurd (omega arith)
 at_place p first (suc n) zero l = let e : first ≡ first + 0 = omega arith in ap p e
 at_place p first (suc n) (suc i) l = let e : first + 1 + i ≡ first + suc i = omega arith in at_place p (first + 1) n i (omega arith) ∙ ap p e
-
-filter_range_same : (p q : ℕ → Bool) (first n : ℕ) → ((i : ℕ) → i < first + n → p i ≡ q i) → filter p (range_with_len first n) ≡ filter q (range_with_len first n)
-filter_range_same p q first zero e = refl
-filter_range_same p q first (suc n) e = rw (e first (omega arith), filter_range_same p q (first + 1) n (λ i l. e i (omega arith))) refl
 
 -- the numbers that are marked are those that pass
 pub passing_numbers : (p : ℕ → Bool) (n : ℕ) (given : List Bool) (numbers : List ℕ) → given ≡ map p (range_with_len 0 n) → numbers ≡ filter (λ i. slice_index_or given i false) (range_with_len 0 (length given)) →

@@ -1,8 +1,10 @@
 -- What holds of each element of lists, by recursion: of those that pass a test, of lists that are mapped, filtered or joined,
 -- and of ranges of numbers.
-use Rattle.std.proofs.Common.{◌≡◌, ◌≢◌, ℕ, zero, suc, ◌+◌, ◌≤◌, ◌<◌, Bool, true, false, cond, List, [], ◌∷◌, ◌++◌, map, filter, length, get_or, refl, sym, ◌∙◌, subst, arith, le_of_eq, ⊎_elim}
-use Rattle.std.specs.List.{list_all, AllByRecursion, enumerate_from, range_with_len}
-use Rattle.std.proofs.lemmas.Bool.{and_from, and_parts, cases_eq, false≢true}
+use Rattle.std.proofs.Common.{◌≡◌, ◌≢◌, ℕ, zero, suc, ◌+◌, ◌≤◌, ◌<◌, Bool, true, false, cond, List, [], ◌∷◌, ◌++◌, map, filter, length, get_or, slice_get, Some, ltb, refl, sym, ◌∙◌, subst, arith, le_of_eq, ⊎_elim}
+use Rattle.std.specs.List.{list_all, AllByRecursion, enumerate_from, flat_map, range_with_len}
+use Rattle.std.proofs.lemmas.Bool.{and_from, and_parts, cases_eq, false≢true, ltb-true}
+use Rattle.std.proofs.lemmas.List.Concat.{flat_map-cons}
+use Rattle.std.proofs.lemmas.List.{get_or_default}
 
 pub each_map : {X : Type 0} (P Q : X → Type 0) → ((x : X) → P x → Q x) → (xs : List X) → AllByRecursion P xs → AllByRecursion Q xs
 each_map P Q f [] h = tt
@@ -21,6 +23,11 @@ pub each_at : {X : Type 0} (P : X → Type 0) (xs : List X) (k : ℕ) (x : X) �
 each_at P [] k x each l e = absurd (omega arith)
 each_at P (y ∷ xs) zero x each l e = subst P (sym e) each.0
 each_at P (y ∷ xs) (suc k) x each l e = each_at P xs k x each.1 (omega arith) e
+
+pub each_slice_get : {X : Type 0} (P : X → Type 0) (xs : List X) (k : ℕ) (x : X) → AllByRecursion P xs → slice_get xs k ≡ Some x → P x
+each_slice_get P [] k x each e = absurd cc
+each_slice_get P (y ∷ xs) zero x each e = let same : y ≡ x = cc in subst P same each.0
+each_slice_get P (y ∷ xs) (suc k) x each e = each_slice_get P xs k x each.1 e
 
 -- ---- tests of all elements
 
@@ -47,6 +54,13 @@ list_all-push p [] x h k = and_from (p x) true k refl
 list_all-push p (y ∷ ys) x h k =
     let parts = and_parts (p y) (list_all p ys) h in and_from (p y) (list_all p (ys ++ x ∷ [])) parts.0 (list_all-push p ys x parts.1 k)
 
+-- where all pass, the element at a place does
+pub passes_at : {X : Type 0} (p : X → Bool) (xs : List X) (k : ℕ) (d : X) → list_all p xs ≡ true → k < length xs → p (get_or xs k d) ≡ true
+passes_at p xs k d h l = each_at (λ x. p x ≡ true) xs k (get_or xs k d) (each_from_list_all p xs h) l (get_or_default xs k d (get_or xs k d) l)
+
+pub below_at : (n : ℕ) (xs : List ℕ) (k : ℕ) → list_all (λ i. ltb i n) xs ≡ true → k < length xs → get_or xs k 0 < n
+below_at n xs k h l = ltb-true (get_or xs k 0) n (passes_at (λ i. ltb i n) xs k 0 h l)
+
 -- ---- lists that are joined and mapped
 
 pub each_left : {X : Type 0} (P : X → Type 0) (xs ys : List X) → AllByRecursion P (xs ++ ys) → AllByRecursion P xs
@@ -68,6 +82,10 @@ each_mapped P f (x ∷ xs) h = (h.0, each_mapped P f xs h.1)
 pub each_of_map : {X Y : Type 0} (P : Y → Type 0) (f : X → Y) (xs : List X) → AllByRecursion P (map f xs) → AllByRecursion (λ x. P (f x)) xs
 each_of_map P f [] h = tt
 each_of_map P f (x ∷ xs) h = (h.0, each_of_map P f xs h.1)
+
+pub each_flat_map : {X Y : Type 0} (P : Y → Type 0) (f : X → List Y) (xs : List X) → AllByRecursion (λ x. AllByRecursion P (f x)) xs → AllByRecursion P (flat_map f xs)
+each_flat_map P f [] h = tt
+each_flat_map P f (x ∷ xs) h = subst (AllByRecursion P) (sym (flat_map-cons f x xs)) (each_append P (f x) (flat_map f xs) h.0 (each_flat_map P f xs h.1))
 
 -- ---- lists that are filtered
 

@@ -1,7 +1,7 @@
 -- What is found in a list.
-use Rattle.std.proofs.Common.{◌≡◌, ◌⊎◌, inl, inr, refl, ℕ, ◌<◌, ◌≤◌, Bool, true, false, cond, List, [], ◌∷◌, Some, None, length, get_or, sym, arith, ap, ap₂, ◌∙◌, subst}
-use Rattle.std.specs.List.{AllByRecursion, find, position, position_or_len}
-use Rattle.std.proofs.lemmas.Bool.{cases_lt, lt-ltb}
+use Rattle.std.proofs.Common.{◌≡◌, ◌≢◌, ◌⊎◌, inl, inr, ⊎_elim, refl, ℕ, zero, suc, ◌+◌, ◌<◌, ◌≤◌, Bool, true, false, cond, List, [], ◌∷◌, Some, None, length, get_or, sym, arith, ap, ap₂, ◌∙◌, subst}
+use Rattle.std.specs.List.{AllByRecursion, find, position, position_or_len, range_with_len}
+use Rattle.std.proofs.lemmas.Bool.{cases_eq, cases_lt, lt-ltb}
 use Rattle.std.proofs.lemmas.List.Sums.{fails_before_first}
 
 -- what is found passes the test, and is as every element is
@@ -42,3 +42,20 @@ position-None p xs k d e l = by (cases_lt (position_or_len p xs) (length xs))
     by : (position_or_len p xs < length xs) ⊎ (length xs ≤ position_or_len p xs) → p (get_or xs k d) ≡ false
     by (inl m) = let found : position p xs ≡ Some (position_or_len p xs) = ap (λ b. cond b (Some (position_or_len p xs)) None) (lt-ltb (position_or_len p xs) (length xs) m) in absurd cc
     by (inr m) = fails_before_first p xs k d (omega arith)
+
+-- the first number of a range that passes
+pub find_range-none : (p : ℕ → Bool) (a n : ℕ) → ((k : ℕ) → a ≤ k → k < a + n → p k ≡ false) → find p (range_with_len a n) ≡ None
+find_range-none p a zero h = refl
+find_range-none p a (suc n) h =
+    ap (λ b. cond b (Some a) (find p (range_with_len (a + 1) n))) (h a (omega arith) (omega arith))
+    ∙ find_range-none p (a + 1) n (λ k l m. h k (omega arith) (omega arith))
+
+pub find_range-first : (p : ℕ → Bool) (a n b : ℕ) → a ≤ b → b < a + n → p b ≡ true → ((k : ℕ) → a ≤ k → k < b → p k ≡ false) → find p (range_with_len a n) ≡ Some b
+find_range-first p a zero b l m e h = absurd (omega arith)
+find_range-first p a (suc n) b l m e h = ⊎_elim here (λ o. later o (find_range-first p (a + 1) n b (omega arith) (omega arith) e (λ k l m. h k (omega arith) m))) (cases_eq b a)
+  where
+    here : b ≡ a → find p (range_with_len a (suc n)) ≡ Some b
+    here s = ap (λ t. cond t (Some a) (find p (range_with_len (a + 1) n))) (ap p (sym s) ∙ e) ∙ ap Some (sym s)
+
+    later : b ≢ a → find p (range_with_len (a + 1) n) ≡ Some b → find p (range_with_len a (suc n)) ≡ Some b
+    later o rest = ap (λ t. cond t (Some a) (find p (range_with_len (a + 1) n))) (h a (omega arith) (omega arith)) ∙ rest

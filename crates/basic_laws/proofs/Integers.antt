@@ -1,5 +1,5 @@
 -- Whole numbers with a sign: their products, which `omega` treats as unknowns, and tests.
-use Rattle.std.proofs.Common.{◌≡◌, ℕ, true, false, zero, suc, ◌*◌, ◌+◌, ◌<◌, ◌≤◌, ℤ, pos, negsuc, ◌+ℤ◌, ◌-ℤ◌, ◌*ℤ◌, neg_ℤ, ap, ◌∙◌, sym, arith, ◌≤ℤ◌, ◌<ℤ◌, mul-le-mul_right, le_of_mul-le-mul_right, le_antisymm}
+use Rattle.std.proofs.Common.{◌≡◌, ℕ, true, zero, suc, ◌*◌, ◌+◌, ◌<◌, ◌≤◌, ℤ, pos, negsuc, ◌+ℤ◌, ◌-ℤ◌, ◌*ℤ◌, neg_ℤ, ap, ◌∙◌, sym, arith, ◌≤ℤ◌, ◌<ℤ◌, mul-le-mul_right, le_of_mul-le-mul_right, le_antisymm}
 use Rattle.std.specs.Prelude.{int_lt, int_le, unsigned_abs}
 use Rattle.std.specs.Ordering.{int_eq}
 use Rattle.std.proofs.lemmas.Bool.Decides.{Decides-int_eq}
@@ -128,9 +128,13 @@ same_pos m n e = omega (arith, ints)
 pub zero-mul : (z : ℤ) → pos 0 *ℤ z ≡ pos 0
 zero-mul z = omega (arith, ints)
 
-pub refused-lt : (a b : ℤ) → b ≤ℤ a → int_lt a b ≡ false
-refused-lt a b h = grind (arith, ints)
-
 -- a product with a natural number, by the parts above and below 0
 pub product-parts : (c : ℕ) (z : ℤ) → up (pos c *ℤ z) + c * down z ≡ c * up z + down (pos c *ℤ z)
 product-parts c z = omega (arith, ints, product_is (pos c) z)
+
+-- the absolute value of a sum
+pub abs-add : (a b : ℤ) → unsigned_abs (a +ℤ b) ≤ unsigned_abs a + unsigned_abs b
+abs-add a b = omega (arith, ints)
+
+pub abs-sub : (a b : ℤ) → unsigned_abs (a -ℤ b) ≤ unsigned_abs a + unsigned_abs b
+abs-sub a b = omega (arith, ints)

@@ -1,21 +1,13 @@
 -- The members of a bundle's panels are the pool's.
-use Rattle.std.proofs.Common.{◌≡◌, ℕ, zero, suc, ◌<◌, true, ◌&&◌, List, [], ◌∷◌, length, get_or, map, ltb, refl, ap, ◌∙◌}
+use Rattle.std.proofs.Common.{◌≡◌, ℕ, zero, suc, true, ◌&&◌, List, [], ◌∷◌, length, get_or, map, ltb, refl, ap, ◌∙◌}
 use Rattle.std.specs.List.{list_all}
-use Rattle.std.proofs.lemmas.Bool.{and_parts, ltb-true}
-use Rattle.std.proofs.lemmas.List.Elements.{All-from_recursion}
-use Rattle.basic_laws.proofs.Each.{each_from_list_all}
+use Rattle.std.proofs.lemmas.Bool.{and_parts}
 use Rattle.pool_definitions.specs.Lists.{is_increasing}
 use Rattle.pool_definitions.specs.Lottery.{LotteryRow}
 use Rattle.pool_definitions.specs.Pool.{Pool}
 use Rattle.bundle_definitions.specs.BundleText.{Bundle, IsBundle}
 use Rattle.bundle_definitions.specs.Ranges.{is_row, is_weight}
 use Rattle.sealed_draw.specs.Answers.{IsOfRow}
-
--- a number of a list whose numbers are in range
-pub number_in_range : (volunteers : ℕ) (panel : List ℕ) (index : ℕ) → list_all (λ i. ltb i volunteers) panel ≡ true → index < length panel → get_or panel index 0 < volunteers
-number_in_range volunteers panel index h l =
-    let each = All-from_recursion (λ i. ltb i volunteers ≡ true) panel (each_from_list_all (λ i. ltb i volunteers) panel h) in
-    ltb-true (get_or panel index 0) volunteers (each index 0 l)
 
 -- the numbers of a row's panel, where all rows are in range
 pub panel_in_range : (volunteers : ℕ) (rows : List LotteryRow) (row : ℕ) → list_all (is_row volunteers) rows ≡ true →

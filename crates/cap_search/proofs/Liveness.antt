@@ -2,6 +2,7 @@
 use Rattle.std.proofs.Common.{◌≡◌, ℕ, ◌+◌, ◌-◌, ◌≤◌, ◌<◌, Bool, true, false, ◌&&◌, leb, max, min, List, [], ◌∷◌, ◌++◌, length, drop, Option, Some, None, refl, sym, ap, ◌∙◌, arith, subst}
 use Rattle.std.specs.List.{list_all}
 use Rattle.std.proofs.lemmas.Bool.{and_from, false≢true, false_from_ne_true, leb-false, leb-true, lt-leb}
+use Rattle.std.proofs.Math.Bool.{and-false, and-true}
 use Rattle.search_definitions.specs.declared.Bounds.{Bounds}
 use Rattle.search_definitions.specs.Classes.{Class, Classes, HasPlaces, KeepsLimits}
 use Rattle.search_definitions.specs.Compositions.{is_of_household, takes_one_of, takes_one_a_household}
@@ -9,8 +10,9 @@ use Rattle.search_definitions.specs.Fronts.{is_reachable, size_reachable, values
 use Rattle.front_laws.specs.Front.{FrontTally, Tracks}
 use Rattle.front_laws.specs.Tallies.{AllReach}
 use Rattle.front_laws.proofs.Liveness.{decided, reach_of_child, size_of_child, values_of_child}
-use Rattle.front_laws.proofs.Tracking.{Stands, nothing_taken}
+use Rattle.front_laws.proofs.Tracking.{Stands}
 use Rattle.cap_search.specs.Tallies.{OneFails}
+use Rattle.search_definitions.proofs.FirstSearch.{taken_none}
 
 -- ---- a child of a front
 
@@ -37,16 +39,12 @@ pub child_dead : (all : Classes) (front : List ℕ) (class : Class) (count : ℕ
 child_dead all front class count tally stands tracks size =
     ap (λ b. b && values_reachable all (front ++ count ∷ [])) (size_of_child all front class count tally stands tracks ∙ size)
 
-and_false : (b : Bool) → (b && false) ≡ false
-and_false true = refl
-and_false false = refl
-
 pub child_values_dead : (all : Classes) (front : List ℕ) (class : Class) (count : ℕ) (tally : FrontTally) → KeepsLimits all → HasPlaces all.bounds class → Stands all (length front) class →
     Tracks all front (drop (length front + 1) all.classes) tally → OneFails all.bounds tally.held tally.later class.values count → is_reachable all (front ++ count ∷ []) ≡ false
 child_values_dead all front class count tally limits places stands tracks fails =
     let child = front ++ count ∷ [] in
     ap (λ b. size_reachable all child && b && takes_one_a_household all.classes child) (values_fail all front class count tally limits places stands tracks fails)
-    ∙ ap (λ b. b && takes_one_a_household all.classes child) (and_false (size_reachable all child))
+    ∙ ap (λ b. b && takes_one_a_household all.classes child) (and-false (size_reachable all child))
 
 pub child_size_dead : (all : Classes) (front : List ℕ) (class : Class) (count : ℕ) (tally : FrontTally) → Stands all (length front) class →
     Tracks all front (drop (length front + 1) all.classes) tally → (leb (tally.taken + count) all.size && leb all.size (tally.taken + count + tally.later_taken)) ≡ false →
@@ -72,7 +70,7 @@ pub lacking_dead : (all : Classes) (front : List ℕ) (class : Class) (tally : F
 lacking_dead all front class tally limits places stands tracks least lack limit low lack_is limit_is fails count l u =
     let few : count < limit → is_reachable all (front ++ count ∷ []) ≡ false = λ lt.
     child_size_dead all front class count tally stands tracks
-    (ap (λ b. leb (tally.taken + count) all.size && b) (lt-leb all.size (tally.taken + count + tally.later_taken) (omega arith)) ∙ and_false (leb (tally.taken + count) all.size)) in
+    (ap (λ b. leb (tally.taken + count) all.size && b) (lt-leb all.size (tally.taken + count + tally.later_taken) (omega arith)) ∙ and-false (leb (tally.taken + count) all.size)) in
     (elim (leb limit count) as (λ b. leb limit count ≡ b → is_reachable all (front ++ count ∷ []) ≡ false) [
       | true ↦ λ t. child_values_dead all front class count tally limits places stands tracks (fails count l (leb-true limit count t))
       | false ↦ λ f. few (leb-false limit count f)
@@ -87,7 +85,7 @@ fails_same bounds bounds' held held' later later' values values' count e f g h f
 
 none_of : (classes : List Class) (household : Option ℕ) → takes_one_of classes [] household ≡ true
 none_of classes None = refl
-none_of classes (Some h) = ap (λ n. leb n 1) (nothing_taken (λ class. is_of_household h class.household) classes)
+none_of classes (Some h) = ap (λ n. leb n 1) (taken_none (λ class. is_of_household h class.household) classes)
 
 none_of_each : (classes taking : List Class) → list_all (λ class. takes_one_of taking [] class.household) classes ≡ true
 none_of_each [] taking = refl
@@ -95,8 +93,4 @@ none_of_each (class ∷ classes) taking = and_from (takes_one_of taking [] class
 
 pub begins_reachable : (all : Classes) → is_reachable all [] ≡ (size_reachable all [] && values_reachable all [])
 begins_reachable all =
-    ap (λ b. size_reachable all [] && values_reachable all [] && b) (none_of_each all.classes all.classes) ∙ and_true (size_reachable all [] && values_reachable all [])
-  where
-    and_true : (b : Bool) → (b && true) ≡ b
-    and_true true = refl
-    and_true false = refl
+    ap (λ b. size_reachable all [] && values_reachable all [] && b) (none_of_each all.classes all.classes) ∙ and-true (size_reachable all [] && values_reachable all [])

@@ -1,11 +1,12 @@
 -- How a check goes from one stage to the next.
-use Rattle.std.proofs.Common.{◌≡◌, ℕ, suc, ◌+◌, ◌<◌, Bool, true, false, cond, ◌&&◌, ltb, List, [], ◌∷◌, ◌++◌, length, get_or, drop, Result, Ok, Err, refl, sym, ap, ap₂, ◌∙◌, arith, subst}
+use Rattle.std.proofs.Common.{◌≡◌, ℕ, suc, ◌+◌, ◌<◌, Bool, true, false, cond, ◌&&◌, ltb, List, [], ◌∷◌, length, get_or, drop, Result, Ok, Err, refl, sym, ap, ap₂, ◌∙◌, arith, subst}
 use Rattle.std.specs.Prelude.{reverse}
 use Rattle.std.specs.List.{list_all}
 use Rattle.std.proofs.lemmas.Bool.{false≢true}
 use Rattle.std.proofs.lemmas.List.{reverse-append}
-use Rattle.std.proofs.lemmas.List.Folds.{list_all_at}
+use Rattle.std.proofs.lemmas.List.Folds.{list_all-append}
 use Rattle.std.proofs.Math.Seq.{drop-cons}
+use Rattle.basic_laws.proofs.Each.{passes_at}
 use Rattle.pool_definitions.specs.Certificate.{Answer, Stage}
 use Rattle.pool_definitions.specs.Lottery.{Lottery}
 use Rattle.pool_definitions.specs.Pool.{Pool}
@@ -21,14 +22,6 @@ use Rattle.cert_check.specs.declared.stops.CheckStop.TheVariants.{NodesSpent, Ou
 
 -- ---- lists of stages
 
-list_all-append : {X : Type 0} (p : X → Bool) (xs ys : List X) → list_all p (xs ++ ys) ≡ (list_all p xs && list_all p ys)
-list_all-append p [] ys = refl
-list_all-append p (x ∷ xs) ys = ap (λ b. p x && b) (list_all-append p xs ys) ∙ along (p x) (list_all p xs) (list_all p ys)
-  where
-    along : (a b c : Bool) → (a && (b && c)) ≡ ((a && b) && c)
-    along true b c = refl
-    along false b c = refl
-
 pub list_all-reverse : {X : Type 0} (p : X → Bool) (xs : List X) → list_all p (reverse xs) ≡ list_all p xs
 list_all-reverse {X} p [] = refl
 list_all-reverse {X} p (x ∷ xs) =
@@ -39,14 +32,6 @@ list_all-reverse {X} p (x ∷ xs) =
     turned true false = refl
     turned false true = refl
     turned false false = refl
-
--- what each passes, the one at a place does
-passes_at : {X : Type 0} (p : X → Bool) (xs : List X) (j : ℕ) (d : X) → list_all p xs ≡ true → j < length xs → p (get_or xs j d) ≡ true
-passes_at p xs j d all l = by (p (get_or xs j d)) refl
-  where
-    by : (b : Bool) → p (get_or xs j d) ≡ b → p (get_or xs j d) ≡ true
-    by true e = e
-    by false e = absurd (false≢true (sym (list_all_at p xs j d l e) ∙ all))
 
 -- ---- one stage
 

@@ -1,31 +1,17 @@
 -- Members of a panel are of different households exactly where the numbers of their households are different.
-use Rattle.std.proofs.Common.{◌≡◌, ℕ, ◌+◌, ◌<◌, ◌≤◌, Bool, true, false, not, ◌&&◌, ◌||◌, eqb, leb, ltb, List, [], ◌∷◌, length, map, count_by, get_or, Option, Some, None, refl, sym, ap, ap₂, ◌∙◌, ◌⊎◌, inl, inr, ⊎_elim, arith, subst}
+use Rattle.std.proofs.Common.{◌≡◌, ℕ, ◌+◌, ◌<◌, ◌≤◌, Bool, true, false, not, ◌&&◌, ◌||◌, eqb, leb, ltb, List, [], ◌∷◌, length, map, count_by, get_or, Option, Some, None, refl, sym, ap, ap₂, ◌∙◌, ◌⊎◌, ⊎_elim, arith, subst}
 use Rattle.std.specs.Prelude.{unwrap_or}
 use Rattle.std.specs.List.{find, list_all, list_any, AllByRecursion, range_with_len}
-use Rattle.std.proofs.lemmas.Bool.{and_parts, eqb-true, eq-eqb, ltb-true, lt-ltb, leb-true, le-leb, false≢true, false_from_ne_true}
+use Rattle.std.proofs.lemmas.Bool.{and_parts, eqb-true, eq-eqb, ltb-true, lt-ltb, leb-true, le-leb, false≢true, false_from_ne_true, or_cases}
 use Rattle.std.proofs.lemmas.List.FromFn.{get_or-map-range_with_len, length-map-range_with_len}
-use Rattle.std.proofs.lemmas.Slice.Eq.{bytes_eq-Decides}
 use Rattle.basic_laws.proofs.Each.{each_everywhere, each_from_list_all, each_map, each_mapped, each_range, list_all_from_each, range_each}
 use Rattle.basic_laws.proofs.Found.{find-each, find-none, find-passes, find_same}
 use Rattle.basic_laws.proofs.Lists.{map_same}
 use Rattle.basic_laws.proofs.Sums.{total, total-zero, total_eq, one_if, count_by-total}
 use Rattle.pool_definitions.specs.Lists.{includes, is_increasing}
 use Rattle.pool_definitions.specs.Pool.{Volunteer, volunteer, is_same_household, share_household, keeps_households}
-use Rattle.search_definitions.proofs.Households.{share_back}
+use Rattle.search_definitions.proofs.Households.{share_back, same_name}
 use Rattle.certificate_reasons.specs.Households.{household_number, household_numbers, none_twice}
-
-same_name : (a b : Option (List ℕ)) → is_same_household a b ≡ true → a ≡ b
-same_name None b h = absurd (false≢true h)
-same_name (Some name) None h = absurd (false≢true h)
-same_name (Some name) (Some other) h = ap Some ((bytes_eq-Decides name other).0 h)
-
-or_cases : (a b : Bool) → (a || b) ≡ true → (a ≡ true) ⊎ (b ≡ true)
-or_cases true b e = inl refl
-or_cases false b e = inr e
-
-or_right : (a b : Bool) → b ≡ true → (a || b) ≡ true
-or_right true b e = refl
-or_right false b e = e
 
 -- two tests of which each follows from the other
 pub same_tests : (a b : Bool) → (a ≡ true → b ≡ true) → (b ≡ true → a ≡ true) → a ≡ b

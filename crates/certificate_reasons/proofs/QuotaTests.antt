@@ -1,23 +1,11 @@
 -- The parts of the test of a quota panel, put together.
-use Rattle.std.proofs.Common.{◌≡◌, ℕ, ◌<◌, Bool, true, false, ◌&&◌, eqb, ltb, List, length, map, get_or, refl, sym, ap, ap₂, ◌∙◌}
+use Rattle.std.proofs.Common.{◌≡◌, ℕ, Bool, true, false, ◌&&◌, eqb, ltb, List, length, map, get_or, refl, sym, ap, ap₂, ◌∙◌}
 use Rattle.std.specs.List.{list_all}
-use Rattle.std.proofs.lemmas.Bool.{and_parts, false≢true, ltb-true}
-use Rattle.std.proofs.lemmas.List.Folds.{list_all_at}
+use Rattle.std.proofs.lemmas.Bool.{and_parts}
 use Rattle.pool_definitions.specs.Lists.{is_increasing}
 use Rattle.pool_definitions.specs.Pool.{Category, Pool, Volunteer, is_of_size, is_quota_panel, keeps_households, keeps_standings, meets_quotas}
 use Rattle.certificate_reasons.specs.Households.{household_numbers, none_twice}
 use Rattle.certificate_reasons.proofs.HouseholdNumbers.{kept_numbers_differ, many_numbers}
-
--- what each passes, the one at a place does
-pub passes_at : {X : Type 0} (p : X → Bool) (xs : List X) (j : ℕ) (d : X) → list_all p xs ≡ true → j < length xs → p (get_or xs j d) ≡ true
-passes_at p xs j d all l = by (p (get_or xs j d)) refl
-  where
-    by : (b : Bool) → p (get_or xs j d) ≡ b → p (get_or xs j d) ≡ true
-    by true e = e
-    by false e = absurd (false≢true (sym (list_all_at p xs j d l e) ∙ all))
-
-pub below_at : (n : ℕ) (xs : List ℕ) (j : ℕ) → list_all (λ i. ltb i n) xs ≡ true → j < length xs → get_or xs j 0 < n
-below_at n xs j all l = ltb-true (get_or xs j 0) n (passes_at (λ i. ltb i n) xs j 0 all l)
 
 module _ (pool : Pool) (panel : List ℕ) (size : is_of_size pool panel ≡ true) where
   abbrev first : Bool

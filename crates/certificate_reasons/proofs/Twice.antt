@@ -1,9 +1,9 @@
 -- A list of numbers, as far as it was read, in which none comes twice.
 use Rattle.std.proofs.Common.{◌≡◌, ℕ, zero, suc, ◌+◌, ◌<◌, Bool, true, false, not, ◌&&◌, ◌||◌, eqb, List, [], ◌∷◌, length, get_or, set, take, refl, sym, ap, ap₂, ◌∙◌, ⊎_elim, arith}
-use Rattle.std.proofs.lemmas.Bool.{and_parts, cases_eq, eqb-true, eq-eqb, ne_eqb, false≢true}
+use Rattle.std.proofs.lemmas.Bool.{and_parts, cases_eq, eqb-true, eq-eqb, ne_eqb, false≢true, or_parts}
 use Rattle.std.proofs.lemmas.List.{get_or-set_same, get_or-set_other}
 use Rattle.std.proofs.lemmas.List.Folds.{list_any_more}
-use Rattle.basic_laws.proofs.Tests.{or-false, or-true}
+use Rattle.std.proofs.Math.Bool.{or-false, or-true, and-false}
 use Rattle.pool_definitions.specs.Lists.{includes}
 use Rattle.certificate_reasons.specs.Households.{none_twice}
 
@@ -18,16 +18,12 @@ comes_twice [] j l e = absurd (omega arith)
 comes_twice (x ∷ xs) zero l e = absurd (false≢true e)
 comes_twice (x ∷ xs) (suc j) l e = by (eqb x (get_or xs j 0)) refl e (comes_twice xs j (omega arith))
   where
-    and_none : (b : Bool) → (b && false) ≡ false
-    and_none true = refl
-    and_none false = refl
-
     by : (b : Bool) → eqb x (get_or xs j 0) ≡ b → (b || includes (take j xs) (get_or xs j 0)) ≡ true → (includes (take j xs) (get_or xs j 0) ≡ true → none_twice xs ≡ false) →
         (not (includes xs x) && none_twice xs) ≡ false
     by true same e rest =
         let is = eqb-true x (get_or xs j 0) same in
         ap (λ b. not b && none_twice xs) (ap (includes xs) is ∙ has_at xs j (omega arith))
-    by false other e rest = ap (λ b. not (includes xs x) && b) (rest e) ∙ and_none (not (includes xs x))
+    by false other e rest = ap (λ b. not (includes xs x) && b) (rest e) ∙ and-false (not (includes xs x))
 
 -- one that didn't come before comes once
 pub comes_once : (xs : List ℕ) (j : ℕ) → j < length xs → includes (take j xs) (get_or xs j 0) ≡ false → none_twice (take j xs) ≡ true → none_twice (take (j + 1) xs) ≡ true
@@ -36,15 +32,11 @@ comes_once (x ∷ xs) zero l e once = refl
 comes_once (x ∷ xs) (suc j) l e once =
     let next : suc j + 1 ≡ suc (j + 1) = omega arith in
     let y = get_or xs j 0 in
-    let apart = or_none (eqb x y) (includes (take j xs) y) e in
+    let apart = or_parts (eqb x y) (includes (take j xs) y) e in
     let parts = and_parts (not (includes (take j xs) x)) (none_twice (take j xs)) once in
     let back : eqb y x ≡ false = ne_eqb y x (λ same. false≢true (sym apart.0 ∙ eq-eqb x y (sym same))) in
     let more : includes (take (j + 1) xs) x ≡ includes (take j xs) x = list_any_more (λ z. eqb z x) xs j 0 (omega arith) ∙ ap (λ b. includes (take j xs) x || b) back ∙ or-false (includes (take j xs) x) in
     rw next (ap₂ (λ a b. a && b) (ap not more ∙ parts.0) (comes_once xs j (omega arith) apart.1 parts.1))
-  where
-    or_none : (a b : Bool) → (a || b) ≡ false → (a ≡ false) × (b ≡ false)
-    or_none true b e = absurd (false≢true (sym e))
-    or_none false b e = (refl, e)
 
 -- the marks of what came, with one more
 pub marked_more : (xs : List ℕ) (marks : List Bool) (j h : ℕ) → j < length xs → h < length marks → ((k : ℕ) → k < length marks → get_or marks k false ≡ includes (take j xs) k) →

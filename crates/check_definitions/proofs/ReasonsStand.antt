@@ -1,9 +1,10 @@
 -- No reason stands exactly where the certificate holds.
-use Rattle.std.proofs.Common.{◌≡◌, ℕ, ◌+◌, ◌-◌, ◌^◌, Bool, true, false, cond, not, ◌&&◌, eqb, leb, ltb, List, [], ◌∷◌, map, length, ℤ, pos, Option, Some, None, refl, sym, ap, ◌∙◌, arith}
+use Rattle.std.proofs.Common.{◌≡◌, ℕ, ◌+◌, ◌-◌, ◌^◌, Bool, true, false, cond, not, eqb, leb, ltb, List, [], ◌∷◌, length, ℤ, pos, Option, Some, None, refl, sym, ap, ◌∙◌, arith}
 use Rattle.std.specs.Prelude.{int_le, int_lt, sum_by}
 use Rattle.std.specs.List.{AllByRecursion, find, list_all}
 use Rattle.std.specs.Ordering.{int_eq}
 use Rattle.std.proofs.lemmas.Bool.{and_parts, eqb-true, eq-eqb, false≢true, false_from_ne_true, le-leb, le-ltb, leb-true, ltb-false, not-false, not_from_true}
+use Rattle.std.proofs.lemmas.List.Folds.{list_all-map}
 use borrow.Author.Differences.{le-true, lt-false, lt-true, true_is_le}
 use Rattle.basic_laws.proofs.Each.{each_append, each_from_list_all, each_left, each_map, each_right, list_all_from_each}
 use Rattle.basic_laws.proofs.Found.{find-none}
@@ -58,10 +59,6 @@ all_pass p q f xs e = list_all_from_each q xs (each_map (λ x. p x ≡ false) (�
 
 none_fails : {X : Type 0} (p q : X → Bool) → ((x : X) → q x ≡ true → p x ≡ false) → (xs : List X) → list_all q xs ≡ true → find p xs ≡ None
 none_fails p q f xs h = none_found p xs (each_map (λ x. q x ≡ true) (λ x. p x ≡ false) f xs (each_from_list_all q xs h))
-
-list_all-map : {X Y : Type 0} (q : Y → Bool) (f : X → Y) (xs : List X) → list_all q (map f xs) ≡ list_all (λ x. q (f x)) xs
-list_all-map q f [] = refl
-list_all-map q f (x ∷ xs) = ap (λ rest. q (f x) && rest) (list_all-map q f xs)
 
 panels_pass : (q : List ℕ → Bool) (lottery : Lottery) → find (λ panel. not (q panel)) (listed lottery) ≡ None → list_all (λ row. q row.panel) lottery.rows ≡ true
 panels_pass q lottery e = sym (list_all-map q (λ (row : LotteryRow). row.panel) lottery.rows) ∙ all_pass (λ panel. not (q panel)) q (λ panel. not-false (q panel)) (listed lottery) e

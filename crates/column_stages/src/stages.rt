@@ -101,7 +101,7 @@ fn stage(
     let stage = KindStage {
         weights,
         cap,
-        leaf: None,
+        shown_by: None,
     };
     Ok((stage, share))
 }

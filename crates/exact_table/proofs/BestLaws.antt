@@ -4,6 +4,7 @@ use Rattle.std.specs.List.{find, list_all, range_with_len}
 use Rattle.std.proofs.lemmas.Bool.{cases_eq, and_parts}
 use Rattle.basic_laws.proofs.Integers.{lt-tested}
 use Rattle.basic_laws.proofs.Each.{each_from_list_all}
+use Rattle.basic_laws.proofs.Found.{find_range-none, find_range-first}
 use Rattle.row_definitions.specs.declared.Var.{Var}
 use Rattle.row_definitions.specs.declared.Var.TheVariants.{Slack}
 use Rattle.row_definitions.specs.Table.{Table, coefficient_at, row_at, basic_at, row_numbers}
@@ -18,18 +19,10 @@ use Rattle.exact_table.specs.Best.{better, best_of}
 one_left : (k n : ℕ) → k < n → n - k ≡ suc (n - (k + 1))
 one_left k n l = omega arith
 
-pub find_from-found : {X : Type 0} (p : X → Bool) (f : ℕ → X) (k n : ℕ) → k < n → p (f k) ≡ true → find p (map f (range_with_len k (n - k))) ≡ Some (f k)
-find_from-found p f k n l e =
-    ap (λ m. find p (map f (range_with_len k m))) (one_left k n l)
-    ∙ ap (λ b. cond b (Some (f k)) (find p (map f (range_with_len (k + 1) (n - (k + 1)))))) e
-
 pub find_from-more : {X : Type 0} (p : X → Bool) (f : ℕ → X) (k n : ℕ) → k < n → p (f k) ≡ false → find p (map f (range_with_len k (n - k))) ≡ find p (map f (range_with_len (k + 1) (n - (k + 1))))
 find_from-more p f k n l e =
     ap (λ m. find p (map f (range_with_len k m))) (one_left k n l)
     ∙ ap (λ b. cond b (Some (f k)) (find p (map f (range_with_len (k + 1) (n - (k + 1)))))) e
-
-pub find_from-end : {X : Type 0} (p : X → Bool) (f : ℕ → X) (k n : ℕ) → n ≤ k → find p (map f (range_with_len k (n - k))) ≡ None
-find_from-end p f k n l = let e : n - k ≡ 0 = omega arith in ap (λ m. find p (map f (range_with_len k m))) e
 
 -- in the one list, or else in the other
 pub find-left : {X : Type 0} (p : X → Bool) (xs ys : List X) (x : X) → find p xs ≡ Some x → find p (xs ++ ys) ≡ Some x
@@ -47,22 +40,6 @@ find-right p (y ∷ xs) ys e = by (p y) e (λ f. find-right p xs ys f)
     by : (b : Bool) → cond b (Some y) (find p xs) ≡ None → (find p xs ≡ None → find p (xs ++ ys) ≡ find p ys) → cond b (Some y) (find p (xs ++ ys)) ≡ find p ys
     by true f rest = absurd cc
     by false f rest = rest f
-
-find_range-none : (p : ℕ → Bool) (a n : ℕ) → ((k : ℕ) → a ≤ k → k < a + n → p k ≡ false) → find p (range_with_len a n) ≡ None
-find_range-none p a zero h = refl
-find_range-none p a (suc n) h =
-    ap (λ b. cond b (Some a) (find p (range_with_len (a + 1) n))) (h a (omega arith) (omega arith))
-    ∙ find_range-none p (a + 1) n (λ k l m. h k (omega arith) (omega arith))
-
-find_range-first : (p : ℕ → Bool) (a n b : ℕ) → a ≤ b → b < a + n → p b ≡ true → ((k : ℕ) → a ≤ k → k < b → p k ≡ false) → find p (range_with_len a n) ≡ Some b
-find_range-first p a zero b l m e h = absurd (omega arith)
-find_range-first p a (suc n) b l m e h = ⊎_elim here (λ o. later o (find_range-first p (a + 1) n b (omega arith) (omega arith) e (λ k l m. h k (omega arith) m))) (cases_eq b a)
-  where
-    here : b ≡ a → find p (range_with_len a (suc n)) ≡ Some b
-    here s = ap (λ t. cond t (Some a) (find p (range_with_len (a + 1) n))) (ap p (sym s) ∙ e) ∙ ap Some (sym s)
-
-    later : b ≢ a → find p (range_with_len (a + 1) n) ≡ Some b → find p (range_with_len a (suc n)) ≡ Some b
-    later o rest = ap (λ t. cond t (Some a) (find p (range_with_len (a + 1) n))) (h a (omega arith) (omega arith)) ∙ rest
 
 module _ (table : Table) (v : Var) (sides : (i : ℕ) → i < length table.rows → pos 0 ≤ℤ (row_at table i).b) where
   -- what is so of the best of the first n rows

@@ -3,7 +3,7 @@ use Rattle.std.proofs.Common.{◌≡◌, ℕ, zero, suc, ◌+◌, ◌<◌, Bool,
 use Rattle.std.specs.Prelude.{slice_get}
 use Rattle.std.specs.List.{list_all}
 use Rattle.std.proofs.lemmas.Bool.{and_from, eqb-true, eqb-false}
-use Rattle.front_laws.specs.Beside.{EachHas, FirstHave}
+use Rattle.front_laws.specs.Beside.{FirstHave}
 
 pub get_set_same : {X : Type 0} (xs : List X) (i j : ℕ) (x y : X) → j ≡ i → slice_get (set xs i x) j ≡ Some y → y ≡ x
 get_set_same [] i j x y e h = cc
@@ -55,6 +55,3 @@ first_more {P = P} xs done ys x y to here has = record {
         subst (λ q. P q w) (sym is) (subst (P x) (sym h.1) has)
   ];
 }
-
-pub first_all : {X Y : Type 0} {P : X → Y → Type 0} (xs : List X) (done : ℕ) (ys : List Y) → FirstHave P xs done ys → done ≡ length xs → EachHas P xs ys
-first_all xs done ys to e = record { one_each = to.long ∙ e; each = to.each }

@@ -5,12 +5,11 @@ use Rattle.std.proofs.Math.Seq.{take-length}
 use Rattle.std.proofs.Math.ListN.{get_or-append}
 use Rattle.std.proofs.lemmas.Bool.{ltb-true, ltb-false}
 use Rattle.std.proofs.lemmas.List.{length-take-le, take-append-drop, take-append-le, get_or-append-add}
-use Rattle.std.proofs.lemmas.List.Elements.{All-get_or}
+use Rattle.std.proofs.lemmas.List.Elements.{All-get_or, All-from_recursion}
 use Rattle.std.proofs.lemmas.List.Sums.{get_or-le-sum_by}
 use Rattle.std.proofs.lemmas.Option.{slice_get-get_or}
 use Rattle.search_definitions.specs.Classes.{Class, Classes, KeepsLimits}
 use Rattle.search_definitions.specs.Fronts.{sizes_of}
-use Rattle.search_definitions.proofs.Limits.{all_from_each}
 use Rattle.front_laws.specs.Front.{AreWithin, CanTake, FrontTally, Tracks}
 use Rattle.front_laws.proofs.Tracking.{Stands}
 use Rattle.front_laws.proofs.WeightLaws.{element_at}
@@ -77,13 +76,10 @@ same_class all depth class other stands e = let here = place_is all depth class 
 pub class_limits : (all : Classes) (depth : ℕ) (class : Class) → KeepsLimits all → Stands all depth class → (class.least ≤ class.most) × (class.most ≤ length class.members) × (length class.members ≤ 400)
 class_limits all depth class limits stands =
     let here = stands.is in let sum = limits.few_members in
-    let low = All-get_or (λ (class : Class). class.least ≤ class.most) all.classes depth class stands.below (all_from_each (λ (class : Class). class.least ≤ class.most) all.classes limits.searchable.in_order) in
+    let low = All-get_or (λ (class : Class). class.least ≤ class.most) all.classes depth class stands.below (All-from_recursion (λ (class : Class). class.least ≤ class.most) all.classes limits.searchable.in_order) in
     let most = All-get_or (λ (class : Class). class.most ≤ length class.members) all.classes depth class stands.below limits.most in
     let one = get_or-le-sum_by (λ (class : Class). length class.members) all.classes depth class stands.below in
     (rw here (omega arith), rw here (omega arith), rw here (omega arith))
-
-pub none_within : (all : Classes) → AreWithin all []
-none_within all t l = absurd (omega arith)
 
 pub within_more : (all : Classes) (front : List ℕ) (depth count : ℕ) → length front ≡ depth → depth < length all.classes → CanTake all depth count → AreWithin all front → AreWithin all (front ++ count ∷ [])
 within_more all front depth count long below can within t l =

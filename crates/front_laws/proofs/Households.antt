@@ -2,12 +2,11 @@
 use Rattle.std.proofs.Common.{◌≡◌, ℕ, ◌+◌, ◌≤◌, Bool, true, false, cond, eqb, leb, List, [], ◌∷◌, ◌++◌, length, Option, Some, None, refl, sym, ap, ◌∙◌, arith, subst}
 use Rattle.std.specs.Prelude.{slice_index}
 use Rattle.std.proofs.lemmas.Bool.{eqb-true, eq-eqb, false≢true, false_from_ne_true}
-use Rattle.std.proofs.lemmas.List.Elements.{All-get_or}
+use Rattle.std.proofs.lemmas.List.Elements.{All-get_or, All-from_recursion}
 use Rattle.basic_laws.proofs.Each.{each_from_list_all, list_all_implies}
 use Rattle.search_definitions.specs.Classes.{Class, Classes, IsKnownHousehold, KeepsLimits, volunteer_count}
 use Rattle.search_definitions.specs.Compositions.{taken_of, is_of_household, takes_one_of, takes_one_a_household}
 use Rattle.search_definitions.specs.Fronts.{is_reachable, taken_by}
-use Rattle.search_definitions.proofs.Limits.{all_from_each}
 use Rattle.front_laws.specs.Front.{FrontTally, Tracks}
 use Rattle.front_laws.specs.Homes.{AreFew, CanGiveAt, HasMoreAt, has_room}
 use Rattle.front_laws.proofs.Tracking.{Stands, few_taken, taken_more, taken_within_all}
@@ -86,7 +85,7 @@ module _ (all : Classes) (front : List ℕ) (class : Class) (count : ℕ) (rest 
   two_taken (Some h) same room =
       false_from_ne_true (takes_one_a_household all.classes (front ++ count ∷ []))
       (λ yes.
-      let each = all_from_each (λ (class : Class). takes_one_of all.classes (front ++ count ∷ []) class.household ≡ true) all.classes
+      let each = All-from_recursion (λ (class : Class). takes_one_of all.classes (front ++ count ∷ []) class.household ≡ true) all.classes
       (each_from_list_all (λ (class : Class). takes_one_of all.classes (front ++ count ∷ []) class.household) all.classes yes) in
       let here = All-get_or (λ (class : Class). takes_one_of all.classes (front ++ count ∷ []) class.household ≡ true) all.classes (length front) class stands.below each in
       let at_class : takes_one_of all.classes (front ++ count ∷ []) (Some h) ≡ true =

@@ -2,7 +2,7 @@
 use Rattle.std.proofs.Common.{◌≡◌, ℕ, zero, suc, ◌+◌, ◌<◌, Bool, true, false, cond, ◌&&◌, leb, List, [], ◌∷◌, ◌++◌, length, drop, Some, refl, sym, ap, ◌∙◌, arith, subst, length-append}
 use Rattle.std.specs.Prelude.{slice_get, slice_index, slice_index_or}
 use Rattle.std.specs.List.{list_all, enumerate_from}
-use Rattle.std.proofs.lemmas.Bool.{and_parts, and_from, eqb-true, eq-eqb, false≢true, false_from_ne_true}
+use Rattle.std.proofs.lemmas.Bool.{and_parts, and_from, eqb-true, false≢true, false_from_ne_true}
 use Rattle.std.proofs.lemmas.Option.{get_or_from_slice_get, slice_get-get_or, slice_get_within}
 use Rattle.search_definitions.specs.declared.Bounds.{Bounds}
 use Rattle.search_definitions.specs.Classes.{Class, Classes, HasPlaces, KeepsLimits}
@@ -10,7 +10,7 @@ use Rattle.search_definitions.specs.Compositions.{taken_of, has_value, takes_one
 use Rattle.search_definitions.specs.Fronts.{most_given, is_reachable, size_reachable, value_reachable, values_reachable, later_than}
 use Rattle.front_laws.specs.Tallies.{cell, HasBound, reaches, AllReach, EachReaches, SomeFails}
 use Rattle.front_laws.specs.Front.{FrontTally, Tracks}
-use Rattle.front_laws.proofs.Tracking.{Stands, comes_next, few_places, most_more, taken_more}
+use Rattle.front_laws.proofs.Tracking.{Stands, comes_next, few_places, most_more, taken_more, own_value}
 
 -- ---- a test of each element with its place
 
@@ -98,10 +98,7 @@ pub reach_of_child : (all : Classes) (front : List ℕ) (class : Class) (count :
 reach_of_child all front class count tally limits places stands tracks all_reach = λ c bound below has.
     let v = slice_index class.values c in
     let lt : c < length all.bounds = omega (arith, places.one_each) in
-    sym (own_reach all front class count tally stands tracks c v bound lt (value_in_cell all limits c v bound lt has) (own class c)) ∙ values_at all (front ++ count ∷ []) all_reach c v bound lt has
-  where
-    own : (class : Class) (c : ℕ) → has_value c (slice_index class.values c) class ≡ true
-    own class c = eq-eqb (slice_index class.values c) (slice_index class.values c) refl
+    sym (own_reach all front class count tally stands tracks c v bound lt (value_in_cell all limits c v bound lt has) (own_value class c)) ∙ values_at all (front ++ count ∷ []) all_reach c v bound lt has
 
 pub size_of_child : (all : Classes) (front : List ℕ) (class : Class) (count : ℕ) (tally : FrontTally) → Stands all (length front) class → Tracks all front (drop (length front + 1) all.classes) tally →
     size_reachable all (front ++ count ∷ []) ≡ (leb (tally.taken + count) all.size && leb all.size (tally.taken + count + tally.later_taken))

@@ -1,17 +1,17 @@
 -- A tally follows its front, as a class begins and ends and counts are taken of it.
-use Rattle.std.proofs.Common.{◌≡◌, ℕ, suc, ◌+◌, ◌*◌, ◌≤◌, ◌<◌, Bool, true, false, cond, ◌&&◌, List, [], ◌∷◌, ◌++◌, length, sum_by, take, drop, get_or, replicate, refl, sym, ap, ◌∙◌, arith, subst}
+use Rattle.std.proofs.Common.{◌≡◌, ℕ, ◌+◌, ◌*◌, ◌≤◌, ◌<◌, Bool, true, false, cond, ◌&&◌, List, [], ◌∷◌, ◌++◌, length, sum_by, take, drop, get_or, replicate, refl, sym, ap, ◌∙◌, arith, subst}
 use Rattle.std.specs.Prelude.{slice_index, slice_index_or}
-use Rattle.std.specs.List.{All, AllByRecursion}
+use Rattle.std.specs.List.{AllByRecursion}
 use Rattle.std.proofs.lemmas.Bool.{eq-eqb, leb-true, and_parts}
 use Rattle.std.proofs.lemmas.List.{get_or-replicate, length-replicate, drop_more, take-append-drop, length-take-le}
-use Rattle.std.proofs.lemmas.List.Elements.{All-get_or}
+use Rattle.std.proofs.lemmas.List.Elements.{All-get_or, recursion_from_All}
 use Rattle.std.proofs.lemmas.List.Sums.{get_or-le-sum_by, sum_by-take-drop, sum_by-take-le}
 use Rattle.basic_laws.proofs.Sums.{sum_by-is-total, total}
 use Rattle.search_definitions.specs.declared.Bounds.{Bounds}
 use Rattle.search_definitions.specs.Classes.{Class, Classes, HasPlaces, KeepsLimits, volunteer_count}
 use Rattle.search_definitions.specs.Compositions.{taken_of, has_value, is_of_household, takes_one_a_household}
 use Rattle.search_definitions.specs.Fronts.{most_given, taken_by, is_reachable, size_reachable, values_reachable}
-use Rattle.search_definitions.proofs.FirstSearch.{Split, taken_split}
+use Rattle.search_definitions.proofs.FirstSearch.{Split, taken_split, taken_none}
 use Rattle.front_laws.specs.Tallies.{cell, HaveCells, CanGive, AreAtMost, HasMore, HaveBounds, AllReach, FitCells, EachReaches, SomeFails}
 use Rattle.front_laws.specs.Front.{FrontTally, Gives, Tracks}
 use Rattle.front_laws.specs.Homes.{HasMoreAt}
@@ -85,13 +85,6 @@ few_taken all front p limits live =
     let parts = and_parts (size_reachable all front) (values_reachable all front) both.0 in
     let low = leb-true (taken_by all front) all.size (and_parts _ _ parts.0).0 in
     let within = taken_within_all p all.classes front in let size = limits.size.1 in omega arith
-
-taken_none : (p : Class → Bool) (classes : List Class) → taken_of p classes [] ≡ 0
-taken_none p [] = refl
-taken_none p (class ∷ classes) = refl
-
-pub nothing_taken : (p : Class → Bool) (classes : List Class) → taken_of p classes [] ≡ 0
-nothing_taken p classes = taken_none p classes
 
 -- ---- a front and the classes after it
 
@@ -172,21 +165,17 @@ given_back all front class count rest before after places stands tracks e f g mo
 
 -- ---- what the tallies of values need
 
-pub each_of : {X : Type 0} (P : X → Type 0) (xs : List X) → All P xs → AllByRecursion P xs
-each_of P [] h = tt
-each_of P (x ∷ xs) h = (h 0 x (omega arith), each_of P xs (λ k d l. h (suc k) d (omega arith)))
-
 pub most_small : (all : Classes) (i : ℕ) (p : Class → Bool) → KeepsLimits all → most_given p (drop i all.classes) ≤ 400
 most_small all i p limits =
     let parts = sum_by-take-drop (λ class. cond (p class) class.most 0) all.classes i in
-    let whole = most_of_members p all.classes (each_of (λ (class : Class). class.most ≤ length class.members) all.classes limits.most) in
+    let whole = most_of_members p all.classes (recursion_from_All (λ (class : Class). class.most ≤ length class.members) all.classes limits.most) in
     omega (arith, limits.few_members)
 
 -- the first classes give few too
 pub first_small : (all : Classes) (i : ℕ) (p : Class → Bool) → KeepsLimits all → most_given p (take i all.classes) ≤ 400
 first_small all i p limits =
     let part = sum_by-take-le (λ class. cond (p class) class.most 0) all.classes i in
-    let whole = most_of_members p all.classes (each_of (λ (class : Class). class.most ≤ length class.members) all.classes limits.most) in
+    let whole = most_of_members p all.classes (recursion_from_All (λ (class : Class). class.most ≤ length class.members) all.classes limits.most) in
     omega (arith, limits.few_members)
 
 pub few_given : (all : Classes) (i n total : ℕ) (cells : List ℕ) → KeepsLimits all → n ≡ length all.bounds → Gives all (take i all.classes) total cells → AreAtMost 1000000 n cells
@@ -223,7 +212,7 @@ small_held all front rest n tally e small tracks = λ c v a b. omega (arith, tra
 pub few_held : (all : Classes) (front : List ℕ) (rest : List Class) (n : ℕ) (tally : FrontTally) → KeepsLimits all → n ≡ length all.bounds → is_reachable all front ≡ true → Tracks all front rest tally → AreAtMost 1000000 n tally.held
 few_held all front rest n tally limits e live tracks = small_held all front rest n tally e (omega (arith, few_taken all front (λ class. true) limits live)) tracks
 
-own_value : (class : Class) (c : ℕ) → has_value c (slice_index class.values c) class ≡ true
+pub own_value : (class : Class) (c : ℕ) → has_value c (slice_index class.values c) class ≡ true
 own_value class c = eq-eqb (slice_index class.values c) (slice_index class.values c) refl
 
 -- a class that comes next can leave what comes later

@@ -9,6 +9,7 @@ use Rattle.std.proofs.Math.ListN.{get_or-append}
 use Rattle.std.proofs.lemmas.Nat.{mul-add-lt}
 use Rattle.std.proofs.lemmas.Grind.{get_or-set_at}
 use Rattle.std.proofs.lemmas.Int.{ints, clamps}
+use Rattle.std.proofs.lemmas.List.Elements.{recursion_from_All}
 use borrow.Author.Differences.{le-true, le-false}
 use Rattle.basic_laws.proofs.Each.{each_map}
 use Rattle.basic_laws.proofs.Sums.{total}
@@ -18,7 +19,7 @@ use Rattle.search_definitions.specs.Classes.{Class, Classes, KeepsLimits}
 use Rattle.search_definitions.specs.Fronts.{most_given, put_falling, falling, units, sum_of, greatest_sum}
 use Rattle.search_definitions.proofs.GreatestSum.{AtMost, Falls, falling_falls, length-falling, length-replicate}
 use Rattle.front_laws.specs.Weights.{cell_of, HoldsSums, IsGreater, HasUnit, AreGreatest, AreNarrow, at, units_from}
-use Rattle.front_laws.proofs.Tracking.{Stands, comes_next, each_of, most_more, most_small}
+use Rattle.front_laws.proofs.Tracking.{Stands, comes_next, most_more, most_small}
 
 -- ---- sums
 
@@ -176,9 +177,6 @@ units_width (class ∷ classes) (x ∷ entries) h =
     let here = mul-le-mul_right (unsigned_abs x) h.0 in
     omega (arith, here, same_units_width class.most x (units classes entries), units_width classes entries h.1)
 
-pub many_long : (m : ℕ) (x : ℤ) (us : List ℤ) → length (replicate m x ++ us) ≡ m + length us
-many_long = length-replicate
-
 -- ---- the units of the classes from a place on
 
 -- a class's units, and those of the classes after it
@@ -203,7 +201,7 @@ drop_units (suc i) (class ∷ classes) (x ∷ entries) = omega (arith, drop_unit
 -- the units of some classes fit 128 bits
 pub units_narrow : (all : Classes) (entries : List ℤ) (place : ℕ) → KeepsLimits all → AreNarrow all entries → width (units_from all entries place) < 2 ^ 127
 units_narrow all entries place limits narrow =
-    omega (arith, drop_units place all.classes entries, units_width all.classes entries (each_of (λ (class : Class). class.most ≤ length class.members) all.classes limits.most), narrow.narrow)
+    omega (arith, drop_units place all.classes entries, units_width all.classes entries (recursion_from_All (λ (class : Class). class.most ≤ length class.members) all.classes limits.most), narrow.narrow)
 
 -- one more unit of a class fits too
 pub unit_fits : (all : Classes) (entries : List ℤ) (place : ℕ) (class : Class) (done n : ℕ) → KeepsLimits all → AreNarrow all entries → Stands all place class → done < class.most →

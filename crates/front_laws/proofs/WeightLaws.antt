@@ -7,6 +7,8 @@ use Rattle.std.proofs.lemmas.Int.{ints, unsigned_abs-mul}
 use Rattle.std.proofs.lemmas.List.{take-append-le, length-take-le, length-set, get_or-set_other}
 use Rattle.std.proofs.lemmas.Grind.{get_or-set_at}
 use Rattle.std.proofs.lemmas.Nat.{mul-add-lt}
+use Rattle.std.proofs.lemmas.List.Elements.{recursion_from_All}
+use Rattle.std.proofs.Math.Seq.{take-length}
 use Rattle.basic_laws.proofs.Sums.{sum_by-is-total}
 use Rattle.row_definitions.specs.Row.{Row, sum_of_sizes}
 use Rattle.row_definitions.proofs.SumLaws.{abs_sum_le}
@@ -16,11 +18,7 @@ use Rattle.search_definitions.specs.Fronts.{sizes_of, is_reachable, size_reachab
 use Rattle.front_laws.specs.Front.{AreWithin}
 use Rattle.front_laws.specs.Weights.{at, cell_of, AreNarrow, HoldsSums, Weighs}
 use Rattle.front_laws.proofs.UnitSums.{width, greatest_width, units_width}
-use Rattle.front_laws.proofs.Tracking.{each_of, taken_more}
-
-pub take_whole : (xs : List ℕ) → take (length xs) xs ≡ xs
-take_whole [] = refl
-take_whole (x ∷ xs) = ap (λ (l : List ℕ). x ∷ l) (take_whole xs)
+use Rattle.front_laws.proofs.Tracking.{taken_more}
 
 -- a front's weight with so many of the next class
 pub weight_more : (entries : List ℤ) (front : List ℕ) (count : ℕ) → length front < length entries → weight_in entries (front ++ count ∷ []) ≡ weight_in entries front +ℤ pos count *ℤ at entries (length front)
@@ -54,7 +52,7 @@ pub child_narrow : (all : Classes) (entries : List ℤ) (front : List ℕ) (coun
     unsigned_abs (weight_in entries front) + count * unsigned_abs (at entries (length front)) + unsigned_abs (greatest_sum n (drop (length front + 1) all.classes) (drop (length front + 1) entries)) < 2 ^ 127
 child_narrow all entries front count n limits narrow below within =
     let e : suc (length front) ≡ length front + 1 = omega arith in
-    let most = each_of (λ (class : Class). class.most ≤ length class.members) all.classes limits.most in
+    let most = recursion_from_All (λ (class : Class). class.most ≤ length class.members) all.classes limits.most in
     let front_fits = subst (λ k. unsigned_abs (weight_in entries front) + count * unsigned_abs (at entries (length front)) + width (units (drop k all.classes) (drop k entries)) ≤ sum_of_sizes (sizes_of all) entries) e
     (front_width all.classes entries front count most narrow.one_each below within) in
     omega (arith, front_fits, greatest_width n (units (drop (length front + 1) all.classes) (drop (length front + 1) entries)), narrow.narrow)
@@ -76,7 +74,7 @@ front_width_whole (class ∷ classes) (x ∷ entries) (c ∷ front) most e l wit
 pub front_narrow : (all : Classes) (entries : List ℤ) (front : List ℕ) (n : ℕ) → KeepsLimits all → AreNarrow all entries → length front ≤ length all.classes → AreWithin all front →
     unsigned_abs (weight_in entries front +ℤ greatest_sum n (drop (length front) all.classes) (drop (length front) entries)) < 2 ^ 127
 front_narrow all entries front n limits narrow few within =
-    let most = each_of (λ (class : Class). class.most ≤ length class.members) all.classes limits.most in
+    let most = recursion_from_All (λ (class : Class). class.most ≤ length class.members) all.classes limits.most in
     let greatest = greatest_sum n (drop (length front) all.classes) (drop (length front) entries) in
     omega (
       arith,
@@ -151,7 +149,7 @@ weighs_child all row front count before after narrow below weighs e = record {
         let size : depth ≡ length (front ++ count ∷ []) = omega (arith, length-append front (count ∷ [])) in
         ap (λ xs. at xs depth) e ∙ get_or-set_at before (length front + 1) depth _ (pos 0) same (omega (arith, weighs.room))
         ∙ sym (weight_more row.a front count (omega (arith, narrow.one_each)))
-        ∙ ap (weight_in row.a) (sym (ap (λ n. take n (front ++ count ∷ [])) size ∙ take_whole (front ++ count ∷ [])))
+        ∙ ap (weight_in row.a) (sym (ap (λ n. take n (front ++ count ∷ [])) size ∙ take-length (front ++ count ∷ [])))
 
 -- what weighs a child weighs the front that it goes on from
 pub weighs_front : (all : Classes) (row : Row) (front : List ℕ) (count : ℕ) (weighing : List ℤ) → Weighs all row (front ++ count ∷ []) weighing → Weighs all row front weighing
@@ -171,12 +169,6 @@ weighs_none all row weighing room none = record {
   room = room;
   each = λ depth l. let e : depth ≡ 0 = omega arith in ap (at weighing) e ∙ none ∙ sym (no_weight row.a) ∙ ap (λ n. weight_in row.a (take n [])) (sym e);
 }
-
--- the first counts of a front, and with the next one
-pub front_next : (front : List ℕ) (depth : ℕ) → depth < length front → take (depth + 1) front ≡ take depth front ++ get_or front depth 0 ∷ []
-front_next [] depth l = absurd (omega arith)
-front_next (c ∷ front) zero l = refl
-front_next (c ∷ front) (suc depth) l = let e : suc depth + 1 ≡ suc (depth + 1) = omega arith in rw e (ap (λ (xs : List ℕ). c ∷ xs) (front_next front depth (omega arith)))
 
 -- each of the first counts is within its class's size too
 pub within_first : (all : Classes) (front : List ℕ) (depth : ℕ) → AreWithin all front → depth ≤ length front → AreWithin all (take depth front)

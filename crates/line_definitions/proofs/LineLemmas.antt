@@ -9,6 +9,7 @@ use Rattle.std.proofs.lemmas.List.Elements.{All-cons, All-from_recursion}
 use Rattle.std.proofs.Common.{cond, lit<, length-append}
 use Rattle.std.proofs.Math.Seq.{get_or-append_seam, take-append_seam, drop-append-add}
 use Rattle.std.proofs.lemmas.List.Splits.{slice_split_at, slice_split_none, join_with_byte-slice_split}
+use Rattle.std.proofs.lemmas.Grind.{flat_map-append}
 use Rattle.line_definitions.specs.Lines.{tab, tabbed, line_feed, line_of, text_of, fields_of, pieces_of}
 
 -- both sides of an ASCII byte are text where the whole is
@@ -111,13 +112,6 @@ line_added text word first fields =
     let regrouped : (((text ++ word) ++ (tab ∷ first)) ++ tabbed fields) ++ line_feed ∷ [] ≡ text ++ ((word ++ tabbed (first ∷ fields)) ++ line_feed ∷ []) = simp append_assoc in
     regrouped ∙ ap (λ line. text ++ line) (line_written word (first ∷ fields))
 
--- one field more
-pub line_of-more : (first : List ℕ) (fields : List (List ℕ)) (field : List ℕ) → line_of (first ∷ (fields ++ field ∷ [])) ≡ line_of (first ∷ fields) ++ (tab ∷ field)
-line_of-more first [] field = refl
-line_of-more first (next ∷ fields) field =
-    ap (λ rest. first ++ (tab ∷ rest)) (line_of-more next fields field)
-    ∙ sym (append_assoc first (tab ∷ line_of (next ∷ fields)) (tab ∷ field))
-
--- a line and LF
-pub line_ended : (line : List ℕ) → line ++ line_feed ∷ [] ≡ text_of (line ∷ [])
-line_ended line = sym (append-nil (line ++ line_feed ∷ []))
+-- lines behind lines
+pub text_of-append : (text : List ℕ) (xs ys : List (List ℕ)) → (text ++ text_of xs) ++ text_of ys ≡ text ++ text_of (xs ++ ys)
+text_of-append text xs ys = append_assoc text (text_of xs) (text_of ys) ∙ ap (λ lines. text ++ lines) (sym (flat_map-append (λ line. line ++ line_feed ∷ []) xs ys))

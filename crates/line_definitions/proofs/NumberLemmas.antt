@@ -1,5 +1,5 @@
 -- Numbers and their digits.
-use Rattle.std.proofs.Common.{◌≡◌, ◌≢◌, ℕ, suc, ◌<◌, ◌≤◌, ◌^◌, Bool, true, false, ◌&&◌, cond, leb, eqb, List, [], ◌∷◌, get_or, refl, ◌∙◌, ap, subst, arith, Some, None}
+use Rattle.std.proofs.Common.{◌≡◌, ◌≢◌, ℕ, suc, ◌<◌, ◌≤◌, ◌^◌, true, false, ◌&&◌, cond, leb, eqb, List, [], ◌∷◌, get_or, refl, ◌∙◌, ap, subst, arith, Some, None}
 use Rattle.std.specs.Prelude.{ℤ, pos, negsuc, neg_ℤ, bytes_eq, unsigned_abs}
 use Rattle.std.specs.Fmt.{decimal, signed_decimal}
 use Rattle.std.specs.Str.Parse.{IsNumeral, digits_value, signed_digits_value, without_leading_sign}
@@ -7,6 +7,7 @@ use Rattle.std.proofs.lemmas.Bool.{and_from, and_parts, leb-true, le-leb, ne_eqb
 use Rattle.std.proofs.lemmas.Fmt.{decimal_is_IsNumeral_wide}
 use Rattle.std.proofs.lemmas.Str.Parse.{digit_from_value}
 use Rattle.std.proofs.lemmas.Slice.Eq.{bytes_eq-Decides}
+use Rattle.std.proofs.lemmas.Option.{cond_some}
 use Rattle.line_definitions.specs.Numbers.{number_up_to, signed_up_to}
 
 pub bytes_are : (xs ys : List ℕ) → bytes_eq xs ys ≡ true → xs ≡ ys
@@ -14,11 +15,6 @@ bytes_are xs ys h = (bytes_eq-Decides xs ys).0 h
 
 pub bytes_same : (xs ys : List ℕ) → xs ≡ ys → bytes_eq xs ys ≡ true
 bytes_same xs ys h = (bytes_eq-Decides xs ys).1 h
-
--- what a test lets through passes it
-pub let_through : {A : Type 0} (test : Bool) (x y : A) → cond test (Some x) None ≡ Some y → (test ≡ true) × (x ≡ y)
-let_through true x y h = (refl, cc)
-let_through false x y h = cc
 
 -- a number up to the limit is read again
 pub number_again : (limit n : ℕ) → n < 10 ^ 64 → n ≤ limit → number_up_to limit (decimal n) ≡ Some n
@@ -31,7 +27,7 @@ number_again limit n small h =
 pub number_spelled : (limit n : ℕ) (field : List ℕ) → number_up_to limit field ≡ Some n → (decimal n ≡ field) × (n ≤ limit)
 number_spelled limit n field h =
     let value = digits_value 10 field in
-    let found = let_through (bytes_eq (decimal value) field && leb value limit) value n h in
+    let found = cond_some (bytes_eq (decimal value) field && leb value limit) value n h in
     let parts = and_parts (bytes_eq (decimal value) field) (leb value limit) found.0 in
     subst (λ m. (decimal m ≡ field) × (m ≤ limit)) found.1 (bytes_are (decimal value) field parts.0, leb-true value limit parts.1)
 
@@ -74,7 +70,7 @@ signed_again limit z small h =
 pub signed_spelled : (limit : ℕ) (z : ℤ) (field : List ℕ) → signed_up_to limit field ≡ Some z → (signed_decimal z ≡ field) × (unsigned_abs z ≤ limit)
 signed_spelled limit z field h =
     let value = signed_digits_value 10 field in
-    let found = let_through (bytes_eq (signed_decimal value) field && leb (unsigned_abs value) limit) value z h in
+    let found = cond_some (bytes_eq (signed_decimal value) field && leb (unsigned_abs value) limit) value z h in
     let parts = and_parts (bytes_eq (signed_decimal value) field) (leb (unsigned_abs value) limit) found.0 in
     subst (λ y. (signed_decimal y ≡ field) × (unsigned_abs y ≤ limit)) found.1 (bytes_are (signed_decimal value) field parts.0, leb-true (unsigned_abs value) limit parts.1)
 

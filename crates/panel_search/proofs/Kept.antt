@@ -1,5 +1,5 @@
 -- The rows that a pricer keeps, row after row.
-use Rattle.std.proofs.Common.{◌≡◌, ℕ, zero, suc, ◌^◌, ◌<◌, List, [], ◌∷◌, ◌++◌, length, Option, Some, Result, Ok, Err, sym, ap, ◌∙◌, arith, subst, length-append, ⊎_elim}
+use Rattle.std.proofs.Common.{◌≡◌, ℕ, ◌^◌, ◌<◌, List, [], ◌∷◌, ◌++◌, length, Option, Some, Result, Ok, Err, sym, ap, ◌∙◌, arith, subst, length-append, ⊎_elim}
 use Rattle.std.specs.Prelude.{slice_get, IfOk, Vec, vec_items}
 use Rattle.std.specs.declared.alloc.Global.{Global}
 use Rattle.std.specs.List.{AllByRecursion}
@@ -39,12 +39,6 @@ closed_more all rows sums row here kept entries reaches summed = record {
         (get_pushed rows row r i e);
   };
 }
-
--- a fact about each row of a list, at one of them
-pub row_has : (P : Row → Type 0) (rows : List Row) (i : ℕ) (row : Row) → AllByRecursion P rows → slice_get rows i ≡ Some row → P row
-row_has P [] i row h e = cc
-row_has P (r ∷ rows) zero row h e = let is : r ≡ row = cc in subst P is h.0
-row_has P (r ∷ rows) (suc i) row h e = row_has P rows i row h.1 e
 
 -- what the search kept is the answer
 pub answers_kept : (pricing : Pricing) (nodes : ℕ) (wanted : Option (List ℕ)) (r : Result (Option (List ℕ) × ℕ) SearchStop) → pricing.kept ≡ wanted → AnswersBest pricing nodes r →

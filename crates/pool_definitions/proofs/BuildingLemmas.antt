@@ -1,6 +1,6 @@
 -- What is added to a pool where no kind of fault holds keeps what each pool keeps.
 use Rattle.std.proofs.Common.{◌≡◌, ℕ, zero, suc, ◌+◌, ◌<◌, Bool, true, false, cond, eqb, ltb, leb, not, ◌&&◌, ◌||◌, List, [], ◌∷◌, ◌++◌, length, Option, Some, None, option_map, unwrap_or, refl, sym, ap, ◌∙◌, arith, add-one, get_or}
-use Rattle.std.specs.List.{list_all, AllByRecursion}
+use Rattle.std.specs.List.{list_all}
 use Rattle.std.specs.Str.{is_utf8, bytes_eq}
 use Rattle.std.proofs.lemmas.Bool.{false≢true, and_parts, and_from, or_parts, or_from, not-true, not-false, not_from_false, ltb-false, leb-false, eqb-true, eqb-false, le-leb, lt-ltb}
 use Rattle.std.proofs.lemmas.Bool.Decides.{same_from_decides}
@@ -13,18 +13,12 @@ pub use Rattle.basic_laws.proofs.Each.{list_all-push as list_all_push}
 use Rattle.basic_laws.proofs.Each.{list_all-push}
 use Rattle.pool_definitions.specs.Lists.{includes_list, all_different}
 use Rattle.pool_definitions.specs.Pool.{BoundedValue, Category, Volunteer, Pool, keeps_name_limits, is_name, is_size, are_bounds, is_value, is_category, has_values, is_household, IsPool}
-use Rattle.pool_definitions.specs.Building.{lowest_kind, category_names, value_names, ids, last_values, with_value, place_of, places_of, are_known, empty_pool, size_kind, category_added, category_kind, value_added, value_kind, volunteer_added, volunteer_kind, with_standing, standing_set, with_household, household_set, household_kind}
+use Rattle.pool_definitions.specs.Building.{category_names, value_names, ids, last_values, with_value, place_of, places_of, are_known, empty_pool, size_kind, category_added, category_kind, value_added, value_kind, volunteer_added, volunteer_kind, with_standing, standing_set, with_household, household_set, household_kind}
 
 -- where no kind is answered the first test is false, and the others answer none
 pub no_kind : (test : Bool) (kind : ℕ) (rest : Option ℕ) → cond test (Some kind) rest ≡ None → (test ≡ false) × (rest ≡ None)
 no_kind true kind rest h = cc
 no_kind false kind rest h = (refl, h)
-
--- where the lowest kind is none each test fails
-pub each_fails : (kinds : List (ℕ × Bool)) → lowest_kind kinds ≡ None → AllByRecursion (λ k. k.1 ≡ false) kinds
-each_fails [] h = tt
-each_fails ((kind, test) ∷ kinds) h =
-    let first = no_kind test kind (lowest_kind kinds) h in (first.0, each_fails kinds first.1)
 
 pub same_bytes_comm : (xs ys : List ℕ) → bytes_eq xs ys ≡ bytes_eq ys xs
 same_bytes_comm xs ys =

@@ -1,19 +1,12 @@
 -- A panel's weight in a stage stays within the sum of the absolute values of the stage's weights.
-use Rattle.std.proofs.Common.{◌≡◌, ℕ, zero, suc, ◌+◌, ◌<◌, ◌≤◌, true, ltb, leb, List, [], ◌∷◌, length, get_or, take, drop, fold, refl, sym, ◌∙◌, ap, subst, arith, ℤ, pos, negsuc, ◌+ℤ◌}
+use Rattle.std.proofs.Common.{◌≡◌, ℕ, zero, suc, ◌+◌, ◌<◌, ◌≤◌, true, ltb, leb, List, [], ◌∷◌, length, get_or, take, drop, fold, refl, sym, ◌∙◌, ap, subst, arith, ℤ, pos, ◌+ℤ◌}
 use Rattle.std.specs.Prelude.{sum_by, unsigned_abs}
 use Rattle.std.specs.List.{list_all}
 use Rattle.std.proofs.lemmas.Bool.{and_parts, ltb-true, leb-true, le-leb}
-use Rattle.std.proofs.lemmas.Int.{ints}
 use Rattle.std.proofs.lemmas.List.Sums.{sum_by-cons, sum_by-take-le}
+use Rattle.basic_laws.proofs.Integers.{abs-add}
 use Rattle.pool_definitions.specs.Lists.{is_increasing}
 use Rattle.pool_definitions.specs.Certificate.{Stage, weight_of, panel_weight}
-
--- the sum of two numbers is no greater than the sum of their absolute values
-abs-add : (a b : ℤ) → unsigned_abs (a +ℤ b) ≤ unsigned_abs a + unsigned_abs b
-abs-add (pos a) (pos b) = omega arith
-abs-add (pos a) (negsuc b) = omega (arith, ints)
-abs-add (negsuc a) (pos b) = omega (arith, ints)
-abs-add (negsuc a) (negsuc b) = omega arith
 
 -- one weight, and those behind it, are within those from a number up to it on
 one_more : (ws : List ℤ) (from m : ℕ) → from ≤ m → unsigned_abs (get_or ws m (pos 0)) + sum_by unsigned_abs (drop (suc m) ws) ≤ sum_by unsigned_abs (drop from ws)

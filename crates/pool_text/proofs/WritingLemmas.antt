@@ -3,11 +3,11 @@ use Rattle.std.proofs.Common.{◌≡◌, ℕ, zero, suc, ◌+◌, ◌<◌, true,
 use Rattle.std.proofs.lemmas.Bool.{and_parts, false≢true, ltb-true}
 use Rattle.std.proofs.lemmas.List.{append-nil}
 use Rattle.std.specs.List.{flat_map}
-use Rattle.std.proofs.lemmas.Grind.{flat_map-append}
 use Rattle.pool_definitions.specs.Pool.{Category, Pool, has_values, has_households}
 use Rattle.pool_definitions.specs.Building.{value_names}
 use Rattle.text_definitions.specs.PoolText.{version_line, size_line, category_lines, names_at, volunteer_line, household_lines, standing_lines, end_line, lines_before_end, spelling}
-use Rattle.line_definitions.specs.Lines.{tab, tabbed, line_feed, text_of}
+use Rattle.line_definitions.specs.Lines.{tab, tabbed, text_of}
+use Rattle.line_definitions.proofs.LineLemmas.{text_of-append}
 
 -- a place is that of a value of its category
 pub place_inside : (categories : List Category) (places : List ℕ) (i : ℕ) (d : Category) → has_values categories places ≡ true → i < length places → get_or places i 0 < length (get_or categories i d).values
@@ -37,10 +37,6 @@ tabbed_more (category ∷ categories) (place ∷ places) (suc i) d l m =
     rw e (ap (λ rest. first ++ rest) (tabbed_more categories places i d (omega arith) (omega arith))
     ∙ sym (append_assoc first (tabbed (names_at (take i categories) (take i places))) last))
 
--- lines behind lines
-joined : (text : List ℕ) (xs ys : List (List ℕ)) → (text ++ text_of xs) ++ text_of ys ≡ text ++ text_of (xs ++ ys)
-joined text xs ys = append_assoc text (text_of xs) (text_of ys) ∙ ap (λ lines. text ++ lines) (sym (flat_map-append (λ line. line ++ line_feed ∷ []) xs ys))
-
 -- the parts of a pool's text, one after the other
 pub pool_written : (text : List ℕ) (pool : Pool) →
     ((((((text ++ text_of (version_line (has_households pool) ∷ [])) ++ text_of (size_line pool.size ∷ [])) ++ text_of (flat_map category_lines pool.categories))
@@ -53,9 +49,9 @@ pool_written text pool =
     let households = household_lines pool.volunteers in
     let standings = standing_lines pool.volunteers in
     let last = end_line ∷ [] in
-    ap (λ t. ((((t ++ text_of categories) ++ text_of volunteers) ++ text_of households) ++ text_of standings) ++ text_of last) (joined text version size)
-    ∙ (ap (λ t. (((t ++ text_of volunteers) ++ text_of households) ++ text_of standings) ++ text_of last) (joined text (version ++ size) categories)
-    ∙ (ap (λ t. ((t ++ text_of households) ++ text_of standings) ++ text_of last) (joined text (version ++ size ++ categories) volunteers)
-    ∙ (ap (λ t. (t ++ text_of standings) ++ text_of last) (joined text (version ++ size ++ categories ++ volunteers) households)
-    ∙ (ap (λ t. t ++ text_of last) (joined text (version ++ size ++ categories ++ volunteers ++ households) standings)
-    ∙ joined text (lines_before_end pool) last))))
+    ap (λ t. ((((t ++ text_of categories) ++ text_of volunteers) ++ text_of households) ++ text_of standings) ++ text_of last) (text_of-append text version size)
+    ∙ (ap (λ t. (((t ++ text_of volunteers) ++ text_of households) ++ text_of standings) ++ text_of last) (text_of-append text (version ++ size) categories)
+    ∙ (ap (λ t. ((t ++ text_of households) ++ text_of standings) ++ text_of last) (text_of-append text (version ++ size ++ categories) volunteers)
+    ∙ (ap (λ t. (t ++ text_of standings) ++ text_of last) (text_of-append text (version ++ size ++ categories ++ volunteers) households)
+    ∙ (ap (λ t. t ++ text_of last) (text_of-append text (version ++ size ++ categories ++ volunteers ++ households) standings)
+    ∙ text_of-append text (lines_before_end pool) last))))

@@ -1,5 +1,5 @@
 -- The answers of workers, piece by piece.
-use Rattle.std.proofs.Common.{◌≡◌, ℕ, zero, suc, ◌+◌, ◌*◌, ◌/◌, ◌%◌, ◌<◌, ◌≤◌, true, false, ltb, ltb-true, List, [], ◌∷◌, ◌++◌, length, take, get_or, Some, Result, refl, sym, ap, ◌∙◌, subst, arith, mul-le-mul_right}
+use Rattle.std.proofs.Common.{◌≡◌, ℕ, zero, suc, ◌+◌, ◌*◌, ◌/◌, ◌%◌, ◌<◌, ◌≤◌, true, false, ltb, ltb-true, List, [], ◌∷◌, ◌++◌, length, Some, Result, refl, sym, ap, ◌∙◌, subst, arith, mul-le-mul_right}
 use Rattle.std.specs.Prelude.{slice_get, Vec, vec_items, IfOk, Ok, Err}
 use Rattle.std.specs.declared.alloc.AllocError.{AllocError}
 use Rattle.std.proofs.lemmas.List.{length-append}
@@ -9,18 +9,6 @@ use Rattle.std.proofs.lemmas.Bool.{ltb-false}
 use Rattle.search_definitions.specs.Visits.{Pricing}
 use Rattle.panel_search.specs.Answers.{AnswersWeighed}
 use Rattle.pricing_pool.specs.Outcomes.{AreOf, AreOfAll, AreTogether, HasAnswer, IsAnswer, Outcome}
-
--- what stands in a place of a list is had there
-pub had : {X : Type 0} (xs : List X) (i : ℕ) (d x : X) → i < length xs → x ≡ get_or xs i d → slice_get xs i ≡ Some x
-had [] i d x l e = absurd (omega arith)
-had (y ∷ ys) zero d x l e = ap Some (sym e)
-had (y ∷ ys) (suc i) d x l e = had ys i d x (omega arith) e
-
--- and whatever is given for what isn't there
-pub same_at : {X : Type 0} (xs : List X) (i : ℕ) (d e : X) → i < length xs → get_or xs i d ≡ get_or xs i e
-same_at [] i d e l = absurd (omega arith)
-same_at (x ∷ xs) zero d e l = refl
-same_at (x ∷ xs) (suc i) d e l = same_at xs i d e (omega arith)
 
 -- what is had of each in a list and of one more
 pub each_pushed : {X : Type 0} (P : ℕ → X → Type 0) (xs : List X) (x : X) → ((i : ℕ) (y : X) → slice_get xs i ≡ Some y → P i y) → P (length xs) x →
@@ -72,13 +60,6 @@ module _ (search : ℕ → Pricing) (nodes workers places : ℕ) where
         let of = are.each (place % workers) answer.0 answer.1 in
         let same : 0 + place % workers + place / workers * workers ≡ place = omega (arith, mod-add-div' place workers) in
         subst (λ p. AnswersWeighed (search p) nodes outcome) same (of.each (place / workers) outcome answer.2)
-
--- the whole of a list that is no longer than that
-pub take_all : {X : Type 0} (xs : List X) (n : ℕ) → length xs ≤ n → take n xs ≡ xs
-take_all [] zero l = refl
-take_all [] (suc n) l = refl
-take_all (x ∷ xs) zero l = absurd (omega arith)
-take_all {X} (x ∷ xs) (suc n) l = ap (λ (rest : List X). x ∷ rest) (take_all xs n (omega arith))
 
 -- the place of a worker's next piece
 pub next_place : (workers worker place many more : ℕ) → place ≡ worker + many * workers → more ≡ many + 1 → place + workers ≡ worker + more * workers

@@ -65,7 +65,7 @@ Adds progress line after = IsRight after × (lines_so_far after ≡ lines_so_far
 -- ---- the lines of trees
 
 -- one tree more
-trees-push : (number : ℕ) (whole : List (List TreeLine)) (lines : List TreeLine) → trees_from number (whole ++ lines ∷ []) ≡ trees_from number whole ++ tree_lines (number + length whole) lines
+pub trees-push : (number : ℕ) (whole : List (List TreeLine)) (lines : List TreeLine) → trees_from number (whole ++ lines ∷ []) ≡ trees_from number whole ++ tree_lines (number + length whole) lines
 trees-push number [] lines = let here : number ≡ number + 0 = omega arith in append-nil (tree_lines number lines) ∙ ap (λ n. tree_lines n lines) here
 trees-push number (tree ∷ whole) lines =
     let next : (number + 1) + length whole ≡ number + suc (length whole) = omega arith in

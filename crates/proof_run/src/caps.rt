@@ -5,26 +5,25 @@ ghost use Rattle.proof_limits.specs.Budgets.{SpendsOn};
 ghost use Rattle.proof_run.specs.Shapes.{IsCapSearch};
 
 use box_table::Table;
-use branch_search::{add_weights, prove_empty, reach_of};
+use branch_search::{Step, add_weights, prove_empty, reach_of};
 use proof_limits::{Budget, Narrow, Span, Stop, narrow_add};
-use proof_model::TreeLines;
 use quota_program::Program;
 use relaxed_stages::{row_spans, table_of};
 use std::alloc::Global;
 
-/// The tree that shows that there is no quota panel.
+/// The steps of the search that shows that there is no quota panel.
 pub(crate) fn tree_of_none(
     alloc: Global,
     program: &Program,
     budget: &mut Budget,
-) -> Result<TreeLines, Stop>
+) -> Result<Vec<Step>, Stop>
     ensures { SpendsOn budget.old budget.new }
 {
     let mut table = table_of(alloc, program)?;
     table.aim(&[], 1)?;
     let rows = row_spans(alloc, program, Narrow::ONE)?;
     let numbers = numbers_after(alloc, program, 0)?;
-    let tree = prove_empty(
+    let steps = prove_empty(
         alloc,
         &mut table,
         program.spans(),
@@ -33,7 +32,7 @@ pub(crate) fn tree_of_none(
         None,
         budget,
     )?;
-    tree.ok_or(Stop::Lost)
+    steps.ok_or(Stop::Lost)
 }
 
 /// The numbers of the rows' constraints behind so many earlier stages.
@@ -80,13 +79,13 @@ impl<'a> CapSearch<'a> {
         })
     }
 
-    /// The tree of the next stage, whose cap panels attain from now on; none where a panel is above the cap.
+    /// The steps that show the cap of the next stage, which panels attain from now on; None where a panel is above the cap.
     pub(crate) fn tree(
         &mut self,
         weights: &[Narrow],
         cap: Narrow,
         budget: &mut Budget,
-    ) -> Result<Option<TreeLines>, Stop>
+    ) -> Result<Option<Vec<Step>>, Stop>
         requires { IsCapSearch self.old }
         ensures search { OnOk result (IsCapSearch self.new) }
         ensures spends { SpendsOn budget.old budget.new }
@@ -104,7 +103,7 @@ impl<'a> CapSearch<'a> {
         let reach = reach_of(weights)?;
         self.rows
             .push(Span::reaching(narrow_add(cap.wide(), 1)?, reach))?;
-        let tree = prove_empty(
+        let steps = prove_empty(
             self.alloc,
             &mut self.table,
             self.program.spans(),
@@ -114,6 +113,6 @@ impl<'a> CapSearch<'a> {
             budget,
         )?;
         self.rows[weight_row] = Span::point(cap);
-        Ok(tree)
+        Ok(steps)
     }
 }

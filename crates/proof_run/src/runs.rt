@@ -6,7 +6,7 @@ ghost use Rattle.proof_run.specs.Made.{IsOfBundle, IsOfPool, StopsSo};
 
 use crate::answers::answer_of;
 use crate::caps::{CapSearch, tree_of_none};
-use crate::trees::{searched_trees, stage_trees};
+use crate::trees::{searched_trees, stage_trees, tree_of_steps};
 use bundle_text::Bundle;
 use column_stages::{Columned, column_stages};
 use panel_peeling::{Lottery, PanelRows, Part, lottery_of};
@@ -151,7 +151,8 @@ fn of_no_panel(
     ensures about { IfOk result (IsOfPool pool.now) }
     ensures spends { SpendsOn budget.old budget.new }
 {
-    let lines = tree_of_none(alloc, &programs.single, budget)?;
+    let steps = tree_of_none(alloc, &programs.single, budget)?;
+    let lines = tree_of_steps(alloc, steps)?;
     Proof::of_no_panel(pool.copy()?, lines).ok_or(Stop::Lost)
 }
 

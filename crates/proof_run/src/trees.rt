@@ -5,14 +5,15 @@ ghost use Rattle.proof_run.specs.Shapes.{IsCapSearch};
 
 use crate::caps::CapSearch;
 use crate::runs::Programs;
+use branch_search::{Refutation, Step};
 use panel_peeling::weights_of;
 use pool_model::Stage;
 use proof_limits::{Budget, Narrow, Stop, narrow_add};
-use proof_model::{Leaf, TreeLine, TreeLines};
+use proof_model::{Leaf, Multiplier, TreeLine, TreeLines};
 use relaxed_stages::KindStage;
 use std::alloc::{AllocError, Global};
 
-/// A tree for each stage: its leaf where it has one, and else the tree of a search for a panel above its cap.
+/// A tree for each stage: a leaf where a refutation shows its cap, and else the tree of a search for a panel above it.
 pub(crate) fn stage_trees(
     alloc: Global,
     programs: &Programs,
@@ -25,12 +26,17 @@ pub(crate) fn stage_trees(
     let mut search = CapSearch::new(alloc, &programs.single, quotas)?;
     let mut trees = Vec::new(alloc);
     for stage in stages {
-        let KindStage { weights, cap, leaf } = stage;
-        let tree = match leaf {
-            Some(leaf) => tree_of_leaf(alloc, leaf)?,
+        let KindStage {
+            weights,
+            cap,
+            shown_by,
+        } = stage;
+        let tree = match shown_by {
+            Some(refutation) => tree_of_refutation(alloc, refutation)?,
             None => {
                 let weights = weights_of(alloc, &programs.kinds, &weights)?;
-                search.tree(&weights, cap, budget)?.ok_or(Stop::Lost)?
+                let steps = search.tree(&weights, cap, budget)?.ok_or(Stop::Lost)?;
+                tree_of_steps(alloc, steps)?
             }
         };
         trees.push(tree)?;
@@ -38,10 +44,32 @@ pub(crate) fn stage_trees(
     Ok(trees)
 }
 
-fn tree_of_leaf(alloc: Global, leaf: Leaf) -> Result<TreeLines, AllocError> {
+fn tree_of_refutation(alloc: Global, refutation: Refutation) -> Result<TreeLines, AllocError> {
     let mut lines = TreeLines::new(Vec::new(alloc));
-    lines.add_line(TreeLine::leaf(leaf))?;
+    lines.add_line(leaf_line(alloc, refutation)?)?;
     Ok(lines)
+}
+
+/// The tree of a search. The rows' names are the numbers of constraints, and the columns are volunteers.
+pub(crate) fn tree_of_steps(alloc: Global, steps: Vec<Step>) -> Result<TreeLines, AllocError> {
+    let mut lines = TreeLines::new(Vec::new(alloc));
+    for step in steps {
+        let line = match step {
+            Step::Split(column) => TreeLine::split(column),
+            Step::Refuted(refutation) => leaf_line(alloc, refutation)?,
+        };
+        lines.add_line(line)?;
+    }
+    Ok(lines)
+}
+
+/// The line of a leaf with the multipliers of a refutation.
+fn leaf_line(alloc: Global, refutation: Refutation) -> Result<TreeLine, AllocError> {
+    let mut multipliers = Vec::new(alloc);
+    for (number, factor) in refutation.multipliers {
+        multipliers.push(Multiplier::new(number, factor))?;
+    }
+    Ok(TreeLine::leaf(Leaf::new(refutation.scale, multipliers)))
 }
 
 /// A tree for each stage of a certificate, by a search for a panel above its cap. From the first stage on above whose cap some panel is, the
@@ -66,7 +94,7 @@ pub(crate) fn searched_trees(
             is_shown = tree.is_some();
         }
         match tree {
-            Some(lines) => trees.push(lines)?,
+            Some(steps) => trees.push(tree_of_steps(alloc, steps)?)?,
             None => trees.push(TreeLines::new(Vec::new(alloc)))?,
         }
     }

@@ -1,49 +1,38 @@
 -- Lines of a proof that are added to a text one after the other.
-use Rattle.std.proofs.Common.{◌≡◌, ℕ, suc, ◌+◌, ◌<◌, List, [], ◌∷◌, ◌++◌, length, get_or, take, sym, ◌∙◌, ap, arith, append_assoc}
-use Rattle.std.proofs.lemmas.Grind.{flat_map-append}
-use Rattle.std.proofs.lemmas.List.{append-nil, length-take-le, take_more}
-use Rattle.line_definitions.specs.Lines.{line_feed, text_of}
+use Rattle.std.proofs.Common.{◌≡◌, ℕ, ◌+◌, ◌<◌, List, [], ◌∷◌, ◌++◌, length, get_or, take, sym, ◌∙◌, ap, arith, append_assoc}
+use Rattle.std.proofs.lemmas.List.{length-take-le, take_more}
+use Rattle.line_definitions.specs.Lines.{text_of}
 use Rattle.pool_definitions.specs.Certificate.{Answer}
 use Rattle.pool_definitions.specs.Pool.{Pool}
 use Rattle.bundle_definitions.specs.BundleText.{pool_lines}
 use Rattle.addition_definitions.specs.ProofVerdict.{OfLottery, OfNoPanel}
 use Rattle.addition_definitions.specs.TreeLines.{TreeLine}
 use Rattle.proof_definitions.specs.ProofText.{bundle_lines, lines_before_close, none_line, proof_line, tree_lines, trees_from}
-
--- lines behind lines
-pub joined : (text : List ℕ) (first later : List (List ℕ)) → (text ++ text_of first) ++ text_of later ≡ text ++ text_of (first ++ later)
-joined text first later = append_assoc text (text_of first) (text_of later) ∙ ap (λ rest. text ++ rest) (sym (flat_map-append (λ line. line ++ line_feed ∷ []) first later))
-
--- one tree more
-trees_more : (number : ℕ) (trees : List (List TreeLine)) (lines : List TreeLine) → trees_from number (trees ++ lines ∷ []) ≡ trees_from number trees ++ tree_lines (number + length trees) lines
-trees_more number [] lines = let here : number ≡ number + 0 = omega arith in append-nil (tree_lines number lines) ∙ ap (λ n. tree_lines n lines) here
-trees_more number (tree ∷ trees) lines =
-    let next : (number + 1) + length trees ≡ number + suc (length trees) = omega arith in
-    ap (λ rest. tree_lines number tree ++ rest) (trees_more (number + 1) trees lines ∙ ap (λ n. trees_from (number + 1) trees ++ tree_lines n lines) next)
-    ∙ sym (append_assoc (tree_lines number tree) (trees_from (number + 1) trees) (tree_lines (number + suc (length trees)) lines))
+use Rattle.proof_definitions.proofs.Spelled.{trees-push}
+use Rattle.line_definitions.proofs.LineLemmas.{text_of-append}
 
 pub one_tree_more : (text : List ℕ) (trees : List (List TreeLine)) (i : ℕ) (d : List TreeLine) → i < length trees →
     (text ++ text_of (trees_from 1 (take i trees))) ++ text_of (tree_lines (i + 1) (get_or trees i d)) ≡ text ++ text_of (trees_from 1 (take (i + 1) trees))
 one_tree_more text trees i d l =
     let many : length (take i trees) ≡ i = length-take-le i trees (omega arith) in
     let number : 1 + length (take i trees) ≡ i + 1 = omega arith in
-    joined text (trees_from 1 (take i trees)) (tree_lines (i + 1) (get_or trees i d))
+    text_of-append text (trees_from 1 (take i trees)) (tree_lines (i + 1) (get_or trees i d))
     ∙ ap (λ n. text ++ text_of (trees_from 1 (take i trees) ++ tree_lines n (get_or trees i d))) (sym number)
-    ∙ ap (λ lines. text ++ text_of lines) (sym (trees_more 1 (take i trees) (get_or trees i d)))
+    ∙ ap (λ lines. text ++ text_of lines) (sym (trees-push 1 (take i trees) (get_or trees i d)))
     ∙ ap (λ ts. text ++ text_of (trees_from 1 ts)) (sym (take_more trees i d l))
 
 -- the lines of a proof that a pool has no quota panel
 pub no_panel_text : (text : List ℕ) (pool : Pool) (lines : List TreeLine) →
     (((text ++ text_of (proof_line ∷ [])) ++ text_of (pool_lines pool)) ++ text_of (none_line ∷ [])) ++ text_of (tree_lines 0 lines) ≡ text ++ text_of (lines_before_close (OfNoPanel pool lines))
 no_panel_text text pool lines =
-    ap (λ before. (before ++ text_of (none_line ∷ [])) ++ text_of (tree_lines 0 lines)) (joined text (proof_line ∷ []) (pool_lines pool))
-    ∙ ap (λ before. before ++ text_of (tree_lines 0 lines)) (joined text (proof_line ∷ pool_lines pool) (none_line ∷ []))
-    ∙ joined text (proof_line ∷ (pool_lines pool ++ none_line ∷ [])) (tree_lines 0 lines)
+    ap (λ before. (before ++ text_of (none_line ∷ [])) ++ text_of (tree_lines 0 lines)) (text_of-append text (proof_line ∷ []) (pool_lines pool))
+    ∙ ap (λ before. before ++ text_of (tree_lines 0 lines)) (text_of-append text (proof_line ∷ pool_lines pool) (none_line ∷ []))
+    ∙ text_of-append text (proof_line ∷ (pool_lines pool ++ none_line ∷ [])) (tree_lines 0 lines)
     ∙ ap (λ behind. text ++ text_of (proof_line ∷ behind)) (append_assoc (pool_lines pool) (none_line ∷ []) (tree_lines 0 lines))
 
 -- the lines of a proof of a lottery
 pub lottery_text : (text : List ℕ) (pool : Pool) (answer : Answer) (trees : List (List TreeLine)) →
     ((text ++ text_of (proof_line ∷ [])) ++ text_of (bundle_lines pool answer)) ++ text_of (trees_from 1 trees) ≡ text ++ text_of (lines_before_close (OfLottery pool answer trees))
 lottery_text text pool answer trees =
-    ap (λ before. before ++ text_of (trees_from 1 trees)) (joined text (proof_line ∷ []) (bundle_lines pool answer))
-    ∙ joined text (proof_line ∷ bundle_lines pool answer) (trees_from 1 trees)
+    ap (λ before. before ++ text_of (trees_from 1 trees)) (text_of-append text (proof_line ∷ []) (bundle_lines pool answer))
+    ∙ text_of-append text (proof_line ∷ bundle_lines pool answer) (trees_from 1 trees)

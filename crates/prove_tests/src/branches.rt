@@ -1,9 +1,8 @@
 //! Searches and trees of small programs. What they find, what they spend and the lines are those of a reference program in another language.
 
 use box_table::Table;
-use branch_search::{Found, prove_empty, search};
+use branch_search::{Found, Step, prove_empty, search};
 use proof_limits::{Budget, Narrow, Span};
-use proof_model::{Node, TreeLines};
 use std::alloc::Global;
 use std::process::Abort;
 use std::test::Fail;
@@ -64,17 +63,16 @@ fn found(
     Ok(text)
 }
 
-/// The lines: a split as its column, a leaf as its scale and each number times its factor.
-fn spelled(alloc: Global, lines: &TreeLines) -> Result<String, Fail> {
+/// The steps: a split as its column, a refutation as its scale and each name times its factor.
+fn spelled(alloc: Global, steps: &[Step]) -> Result<String, Fail> {
     let mut text = String::new(alloc);
-    for line in lines.lines() {
-        match line.node() {
-            Node::Split(column) => text.push_str(&format!(in alloc; "{column} ")?)?,
-            Node::Leaf(leaf) => {
-                text.push_str(&format!(in alloc; "[{}", leaf.scale())?)?;
-                for multiplier in leaf.multipliers() {
-                    let (number, factor) = (multiplier.number(), multiplier.factor());
-                    text.push_str(&format!(in alloc; " {number}*{factor}")?)?;
+    for step in steps {
+        match step {
+            Step::Split(column) => text.push_str(&format!(in alloc; "{column} ")?)?,
+            Step::Refuted(refutation) => {
+                text.push_str(&format!(in alloc; "[{}", refutation.scale)?)?;
+                for (name, factor) in &refutation.multipliers {
+                    text.push_str(&format!(in alloc; " {name}*{factor}")?)?;
                 }
                 text.push_str("] ")?;
             }
@@ -83,7 +81,7 @@ fn spelled(alloc: Global, lines: &TreeLines) -> Result<String, Fail> {
     Ok(text)
 }
 
-/// The lines of the tree of a program whose rows have the names 7, 3, 9 and 1, or why there are none, with so many nodes left.
+/// The steps by which a program has no point, whose rows have the names 7, 3, 9 and 1, or why there are none, with so many nodes left.
 fn tree(
     rt: &impl Abort,
     alloc: Global,
@@ -115,7 +113,7 @@ fn tree(
         weight_row,
         &mut budget,
     ) {
-        Ok(Some(lines)) => spelled(alloc, &lines),
+        Ok(Some(steps)) => spelled(alloc, &steps),
         Ok(None) => Ok(String::from_str(alloc, "a point")?),
         Err(stop) => Ok(format!(in alloc; "{stop}")?),
     }

@@ -1,16 +1,10 @@
 -- Lists that are made of others element by element, with one element more.
-use Rattle.std.proofs.Common.{◌≡◌, ℕ, suc, ◌+◌, ◌<◌, Bool, true, false, cond, List, [], ◌∷◌, ◌++◌, map, filter, take, length, get_or, sym, ap, ap₂, ◌∙◌, arith}
+use Rattle.std.proofs.Common.{◌≡◌, ℕ, ◌+◌, ◌<◌, Bool, true, false, cond, List, [], ◌∷◌, ◌++◌, map, filter, take, length, get_or, sym, ap, ap₂, ◌∙◌, arith}
 use Rattle.std.specs.List.{enumerate_from, range_with_len}
 use Rattle.std.proofs.lemmas.List.{append-nil, append_assoc, map_push, take_more}
 use Rattle.std.proofs.lemmas.List.Elements.{filter-append}
 use Rattle.std.proofs.lemmas.List.FromFn.{get_or-enumerate_from}
-use Rattle.basic_laws.proofs.Lists.{range-more}
-
--- the numbers up to one, and that one
-pub numbers_more : (k : ℕ) → range_with_len 0 (k + 1) ≡ range_with_len 0 k ++ k ∷ []
-numbers_more k =
-    let next : k + 1 ≡ suc k = omega arith in let at : 0 + k ≡ k = omega arith in
-    ap (range_with_len 0) next ∙ range-more 0 k ∙ ap (λ n. range_with_len 0 k ++ n ∷ []) at
+use Rattle.basic_laws.proofs.Lists.{numbers_more}
 
 -- an element with its number
 pub numbered_at : {X : Type 0} (xs : List X) (k : ℕ) (x : X) → k < length xs → x ≡ get_or xs k x → get_or (enumerate_from 0 xs) k (k, x) ≡ (k, x)

@@ -1,7 +1,7 @@
 -- The constraints of a pool are few, each counts volunteers, and their bounds are in order and at most 999.
-use Rattle.std.proofs.Common.{◌≡◌, ℕ, ◌≤◌, ◌<◌, zero, suc, Bool, true, false, cond, ◌&&◌, eqb, leb, List, [], ◌∷◌, ◌++◌, map, length, get_or, pos, ◌≤ℤ◌, sym, ap, arith, subst}
+use Rattle.std.proofs.Common.{◌≡◌, ℕ, ◌≤◌, ◌<◌, zero, suc, Bool, true, false, cond, eqb, leb, List, [], ◌∷◌, ◌++◌, map, length, get_or, pos, ◌≤ℤ◌, sym, ap, arith, subst}
 use Rattle.std.specs.Prelude.{slice_index}
-use Rattle.std.specs.List.{All, AllByRecursion, enumerate_from, flat_map, list_all}
+use Rattle.std.specs.List.{All, AllByRecursion, enumerate_from, flat_map}
 use Rattle.std.proofs.lemmas.Bool.{and_parts, leb-true}
 use Rattle.std.proofs.lemmas.Int.{ints}
 use Rattle.std.proofs.lemmas.List.{append-nil, length-append, length-map}
@@ -9,16 +9,15 @@ use Rattle.std.proofs.lemmas.List.Concat.{length-flat_map}
 use Rattle.std.proofs.lemmas.List.Elements.{All-from_recursion, recursion_from_All}
 use Rattle.std.proofs.lemmas.List.FromFn.{get_or-enumerate_from, length-enumerate_from, length-range_with_len}
 use Rattle.std.proofs.lemmas.List.Sums.{count_by-le-length, length-filter, sum_by-le}
-use Rattle.basic_laws.proofs.Each.{each_append, each_everywhere, each_from_list_all, each_map, each_mapped, each_of_map}
+use Rattle.basic_laws.proofs.Each.{each_append, each_everywhere, each_from_list_all, each_map, each_mapped, each_of_map, each_flat_map}
 use Rattle.addition_definitions.specs.Constraints.{Constraint, category_constraints, coefficient, constraints, counting, first_members, household_constraint, size_constraint, value_constraint}
-use Rattle.addition_definitions.proofs.MetConstraints.{each_flat}
-use Rattle.pool_definitions.specs.Lists.{all_different}
-use Rattle.pool_definitions.specs.Pool.{BoundedValue, Category, IsPool, Pool, are_bounds, everybody, is_category, is_name, is_value, volunteer}
+use Rattle.pool_definitions.specs.Pool.{BoundedValue, Category, IsPool, Pool, everybody, is_category, is_value, volunteer}
 use Rattle.search_definitions.specs.Classes.{shared_household}
 use Rattle.search_definitions.specs.Compositions.{is_of_household}
 use Rattle.quota_program.specs.declared.demands.Demand.{Demand}
 use Rattle.quota_program.specs.Demands.{AreDemands, HasBounds, constraint_of}
 use Rattle.quota_program.specs.Programs.{quota_constraints}
+use Rattle.search_definitions.proofs.Limits.{category_parts, value_parts}
 
 -- bounds in order and at most 999, and coefficients of 0 or 1
 pub record Counts (constraint : Constraint) : Type 0 where
@@ -49,19 +48,6 @@ numbered P xs h k d l =
     subst (λ pair. P pair.1) (sym (get_or-enumerate_from 0 xs k d inside)) (All-from_recursion P xs h k d.1 inside)
 
 -- ---- categories
-
-category_parts : (category : Category) → is_category category ≡ true → (length category.values ≤ 50) × (list_all is_value category.values ≡ true)
-category_parts category h =
-    let A = is_name category.name in let B = leb (length category.values) 50 in
-    let C = all_different (map (λ value. value.name) category.values) in let D = list_all is_value category.values in
-    let d = and_parts (A && B && C) D h in let c = and_parts (A && B) C d.0 in let b = and_parts A B c.0 in
-    (leb-true (length category.values) 50 b.1, d.1)
-
-value_bounds : (value : BoundedValue) → is_value value ≡ true → (value.lower ≤ value.upper) × (value.upper ≤ 999)
-value_bounds value h =
-    let b = and_parts (is_name value.name) (are_bounds value.lower value.upper) h in
-    let c = and_parts (leb value.lower value.upper) (leb value.upper 999) b.1 in
-    (leb-true value.lower value.upper c.0, leb-true value.upper 999 c.1)
 
 module _ (pool : Pool) (is : IsPool pool) where
   abbrev categories : List (ℕ × Category)
@@ -96,7 +82,7 @@ module _ (pool : Pool) (is : IsPool pool) where
 
   value_counts : (category_place : ℕ) (value : ℕ × BoundedValue) → is_value value.1 ≡ true → Counts (value_constraint pool category_place value)
   value_counts category_place value h =
-      let bounds = value_bounds value.1 h in
+      let bounds = value_parts value.1 h in
       counting_is pool (λ i. eqb (slice_index (volunteer pool.volunteers i).values category_place) value.0) value.1.lower value.1.upper bounds.0 bounds.1
 
   category_counts : (category : ℕ × Category) → is_category category.1 ≡ true → AllByRecursion Counts (category_constraints pool category)
@@ -118,7 +104,7 @@ module _ (pool : Pool) (is : IsPool pool) where
   each_counts =
       let values = flat_map (category_constraints pool) categories in let households = map (household_constraint pool) (first_members pool) in
       let each = recursion_from_All (λ category. is_category category.1 ≡ true) categories known in
-      let values_count = each_flat Counts (category_constraints pool) categories
+      let values_count = each_flat_map Counts (category_constraints pool) categories
       (each_map (λ category. is_category category.1 ≡ true) (λ category. AllByRecursion Counts (category_constraints pool category)) category_counts categories each) in
       let households_count = each_mapped Counts (household_constraint pool) (first_members pool) (each_everywhere (λ i. Counts (household_constraint pool i)) household_counts (first_members pool)) in
       (size_counts, each_append Counts (values ++ []) households (each_append Counts values [] values_count tt) households_count)

@@ -9,13 +9,12 @@ use crate::levels::level_of;
 use crate::refuted::{Shown, shown_by};
 use crate::shares::Share;
 use box_table::Table;
-use branch_search::lowest_leaf;
+use branch_search::{Refutation, in_lowest_terms};
 use proof_limits::{Budget, Narrow, Span, Stop, narrow_add, narrow_mul};
-use proof_model::Leaf;
 use quota_program::Program;
 use std::alloc::Global;
 
-/// A stage over columns: a weight for each, the cap, and the leaf that shows it, where one does.
+/// A stage over columns: a weight for each, the cap, and the refutation that shows it, where one does.
 #[derive(Debug, Drop)]
 pub struct KindStage {
     /// Each column's weight, which each of its members has.
@@ -23,7 +22,7 @@ pub struct KindStage {
     /// What no panel passes that attains the earlier caps.
     pub cap: Narrow,
     /// Multipliers of constraints that show the cap.
-    pub leaf: Option<Leaf>,
+    pub shown_by: Option<Refutation>,
 }
 
 /// What the relaxation says of a pool.
@@ -212,7 +211,7 @@ fn one_if(holds: bool) -> Narrow {
     if holds { Narrow::ONE } else { Narrow::ZERO }
 }
 
-/// A stage with the leaf that these multipliers of the rows give, behind so many earlier stages.
+/// A stage with the refutation that these multipliers of the rows give, behind so many earlier stages.
 fn found_by(
     alloc: Global,
     program: &Program,
@@ -230,12 +229,12 @@ fn found_by(
             pairs.push((program.number_after(row, earlier), *multiplier))?;
         }
     }
-    let leaf = lowest_leaf(alloc, shown.scale, &pairs)?;
+    let refutation = in_lowest_terms(alloc, shown.scale, &pairs)?;
     Ok(Found {
         stage: KindStage {
             weights: shown.weights,
             cap: shown.cap,
-            leaf: Some(leaf),
+            shown_by: Some(refutation),
         },
         share,
         is_tight: shown.is_tight,

@@ -5,8 +5,8 @@ use Rattle.std.proofs.lemmas.Int.{ints}
 use Rattle.std.proofs.lemmas.Bool.{cases_lt, not-true, not-false}
 use Rattle.std.proofs.lemmas.List.{get_or_append_left, get_or_push, get_or_past, get_or_default, get_or-map, get_or-replicate, length_push, length-map, length-replicate}
 use Rattle.std.proofs.lemmas.List.Sums.{sum_by-cons}
+use Rattle.std.proofs.Math.Bool.{or-true}
 use Rattle.basic_laws.proofs.Integers.{tested-lt}
-use Rattle.basic_laws.proofs.Tests.{or-true}
 use Rattle.row_definitions.specs.declared.Var.{Var}
 use Rattle.row_definitions.specs.Row.{Row, entry}
 use Rattle.row_definitions.specs.Table.{Table, row_at}

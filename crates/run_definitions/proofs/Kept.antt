@@ -3,7 +3,7 @@ use Rattle.std.proofs.Common.{◌≡◌, ℕ, zero, suc, ◌+◌, ◌<◌, ◌�
 use Rattle.std.specs.Prelude.{◌==◌, slice_index, slice_set, sum, Contains}
 use Rattle.std.specs.List.{All}
 use Rattle.std.proofs.lemmas.Bool.{cases_lt}
-use Rattle.std.proofs.lemmas.List.{get_or_append_left, get_or_push, map-append, take-append-le, length-map}
+use Rattle.std.proofs.lemmas.List.{get_or_append_left, get_or_push, map-append, take-append-le, length-map, take_all}
 use Rattle.std.proofs.lemmas.List.Elements.{All-cons, All-nil, All-push, All-from_recursion, recursion_from_All}
 use Rattle.std.proofs.lemmas.List.Sums.{sum-map}
 use Rattle.basic_laws.proofs.Lists.{map_same}
@@ -31,12 +31,6 @@ use Rattle.run_definitions.specs.Run.{RunLimits, Next, GoOn, Ended, closed_rows,
 use Rattle.run_definitions.specs.Keeps.{AreRunLimits, IsPriced, IsReached, KeepsRun}
 use Rattle.run_definitions.proofs.StepCases.{StepIs, Enters, Answers, NoPivot, Pivots, Passes, NoVisits, Widens, Closes, step_is, OpeningIs, Spends, FindsNoPanel, IsWide, Begins, opening_is}
 use Rattle.run_definitions.proofs.Priced.{FitsSizes, better, composition_fits, may_be_added}
-
-all_taken : {X : Type 0} (k : ℕ) (xs : List X) → length xs ≤ k → take k xs ≡ xs
-all_taken zero [] l = refl
-all_taken zero (x ∷ xs) l = absurd (omega arith)
-all_taken (suc k) [] l = refl
-all_taken (suc k) (x ∷ xs) l = ap (λ ys. x ∷ ys) (all_taken k xs (omega arith))
 
 -- the chosen pivot leaves the closed rows as they are
 pub closed_rows_stay : (table : Table) → IsInOrder table → table.in_stage ≡ true → (r : ℕ) (v : Var) → choice table ≡ Some (r, v) → (made : Table) → pivot table r v ≡ Ok made → closed_rows made ≡ closed_rows table
@@ -98,7 +92,7 @@ module _ (all : Classes) (limits : RunLimits) (table : Table) (keeps : KeepsRun 
           let last : k ≡ length table.closed = omega arith in
           let first : take k (map (row_at table) (table.closed ++ open_row table ∷ [])) ≡ closed_rows table =
           ap (take k) rows_are ∙ take-append-le k (closed_rows table) (row_at table (open_row table) ∷ []) (omega (arith, as_many))
-          ∙ all_taken k (closed_rows table) (omega (arith, as_many)) in
+          ∙ take_all k (closed_rows table) (omega (arith, as_many)) in
           let here : slice_index (table.closed ++ open_row table ∷ []) k ≡ open_row table = get_or_push table.closed (open_row table) 0 k (sym last) in
           ap₂ (λ rows i. price all rows (row_at table i)) first here ∙ none
 

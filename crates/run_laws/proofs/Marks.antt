@@ -2,7 +2,7 @@
 use Rattle.std.proofs.Common.{◌≡◌, ℕ, zero, suc, ◌+◌, ◌<◌, ◌≤◌, Bool, true, false, cond, not, ◌||◌, [], length, get_or, ℤ, pos, ◌<ℤ◌, ◌≤ℤ◌, refl, sym, ap, ap₂, ◌∙◌, subst, arith, inl, inr, ◌⊎◌}
 use Rattle.std.specs.Prelude.{count_by, int_lt}
 use Rattle.std.specs.List.{list_all}
-use Rattle.std.proofs.lemmas.Bool.{cases_lt, false≢true}
+use Rattle.std.proofs.lemmas.Bool.{cases_lt, false≢true, or_right}
 use Rattle.std.proofs.lemmas.Int.{ints}
 use Rattle.std.proofs.lemmas.List.{get_or_past}
 use Rattle.std.proofs.lemmas.List.Sums.{count_by-le-length}
@@ -33,10 +33,6 @@ is_above z above = by (int_lt (pos 0) z) refl
     by : (b : Bool) → int_lt (pos 0) z ≡ b → b ≡ true
     by true t = refl
     by false t = absurd (omega (arith, ints, above, t))
-
-or_true : (a b : Bool) → b ≡ true → (a || b) ≡ true
-or_true true b e = refl
-or_true false b e = e
 
 module _ (pool : Pool) (alike : ℕ → ℕ → Bool) (makes : MakesClasses pool alike) (limits : RunLimits) (table : Table) (keeps : KeepsRun (classes_by alike pool) limits table) (stages : KeepsStages table) (shut : table.in_stage ≡ false) where
   abbrev count : ℕ
@@ -69,7 +65,7 @@ module _ (pool : Pool) (alike : ℕ → ℕ → Bool) (makes : MakesClasses pool
   settled_by_one (suc k) j i l m above = by (λ before. settled_by_one k j i l before above) (cases_lt j k)
     where
       by : (j < k → settled_before k i ≡ true) → (j < k) ⊎ (k ≤ j) → settled_before (suc k) i ≡ true
-      by rest (inl before) = or_true (is_positive (stage_at (classes_by alike pool) table k) i) (settled_before k i) (rest before)
+      by rest (inl before) = or_right (is_positive (stage_at (classes_by alike pool) table k) i) (settled_before k i) (rest before)
       by rest (inr last) =
           let same : j ≡ k = omega arith in
           ap (λ b. b || settled_before k i) (positive_at k i l (subst (λ j. pos 0 <ℤ closed_entry table j (class_at i)) same above))

@@ -1,9 +1,9 @@
 -- A stage holds where these facts hold of each volunteer, each quota panel and each row.
-use Rattle.std.proofs.Common.{◌≡◌, ℕ, zero, suc, ◌+◌, ◌≤◌, ◌<◌, Bool, true, false, cond, not, eqb, leb, List, ◌∷◌, length, filter, pos, refl, sym, subst, arith, ⊎_elim}
+use Rattle.std.proofs.Common.{◌≡◌, ℕ, zero, suc, ◌+◌, ◌≤◌, ◌<◌, Bool, true, false, cond, not, eqb, leb, List, ◌∷◌, length, filter, pos, subst, arith, ⊎_elim}
 use Rattle.std.specs.Prelude.{int_le}
 use Rattle.std.specs.Ordering.{int_eq}
 use Rattle.std.specs.List.{AllByRecursion, range_with_len}
-use Rattle.std.proofs.lemmas.Bool.{eq-eqb, le-leb, lt-ltb, cases_lt}
+use Rattle.std.proofs.lemmas.Bool.{eq-eqb, le-leb, lt-ltb, cases_lt, not-true, not_from_false}
 use Rattle.std.proofs.lemmas.Bool.Decides.{Decides-int_eq}
 use Rattle.basic_laws.proofs.Each.{each_map, each_filter, each_range, list_all_from_each}
 use Rattle.pool_definitions.specs.Pool.{Pool, everybody}
@@ -27,10 +27,6 @@ some_left p q i first (suc many) l m e f =
     let e' : p first ≡ true = subst (λ z. p z ≡ true) s e in let f' : q first ≡ true = subst (λ z. q z ≡ true) s f in
     rw (e', f') (omega arith))
     (cases_lt first i)
-
-from_not : (b : Bool) → not b ≡ true → b ≡ false
-from_not true h = sym h
-from_not false h = refl
 
 -- the facts of a stage, where T is the count of those whom it settles
 pub record StageFacts (pool : Pool) (lottery : Lottery) (earlier : List Stage) (stage : Stage) (T : ℕ) : Type 0 where
@@ -62,14 +58,11 @@ holds_from_facts pool lottery earlier stage T facts = record {
   where
     of_unsettled : (P : ℕ → Type 0) → ((i : ℕ) → i < length pool.volunteers → is_settled earlier i ≡ false → P i) → AllByRecursion P (unsettled pool earlier)
     of_unsettled P f = each_filter P (λ i. not (is_settled earlier i)) (everybody pool)
-        (each_range (λ i. not (is_settled earlier i) ≡ true → P i) 0 (length pool.volunteers) (λ i l m s. f i (omega arith) (from_not (is_settled earlier i) s)))
+        (each_range (λ i. not (is_settled earlier i) ≡ true → P i) 0 (length pool.volunteers) (λ i l m s. f i (omega arith) (not-true (is_settled earlier i) s)))
 
     at_T : AllByRecursion (λ i. count lottery i ≡ T) (settling pool earlier stage)
     at_T = each_filter (λ i. count lottery i ≡ T) (is_positive stage) (unsettled pool earlier) (of_unsettled (λ i. is_positive stage i ≡ true → count lottery i ≡ T) facts.same_count)
 
-    to_not : (b : Bool) → b ≡ false → not b ≡ true
-    to_not b e = rw e refl
-
     some : 0 < length (settling pool earlier stage)
     some = let inside : facts.somebody < 0 + length pool.volunteers = omega (arith, facts.in_pool) in
-        some_left (λ i. not (is_settled earlier i)) (is_positive stage) facts.somebody 0 (length pool.volunteers) (omega arith) inside (to_not (is_settled earlier facts.somebody) facts.not_settled) facts.positive
+        some_left (λ i. not (is_settled earlier i)) (is_positive stage) facts.somebody 0 (length pool.volunteers) (omega arith) inside (not_from_false (is_settled earlier facts.somebody) facts.not_settled) facts.positive

@@ -1,9 +1,9 @@
 -- Volunteers of equal values and standing, who share no household, make classes.
 use Rattle.std.proofs.Common.{◌≡◌, ℕ, Bool, true, false, not, ◌&&◌, ◌||◌, eqb, refl, sym, ap, ◌∙◌, ⊎_elim, subst}
 use Rattle.std.specs.Prelude.{bytes_eq}
-use Rattle.std.proofs.lemmas.Bool.{and_from, and_parts, eqb-true, eq-eqb, false≢true}
+use Rattle.std.proofs.lemmas.Bool.{and_from, and_parts, eqb-true, eq-eqb, false≢true, not-true}
 use Rattle.std.proofs.lemmas.Slice.Eq.{bytes_eq-Decides}
-use Rattle.basic_laws.proofs.Tests.{or-true}
+use Rattle.std.proofs.Math.Bool.{or-true}
 use Rattle.pool_definitions.specs.declared.Standing.{Standing}
 use Rattle.pool_definitions.specs.declared.Standing.TheVariants.{Open, Seated, Gone}
 use Rattle.pool_definitions.specs.Pool.{Pool, Volunteer, volunteer}
@@ -39,10 +39,6 @@ module _ (pool : Pool) where
     one : shares i ≡ false
     other : shares j ≡ false
 
-  from_not : (b : Bool) → not b ≡ true → b ≡ false
-  from_not true h = sym h
-  from_not false h = refl
-
   alike_from : (i j : ℕ) → (are_equal (at i) (at j) && not (shares i) && not (shares j)) ≡ true → Alike i j
   alike_from i j h =
       let c = and_parts (are_equal (at i) (at j) && not (shares i)) (not (shares j)) h in
@@ -51,8 +47,8 @@ module _ (pool : Pool) where
       record {
         values = (bytes_eq-Decides (at i).values (at j).values).0 a.0;
         standing = same_standing (at i).standing (at j).standing a.1;
-        one = from_not (shares i) b.1;
-        other = from_not (shares j) c.1;
+        one = not-true (shares i) b.1;
+        other = not-true (shares j) c.1;
       }
 
   to_alike : (i j : ℕ) → Alike i j → are_alike pool i j ≡ true

@@ -4,6 +4,7 @@ use Rattle.std.specs.List.{list_all, AllByRecursion, range_with_len}
 use Rattle.std.proofs.lemmas.Bool.{and_from, cases_Bool, cases_lt, cases_eq, eqb-true, eq-eqb, ne_eqb, lt-ltb, le-ltb, false≢true}
 use Rattle.basic_laws.proofs.Sums.{total, total_eq, total_ext, one_if, total-filter, length-filter-total, count_by-total}
 use Rattle.basic_laws.proofs.Each.{each_from_filter, each_map, each_range, range_each}
+use Rattle.basic_laws.proofs.Lists.{map_same}
 use Rattle.pool_definitions.specs.declared.Standing.{Standing}
 use Rattle.pool_definitions.specs.declared.Standing.TheVariants.{Open, Seated, Gone}
 use Rattle.pool_definitions.specs.Lists.{includes, is_increasing}
@@ -125,10 +126,6 @@ taken_by passes g (l ∷ firsts) = omega (arith, taken_by passes g firsts)
 cond_zero : (b : Bool) → cond {A = ℕ} b 0 0 ≡ 0
 cond_zero true = refl
 cond_zero false = refl
-
-map_same : (f g : ℕ → ℕ) (xs : List ℕ) → AllByRecursion (λ x. f x ≡ g x) xs → map f xs ≡ map g xs
-map_same f g [] h = refl
-map_same f g (x ∷ xs) h = let e = h.0 in let r = map_same f g xs h.1 in cc
 
 module _ (alike : ℕ → ℕ → Bool) (same : IsEquivalenceTest alike) (count : ℕ) (g : ℕ → ℕ) where
   leader_of : (i : ℕ) → Least (λ j. alike j i) i

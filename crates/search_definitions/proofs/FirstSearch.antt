@@ -34,7 +34,7 @@ all_counts_give (class ∷ classes) h =
     (λ c lo hi. let o = h.0 in each_mapped (Gives (class ∷ classes)) (λ counts. c ∷ counts) (all_counts classes)
     (each_map (Gives classes) (λ counts. (c ≤ class.most) × Gives classes counts) (λ counts g. (omega arith, g)) (all_counts classes) rest))
 
-taken_none : (p : Class → Bool) (classes : List Class) → taken_of p classes [] ≡ 0
+pub taken_none : (p : Class → Bool) (classes : List Class) → taken_of p classes [] ≡ 0
 taken_none p [] = refl
 taken_none p (class ∷ classes) = refl
 

@@ -16,7 +16,7 @@ use Rattle.search_definitions.specs.Compositions.{is_of_household}
 -- ---- who shares a household
 
 -- two who share one have the same
-same_name : (a b : Option (List ℕ)) → is_same_household a b ≡ true → a ≡ b
+pub same_name : (a b : Option (List ℕ)) → is_same_household a b ≡ true → a ≡ b
 same_name None b h = absurd (false≢true h)
 same_name (Some name) None h = absurd (false≢true h)
 same_name (Some name) (Some other) h = ap Some ((bytes_eq-Decides name other).0 h)

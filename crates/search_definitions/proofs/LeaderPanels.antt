@@ -19,17 +19,12 @@ use Rattle.search_definitions.proofs.ByClass.{Least, any_false, is_first, least_
 use Rattle.search_definitions.proofs.Households.{alike_number, households_kept}
 use Rattle.search_definitions.proofs.Contained.{filtered}
 use Rattle.search_definitions.proofs.Listed.{each_count}
-use Rattle.search_definitions.proofs.PanelCompositions.{passing}
+use Rattle.search_definitions.proofs.PanelCompositions.{passing, term_most}
 
 -- two functions that give the same list are the same at each of its places
 same_at_each : (f g : ℕ → ℕ) (xs : List ℕ) → map f xs ≡ map g xs → AllByRecursion (λ x. f x ≡ g x) xs
 same_at_each f g [] e = tt
 same_at_each f g (x ∷ xs) e = (cc, same_at_each f g xs cc)
-
--- a term that is at most another one, where the sums are the same
-term_most : (h a : Bool) → cond h (one_if a) 0 ≤ one_if a
-term_most true a = le_of_eq refl
-term_most false a = omega arith
 
 module _ (pool : Pool) (alike : ℕ → ℕ → Bool) (makes : MakesClasses pool alike) (g : ℕ → ℕ) (panel : List ℕ) (up : is_increasing panel ≡ true)
     (below : list_all (λ i. ltb i (length pool.volunteers)) panel ≡ true) where

@@ -3,6 +3,8 @@ use Rattle.std.proofs.Common.{◌≡◌, ℕ, zero, suc, ◌≤◌, ◌<◌, Boo
 use Rattle.std.specs.Prelude.{not}
 use Rattle.std.specs.List.{All, AllByRecursion, list_all, list_any, range_with_len}
 use Rattle.std.proofs.lemmas.Bool.{and_parts, leb-true, ltb-true, false≢true}
+use Rattle.std.proofs.lemmas.List.{length-map}
+use Rattle.std.proofs.lemmas.List.Elements.{All-from_recursion}
 use Rattle.basic_laws.proofs.Each.{each_map, each_from_list_all, each_mapped, each_range, each_filter}
 use Rattle.basic_laws.proofs.Sums.{total, sum_by-is-total, length-filter-total}
 use Rattle.pool_definitions.specs.declared.Standing.{Standing}
@@ -15,24 +17,15 @@ use Rattle.search_definitions.proofs.FirstPanel.{rank_below}
 use Rattle.search_definitions.proofs.Households.{number_below}
 use Rattle.search_definitions.proofs.PoolClasses.{members_in_all, classes_in_order}
 
-pub all_from_each : {X : Type 0} (P : X → Type 0) (xs : List X) → AllByRecursion P xs → All P xs
-all_from_each P [] h k d l = absurd (omega arith)
-all_from_each P (x ∷ xs) h zero d l = h.0
-all_from_each P (x ∷ xs) h (suc k) d l = all_from_each P xs h.1 k d (omega arith)
-
 abbrev bound_of : BoundedValue → Bounds
 bound_of value = record { lower = value.lower; upper = value.upper }
-
-mapped_length : {X Y : Type 0} (f : X → Y) (xs : List X) → length (map f xs) ≡ length xs
-mapped_length f [] = refl
-mapped_length f (x ∷ xs) = omega (arith, mapped_length f xs)
 
 abbrev InRange : Bounds → Type 0
 InRange bound = (bound.lower ≤ bound.upper) × (bound.upper ≤ 999)
 
 -- ---- categories
 
-category_parts : (category : Category) → is_category category ≡ true → (length category.values ≤ 50) × (list_all is_value category.values ≡ true)
+pub category_parts : (category : Category) → is_category category ≡ true → (length category.values ≤ 50) × (list_all is_value category.values ≡ true)
 category_parts category h =
     let A = is_name category.name in let B = leb (length category.values) 50 in
     let C = all_different (map (λ value. value.name) category.values) in let D = list_all is_value category.values in
@@ -41,7 +34,7 @@ category_parts category h =
     let b = and_parts A B c.0 in
     (leb-true (length category.values) 50 b.1, d.1)
 
-value_parts : (value : BoundedValue) → is_value value ≡ true → (value.lower ≤ value.upper) × (value.upper ≤ 999)
+pub value_parts : (value : BoundedValue) → is_value value ≡ true → (value.lower ≤ value.upper) × (value.upper ≤ 999)
 value_parts value h =
     let b = and_parts (is_name value.name) (are_bounds value.lower value.upper) h in
     let c = and_parts (leb value.lower value.upper) (leb value.upper 999) b.1 in
@@ -58,7 +51,7 @@ place_at (category ∷ categories) (place ∷ places) h =
     let parts = and_parts (ltb place (length category.values)) (has_values categories places) h in
     let rest = place_at categories places parts.1 in
     let here = ltb-true place (length category.values) parts.0 in
-    let count = mapped_length bound_of category.values in
+    let count = length-map category.values bound_of in
     (omega (arith, rest.0), each here count rest.1)
   where
     each : place < length category.values → length (map bound_of category.values) ≡ length category.values →
@@ -103,7 +96,7 @@ module _ (pool : Pool) (alike : ℕ → ℕ → Bool) (is_pool : IsPool pool) (m
   few_in_all = let n = members_in_all pool alike makes in let few = leb-true many 400 is_pool.few_volunteers in omega arith
 
   values_at : (l : ℕ) → l < many → has_values pool.categories (volunteer pool.volunteers l).values ≡ true
-  values_at l below = all_from_each (λ v. has_values pool.categories v.values ≡ true) pool.volunteers (each_from_list_all (λ v. has_values pool.categories v.values) pool.volunteers is_pool.values) l
+  values_at l below = All-from_recursion (λ v. has_values pool.categories v.values ≡ true) pool.volunteers (each_from_list_all (λ v. has_values pool.categories v.values) pool.volunteers is_pool.values) l
       (record { id = []; values = []; standing = Gone; household = None }) below
 
   pub limits_kept : KeepsLimits (classes_by alike pool)
@@ -114,25 +107,25 @@ module _ (pool : Pool) (alike : ℕ → ℕ → Bool) (is_pool : IsPool pool) (m
       let few = leb-true (length pool.categories) 20 is_pool.few_categories in
       record {
         size = (leb-true 1 pool.size size.0, leb-true pool.size 200 size.1);
-        few_categories = omega (arith, mapped_length (λ category. map bound_of category.values) pool.categories);
-        few_values = all_from_each (λ values. length values ≤ 50) (bounds_of pool.categories)
+        few_categories = omega (arith, length-map pool.categories (λ category. map bound_of category.values));
+        few_values = All-from_recursion (λ values. length values ≤ 50) (bounds_of pool.categories)
             (each_mapped (λ values. length values ≤ 50) (λ category. map bound_of category.values) pool.categories
             (each_map (λ category. (length category.values ≤ 50) × (list_all is_value category.values ≡ true)) (λ category. length (map bound_of category.values) ≤ 50)
-            (λ category parts. omega (arith, parts.0, mapped_length bound_of category.values)) pool.categories categories));
-        bounds = all_from_each (λ values. All InRange values) (bounds_of pool.categories)
+            (λ category parts. omega (arith, parts.0, length-map category.values bound_of)) pool.categories categories));
+        bounds = All-from_recursion (λ values. All InRange values) (bounds_of pool.categories)
             (each_mapped (λ values. All InRange values) (λ category. map bound_of category.values) pool.categories
             (each_map (λ category. (length category.values ≤ 50) × (list_all is_value category.values ≡ true)) (λ category. All InRange (map bound_of category.values))
-            (λ category parts. all_from_each InRange (map bound_of category.values) (each_mapped InRange bound_of category.values
+            (λ category parts. All-from_recursion InRange (map bound_of category.values) (each_mapped InRange bound_of category.values
             (each_map (λ value. is_value value ≡ true) (λ value. InRange (bound_of value)) value_parts category.values (each_from_list_all is_value category.values parts.1)))) pool.categories categories));
         few_classes = omega (arith, few_in_all, many_from_each (λ class. length class.members) (classes_by alike pool).classes each_some, sum_by-is-total (λ class. length class.members) (classes_by alike pool).classes);
         few_members = few_in_all;
-        members = all_from_each (λ class. 1 ≤ length class.members) (classes_by alike pool).classes each_some;
-        most = all_from_each (λ class. class.most ≤ length class.members) (classes_by alike pool).classes
+        members = All-from_recursion (λ class. 1 ≤ length class.members) (classes_by alike pool).classes each_some;
+        most = All-from_recursion (λ class. class.most ≤ length class.members) (classes_by alike pool).classes
             (of_leaders (λ class. class.most ≤ length class.members) (λ l below. at_most (volunteer pool.volunteers l).standing (length (class_of alike many l))));
         searchable = classes_in_order pool alike;
-        values = all_from_each (HasPlaces (bounds_of pool.categories)) (classes_by alike pool).classes
+        values = All-from_recursion (HasPlaces (bounds_of pool.categories)) (classes_by alike pool).classes
             (of_leaders (HasPlaces (bounds_of pool.categories)) (λ l below. let places = place_at pool.categories (volunteer pool.volunteers l).values (values_at l below) in record { one_each = places.0; within = places.1 }));
-        households = all_from_each (λ class. IsKnownHousehold (volunteer_count (classes_by alike pool)) class.household) (classes_by alike pool).classes
+        households = All-from_recursion (λ class. IsKnownHousehold (volunteer_count (classes_by alike pool)) class.household) (classes_by alike pool).classes
             (of_leaders (λ class. IsKnownHousehold (volunteer_count (classes_by alike pool)) class.household) (λ l below. known l (shared_household pool.volunteers l) refl));
       }
     where

@@ -1,7 +1,7 @@
 -- Compositions are listed in their order: each comes before all that follow.
-use Rattle.std.proofs.Common.{◌≡◌, ℕ, zero, suc, ◌+◌, ◌-◌, ◌<◌, Bool, true, false, cond, ◌&&◌, ◌||◌, eqb, ltb, List, [], ◌∷◌, ◌++◌, map, filter, refl, arith, inl, inr, ◌⊎◌}
+use Rattle.std.proofs.Common.{◌≡◌, ℕ, zero, suc, ◌+◌, ◌-◌, ◌<◌, Bool, true, false, cond, ◌&&◌, eqb, ltb, List, [], ◌∷◌, ◌++◌, map, filter, refl, arith, inl, inr, ◌⊎◌}
 use Rattle.std.specs.List.{flat_map, AllByRecursion}
-use Rattle.std.proofs.lemmas.Bool.{and_parts, eq-eqb, eqb-true, lt-ltb, ltb-true, le-ltb}
+use Rattle.std.proofs.lemmas.Bool.{and_parts, eq-eqb, eqb-true, lt-ltb, ltb-true, le-ltb, or_cases}
 use Rattle.basic_laws.proofs.Each.{each_map, each_append, each_everywhere, each_filter, each_mapped}
 use Rattle.search_definitions.specs.Best.{comes_before}
 use Rattle.search_definitions.specs.Classes.{Class, Classes}
@@ -13,10 +13,6 @@ abbrev pub Ordered : List (List ℕ) → Type 0
 Ordered [] = Unit {0}
 Ordered (x ∷ xs) = AllByRecursion (λ y. comes_before x y ≡ true) xs × Ordered xs
 
-either_part : (a b : Bool) → (a || b) ≡ true → (a ≡ true) ⊎ (b ≡ true)
-either_part true b e = inl refl
-either_part false b e = inr e
-
 -- ---- one before another
 
 -- never the one before the other and the other before the one
@@ -24,7 +20,7 @@ pub not_back : (xs ys : List ℕ) → comes_before xs ys ≡ true → comes_befo
 not_back [] ys e f = cc
 not_back (c ∷ xs) [] e f = cc
 not_back (c ∷ xs) (d ∷ ys) e f =
-    by (λ l m. not_back xs ys l m) (either_part (ltb d c) (eqb c d && comes_before xs ys) e) (either_part (ltb c d) (eqb d c && comes_before ys xs) f)
+    by (λ l m. not_back xs ys l m) (or_cases (ltb d c) (eqb c d && comes_before xs ys) e) (or_cases (ltb c d) (eqb d c && comes_before ys xs) f)
   where
     by : (comes_before xs ys ≡ true → comes_before ys xs ≡ true → ⊥) → (ltb d c ≡ true) ⊎ ((eqb c d && comes_before xs ys) ≡ true) → (ltb c d ≡ true) ⊎ ((eqb d c && comes_before ys xs) ≡ true) → ⊥
     by rest (inl l) (inl m) = let a = ltb-true d c l in let b = ltb-true c d m in omega arith

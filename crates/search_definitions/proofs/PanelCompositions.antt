@@ -4,9 +4,10 @@ use Rattle.std.specs.Prelude.{int_le, int_lt, unwrap_or, Option, Some, None}
 use Rattle.std.specs.List.{list_all, AllByRecursion, range_with_len, flat_map, enumerate_from}
 use Rattle.std.proofs.lemmas.Bool.{and_from, cases_lt, eq-eqb, ltb-true, le-leb, false≢true}
 use borrow.Author.Differences.{up, down, sum_is_lem, same_in, true_is_le, lt-false}
-use Rattle.basic_laws.proofs.Sums.{total, total_le, total-zero, one_if, length-filter-total, count_by-total}
+use Rattle.basic_laws.proofs.Sums.{total, total_le, total-zero, one_if, length-filter-total, count_by-total, total-ones}
 use Rattle.basic_laws.proofs.Integers.{product-parts}
 use Rattle.basic_laws.proofs.Each.{each_left, each_right, each_of_map, each_range, each_everywhere, list_all_from_each, list_all_equal, each_map, each_from_list_all, each_from_filter, each_filter_passes, enumerated-each}
+use Rattle.basic_laws.proofs.Tests.{implies}
 use Rattle.pool_definitions.specs.declared.Standing.{Standing}
 use Rattle.pool_definitions.specs.declared.Standing.TheVariants.{Open, Seated, Gone}
 use Rattle.pool_definitions.specs.Lists.{includes, choices}
@@ -102,7 +103,7 @@ term_gone s false false e f = le_of_eq refl
 term_gone s true true e f = absurd (false≢true (subst (λ z. allows z true ≡ true) (f refl) e))
 term_gone s false true e f = le_of_eq refl
 
-term_most : (h a : Bool) → cond h (one_if a) 0 ≤ one_if a
+pub term_most : (h a : Bool) → cond h (one_if a) 0 ≤ one_if a
 term_most true a = le_of_eq refl
 term_most false a = omega arith
 
@@ -160,11 +161,7 @@ module _ (pool : Pool) (alike : ℕ → ℕ → Bool) (respects : MakesClasses p
   mine = composition_of alike (leaders alike n) panel
 
   size_is : taken_of (λ leader. true) (leaders alike n) mine ≡ pool.size
-  size_is = passing alike respects.same n (λ leader. true) (λ i j e. refl) panel below ∙ count_by-total (λ leader. true) panel ∙ all_ones panel ∙ parts.size
-    where
-      all_ones : (xs : List ℕ) → total (λ i. 1) xs ≡ length xs
-      all_ones [] = refl
-      all_ones (x ∷ xs) = omega (arith, all_ones xs)
+  size_is = passing alike respects.same n (λ leader. true) (λ i j e. refl) panel below ∙ count_by-total (λ leader. true) panel ∙ total-ones panel ∙ parts.size
 
   value_is : (c v : ℕ) → taken_of (λ leader. eqb (slice_index (volunteer pool.volunteers leader).values c) v) (leaders alike n) mine ≡ members_with pool.volunteers panel c v
   value_is c v =
@@ -247,12 +244,8 @@ is_capped-from_price pool alike makes earlier stage weigh none =
     (list_all_from_each (λ counts. not (composition_attains earlier firsts counts) || int_le (composition_weight (weight_of stage) firsts counts) stage.cap) (compositions pool alike)
     (each_map (λ counts. composition_attains earlier firsts counts ≡ true → int_le (composition_weight (weight_of stage) firsts counts) stage.cap ≡ true)
     (λ counts. (not (composition_attains earlier firsts counts) || int_le (composition_weight (weight_of stage) firsts counts) stage.cap) ≡ true)
-    (λ counts f. if_so (composition_attains earlier firsts counts) (int_le (composition_weight (weight_of stage) firsts counts) stage.cap) f) (compositions pool alike)
+    (λ counts f. implies (composition_attains earlier firsts counts) (int_le (composition_weight (weight_of stage) firsts counts) stage.cap) f) (compositions pool alike)
     (each_from_filter (λ counts. int_le (composition_weight (weight_of stage) firsts counts) stage.cap ≡ true) (composition_attains earlier firsts) (compositions pool alike) each)))
-  where
-    if_so : (a b : Bool) → (a ≡ true → b ≡ true) → (not a || b) ≡ true
-    if_so true b f = f refl
-    if_so false b f = refl
 
 pub no_panel : (pool : Pool) (alike : ℕ → ℕ → Bool) → MakesClasses pool alike → compositions pool alike ≡ [] → panels pool ≡ []
 no_panel pool alike makes none =

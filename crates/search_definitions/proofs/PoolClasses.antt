@@ -1,12 +1,15 @@
 -- The classes of a pool: compositions over them are those by leaders, and so are their first members.
-use Rattle.std.proofs.Common.{◌≡◌, ℕ, zero, suc, ◌+◌, ◌*◌, ◌≤◌, ◌<◌, Bool, true, false, cond, ◌&&◌, ◌||◌, eqb, leb, ltb, List, [], ◌∷◌, map, length, filter, take, count_by, sum_by, slice_index, Option, None, Some, refl, sym, ap, ◌∙◌, ⊎_elim, arith, subst}
+use Rattle.std.proofs.Common.{◌≡◌, ℕ, zero, suc, ◌+◌, ◌*◌, ◌≤◌, ◌<◌, Bool, true, false, cond, ◌&&◌, eqb, leb, ltb, List, [], ◌∷◌, map, length, filter, take, count_by, sum_by, slice_index, Option, None, Some, refl, sym, ap, ◌∙◌, ⊎_elim, arith, subst}
 use Rattle.std.specs.Prelude.{MatchOption, ◌↔◌, slice_get}
 use Rattle.std.specs.List.{flat_map, list_all, AllByRecursion, range_with_len, enumerate_from}
 use Rattle.std.proofs.lemmas.Bool.{cases_Bool, eq-eqb, ne_eqb, false≢true, le-ltb, lt-ltb}
 use Rattle.std.proofs.lemmas.List.Elements.{filter_agree}
-use Rattle.basic_laws.proofs.Tests.{and-false, ltb-more}
+use Rattle.std.proofs.Math.Bool.{and-false, or-false}
+use Rattle.std.proofs.lemmas.List.Folds.{list_all-map}
+use Rattle.basic_laws.proofs.Tests.{ltb-more}
 use Rattle.basic_laws.proofs.Each.{each_map, each_mapped, each_filter, each_everywhere, each_range, list_all_equal}
 use Rattle.basic_laws.proofs.Sums.{total, total_eq, total_ext, sum_by-is-total, one_if, length-filter-total, count_by-total}
+use Rattle.basic_laws.proofs.Lists.{filter_range_same}
 use Rattle.pool_definitions.specs.Lists.{includes, is_increasing}
 use Rattle.pool_definitions.specs.Pool.{Pool, volunteer, is_within, is_quota_panel, panels}
 use Rattle.pool_definitions.proofs.AllPanels.{each_panel}
@@ -30,10 +33,6 @@ classes_in_order pool alike = record {
 }
 
 -- ---- compositions
-
-filter_range_same : (p q : ℕ → Bool) (first count : ℕ) → ((i : ℕ) → i < first + count → p i ≡ q i) → filter p (range_with_len first count) ≡ filter q (range_with_len first count)
-filter_range_same p q first zero e = refl
-filter_range_same p q first (suc count) e = rw (e first (omega arith), filter_range_same p q (first + 1) count (λ i l. e i (omega arith))) refl
 
 all_mapped : {X Y : Type 0} (p : ℕ × Y → Bool) (f : X → Y) (first : ℕ) (xs : List X) → list_all p (enumerate_from first (map f xs)) ≡ list_all (λ (i, x). p (i, f x)) (enumerate_from first xs)
 all_mapped p f first [] = refl
@@ -64,13 +63,9 @@ module _ (pool : Pool) (alike : ℕ → ℕ → Bool) where
 
   households_same : (counts : List ℕ) → takes_one_a_household (map of_leader firsts) counts ≡ by_leader.takes_one_a_household pool firsts counts
   households_same counts =
-      list_all-mapped (λ class. takes_one_of (map of_leader firsts) counts class.household) of_leader firsts
+      list_all-map (λ class. takes_one_of (map of_leader firsts) counts class.household) of_leader firsts
       ∙ list_all_equal (λ l. takes_one_of (map of_leader firsts) counts (of_leader l).household) (λ l. by_leader.takes_one_of pool firsts counts (shared_household pool.volunteers l))
       (λ l. one_of_same counts (shared_household pool.volunteers l)) firsts
-    where
-      list_all-mapped : {X Y : Type 0} (p : Y → Bool) (f : X → Y) (xs : List X) → list_all p (map f xs) ≡ list_all (λ x. p (f x)) xs
-      list_all-mapped p f [] = refl
-      list_all-mapped p f (x ∷ xs) = ap (λ rest. p (f x) && rest) (list_all-mapped p f xs)
 
   composition_same : (counts : List ℕ) → is_composition (classes_by alike pool) counts ≡ by_leader.is_composition pool firsts counts
   composition_same counts =
@@ -206,17 +201,13 @@ module _ (pool : Pool) (alike : ℕ → ℕ → Bool) (makes : MakesClasses pool
             let h : includes (take c (class_of alike many l)) i ≡ ltb (before i) c = held l c i below ∙ ap (λ b. b && ltb (before i) c) t in
             let a = rest.0 in let b = rest.1 in
             let s : c + 0 ≡ c = omega arith in
-            rw (h, a, t, b, s) (or_false (ltb (before i) c))
+            rw (h, a, t, b, s) (or-false (ltb (before i) c))
         | false ↦ λ f z.
             let rest = taken_by_one i below xs counts (omega arith) in
             let h : includes (take c (class_of alike many l)) i ≡ false = held l c i below ∙ ap (λ b. b && ltb (before i) c) f in
             let s : 0 + by_leader.taken_of (λ l. alike l i) xs counts ≡ by_leader.taken_of (λ l. alike l i) xs counts = omega arith in
             rw (h, f, s) rest
       ]) refl z
-    where
-      or_false : (b : Bool) → (b || false) ≡ b
-      or_false true = refl
-      or_false false = refl
 
   -- all classes have as many members as there are volunteers
   pub members_in_all : sum_by (λ class. length class.members) (map class_at (leaders alike many)) ≡ many

@@ -1,9 +1,10 @@
 -- The cuts of a dial: 0 and all marks, each once, in rising order.
-use Rattle.std.proofs.Common.{◌≡◌, ◌⊎◌, inl, inr, ⊎_elim, ℕ, suc, ◌≤◌, ◌<◌, Bool, true, false, cond, ◌||◌, eqb, ltb, leb, List, [], ◌∷◌, ◌++◌, length, refl, sym, ap, ◌∙◌, arith, subst}
+use Rattle.std.proofs.Common.{◌≡◌, ◌⊎◌, inl, inr, ⊎_elim, ℕ, suc, ◌≤◌, ◌<◌, Bool, true, false, cond, ◌||◌, eqb, ltb, leb, List, [], ◌∷◌, ◌++◌, length, refl, sym, ap, ◌∙◌, arith}
 use Rattle.std.specs.List.{AllByRecursion, flat_map, list_all}
 use Rattle.std.proofs.lemmas.Bool.{and_from, and_parts, cases_eq, eqb-true, eq-eqb, ne_eqb, lt-ltb, ltb-true, le-leb, false≢true}
 use Rattle.std.proofs.lemmas.List.Concat.{flat_map-cons}
-use Rattle.basic_laws.proofs.Each.{each_map, each_append, list_all_from_each}
+use Rattle.std.proofs.Math.Bool.{or-true, or_assoc}
+use Rattle.basic_laws.proofs.Each.{each_map, list_all_from_each}
 use Rattle.pool_definitions.specs.Lists.{includes, is_increasing, put_in_order, rising}
 use Rattle.pool_definitions.proofs.Orders.{Rises, Rises-rising}
 use Rattle.search_definitions.specs.Classes.{Classes}
@@ -107,19 +108,10 @@ pub each_cut : (P : ℕ → Type 0) (all : Classes) (counts : List ℕ) → AllB
 each_cut P all counts each =
     let xs = 0 ∷ flat_map (marks (dial all counts)) (partly_taken all.classes counts) in each_once P (rising xs) (each_rising P xs each)
 
--- what holds of each element of lists, one after the other
-pub each_flat_map : {X Y : Type 0} (P : Y → Type 0) (f : X → List Y) (xs : List X) → AllByRecursion (λ x. AllByRecursion P (f x)) xs → AllByRecursion P (flat_map f xs)
-each_flat_map P f [] each = tt
-each_flat_map P f (x ∷ xs) each = subst (AllByRecursion P) (sym (flat_map-cons f x xs)) (each_append P (f x) (flat_map f xs) each.0 (each_flat_map P f xs each.1))
-
 -- two lists, one after the other, hold what one of them holds
 pub includes-append : (xs ys : List ℕ) (z : ℕ) → includes (xs ++ ys) z ≡ (includes xs z || includes ys z)
 includes-append [] ys z = refl
-includes-append (x ∷ xs) ys z = ap (λ b. eqb x z || b) (includes-append xs ys z) ∙ assoc (eqb x z) (includes xs z) (includes ys z)
-  where
-    assoc : (a b c : Bool) → (a || (b || c)) ≡ ((a || b) || c)
-    assoc true b c = refl
-    assoc false b c = refl
+includes-append (x ∷ xs) ys z = ap (λ b. eqb x z || b) (includes-append xs ys z) ∙ sym (or_assoc (eqb x z) (includes xs z) (includes ys z))
 
 -- lists hold what one of them holds
 pub includes-flat_map : (f : ℕ → List ℕ) (xs : List ℕ) (x z : ℕ) → includes xs x ≡ true → includes (f x) z ≡ true → includes (flat_map f xs) z ≡ true
@@ -127,13 +119,9 @@ includes-flat_map f [] x z h k = cc
 includes-flat_map f (y ∷ ys) x z h k =
     ap (λ zs. includes zs z) (flat_map-cons f y ys) ∙ includes-append (f y) (flat_map f ys) z ∙ by (eqb y x) refl h (λ later. includes-flat_map f ys x z later k)
   where
-    or_true : (b : Bool) → (b || true) ≡ true
-    or_true true = refl
-    or_true false = refl
-
     by : (b : Bool) → eqb y x ≡ b → (b || includes ys x) ≡ true → (includes ys x ≡ true → includes (flat_map f ys) z ≡ true) → (includes (f y) z || includes (flat_map f ys) z) ≡ true
     by true e h rest = let s : y ≡ x = eqb-true y x e in let here : includes (f y) z ≡ true = ap (λ n. includes (f n) z) s ∙ k in rw here refl
-    by false e h rest = let later = rest h in rw later (or_true (includes (f y) z))
+    by false e h rest = let later = rest h in rw later (or-true (includes (f y) z))
 
 -- an increasing list that holds 0 begins with it
 pub from_zero : (xs : List ℕ) → is_increasing xs ≡ true → includes xs 0 ≡ true → (rest : List ℕ) × (xs ≡ 0 ∷ rest)

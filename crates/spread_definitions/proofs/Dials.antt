@@ -5,14 +5,15 @@ use Rattle.std.specs.List.{fold, flat_map, range_with_len, AllByRecursion}
 use Rattle.std.proofs.lemmas.Bool.{and_parts, cases_eq, eqb-true, eq-eqb, ltb-true}
 use Rattle.std.proofs.lemmas.Nat.Gcd.{dvd_refl, dvd_trans}
 use Rattle.std.proofs.Math.Nat.{div-mul_cancel, mul-div-mul_right, mul-div_cancel, mul-lt-mul_of_pos_right}
-use Rattle.basic_laws.proofs.Each.{each_map, each_append, each_mapped, each_range}
+use Rattle.std.proofs.Math.Bool.{or-true}
+use Rattle.basic_laws.proofs.Each.{each_map, each_append, each_mapped, each_range, each_flat_map}
 use Rattle.frac128.specs.Divisors.{lcm_of, IsLeastCommonMultiple}
 use Rattle.frac128.proofs.DivisorLaws.{IsLeastCommonMultiple-lcm_of}
 use Rattle.pool_definitions.specs.Lists.{includes}
 use Rattle.search_definitions.specs.Classes.{Class, Classes}
 use Rattle.spread_definitions.specs.Spreading.{is_partly_taken, partly_taken, dial, marks, cuts}
 use Rattle.spread_definitions.proofs.CommonTotals.{lcm_of-positive, dial-positive}
-use Rattle.spread_definitions.proofs.Cuts.{each_cut, each_flat_map, includes-cuts, includes-flat_map}
+use Rattle.spread_definitions.proofs.Cuts.{each_cut, includes-cuts, includes-flat_map}
 
 -- what holds of each element holds of one that a list includes
 pub each_included : (P : ℕ → Type 0) (xs : List ℕ) (x : ℕ) → AllByRecursion P xs → includes xs x ≡ true → P x
@@ -79,13 +80,9 @@ includes-partly (x ∷ classes) (count ∷ counts) zero class e l h =
 includes-partly (x ∷ classes) (count ∷ counts) (suc t) class e l h =
     let rest = includes-partly classes counts t class e (omega arith) h in
     elim (is_partly_taken x count) as (λ b. includes (cond b (length x.members ∷ []) [] ++ partly_taken classes counts) (length class.members) ≡ true) [
-      | true ↦ rw rest (or_true (eqb (length x.members) (length class.members)))
+      | true ↦ rw rest (or-true (eqb (length x.members) (length class.members)))
       | false ↦ rest
     ]
-  where
-    or_true : (b : Bool) → (b || true) ≡ true
-    or_true true = refl
-    or_true false = refl
 
 -- ---- the dial's length
 
@@ -181,11 +178,7 @@ pub includes-mapped : (f : ℕ → ℕ) (first count j : ℕ) → first ≤ j �
 includes-mapped f first zero j low below = absurd (omega arith)
 includes-mapped f first (suc count) j low below = ⊎_elim
     (λ (s : first ≡ j). let e : eqb (f first) (f j) ≡ true = eq-eqb (f first) (f j) (ap f s) in rw e refl)
-    (λ (ne : first ≡ j → ⊥). let rest = includes-mapped f (first + 1) count j (omega arith) (omega arith) in rw rest (or_true (eqb (f first) (f j)))) (cases_eq first j)
-  where
-    or_true : (b : Bool) → (b || true) ≡ true
-    or_true true = refl
-    or_true false = refl
+    (λ (ne : first ≡ j → ⊥). let rest = includes-mapped f (first + 1) count j (omega arith) (omega arith) in rw rest (or-true (eqb (f first) (f j)))) (cases_eq first j)
 
 -- each mark of a class taken in part is a cut
 pub marks_cut : (all : Classes) (counts : List ℕ) (size j : ℕ) → includes (partly_taken all.classes counts) size ≡ true → (d : Divided size (dial all counts)) → j < size →
@@ -196,8 +189,4 @@ marks_cut all counts size j there d below =
     let e : mark ≡ j * d.step = mark_is size (dial all counts) j d in
     let here : includes (marks (dial all counts) size) mark ≡ true = includes-mapped (λ j. j * dial all counts / size) 0 size j (omega arith) (omega arith) in
     let among : includes (flat_map (marks (dial all counts)) sizes) mark ≡ true = includes-flat_map (marks (dial all counts)) sizes size mark there here in
-    subst (λ z. includes (cuts all counts) z ≡ true) e (includes-cuts all counts mark ∙ (rw among (or_true (eqb 0 mark))))
-  where
-    or_true : (b : Bool) → (b || true) ≡ true
-    or_true true = refl
-    or_true false = refl
+    subst (λ z. includes (cuts all counts) z ≡ true) e (includes-cuts all counts mark ∙ (rw among (or-true (eqb 0 mark))))

@@ -1,10 +1,11 @@
 -- A dial has at most as many arcs as there are volunteers.
-use Rattle.std.proofs.Common.{◌≡◌, ℕ, zero, suc, ◌+◌, ◌*◌, ◌/◌, ◌≤◌, ◌<◌, true, false, cond, List, [], ◌∷◌, ◌++◌, eqb, map, length, refl, ap, ◌∙◌, arith, subst, length-append}
+use Rattle.std.proofs.Common.{◌≡◌, ℕ, ◌+◌, ◌*◌, ◌/◌, ◌≤◌, ◌<◌, true, false, cond, List, [], ◌∷◌, ◌++◌, eqb, map, length, refl, ap, ◌∙◌, arith, subst, length-append}
 use Rattle.std.specs.List.{flat_map, range_with_len, AllByRecursion}
 use Rattle.std.proofs.lemmas.Bool.{eq-eqb}
 use Rattle.std.proofs.Math.Nat.{zero-div}
 use Rattle.std.proofs.lemmas.List.{length-map}
 use Rattle.std.proofs.lemmas.List.Concat.{flat_map-cons}
+use Rattle.std.proofs.lemmas.List.FromFn.{length-range_with_len}
 use Rattle.basic_laws.proofs.Sums.{total, sum_by-is-total}
 use Rattle.pool_definitions.specs.Lists.{includes, rising}
 use Rattle.frac128.specs.Fractions.{Fraction}
@@ -14,15 +15,11 @@ use Rattle.spread_definitions.proofs.Cuts.{includes-flat_map, zero_again}
 use Rattle.spread_definitions.proofs.Dials.{IsPartly, each_partly, includes-mapped}
 use Rattle.spread_definitions.proofs.Lotteries.{row_at, some_rows}
 
-length-range : (first count : ℕ) → length (range_with_len first count) ≡ count
-length-range first zero = refl
-length-range first (suc count) = omega (arith, length-range (first + 1) count)
-
 length-marks : (len : ℕ) (sizes : List ℕ) → length (flat_map (marks len) sizes) ≡ total (λ size. size) sizes
 length-marks len [] = refl
 length-marks len (size ∷ sizes) =
     let cons = ap length (flat_map-cons (marks len) size sizes) in
-    omega (arith, cons, length-append (marks len size) (flat_map (marks len) sizes), length-map (range_with_len 0 size) (λ j. j * len / size), length-range 0 size, length-marks len sizes)
+    omega (arith, cons, length-append (marks len size) (flat_map (marks len) sizes), length-map (range_with_len 0 size) (λ j. j * len / size), length-range_with_len 0 size, length-marks len sizes)
 
 some_members : (classes : List Class) (counts : List ℕ) → total (λ size. size) (partly_taken classes counts) ≤ total (λ class. length class.members) classes
 some_members [] counts = omega arith
@@ -34,7 +31,7 @@ some_members (class ∷ classes) (count ∷ counts) =
       | false ↦ omega (arith, rest)
     ]
 
-length-arcs : (end : ℕ) (xs : List ℕ) → length (arcs_between end xs) ≡ length xs
+pub length-arcs : (end : ℕ) (xs : List ℕ) → length (arcs_between end xs) ≡ length xs
 length-arcs end [] = refl
 length-arcs end (x ∷ []) = refl
 length-arcs end (x ∷ (y ∷ ys)) = omega (arith, length-arcs end (y ∷ ys))

@@ -8,7 +8,8 @@ use Rattle.std.proofs.lemmas.List.Concat.{flat_map-cons}
 use Rattle.std.proofs.lemmas.List.Elements.{recursion_from_All}
 use Rattle.std.proofs.lemmas.Slice.Eq.{bytes_eq-Decides}
 use Rattle.std.proofs.Math.Nat.{mul-pos, mul-div_assoc, mul-div_cancel', mul-div_cancel_left}
-use Rattle.basic_laws.proofs.Each.{each_both, each_map, each_append, each_mapped, each_filter, each_range, each_of_map, each_everywhere, list_all_from_each}
+use Rattle.std.proofs.lemmas.List.{map-append}
+use Rattle.basic_laws.proofs.Each.{each_both, each_map, each_append, each_mapped, each_filter, each_range, each_of_map, each_everywhere, list_all_from_each, each_flat_map}
 use Rattle.basic_laws.proofs.Lists.{map-map}
 use Rattle.basic_laws.proofs.Sums.{total, total_eq, total_ext, total-filter, total-scaled, one_if, sum_by-is-total}
 use Rattle.frac128.specs.Fractions.{Fraction}
@@ -26,7 +27,7 @@ use Rattle.search_definitions.proofs.Parting.{all_counted, classes_part}
 use Rattle.spread_definitions.specs.Spreading.{AreParts, HasEvenChances, IsCommonTotal, TotalPass, arcs, arcs_between, cuts, dial, is_given, lottery_of, panel_at, rows_of, spread, total_from}
 use Rattle.spread_definitions.proofs.Arcs.{arcs_begin, each_long}
 use Rattle.spread_definitions.proofs.CommonTotals.{common_total}
-use Rattle.spread_definitions.proofs.Cuts.{cuts_begin, cuts_increase, each_flat_map}
+use Rattle.spread_definitions.proofs.Cuts.{cuts_begin, cuts_increase}
 use Rattle.spread_definitions.proofs.Dials.{Cut, cuts_are}
 use Rattle.spread_definitions.proofs.Panels.{CanGive, Within, arcs_length, chance, compositions_within, panel_composes, panels_apart}
 use Rattle.spread_definitions.proofs.Parts.{each_composition, some_parts, sum_is_total}
@@ -44,10 +45,6 @@ total-append g (x ∷ xs) ys = omega (arith, total-append g xs ys)
 total-flat_map : {X Y : Type 0} (g : Y → ℕ) (f : X → List Y) (xs : List X) → total g (flat_map f xs) ≡ total (λ x. total g (f x)) xs
 total-flat_map g f [] = refl
 total-flat_map g f (x ∷ xs) = ap (total g) (flat_map-cons f x xs) ∙ omega (arith, total-append g (f x) (flat_map f xs), total-flat_map g f xs)
-
-map-append : {X Y : Type 0} (f : X → Y) (xs ys : List X) → map f (xs ++ ys) ≡ map f xs ++ map f ys
-map-append f [] ys = refl
-map-append f (x ∷ xs) ys = ap (λ rest. f x ∷ rest) (map-append f xs ys)
 
 -- ---- lists no two of which are the same
 

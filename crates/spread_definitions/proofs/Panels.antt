@@ -1,12 +1,13 @@
 -- The panels of a composition's arcs: each takes as many of each class as the composition says, no two are the same, and each member of
 -- a class is on panels for the same length of the dial.
-use Rattle.std.proofs.Common.{◌≡◌, ◌⊎◌, inl, inr, ℕ, zero, suc, ◌+◌, ◌-◌, ◌*◌, ◌/◌, ◌≤◌, ◌<◌, Bool, true, false, cond, ◌||◌, eqb, ltb, List, [], ◌∷◌, map, take, drop, ◌++◌, length, get_or, slice_get, Some, count_by, refl, sym, ap, ◌∙◌, ⊎_elim, arith, subst, mul-le-mul_right}
+use Rattle.std.proofs.Common.{◌≡◌, ◌⊎◌, inl, inr, ℕ, zero, suc, ◌+◌, ◌-◌, ◌*◌, ◌/◌, ◌≤◌, ◌<◌, Bool, true, false, cond, eqb, ltb, List, [], ◌∷◌, map, take, drop, ◌++◌, length, get_or, slice_get, Some, count_by, refl, sym, ap, ◌∙◌, ⊎_elim, arith, subst, mul-le-mul_right}
 use Rattle.std.specs.List.{range_with_len, AllByRecursion}
 use Rattle.std.proofs.lemmas.Bool.{and_from, cases_Bool, cases_lt, lt-ltb, ne_eqb, false≢true}
 use Rattle.std.proofs.lemmas.List.{take_all}
 use Rattle.std.proofs.Math.Nat.{div-le_of_le-mul, div-lt_iff_lt-mul, mul-div_cancel}
+use Rattle.std.proofs.Math.Bool.{or-false}
 use Rattle.basic_laws.proofs.Sums.{total, total_eq, total_ext, total-filter, total-scaled, one_if, count_by-total}
-use Rattle.basic_laws.proofs.Each.{each_map, each_append, each_mapped, each_filter, each_range}
+use Rattle.basic_laws.proofs.Each.{each_map, each_append, each_mapped, each_filter, each_range, each_slice_get}
 use Rattle.pool_definitions.specs.Lists.{includes, is_increasing}
 use Rattle.search_definitions.specs.Classes.{Class, Classes, PartVolunteers, volunteer_count}
 use Rattle.search_definitions.specs.Compositions.{all_counts, compositions, composition_of, is_composition}
@@ -52,12 +53,6 @@ within_at [] counts t class within e = cc
 within_at (x ∷ classes) [] t class within e = absurd within
 within_at (x ∷ classes) (c ∷ counts) zero class within e = let same : x ≡ class = cc in (omega arith, subst (λ (k : Class). c ≤ length k.members) same within.0)
 within_at (x ∷ classes) (c ∷ counts) (suc t) class within e = let rest = within_at classes counts t class within.1 e in (omega (arith, rest.0), rest.1)
-
--- what holds of each class holds of that at a place
-class_at : (P : Class → Type 0) (classes : List Class) (t : ℕ) (class : Class) → AllByRecursion P classes → slice_get classes t ≡ Some class → P class
-class_at P [] t class each e = absurd cc
-class_at P (x ∷ classes) zero class each e = let same : x ≡ class = cc in subst P same each.0
-class_at P (x ∷ classes) (suc t) class each e = class_at P classes t class each.1 e
 
 same_length : (classes : List Class) (counts : List ℕ) → Within classes counts → length counts ≡ length classes
 same_length [] [] within = refl
@@ -105,11 +100,7 @@ given_at len at (x ∷ classes) (c ∷ counts) zero class i e l h once =
     let first : includes x.members i ≡ true = ap (λ (k : Class). includes k.members i) same ∙ h in
     let none : total (λ (class : Class). one_if (includes class.members i)) classes ≡ 0 = let o = (rw first at once) in omega arith in
     let rest = given_none len at classes counts i none in
-    rw rest (or_false (includes (turned (at * length x.members / len) c x.members) i) ∙ ap (λ (k : Class). includes (turned (at * length k.members / len) c k.members) i) same)
-  where
-    or_false : (b : Bool) → (b || false) ≡ b
-    or_false true = refl
-    or_false false = refl
+    rw rest (or-false (includes (turned (at * length x.members / len) c x.members) i) ∙ ap (λ (k : Class). includes (turned (at * length k.members / len) c k.members) i) same)
 given_at len at (x ∷ classes) (c ∷ counts) (suc t) class i e l h once =
     let among = counted classes t e in
     let not_first : includes x.members i ≡ false = other (includes x.members i) once among in
@@ -144,10 +135,10 @@ module _ (all : Classes) (parting : PartVolunteers all) (counts : List ℕ) (wit
 
   module _ (t : ℕ) (class : Class) (is_at : slice_get all.classes t ≡ Some class) where
     up : is_increasing class.members ≡ true
-    up = class_at (λ class. is_increasing class.members ≡ true) all.classes t class parting.rising is_at
+    up = each_slice_get (λ class. is_increasing class.members ≡ true) all.classes t class parting.rising is_at
 
     known : AllByRecursion (λ i. i < many) class.members
-    known = class_at (λ class. AllByRecursion (λ i. i < many) class.members) all.classes t class parting.known is_at
+    known = each_slice_get (λ class. AllByRecursion (λ i. i < many) class.members) all.classes t class parting.known is_at
 
     once : (i : ℕ) → times class.members i ≤ 1
     once i = at_most_once class.members up i

@@ -1,7 +1,7 @@
 -- What holds of the panels of each composition holds of the panels that are spread.
 use Rattle.std.proofs.Common.{◌≡◌, ℕ, Bool, true, ltb, List, map, length, Ok, sym, ap, subst}
 use Rattle.std.specs.List.{flat_map, list_all, AllByRecursion}
-use Rattle.basic_laws.proofs.Each.{each_both, each_map, each_mapped, each_of_map}
+use Rattle.basic_laws.proofs.Each.{each_both, each_map, each_mapped, each_of_map, each_flat_map}
 use Rattle.frac128.specs.Fractions.{Fraction}
 use Rattle.pool_definitions.specs.Lottery.{LotteryRow, Lottery}
 use Rattle.pool_definitions.specs.Pool.{Pool}
@@ -9,7 +9,6 @@ use Rattle.search_definitions.specs.Classes.{Classes, MakesClasses, classes_by}
 use Rattle.search_definitions.specs.Compositions.{composition_of}
 use Rattle.search_definitions.proofs.Parting.{classes_part}
 use Rattle.spread_definitions.specs.Spreading.{AreParts, cuts, panel_at, rows_of, spread}
-use Rattle.spread_definitions.proofs.Cuts.{each_flat_map}
 use Rattle.spread_definitions.proofs.Dials.{Cut, cuts_are}
 use Rattle.spread_definitions.proofs.Lotteries.{all_panels_are, is_spread, panel_below, parts_within, pool_can_give}
 use Rattle.spread_definitions.proofs.Panels.{Within, panel_composes}

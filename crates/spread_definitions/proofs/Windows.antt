@@ -48,9 +48,6 @@ times-none xs i h = ⊎_elim
 pub includes-none : (xs : List ℕ) (i : ℕ) → times xs i ≤ 0 → includes xs i ≡ false
 includes-none xs i h = includes-times xs i ∙ le-ltb 0 (times xs i) h
 
-pub includes-some : (xs : List ℕ) (i : ℕ) → 0 < times xs i → includes xs i ≡ true
-includes-some xs i h = includes-times xs i ∙ lt-ltb 0 (times xs i) h
-
 pub times-some : (xs : List ℕ) (i : ℕ) → includes xs i ≡ true → 0 < times xs i
 times-some xs i h = ltb-true 0 (times xs i) (sym (includes-times xs i) ∙ h)
 

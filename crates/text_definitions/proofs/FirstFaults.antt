@@ -8,6 +8,7 @@ use Rattle.std.proofs.lemmas.List.{append-nil}
 use Rattle.std.proofs.lemmas.Bool.{and_parts, eqb-true}
 use Rattle.std.specs.Prelude.{codes}
 use Rattle.std.specs.Str.{is_utf8, chars}
+use Rattle.basic_laws.proofs.Each.{each_left}
 use lib.Utf8.{encode}
 use Rattle.pool_definitions.specs.declared.Standing.TheVariants.{Open}
 use Rattle.pool_definitions.specs.Pool.{Pool, IsPool}
@@ -181,10 +182,6 @@ fault_again number progress (first ∷ second ∷ before) line next later kind h
     let rest = fault_again (number + 1) (after_line progress first) (second ∷ before) line next later kind h.1 k in
     (rest.0, ap (λ o. fault_or o number (read_lines reader (number + 1) (after_line progress first) (second ∷ (before ++ line ∷ next ∷ later)))) h.0 ∙ rest.1)
 
-front : (P : List ℕ → Type 0) (xs ys : List (List ℕ)) → AllByRecursion P (xs ++ ys) → AllByRecursion P xs
-front P [] ys h = tt
-front P (x ∷ xs) ys h = (h.0, front P xs ys h.1)
-
 not_both : (r : Result Pool Fault) (pool : Pool) (fault : Fault) → r ≡ Ok pool → r ≡ Err fault → ⊥
 not_both r pool fault h k = cc
 
@@ -195,7 +192,7 @@ none_begins bytes fault h other text =
     let pool = text.0 in let rest = text.1 in
     let same : spelling pool ≡ text_of lines ++ rest = text.3 ∙ ap (λ ls. text_of ls ++ rest) (up_to_is bytes fault at) in
     let regrouped : pieces_of bytes ≡ lines ++ at.later = at.parted ∙ sym (append_assoc at.before (at.line ∷ []) at.later) in
-    let lack = front (Lacks line_feed) lines at.later (subst (AllByRecursion (Lacks line_feed)) regrouped (pieces_lack bytes)) in
+    let lack = each_left (Lacks line_feed) lines at.later (subst (AllByRecursion (Lacks line_feed)) regrouped (pieces_lack bytes)) in
     let some = some_piece rest in
     let pieces : pieces_of (spelling pool) ≡ at.before ++ at.line ∷ some.0 ∷ some.1 =
     ap pieces_of same ∙ (pieces_of-text_of_then lines rest lack ∙ (ap (λ ps. lines ++ ps) some.2 ∙ append_assoc at.before (at.line ∷ []) (some.0 ∷ some.1))) in

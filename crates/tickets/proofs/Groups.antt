@@ -1,16 +1,15 @@
 -- Groups of digits: their size, their numbers, and which is the first that is accepted.
-use Rattle.std.proofs.Common.{◌≡◌, ℕ, zero, suc, ◌+◌, ◌-◌, ◌*◌, ◌/◌, ◌^◌, ◌<◌, ◌≤◌, Bool, true, false, not, List, length, get_or, take, pos, refl, sym, ap, ap₂, ◌∙◌, arith, Some, None, ⊎_elim}
+use Rattle.std.proofs.Common.{◌≡◌, ℕ, suc, ◌+◌, ◌-◌, ◌*◌, ◌/◌, ◌^◌, ◌<◌, ◌≤◌, Bool, true, false, not, List, length, get_or, take, pos, sym, ap, ap₂, ◌∙◌, arith, Some, None, ⊎_elim}
 use Rattle.std.specs.Prelude.{position, Ok, Err}
-use Rattle.basic_laws.proofs.Found.{position-None}
+use Rattle.basic_laws.proofs.Found.{position-None, find_range-first, find_range-none}
 use Rattle.draw_definitions.specs.declared.Named.{Named}
 use Rattle.draw_definitions.specs.declared.DiceStop.TheVariants.{MoreDigits}
 use Rattle.std.specs.Char.{digit_value, is_ascii_digit}
-use Rattle.std.specs.List.{find, range_with_len}
 use Rattle.std.specs.Str.Parse.{digits_value}
 use Rattle.std.proofs.lemmas.Int.Digits.{digits_value_more}
-use Rattle.std.proofs.lemmas.Bool.{cases_lt, false≢true, lt-ltb}
+use Rattle.std.proofs.lemmas.Bool.{cases_lt, lt-ltb, not-false}
 use Rattle.std.proofs.lemmas.Bool.Decides.{nat_tests}
-use Rattle.std.proofs.Math.Nat.{le-div_iff_mul-le, le_antisymm, pow-le-pow_right, pow-suc}
+use Rattle.std.proofs.Math.Nat.{le_antisymm, pow-le-pow_right, pow-suc}
 use Rattle.draw_definitions.specs.Dice.{first_accepted, group_at, group_size, is_accepted, named_at, share}
 use Rattle.tickets.specs.declared.dice.Groups.{Groups}
 use Rattle.tickets.specs.Reading.{AreDigits, AreGroupsOf}
@@ -41,10 +40,6 @@ most_groups total groups are =
 pub some_digits : (total : ℕ) (groups : Groups) → AreGroupsOf total groups → 1 ≤ groups.size
 some_digits total groups are = omega (arith, are.size, size-some total)
 
--- a whole group lies within the digits
-pub group_inside : (digits size place : ℕ) → 0 < size → place < digits / size → (place + 1) * size ≤ digits
-group_inside digits size place some l = (le-div_iff_mul-le {k = size} {x = place + 1} {y = digits} some).0 (omega arith)
-
 -- ---- digits
 
 pub digit_is : (byte : ℕ) → is_ascii_digit byte ≡ true → (digit_value byte ≡ byte - 48) × (48 ≤ byte) × (byte ≤ 57)
@@ -63,47 +58,11 @@ small-power i l = pow-le-pow_right {n = 10} (omega arith) {i = i} {j = 37} (omeg
 
 -- ---- the first group that is accepted
 
-pub find-first : (p : ℕ → Bool) (from n k : ℕ) → k < n → p (from + k) ≡ true → ((j : ℕ) → j < k → p (from + j) ≡ false) → find p (range_with_len from n) ≡ Some (from + k)
-find-first p from zero k l e before = absurd (omega arith)
-find-first p from (suc n) zero l e before =
-    let same : from + 0 ≡ from = omega arith in
-    let here : p from ≡ true = rw same at e in
-    rw (here, same) refl
-find-first p from (suc n) (suc k) l e before =
-    let same : from + 0 ≡ from = omega arith in
-    let here : p from ≡ false = rw same at (before 0 (omega arith)) in
-    let next : from + suc k ≡ from + 1 + k = omega arith in
-    let rest : find p (range_with_len (from + 1) n) ≡ Some (from + 1 + k) =
-    find-first p (from + 1) n k (omega arith) (rw next at e) (λ j m. let e : from + suc j ≡ from + 1 + j = omega arith in rw e at (before (suc j) (omega arith))) in
-    rw (here, next) rest
-
-pub find-nothing : (p : ℕ → Bool) (from n : ℕ) → ((j : ℕ) → j < n → p (from + j) ≡ false) → find p (range_with_len from n) ≡ None
-find-nothing p from zero before = refl
-find-nothing p from (suc n) before =
-    let same : from + 0 ≡ from = omega arith in
-    let here : p from ≡ false = rw same at (before 0 (omega arith)) in
-    let rest : find p (range_with_len (from + 1) n) ≡ None =
-    find-nothing p (from + 1) n (λ j m. let e : from + suc j ≡ from + 1 + j = omega arith in rw e at (before (suc j) (omega arith))) in
-    rw here rest
-
-plain : (n : ℕ) → 0 + n ≡ n
-plain n = omega arith
-
-pub find-first_from_zero : (p : ℕ → Bool) (n k : ℕ) → k < n → p k ≡ true → ((j : ℕ) → j < k → p j ≡ false) → find p (range_with_len 0 n) ≡ Some k
-find-first_from_zero p n k l e before = find-first p 0 n k l (rw (plain k) e) (λ j m. rw (plain j) (before j m)) ∙ ap Some (plain k)
-
-pub find-nothing_from_zero : (p : ℕ → Bool) (n : ℕ) → ((j : ℕ) → j < n → p j ≡ false) → find p (range_with_len 0 n) ≡ None
-find-nothing_from_zero p n before = find-nothing p 0 n (λ j m. rw (plain j) (before j m))
-
 -- ---- what digits name
 
 -- where no byte is another one, all are digits
 pub digits_alone : (digits : List ℕ) → position (λ byte. not (is_ascii_digit byte)) digits ≡ None → AreDigits digits
-digits_alone digits e = record { each = λ place l. affirmed (is_ascii_digit (get_or digits place 0)) (position-None (λ byte. not (is_ascii_digit byte)) digits place 0 e l) }
-  where
-    affirmed : (b : Bool) → not b ≡ false → b ≡ true
-    affirmed true h = refl
-    affirmed false h = absurd (false≢true (sym h))
+digits_alone digits e = record { each = λ place l. not-false (is_ascii_digit (get_or digits place 0)) (position-None (λ byte. not (is_ascii_digit byte)) digits place 0 e l) }
 
 module _ (total : ℕ) (groups : Groups) (digits : List ℕ) (are : AreGroupsOf total groups) where
   abbrev is_accepted_at : ℕ → Bool
@@ -118,7 +77,7 @@ module _ (total : ℕ) (groups : Groups) (digits : List ℕ) (are : AreGroupsOf 
       let shares : total * groups.share ≡ total * share total = ap (λ n. total * n) are.share in
       let accepted : is_accepted_at place ≡ true = lt-ltb (group_at (group_size total) digits place) (total * share total) (omega (arith, here)) in
       let sized : length digits / groups.size ≡ length digits / group_size total = ap (λ size. length digits / size) are.size in
-      let found : first_accepted total digits ≡ Some place = find-first_from_zero is_accepted_at (length digits / group_size total) place (omega arith) accepted before in
+      let found : first_accepted total digits ≡ Some place = find_range-first is_accepted_at 0 (length digits / group_size total) place (omega arith) (omega arith) accepted (λ k l m. before k m) in
       let ticket : group / groups.share ≡ group_at (group_size total) digits place / share total = ap₂ (λ g n. g / n) here are.share in
       let used : (place + 1) * groups.size ≡ (place + 1) * group_size total = ap (λ size. (place + 1) * size) are.size in
       ap₂ (λ (t u : ℕ). let named : Named = record { ticket = pos t; used = u } in Ok named) ticket used ∙ sym (ap (named_at total digits) found)
@@ -128,7 +87,7 @@ module _ (total : ℕ) (groups : Groups) (digits : List ℕ) (are : AreGroupsOf 
       Err (MoreDigits (length digits)) ≡ named_at total digits (first_accepted total digits)
   names_nothing places l before =
       let sized : length digits / groups.size ≡ length digits / group_size total = ap (λ size. length digits / size) are.size in
-      let nothing : first_accepted total digits ≡ None = find-nothing_from_zero is_accepted_at (length digits / group_size total) (λ place m. before place (omega arith)) in
+      let nothing : first_accepted total digits ≡ None = find_range-none is_accepted_at 0 (length digits / group_size total) (λ place at_least below. before place (omega arith)) in
       sym (ap (named_at total digits) nothing)
 
 -- what is named is a ticket of the total

@@ -1,13 +1,14 @@
 -- The compositions below the pieces are those that are sought, and what pieces are.
 use Rattle.std.proofs.Common.{◌≡◌, ℕ, zero, suc, ◌+◌, ◌-◌, ◌≤◌, ◌<◌, Bool, true, false, cond, List, [], ◌∷◌, ◌++◌, map, length, filter, take, drop, fold, ℤ, Some, refl, sym, ap, ◌∙◌, arith, subst, length-append, append_assoc}
 use Rattle.std.specs.Prelude.{int_lt, nat_le, not, slice_index}
-use Rattle.std.specs.List.{flat_map, All, AllByRecursion, position_or_len, range_with_len}
+use Rattle.std.specs.List.{flat_map, AllByRecursion, position_or_len, range_with_len}
 use Rattle.std.proofs.lemmas.Grind.{flat_map-append}
 use Rattle.std.proofs.lemmas.List.{append-nil, length-take-le, take-append-drop}
 use Rattle.std.proofs.lemmas.List.FromFn.{length-range_with_len}
 use Rattle.std.proofs.lemmas.List.Sums.{fold-append, prefix_len-le-length}
+use Rattle.std.proofs.lemmas.List.Elements.{recursion_from_All}
 use borrow.Author.Differences.{lt-true, lt-false}
-use Rattle.basic_laws.proofs.Each.{each_map, each_append, each_both, each_left}
+use Rattle.basic_laws.proofs.Each.{each_map, each_append, each_both, each_left, each_mapped, each_everywhere}
 use Rattle.row_definitions.specs.Row.{Row}
 use Rattle.search_definitions.specs.Classes.{Class, Classes, KeepsLimits}
 use Rattle.search_definitions.specs.Compositions.{counts_of, counts_down, weight_in}
@@ -96,10 +97,6 @@ module _ (all : Classes) (closed : List Row) (row : Row) (later : List Class) wh
 
 -- ---- what pieces are
 
-each_together : (P : List ℕ → Type 0) (parts : List Pieces) → AllByRecursion (λ part. AllByRecursion P part.fronts) parts → AllByRecursion P (together parts).fronts
-each_together P [] h = tt
-each_together P (part ∷ parts) h = each_append P part.fronts (together parts).fronts h.0 (each_together P parts h.1)
-
 -- what holds of each child of a front below which it holds of each piece
 each_child : (P : List ℕ → Type 0) (live : List ℕ → Bool) (below : List ℕ → Pieces) (children : List (List ℕ)) → AllByRecursion (λ child. AllByRecursion P (below child).fronts) children →
     AllByRecursion P (together (map below (filter live children))).fronts
@@ -110,21 +107,13 @@ each_child P live below (child ∷ children) h =
       | false ↦ each_child P live below children h.1
     ]
 
-each_made : {X : Type 0} (P : List ℕ → Type 0) (f : X → List ℕ) (xs : List X) → AllByRecursion (λ x. P (f x)) xs → AllByRecursion P (map f xs)
-each_made P f [] h = tt
-each_made P f (x ∷ xs) h = (h.0, each_made P f xs h.1)
-
-everywhere : {X : Type 0} (P : X → Type 0) → ((x : X) → P x) → (xs : List X) → AllByRecursion P xs
-everywhere P h [] = tt
-everywhere P h (x ∷ xs) = (h x, everywhere P h xs)
-
 pub lengths : (all : Classes) (closed : List Row) (row : Row) (firsts : List Class) (front : List ℕ) →
     AllByRecursion (λ piece. length piece ≡ length front + length firsts) (pieces_below all closed row firsts front).fronts
 lengths all closed row [] front = (omega arith, tt)
 lengths all closed row (class ∷ firsts) front =
     each_child (λ piece. length piece ≡ length front + suc (length firsts)) (is_live_above all closed row row.b) (λ child. pieces_below all closed row firsts child) (map (λ c. front ++ c ∷ []) (counts_of class))
-    (each_made (λ child. AllByRecursion (λ piece. length piece ≡ length front + suc (length firsts)) (pieces_below all closed row firsts child).fronts) (λ c. front ++ c ∷ []) (counts_of class)
-    (everywhere (λ c. AllByRecursion (λ piece. length piece ≡ length front + suc (length firsts)) (pieces_below all closed row firsts (front ++ c ∷ [])).fronts)
+    (each_mapped (λ child. AllByRecursion (λ piece. length piece ≡ length front + suc (length firsts)) (pieces_below all closed row firsts child).fronts) (λ c. front ++ c ∷ []) (counts_of class)
+    (each_everywhere (λ c. AllByRecursion (λ piece. length piece ≡ length front + suc (length firsts)) (pieces_below all closed row firsts (front ++ c ∷ [])).fronts)
     (λ c. each_map (λ piece. length piece ≡ length (front ++ c ∷ []) + length firsts) (λ piece. length piece ≡ length front + suc (length firsts))
     (λ piece e. omega (arith, e, length-append front (c ∷ []))) (pieces_below all closed row firsts (front ++ c ∷ [])).fronts (lengths all closed row firsts (front ++ c ∷ [])))
     (counts_of class)))
@@ -179,10 +168,6 @@ fit_few (class ∷ classes) (c ∷ counts) fit = omega (arith, fit_few classes c
 abbrev InSize : Class → Type 0
 InSize class = (class.least ≤ class.most) × (class.most ≤ length class.members)
 
-each_of : {X : Type 0} (P : X → Type 0) (xs : List X) → All P xs → AllByRecursion P xs
-each_of P [] h = tt
-each_of P (x ∷ xs) h = (h 0 x (omega arith), each_of P xs (λ k d l. h (suc k) d (omega arith)))
-
 counts_fit : (least more most : ℕ) → least + more ≤ most → AllByRecursion (λ c. c ≤ most) (counts_down least more)
 counts_fit least zero most l = (omega arith, tt)
 counts_fit least (suc more) most l = (omega arith, counts_fit least more most (omega arith))
@@ -193,7 +178,7 @@ pieces_fit all closed row pre [] later front whole long sizes fit = (fit, tt)
 pieces_fit all closed row pre (class ∷ firsts) later front whole long sizes fit =
     let next : all.classes ≡ (pre ++ class ∷ []) ++ (firsts ++ later) = whole ∙ sym (append_assoc pre (class ∷ []) (firsts ++ later)) in
     each_child (Fit all.classes) (is_live_above all closed row row.b) (λ child. pieces_below all closed row firsts child) (map (λ c. front ++ c ∷ []) (counts_of class))
-    (each_made (λ child. AllByRecursion (Fit all.classes) (pieces_below all closed row firsts child).fronts) (λ c. front ++ c ∷ []) (counts_of class)
+    (each_mapped (λ child. AllByRecursion (Fit all.classes) (pieces_below all closed row firsts child).fronts) (λ c. front ++ c ∷ []) (counts_of class)
     (each_map (λ c. c ≤ class.most) (λ c. AllByRecursion (Fit all.classes) (pieces_below all closed row firsts (front ++ c ∷ [])).fronts)
     (λ c l. pieces_fit all closed row (pre ++ class ∷ []) firsts later (front ++ c ∷ []) next (omega (arith, long, length-append front (c ∷ []), length-append pre (class ∷ []))) sizes.1
     (subst (λ classes. Fit classes (front ++ c ∷ [])) (sym whole) (fit_more pre (firsts ++ later) class front c (subst (λ classes. Fit classes front) whole fit) long (omega (arith, l, sizes.0.1)))))
@@ -203,7 +188,7 @@ pub pieces_within : (all : Classes) (closed : List Row) (row : Row) → KeepsLim
 pieces_within all closed row limits =
     let firsts = take (piece_depth all) all.classes in
     let sizes : AllByRecursion InSize all.classes = each_both (λ (class : Class). class.least ≤ class.most) (λ (class : Class). class.most ≤ length class.members) all.classes limits.searchable.in_order
-    (each_of (λ (class : Class). class.most ≤ length class.members) all.classes limits.most) in
+    (recursion_from_All (λ (class : Class). class.most ≤ length class.members) all.classes limits.most) in
     elim (is_live_above all closed row row.b []) as (λ b. AllByRecursion (IsFront all) (cond b (pieces_below all closed row firsts []) (record { visits = 1; fronts = [] })).fronts) [
       | true ↦ each_map (Fit all.classes) (IsFront all) (λ front fit. record { few = fit_few all.classes front fit; within = λ t l. fit_at all.classes front t fit l })
           (pieces_below all closed row firsts []).fronts

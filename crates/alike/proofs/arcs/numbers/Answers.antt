@@ -1,6 +1,6 @@
-use Rattle.std.proofs.Common.{◌≡◌, ◌+◌, ◌++◌, ◌∷◌, [], ℕ, suc, Bool, true, false, List, filter, get_or, sym, ap, ◌∙◌, arith}
+use Rattle.std.proofs.Common.{◌≡◌, ◌+◌, ◌++◌, ◌∷◌, [], ℕ, Bool, true, false, List, filter, get_or, sym, ap, ◌∙◌}
 use Rattle.std.specs.List.{range_with_len}
-use Rattle.alike.proofs.Marked.{passes-more, fails-more}
+use Rattle.basic_laws.proofs.Lists.{filter_taken, filter_passed}
 use Rattle.alike.proofs.arcs.numbers.Goals as goal
 use Rattle.alike.proofs.arcs.numbers.Goals.{then-is_given+in_ok-push, else-is_given}
 
@@ -8,15 +8,13 @@ use Rattle.alike.proofs.arcs.numbers.Goals.{then-is_given+in_ok-push, else-is_gi
 with_one : (given : List Bool) (number : ℕ) (before after new : List ℕ) → after ≡ new → new ≡ before ++ number ∷ [] → before ≡ filter (λ i. get_or given i false) (range_with_len 0 number) → get_or given number false ≡ true →
     after ≡ filter (λ i. get_or given i false) (range_with_len 0 (number + 1))
 with_one given number before after new same pushed e marked =
-    let more : suc number ≡ number + 1 = omega arith in
-    same ∙ pushed ∙ ap (λ xs. xs ++ number ∷ []) e ∙ sym (passes-more (λ i. get_or given i false) number marked) ∙ ap (λ n. filter (λ i. get_or given i false) (range_with_len 0 n)) more
+    same ∙ pushed ∙ ap (λ xs. xs ++ number ∷ []) e ∙ sym (filter_taken (λ i. get_or given i false) number marked)
 
 -- or with one that is not
 without : (given : List Bool) (number : ℕ) (before after : List ℕ) → after ≡ before → before ≡ filter (λ i. get_or given i false) (range_with_len 0 number) → get_or given number false ≡ false →
     after ≡ filter (λ i. get_or given i false) (range_with_len 0 (number + 1))
 without given number before after same e marked =
-    let more : suc number ≡ number + 1 = omega arith in
-    same ∙ e ∙ sym (fails-more (λ i. get_or given i false) number marked) ∙ ap (λ n. filter (λ i. get_or given i false) (range_with_len 0 n)) more
+    same ∙ e ∙ sym (filter_passed (λ i. get_or given i false) number marked)
 
 pub loop-number-preserved : goal.loop-number-preserved
 loop-number-preserved c =

@@ -1,6 +1,7 @@
-use Rattle.std.proofs.Common.{◌≡◌, ◌⊎◌, inl, inr, ◌≤◌, ◌<◌, ℕ, suc, true, false, cond, List, [], ◌∷◌, ◌++◌, take, length, length-append, refl, sym, ap, ◌∙◌, ⊎_elim, arith, rules, min}
+use Rattle.std.proofs.Common.{◌≡◌, ◌⊎◌, inl, inr, ◌≤◌, ◌<◌, ℕ, suc, true, false, cond, [], ◌∷◌, ◌++◌, take, length, length-append, sym, ap, ◌∙◌, ⊎_elim, arith, rules, min}
 use Rattle.std.proofs.lemmas.Bool.{cases_lt}
 use Rattle.std.proofs.lemmas.Slice.Zip.{zip_turn, zip_end}
+use Rattle.std.proofs.lemmas.List.{append-nil}
 use Rattle.spread_definitions.specs.Spreading.{is_partly_taken, partly_taken}
 use Rattle.alike.proofs.Parts.{partly-more, partly-whole}
 use Rattle.alike.proofs.dials.partly_taken.Goals as goal
@@ -30,13 +31,9 @@ loop-class-preserved c =
     let taken : is_partly_taken c.in-Some.class.now c.in-Some.count.now ≡ false = sym c.is_partly_taken.ensures ∙ c.if-is_partly_taken.false in
     let here : cond (is_partly_taken c.in-Some.class.now c.in-Some.count.now) (length c.in-Some.class.now.members ∷ []) [] ≡ [] = ap (λ b. cond b (length c.in-Some.class.now.members ∷ []) []) taken in
     c.loop-class.invariant
-    ∙ (sym (append_nil (partly_taken (take (length yielded) classes) (take (length yielded) counts)))
+    ∙ (sym (append-nil (partly_taken (take (length yielded) classes) (take (length yielded) counts)))
     ∙ (ap (λ xs. partly_taken (take (length yielded) classes) (take (length yielded) counts) ++ xs) (sym here)
     ∙ (sym more ∙ ap (λ n. partly_taken (take n classes) (take n counts)) (sym size))))
-  where
-    append_nil : (xs : List ℕ) → xs ++ [] ≡ xs
-    append_nil [] = refl
-    append_nil (x ∷ xs) = ap (λ rest. x ∷ rest) (append_nil xs)
 
 pub returns : goal.returns
 returns c =

@@ -1,5 +1,7 @@
-use Rattle.std.proofs.Common.{◌≡◌, ◌<◌, ◌≤◌, ℕ, zero, suc, ◌+◌, List, [], ◌∷◌, refl, drop, length, get_or, sym, ap, ◌∙◌, arith, subst}
+use Rattle.std.proofs.Common.{◌≡◌, ◌<◌, ◌≤◌, ℕ, suc, ◌+◌, drop, length, get_or, sym, ap, ◌∙◌, arith, subst}
 use Rattle.std.specs.List.{fold}
+use Rattle.std.proofs.lemmas.List.{get_or_default}
+use Rattle.std.proofs.Math.Nat.{lt_of_not-le}
 use Rattle.frac128.specs.Divisors.{lcm_of}
 use Rattle.spread_definitions.specs.Spreading.{greatest_total}
 use Rattle.spread_definitions.proofs.CommonTotals.{lcm_of-positive}
@@ -12,20 +14,12 @@ returns-in_err-places c =
     let within : k < length sizes = omega arith in
     let passed : lcm_of c.loop-size.places (get_or sizes k 0) ≤ greatest_total → ⊥ = c.in_err-places.ensures in
     let high : greatest_total < fold lcm_of c.loop-size.places (drop k sizes) =
-    passes_in_end c.loop-size.places greatest_total sizes k (get_or sizes k 0) within (get_or-any sizes k 0 within) c.requires c.loop-size.invariant.some (above (lcm_of c.loop-size.places (get_or sizes k 0)) greatest_total passed) in
+    passes_in_end c.loop-size.places greatest_total sizes k (get_or sizes k 0) within (get_or_default sizes k 0 (get_or sizes k 0) within) c.requires c.loop-size.invariant.some (lt_of_not-le passed) in
     let so_far = c.loop-size.invariant.so_far in
     rw c.from_residual.ensures (λ low. below (fold lcm_of 1 sizes) (fold lcm_of c.loop-size.places (drop k sizes)) greatest_total so_far high low)
   where
-    above : (n limit : ℕ) → (n ≤ limit → ⊥) → limit < n
-    above n limit h = omega arith
-
     below : (m n limit : ℕ) → m ≡ n → limit < n → m ≤ limit → ⊥
     below m n limit e h l = omega arith
-
-    get_or-any : (xs : List ℕ) (k d : ℕ) → k < length xs → get_or xs k d ≡ get_or xs k (get_or xs k d)
-    get_or-any [] k d l = absurd (omega arith)
-    get_or-any (x ∷ xs) zero d l = refl
-    get_or-any (x ∷ xs) (suc k) d l = get_or-any xs k d (omega arith)
 
 pub loop-size-preserved : goal.loop-size-preserved
 loop-size-preserved c =
@@ -38,11 +32,6 @@ loop-size-preserved c =
     record {
       some = subst (λ n. 0 < n) is positive;
       within = subst (λ n. n ≤ greatest_total) is told.0;
-      so_far = c.loop-size.invariant.so_far ∙ (fold-next c.loop-size.places sizes k (get_or sizes k 0) within (get_or-any sizes k 0 within)
+      so_far = c.loop-size.invariant.so_far ∙ (fold-next c.loop-size.places sizes k (get_or sizes k 0) within (get_or_default sizes k 0 (get_or sizes k 0) within)
           ∙ (ap (λ n. fold lcm_of n (drop (suc k) sizes)) is ∙ ap (λ n. fold lcm_of c.in_ok-places.places (drop n sizes)) more));
     }
-  where
-    get_or-any : (xs : List ℕ) (k d : ℕ) → k < length xs → get_or xs k d ≡ get_or xs k (get_or xs k d)
-    get_or-any [] k d l = absurd (omega arith)
-    get_or-any (x ∷ xs) zero d l = refl
-    get_or-any (x ∷ xs) (suc k) d l = get_or-any xs k d (omega arith)

@@ -1,8 +1,8 @@
-use Rattle.std.proofs.Common.{◌≡◌, ◌<◌, ◌≤◌, ◌*◌, ℕ, length, refl, sym, ap, subst, ◌∙◌, arith, rules, FitsSigned}
+use Rattle.std.proofs.Common.{◌≡◌, ◌<◌, ◌≤◌, ◌*◌, length, refl, sym, ap, subst, ◌∙◌, arith, rules, FitsSigned}
 use Rattle.std.specs.Int.{w128}
 use Rattle.std.specs.List.{All, fold}
 use Rattle.std.proofs.lemmas.Int.{to_z-of_z}
-use Rattle.std.proofs.Math.Nat.{mul-pos}
+use Rattle.std.proofs.Math.Nat.{mul-pos, lt_of_not-le}
 use Rattle.frac128.specs.Divisors.{lcm_of}
 use Rattle.spread_definitions.specs.Spreading.{dial, greatest_total, partly_taken, TotalPass}
 use Rattle.spread_definitions.proofs.CommonTotals.{dial-positive, lcm_of-positive}
@@ -10,9 +10,6 @@ use Rattle.alike.proofs.Parts.{sizes_positive}
 use Rattle.alike.proofs.Totals.{next_so_far, passes_here}
 use Rattle.alike.proofs.Words128.{signed_is, unsigned_is}
 use Rattle.alike.proofs.spreading.common_total.Goals as goal
-
-above : (n limit : ℕ) → (n ≤ limit → ⊥) → limit < n
-above n limit h = omega arith
 
 pub next_total-requires : goal.next_total-requires
 next_total-requires c =
@@ -55,7 +52,7 @@ returns-in-None c =
     c.deref.ensures.value ∙ (c.in_ok-sizes.ensures ∙ (ap (λ classes. partly_taken classes c.counts.result.now) c.classes.ensures ∙ ap (partly_taken all.classes) c.counts.ensures)) in
     let step : c.unsigned_abs.result * fold lcm_of 1 c.deref.result.now ≡ part.1.den * dial all part.0 = ap (λ n. n * fold lcm_of 1 c.deref.result.now) den ∙ ap (λ xs. part.1.den * fold lcm_of 1 xs) sizes in
     let told : lcm_of c.loop-place.total (c.unsigned_abs.result * fold lcm_of 1 c.deref.result.now) ≤ greatest_total → ⊥ = c.in-None.ensures in
-    let high : greatest_total < lcm_of c.loop-place.total (part.1.den * dial all part.0) = subst (λ n. greatest_total < lcm_of c.loop-place.total n) step (above (lcm_of c.loop-place.total (c.unsigned_abs.result * fold lcm_of 1 c.deref.result.now)) greatest_total told) in
+    let high : greatest_total < lcm_of c.loop-place.total (part.1.den * dial all part.0) = subst (λ n. greatest_total < lcm_of c.loop-place.total n) step (lt_of_not-le told) in
     let inside : c.loop-place.place < length c.args.parts.now = omega arith in
     let pass : TotalPass = record { place = c.loop-place.place; total = c.loop-place.total; den = part.1.den } in (
       pass,

@@ -1,13 +1,11 @@
-use Rattle.std.proofs.Common.{◌≡◌, ◌<◌, ◌≤◌, ◌*◌, ◌/◌, inl, inr, ℕ, sym, arith, subst, SomeIff}
+use Rattle.std.proofs.Common.{◌≡◌, ◌<◌, ◌≤◌, ◌*◌, ◌/◌, inl, inr, sym, arith, subst, SomeIff}
 use Rattle.std.specs.List.{fold}
 use Rattle.std.proofs.lemmas.List.Elements.{recursion_from_All}
+use Rattle.std.proofs.Math.Nat.{lt_of_not-le}
 use Rattle.frac128.specs.Divisors.{lcm_of}
 use Rattle.spread_definitions.specs.Spreading.{greatest_total}
 use Rattle.alike.proofs.Lengths.{fold-positive, next_passes, product_passes}
 use Rattle.alike.proofs.spreading.next_total.Goals as goal
-
-above : (n limit : ℕ) → (n ≤ limit → ⊥) → limit < n
-above n limit h = omega arith
 
 pub nonzero_div-places : goal.nonzero_div-places
 nonzero_div-places c =
@@ -20,7 +18,7 @@ returns-in_err-places c =
     let sizes = c.args.sizes.now in
     let passed : fold lcm_of 1 sizes ≤ greatest_total → ⊥ = c.in_err-places.ensures in
     let some = fold-positive 1 sizes (omega arith) (recursion_from_All (λ s. 0 < s) sizes c.requires.sizes) in
-    rw c.from_residual.ensures (next_passes c.args.total c.args.den (fold lcm_of 1 sizes) greatest_total c.requires.total.0 c.requires.den some (inl (above (fold lcm_of 1 sizes) greatest_total passed)))
+    rw c.from_residual.ensures (next_passes c.args.total c.args.den (fold lcm_of 1 sizes) greatest_total c.requires.total.0 c.requires.den some (inl (lt_of_not-le passed)))
 
 pub returns-then-den-places : goal.returns-then-den-places
 returns-then-den-places c =

@@ -1,11 +1,11 @@
 use Rattle.std.proofs.Common.{◌≡◌, ◌<◌, ◌∙◌, ◌++◌, ◌∷◌, [], ap, append_assoc, codes, get_or, length, map, take}
 use Rattle.std.proofs.lemmas.List.{take_all}
 use Rattle.std.proofs.lemmas.Result.{on_ok_weaker}
+use Rattle.basic_laws.proofs.Each.{below_at}
 use Rattle.pool_definitions.specs.Pool.{volunteer}
 use Rattle.line_definitions.specs.Lines.{line_feed, tabbed}
 use Rattle.line_definitions.proofs.LineLemmas.{line_written}
 use Rattle.pool_answers.proofs.PanelLines.{one_id}
-use Rattle.bundle_commands.proofs.Members.{number_in_range}
 use Rattle.bundle_commands.proofs.lines.push_panel.Goals as goal
 
 pub loop-number-preserved : goal.loop-number-preserved
@@ -13,7 +13,7 @@ loop-number-preserved c =
     let members = c.members-number-items.result.now in
     let same = c.members-number-items.ensures.value in
     let inside : get_or members c.loop-number.number-index 0 < length c.args.pool.now.volunteers =
-    rw same (number_in_range (length c.args.pool.now.volunteers) c.args.panel.now c.loop-number.number-index c.requires (rw same at c.loop-number-test.true)) in
+    rw same (below_at (length c.args.pool.now.volunteers) c.args.panel.now c.loop-number.number-index c.requires (rw same at c.loop-number-test.true)) in
     one_id (c.args.text.now.items ++ codes "panel") c.args.pool.now.volunteers members c.loop-number.number-index _ _ c.index-volunteers-number.result
     c.loop-number.invariant c.loop-number-test.true (rw (c.as_bytes.ensures ∙ c.id.ensures) at c.in_ok-push_field.ensures.whole)
     (rw c.volunteers.ensures at c.index-volunteers-number.is) inside

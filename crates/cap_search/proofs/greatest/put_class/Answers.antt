@@ -4,8 +4,9 @@ use Rattle.std.specs.Prelude.{unsigned_abs}
 use Rattle.std.proofs.lemmas.Int.{to_z-of_z}
 use Rattle.front_laws.specs.Weights.{at, CanAdd, HasUnit, AreGreatest, units_from}
 use Rattle.front_laws.proofs.Tracking.{stands_there, most_of_class}
-use Rattle.front_laws.proofs.UnitSums.{unit_fits, units_more, units_few, units_next, greatest_more, many_long}
+use Rattle.front_laws.proofs.UnitSums.{unit_fits, units_more, units_few, units_next, greatest_more}
 use Rattle.cap_search.proofs.greatest.put_class.Goals as goal
+use Rattle.search_definitions.proofs.GreatestSum.{length-replicate}
 
 pub overflow_add-units : goal.overflow_add-units
 overflow_add-units c =
@@ -29,7 +30,7 @@ loop-done-preserved c =
     let has : HasUnit (c.args.units + done) (at entries place) c.loop-done.sums c.put_unit.new.sums = simp to_z-of_z at c.put_unit.ensures in
     let us = replicate done (at entries place) ++ units_from all entries (place + 1) in
     let more = greatest_more us (at entries place) (c.args.units + done) c.loop-done.sums c.put_unit.new.sums
-    (omega (arith, c.requires.units, many_long done (at entries place) (units_from all entries (place + 1)))) c.loop-done.invariant.greatest has in
+    (omega (arith, c.requires.units, length-replicate done (at entries place) (units_from all entries (place + 1)))) c.loop-done.invariant.greatest has in
     let e : suc done ≡ done + 1 = omega arith in
     record {
       same = has.same ∙ c.loop-done.invariant.same;

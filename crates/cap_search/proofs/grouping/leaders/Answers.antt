@@ -1,7 +1,7 @@
 use Rattle.std.proofs.Common.{◌∙◌, ℕ, Bool, not, [], ◌∷◌, ◌++◌, List, Vec, Global, sym, ap}
 use Rattle.std.specs.List.{list_any, range_with_len}
+use Rattle.basic_laws.proofs.Lists.{filter_passed, filter_taken}
 use Rattle.cap_search.specs.Likeness.{is_alike as alike}
-use Rattle.front_laws.proofs.Filters.{filter_passed, filter_taken}
 use Rattle.cap_search.proofs.grouping.leaders.Goals.{then-leads+in_ok-push, else-leads}
 use Rattle.cap_search.proofs.grouping.leaders.Goals as goal
 

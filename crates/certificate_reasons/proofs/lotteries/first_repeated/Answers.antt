@@ -1,10 +1,11 @@
-use Rattle.std.proofs.Common.{◌≡◌, ℕ, ◌+◌, ◌<◌, Bool, true, false, not, cond, ◌||◌, List, [], length, get_or, take, Some, Bor, refl, sym, ap, ◌∙◌}
+use Rattle.std.proofs.Common.{◌≡◌, ℕ, ◌+◌, ◌<◌, Bool, true, false, cond, ◌||◌, List, [], length, get_or, take, Some, Bor, refl, sym, ap, ◌∙◌}
 use Rattle.std.specs.Prelude.{bytes_eq}
 use Rattle.std.specs.BTreeSet.{BTreeSet, contains_by, Updates}
 use Rattle.std.specs.Cmp.Lexicographic.{slice_cmp}
 use Rattle.std.specs.Ordering.{nat_cmp}
 use Rattle.std.proofs.lemmas.List.Folds.{list_any_more}
 use Rattle.std.proofs.lemmas.Map.Text.{is_eq-slice_cmp}
+use Rattle.std.proofs.lemmas.Bool.{not-true, not-false}
 use Rattle.pool_definitions.specs.Lottery.{LotteryRow}
 use Rattle.pool_definitions.proofs.BuildingLemmas.{same_bytes_comm}
 use Rattle.certificate_reasons.proofs.InOrder.{again_here, again_later, came}
@@ -12,14 +13,6 @@ use Rattle.certificate_reasons.proofs.lotteries.first_repeated.Goals as goal
 
 abbrev panel_of : LotteryRow → List ℕ
 panel_of row = row.panel
-
-not_true : (b : Bool) → not b ≡ true → b ≡ false
-not_true true e = sym e
-not_true false e = refl
-
-not_not_true : (b : Bool) → not b ≡ false → b ≡ true
-not_not_true true e = refl
-not_not_true false e = sym e
 
 abbrev in_set : BTreeSet (Bor (List ℕ)) → List ℕ → Bool
 in_set set xs = contains_by (λ k. slice_cmp nat_cmp xs k.now) set
@@ -46,7 +39,7 @@ returns-then-not-is_new c =
     let rows = c.args.rows.now in
     let row = c.row-item.result in
     let key = c.members.ensures.value ∙ c.panel-panel.ensures in
-    let had : in_set c.loop-row.earlier c.members.result.now ≡ true = not_not_true (in_set c.loop-row.earlier c.members.result.now) (sym c.in_ok-is_new.ensures.added ∙ c.if-not-is_new.true) in
+    let had : in_set c.loop-row.earlier c.members.result.now ≡ true = not-false (in_set c.loop-row.earlier c.members.result.now) (sym c.in_ok-is_new.ensures.added ∙ c.if-not-is_new.true) in
     let before : came panel_of (take c.loop-row.row-index rows) row.panel ≡ true = sym (c.loop-row.invariant.kept row.panel) ∙ ap (in_set c.loop-row.earlier) (sym key) ∙ had in
     ap Some c.panel-panel.ensures
     ∙ again_here panel_of [] rows c.loop-row.row-index row c.loop-row-test.true c.row-item.is c.loop-row.invariant.once (ap (λ b. b || false) before)
@@ -56,7 +49,7 @@ loop-row-preserved c =
     let rows = c.args.rows.now in
     let row = c.row-item.result in
     let key = c.members.ensures.value ∙ c.panel-panel.ensures in
-    let new : in_set c.loop-row.earlier c.members.result.now ≡ false = not_true (in_set c.loop-row.earlier c.members.result.now) (sym c.in_ok-is_new.ensures.added ∙ c.if-not-is_new.false) in
+    let new : in_set c.loop-row.earlier c.members.result.now ≡ false = not-true (in_set c.loop-row.earlier c.members.result.now) (sym c.in_ok-is_new.ensures.added ∙ c.if-not-is_new.false) in
     let before : came panel_of (take c.loop-row.row-index rows) row.panel ≡ false = sym (c.loop-row.invariant.kept row.panel) ∙ ap (in_set c.loop-row.earlier) (sym key) ∙ new in
     record {
       once = again_later panel_of [] rows c.loop-row.row-index row c.loop-row-test.true c.row-item.is c.loop-row.invariant.once (ap (λ b. b || false) before);

@@ -1,9 +1,9 @@
 use Rattle.std.proofs.Common.{◌≡◌, ℕ, ◌+◌, ◌<◌, Bool, true, false, List, length, map, get_or, set, take, sym, ap, ◌∙◌, arith, ltb}
 use Rattle.std.proofs.lemmas.List.{get_or-map, length-map, length-set}
 use Rattle.std.specs.List.{list_all}
+use Rattle.basic_laws.proofs.Each.{below_at}
 use Rattle.pool_definitions.specs.Lists.{includes}
 use Rattle.certificate_reasons.specs.Households.{none_twice}
-use Rattle.certificate_reasons.proofs.QuotaTests.{below_at}
 use Rattle.certificate_reasons.proofs.Twice.{comes_once, comes_twice, marked_more}
 use Rattle.certificate_reasons.proofs.quotas.meets_none_twice.Goals as goal
 

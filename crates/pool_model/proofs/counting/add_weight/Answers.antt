@@ -5,16 +5,12 @@ use Rattle.std.proofs.lemmas.List.{get_or-set_same, get_or-set_other, length-set
 use Rattle.std.proofs.lemmas.List.Folds.{list_any_more}
 use Rattle.std.proofs.lemmas.Int.{to_z-of_z}
 use Rattle.std.proofs.Math.Bool.{or-true, or-false}
+use Rattle.basic_laws.proofs.Each.{passes_at}
 use mir.Val.{SFits, to_z, of_z}
 use mir.Syntax.{w128}
 use Rattle.pool_definitions.specs.Lists.{includes, is_increasing}
 use Rattle.pool_model.proofs.counting.add_weight.Goals as goal
 use Rattle.pool_model.proofs.counting.add_weight.Goals.{then-i-chances, else-i-chances}
-
-above : (x : ℕ) (xs : List ℕ) (j : ℕ) → list_all (λ y. ltb x y) xs ≡ true → j < length xs → x < get_or xs j 0
-above x [] j h l = absurd (omega arith)
-above x (y ∷ ys) zero h l = ltb-true x y (and_parts (ltb x y) (list_all (λ y. ltb x y) ys) h).0
-above x (y ∷ ys) (suc j) h l = above x ys j (and_parts (ltb x y) (list_all (λ y. ltb x y) ys) h).1 (omega arith)
 
 -- a member of an increasing list is none of those before it
 not_before : (xs : List ℕ) (j : ℕ) → is_increasing xs ≡ true → j < length xs → includes (take j xs) (get_or xs j 0) ≡ false
@@ -22,7 +18,7 @@ not_before [] j h l = absurd (omega arith)
 not_before (x ∷ xs) zero h l = refl
 not_before (x ∷ xs) (suc j) h l =
     let parts = and_parts (list_all (λ y. ltb x y) xs) (is_increasing xs) h in
-    let less = above x xs j parts.0 (omega arith) in
+    let less = ltb-true x (get_or xs j 0) (passes_at (λ y. ltb x y) xs j 0 parts.0 (omega arith)) in
     let other : eqb x (get_or xs j 0) ≡ false = ne_eqb x (get_or xs j 0) (λ e. omega arith) in
     let rest = not_before xs j parts.1 (omega arith) in rw (other, rest) refl
 

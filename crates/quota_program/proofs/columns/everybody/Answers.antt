@@ -1,5 +1,5 @@
 use Rattle.std.proofs.Common.{◌∙◌, [], ◌∷◌, ◌++◌, ap, sym}
-use Rattle.quota_program.proofs.ListSteps.{numbers_more}
+use Rattle.basic_laws.proofs.Lists.{numbers_more}
 use Rattle.quota_program.proofs.columns.everybody.Goals as goal
 
 pub loop-number-preserved : goal.loop-number-preserved

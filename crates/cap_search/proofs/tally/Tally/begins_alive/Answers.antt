@@ -1,13 +1,14 @@
 use Rattle.std.proofs.Common.{◌≡◌, ℕ, ◌+◌, ◌&&◌, leb, length, [], refl, sym, ap, ◌∙◌, arith, true}
 use Rattle.cap_search.proofs.Liveness.{begins_reachable}
-use Rattle.front_laws.proofs.Tracking.{fit_same, fit_cells, small_same, few_later, small_held, most_small, each_same, some_same, nothing_taken}
+use Rattle.front_laws.proofs.Tracking.{fit_same, fit_cells, small_same, few_later, small_held, most_small, each_same, some_same}
 use Rattle.front_laws.proofs.Liveness.{front_live, front_dead}
 use Rattle.cap_search.proofs.tally.Tally.begins_alive.Goals as goal
+use Rattle.search_definitions.proofs.FirstSearch.{taken_none}
 
 pub size_allows-requires : goal.size_allows-requires
 size_allows-requires c =
     let all = c.args.classes.now in
-    omega (arith, c.requires.taken, nothing_taken (λ class. true) all.classes, c.requires.later_taken, most_small all 0 (λ class. true) c.facts.ensures)
+    omega (arith, c.requires.taken, taken_none (λ class. true) all.classes, c.requires.later_taken, most_small all 0 (λ class. true) c.facts.ensures)
 
 pub all_within_reach-requires-clause-held : goal.all_within_reach-requires-clause-held
 all_within_reach-requires-clause-held c =
@@ -21,7 +22,7 @@ pub all_within_reach-requires-clause-small : goal.all_within_reach-requires-clau
 all_within_reach-requires-clause-small c =
     let all = c.args.classes.now in
     small_same _ (length all.bounds) _ c.args.self.now.held.items (ap length c.bounds.ensures) c.deref.ensures.value
-    (small_held all [] _ (length all.bounds) _ refl (omega (arith, nothing_taken (λ class. true) all.classes)) c.requires)
+    (small_held all [] _ (length all.bounds) _ refl (omega (arith, taken_none (λ class. true) all.classes)) c.requires)
 
 pub all_within_reach-requires-clause-small_later : goal.all_within_reach-requires-clause-small_later
 all_within_reach-requires-clause-small_later c =

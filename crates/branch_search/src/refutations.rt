@@ -1,11 +1,11 @@
-//! Leaves of a tree: the multipliers by which a table refutes a node.
+//! Refutations of nodes by the multipliers of a table, in lowest terms.
 
 ghost use Rattle.std.specs.Prelude.{◌≤ℤ◌, pos, IfErr, IfOk};
 ghost use Rattle.branch_search.specs.Nodes.{IsLostOrMemory};
 
+use crate::steps::Refutation;
 use box_table::common_divisor;
 use proof_limits::{Narrow, Stop};
-use proof_model::{Leaf, Multiplier};
 use std::alloc::{AllocError, Global};
 
 /// The rows without that of the weights, in the order of their names.
@@ -24,15 +24,14 @@ pub(crate) fn rows_by_name(
     Ok(rows)
 }
 
-/// The leaf of a refutation: the row of the weights gives the scale, and each other row its multiplier under its name, where it isn't 0. All
-/// are divided by their greatest common divisor.
-pub(crate) fn leaf_of(
+/// A table's refutation in lowest terms: the row of the weights gives the scale, and each other row its multiplier under its name, where it isn't 0.
+pub(crate) fn refutation_of(
     alloc: Global,
     refutation: &[Narrow],
     names: &[usize],
     rows: &[usize],
     weight_row: Option<usize>,
-) -> Result<Leaf, Stop>
+) -> Result<Refutation, Stop>
     ensures { IfErr result IsLostOrMemory }
 {
     let mut pairs = Vec::new(alloc);
@@ -40,23 +39,27 @@ pub(crate) fn leaf_of(
         let name = names.get(*row).copied().ok_or(Stop::Lost)?;
         pairs.push((name, factor_of(refutation, *row)))?;
     }
-    lowest_leaf(alloc, scale(refutation, weight_row), &pairs)
+    in_lowest_terms(alloc, scale(refutation, weight_row), &pairs)
 }
 
-/// The leaf of a scale of at least 0 and of multipliers with the numbers of their constraints, divided by their greatest common divisor. Those
-/// that are 0 are left out. Its contract leaves the leaf open, since what a run makes is verified before it is told.
-pub fn lowest_leaf(alloc: Global, scale: Narrow, pairs: &[(usize, Narrow)]) -> Result<Leaf, Stop>
+/// A scale of at least 0 and multipliers with the names of their rows, divided by their greatest common divisor. Multipliers of 0 are left out. Its
+/// contract leaves the refutation open, since what a run makes is verified before it is told.
+pub fn in_lowest_terms(
+    alloc: Global,
+    scale: Narrow,
+    pairs: &[(usize, Narrow)],
+) -> Result<Refutation, Stop>
     ensures { IfErr result IsLostOrMemory }
 {
     let divisor = divisor_of(alloc, scale, pairs)?;
     let mut multipliers = Vec::new(alloc);
-    for (number, factor) in pairs {
+    for (name, factor) in pairs {
         if !factor.is_zero() {
-            multipliers.push(Multiplier::new(*number, factor.wide() / divisor))?;
+            multipliers.push((*name, factor.wide() / divisor))?;
         }
     }
     match u64::try_from(scale.abs().wide() / divisor) {
-        Ok(scale) => Ok(Leaf::new(scale, multipliers)),
+        Ok(scale) => Ok(Refutation { scale, multipliers }),
         Err(_) => Err(Stop::Lost),
     }
 }
