@@ -27,6 +27,10 @@ Fits [] (c ∷ front) = ⊥
 Fits (class ∷ classes) [] = Unit {0}
 Fits (class ∷ classes) (c ∷ front) = ((class.least ≤ c) × (c ≤ class.most)) × Fits classes front
 
+pub fits_none : (classes : List Class) → Fits classes []
+fits_none [] = tt
+fits_none (class ∷ classes) = tt
+
 fits_from : (classes : List Class) (front : List ℕ) → length front ≤ length classes → ((t : ℕ) → t < length front → slice_index (map (λ class. class.least) classes) t ≤ slice_index front t) →
     ((t : ℕ) → t < length front → slice_index front t ≤ slice_index (map (λ class. class.most) classes) t) → Fits classes front
 fits_from [] [] few least most = tt

@@ -7,7 +7,7 @@ use Rattle.std.proofs.lemmas.List.{append-nil, length-take-le, take-append-drop}
 use Rattle.std.proofs.lemmas.List.FromFn.{length-range_with_len}
 use Rattle.std.proofs.lemmas.List.Sums.{fold-append, prefix_len-le-length}
 use borrow.Author.Differences.{lt-true, lt-false}
-use Rattle.basic_laws.proofs.Each.{each_map, each_append, each_left}
+use Rattle.basic_laws.proofs.Each.{each_map, each_append, each_everywhere, each_left, each_mapped}
 use Rattle.row_definitions.specs.Row.{Row}
 use Rattle.search_definitions.specs.Classes.{Class, Classes, IsSearchable}
 use Rattle.search_definitions.specs.Compositions.{counts_of, counts_down, weight_in}
@@ -16,7 +16,7 @@ use Rattle.search_definitions.proofs.FirstSearch.{InOrder, Split, child_splits}
 use Rattle.search_definitions.proofs.BestSearch.{Kept, keep, keep_none, sought, none_better, sought_by_child}
 use Rattle.wave_definitions.specs.Below.{IsFront}
 use Rattle.wave_definitions.specs.Waves.{Pieces, lists_of, piece_depth, together, pieces_below, pieces}
-use Rattle.wave_definitions.proofs.Below.{Fits, fitting_is_front}
+use Rattle.wave_definitions.proofs.Below.{Fits, fits_none, fitting_is_front}
 
 -- ---- a floor that has risen
 
@@ -111,21 +111,13 @@ each_child P live below (child ∷ children) h =
       | false ↦ each_child P live below children h.1
     ]
 
-each_made : {X : Type 0} (P : List ℕ → Type 0) (f : X → List ℕ) (xs : List X) → AllByRecursion (λ x. P (f x)) xs → AllByRecursion P (map f xs)
-each_made P f [] h = tt
-each_made P f (x ∷ xs) h = (h.0, each_made P f xs h.1)
-
-everywhere : {X : Type 0} (P : X → Type 0) → ((x : X) → P x) → (xs : List X) → AllByRecursion P xs
-everywhere P h [] = tt
-everywhere P h (x ∷ xs) = (h x, everywhere P h xs)
-
 pub lengths : (all : Classes) (closed : List Row) (row : Row) (firsts : List Class) (front : List ℕ) →
     AllByRecursion (λ piece. length piece ≡ length front + length firsts) (pieces_below all closed row firsts front).fronts
 lengths all closed row [] front = (omega arith, tt)
 lengths all closed row (class ∷ firsts) front =
     each_child (λ piece. length piece ≡ length front + suc (length firsts)) (is_live_above all closed row row.b) (λ child. pieces_below all closed row firsts child) (map (λ c. front ++ c ∷ []) (counts_of class))
-    (each_made (λ child. AllByRecursion (λ piece. length piece ≡ length front + suc (length firsts)) (pieces_below all closed row firsts child).fronts) (λ c. front ++ c ∷ []) (counts_of class)
-    (everywhere (λ c. AllByRecursion (λ piece. length piece ≡ length front + suc (length firsts)) (pieces_below all closed row firsts (front ++ c ∷ [])).fronts)
+    (each_mapped (λ child. AllByRecursion (λ piece. length piece ≡ length front + suc (length firsts)) (pieces_below all closed row firsts child).fronts) (λ c. front ++ c ∷ []) (counts_of class)
+    (each_everywhere (λ c. AllByRecursion (λ piece. length piece ≡ length front + suc (length firsts)) (pieces_below all closed row firsts (front ++ c ∷ [])).fronts)
     (λ c. each_map (λ piece. length piece ≡ length (front ++ c ∷ []) + length firsts) (λ piece. length piece ≡ length front + suc (length firsts))
     (λ piece e. omega (arith, e, length-append front (c ∷ []))) (pieces_below all closed row firsts (front ++ c ∷ [])).fronts (lengths all closed row firsts (front ++ c ∷ [])))
     (counts_of class)))
@@ -147,17 +139,13 @@ piece_lengths all closed row =
 
 -- ---- each is a front
 
-fits_none : (classes : List Class) → Fits classes []
-fits_none [] = tt
-fits_none (class ∷ classes) = tt
-
 fits_more : (pre later : List Class) (class : Class) (front : List ℕ) (c : ℕ) → Fits (pre ++ class ∷ later) front → length front ≡ length pre → class.least ≤ c → c ≤ class.most → Fits (pre ++ class ∷ later) (front ++ c ∷ [])
 fits_more [] later class [] c fits e l m = ((l, m), fits_none later)
 fits_more [] later class (b ∷ front) c fits e l m = absurd (omega arith)
 fits_more (one ∷ pre) later class [] c fits e l m = absurd (omega arith)
 fits_more (one ∷ pre) later class (b ∷ front) c fits e l m = (fits.0, fits_more pre later class front c fits.1 (omega arith) l m)
 
-counts_within : (least more most : ℕ) → least + more ≤ most → AllByRecursion (λ c. (least ≤ c) × (c ≤ most)) (counts_down least more)
+pub counts_within : (least more most : ℕ) → least + more ≤ most → AllByRecursion (λ c. (least ≤ c) × (c ≤ most)) (counts_down least more)
 counts_within least more most l = by more l
   where
     by : (more : ℕ) → least + more ≤ most → AllByRecursion (λ c. (least ≤ c) × (c ≤ most)) (counts_down least more)
@@ -170,7 +158,7 @@ pieces_fit all closed row pre [] later front whole long order fits = (fits, tt)
 pieces_fit all closed row pre (class ∷ firsts) later front whole long order fits =
     let next : all.classes ≡ (pre ++ class ∷ []) ++ (firsts ++ later) = whole ∙ sym (append_assoc pre (class ∷ []) (firsts ++ later)) in
     each_child (Fits all.classes) (is_live_above all closed row row.b) (λ child. pieces_below all closed row firsts child) (map (λ c. front ++ c ∷ []) (counts_of class))
-    (each_made (λ child. AllByRecursion (Fits all.classes) (pieces_below all closed row firsts child).fronts) (λ c. front ++ c ∷ []) (counts_of class)
+    (each_mapped (λ child. AllByRecursion (Fits all.classes) (pieces_below all closed row firsts child).fronts) (λ c. front ++ c ∷ []) (counts_of class)
     (each_map (λ c. (class.least ≤ c) × (c ≤ class.most)) (λ c. AllByRecursion (Fits all.classes) (pieces_below all closed row firsts (front ++ c ∷ [])).fronts)
     (λ c within. pieces_fit all closed row (pre ++ class ∷ []) firsts later (front ++ c ∷ []) next (omega (arith, long, length-append front (c ∷ []), length-append pre (class ∷ []))) order.1
     (subst (λ classes. Fits classes (front ++ c ∷ [])) (sym whole) (fits_more pre (firsts ++ later) class front c (subst (λ classes. Fits classes front) whole fits) long within.0 within.1)))
