@@ -9,19 +9,21 @@ use Rattle.std.proofs.lemmas.List.{append-nil, drop_more, length-take-le}
 use Rattle.std.proofs.lemmas.List.FromFn.{get_or-range_with_len, length-range_with_len}
 use Rattle.std.proofs.lemmas.List.Sums.{fold-append, position_or_len_is}
 use Rattle.std.proofs.lemmas.Nat.{mul-le}
-use Rattle.basic_laws.proofs.Each.{each_append, each_filter}
+use Rattle.basic_laws.proofs.Each.{each_append, each_filter, each_map, each_mapped}
 use Rattle.row_definitions.specs.Row.{Row}
 use Rattle.search_definitions.specs.Classes.{Class, Classes, KeepsLimits}
 use Rattle.search_definitions.specs.Compositions.{counts_of, counts_down}
 use Rattle.search_definitions.specs.Fronts.{is_live_above, is_reachable, optimistic}
 use Rattle.wave_definitions.specs.Waves.{Pieces, lists_of, piece_depth, pieces, pieces_below, together}
-use Rattle.wave_definitions.proofs.Pieces.{depth_within}
+use Rattle.wave_definitions.specs.Below.{IsFront}
+use Rattle.wave_definitions.proofs.Below.{Fits, fitting_is_front, fits_none, front_fits}
+use Rattle.wave_definitions.proofs.Pieces.{counts_within, depth_within}
 use Rattle.panel_search.specs.Answers.{AnswersPieces}
 use Rattle.panel_search.specs.declared.searching.SearchStop.{SearchStop}
 use Rattle.panel_search.specs.declared.searching.SearchStop.TheVariants.{Spent}
 use Rattle.panel_search.specs.Pieces.{IsLiveFront, counts_first, live_among, live_children}
 use Rattle.panel_search.specs.Steps.{counts_below}
-use Rattle.front_laws.proofs.Fronts.{class_limits, same_class, within_more}
+use Rattle.front_laws.proofs.Fronts.{class_limits}
 use Rattle.panel_search.proofs.Ranges.{LiveBetween, below_next, below_none, live_counts}
 use Rattle.front_laws.proofs.Tracking.{Stands, comes_next, stands_there}
 
@@ -138,7 +140,7 @@ goes_first all closed row fronts e some = by (is_live_above all closed row row.b
         let only : fronts ≡ [] ∷ [] = e ∙ ap (λ b. cond b ([] ∷ []) []) live in
         let begun : pieces all closed row ≡ pieces_below all closed row (firsts all) [] = ap (λ b. cond b (pieces_below all closed row (firsts all) []) (record { visits = 1; fronts = [] })) live in
         subst (GoesOn all closed row 0 0) (sym only) (record {
-          live = (record { long = refl; within = λ t l. absurd (omega arith); live = live }, tt);
+          live = (record { long = refl; is_front = fitting_is_front all [] (fits_none all.classes); live = live }, tt);
           visits = omega (arith, ap (λ (p : Pieces). p.visits) begun);
           fronts = ap (λ (p : Pieces). p.fronts) begun ∙ sym (append-nil (pieces_below all closed row (firsts all) []).fronts);
         })
@@ -187,24 +189,31 @@ firsts_from all depth class stands below =
     first_same (suc n) (x ∷ xs) zero d l = refl
     first_same (suc n) (x ∷ xs) (suc i) d l = first_same n xs i d (omega arith)
 
+fits_next : (classes : List Class) (front : List ℕ) (class : Class) (c : ℕ) → length front < length classes → class ≡ get_or classes (length front) class → class.least ≤ c → c ≤ class.most → Fits classes front → Fits classes (front ++ c ∷ [])
+fits_next [] front class c below is l m fits = absurd (omega arith)
+fits_next (one ∷ classes) [] class c below is l m fits = (subst (λ (one : Class). (one.least ≤ c) × (c ≤ one.most)) is (l, m), fits_none classes)
+fits_next (one ∷ classes) (b ∷ front) class c below is l m fits = (fits.0, fits_next classes front class c (omega arith) is l m fits.1)
+
+front_more : (all : Classes) (front : List ℕ) (depth : ℕ) (class : Class) (c : ℕ) → length front ≡ depth → Stands all depth class → class.least ≤ c → c ≤ class.most → IsFront all front → IsFront all (front ++ c ∷ [])
+front_more all front depth class c long stands l m is =
+    fitting_is_front all (front ++ c ∷ []) (fits_next all.classes front class c (omega (arith, long, stands.below)) (stands.is ∙ ap (λ n. get_or all.classes n class) (sym long)) l m (front_fits all front is))
+
 children_live : (all : Classes) (closed : List Row) (row : Row) (depth : ℕ) (class : Class) (front : List ℕ) → KeepsLimits all → Stands all depth class → IsLiveFront all closed row depth front →
     AllByRecursion (IsLiveFront all closed row (depth + 1)) (live_among all closed row row.b front (counts_of class))
 children_live all closed row depth class front limits stands here =
     let bounds = class_limits all depth class limits stands in
     each_filter (IsLiveFront all closed row (depth + 1)) (is_live_above all closed row row.b) (map (λ c. front ++ c ∷ []) (counts_of class))
-    (counted class.least (class.most - class.least) (omega (arith, bounds.0, bounds.1)))
+    (each_mapped (λ child. is_live_above all closed row row.b child ≡ true → IsLiveFront all closed row (depth + 1) child) (λ c. front ++ c ∷ []) (counts_of class)
+    (each_map (λ c. (class.least ≤ c) × (c ≤ class.most)) (λ c. is_live_above all closed row row.b (front ++ c ∷ []) ≡ true → IsLiveFront all closed row (depth + 1) (front ++ c ∷ []))
+    (λ c within live. child c within.0 within.1 live) (counts_of class)
+    (counts_within class.least (class.most - class.least) class.most (omega (arith, bounds.0)))))
   where
-    child : (c : ℕ) → c ≤ length class.members → is_live_above all closed row row.b (front ++ c ∷ []) ≡ true → IsLiveFront all closed row (depth + 1) (front ++ c ∷ [])
-    child c l live = record {
+    child : (c : ℕ) → class.least ≤ c → c ≤ class.most → is_live_above all closed row row.b (front ++ c ∷ []) ≡ true → IsLiveFront all closed row (depth + 1) (front ++ c ∷ [])
+    child c l m live = record {
       long = omega (arith, length-append front (c ∷ []), here.long);
-      within = within_more all front depth c here.long stands.below (λ other e. let same = same_class all depth class other stands e in omega (arith, l, ap (λ (class : Class). length class.members) same)) here.within;
+      is_front = front_more all front depth class c here.long stands l m here.is_front;
       live = live;
     }
-
-    counted : (least more : ℕ) → least + more ≤ length class.members →
-        AllByRecursion (λ child. is_live_above all closed row row.b child ≡ true → IsLiveFront all closed row (depth + 1) child) (map (λ c. front ++ c ∷ []) (counts_down least more))
-    counted least zero l = (λ live. child least (omega arith) live, tt)
-    counted least (suc more) l = (λ live. child (least + suc more) (omega arith) live, counted least more (omega arith))
 
 pub goes_next : (all : Classes) (closed : List Row) (row : Row) (depth visits more : ℕ) (class : Class) (fronts next : List (List ℕ)) → KeepsLimits all → Stands all depth class → depth < piece_depth all → GoesOn all closed row depth visits fronts →
     next ≡ flat_map (live_children all closed row) fronts → more ≡ visits + length fronts → GoesOn all closed row (depth + 1) more next

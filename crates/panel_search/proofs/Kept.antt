@@ -1,21 +1,23 @@
 -- The rows that a pricer keeps, row after row.
-use Rattle.std.proofs.Common.{◌≡◌, ℕ, ◌^◌, ◌<◌, List, [], ◌∷◌, ◌++◌, length, Option, Some, Result, Ok, Err, sym, ap, ◌∙◌, arith, subst, length-append, ⊎_elim}
-use Rattle.std.specs.Prelude.{slice_get, IfOk, Vec, vec_items}
+use Rattle.std.proofs.Common.{◌≡◌, ℕ, zero, suc, ◌^◌, ◌<◌, ◌≤◌, List, [], ◌∷◌, ◌++◌, length, map, Option, Some, Result, Ok, Err, sym, ap, ◌∙◌, arith, subst, length-append, ⊎_elim}
+use Rattle.std.specs.Prelude.{slice_get, slice_index, IfOk, Vec, vec_items}
 use Rattle.std.specs.declared.alloc.Global.{Global}
 use Rattle.std.specs.List.{AllByRecursion}
+use Rattle.std.proofs.lemmas.List.Elements.{recursion_from_All}
 use Rattle.basic_laws.proofs.Each.{each_append}
 use Rattle.row_definitions.specs.Row.{Row, reach}
-use Rattle.search_definitions.specs.Classes.{Classes, KeepsLimits}
+use Rattle.search_definitions.specs.Classes.{Class, Classes, KeepsLimits}
 use Rattle.search_definitions.specs.Fronts.{HaveEntries, HaveReach, sizes_of}
 use Rattle.search_definitions.specs.Visits.{Pricing}
 use Rattle.wave_definitions.specs.Below.{IsFront}
 use Rattle.wave_definitions.specs.Waves.{pieces}
-use Rattle.wave_definitions.proofs.Pieces.{pieces_within}
+use Rattle.wave_definitions.proofs.Pieces.{pieces_are}
 use Rattle.panel_search.specs.Answers.{AnswersBest, AnswersPieces}
 use Rattle.panel_search.specs.Pricers.{AreClosed}
 use Rattle.panel_search.specs.Weights.{IsSummed}
 use Rattle.panel_search.specs.declared.greatest.Sums.{Sums}
 use Rattle.panel_search.specs.declared.searching.SearchStop.{SearchStop}
+use Rattle.front_laws.specs.Front.{AreWithin}
 use Rattle.front_laws.proofs.Beside.{get_pushed}
 
 -- one row more
@@ -50,5 +52,14 @@ answers_kept pricing nodes wanted (Err stop) e told = tt
 pub fronts_kept : (all made : Classes) (closed : List Row) (row : Row) (nodes : ℕ) (r : Result (Vec (List ℕ) Global × ℕ) SearchStop) → KeepsLimits all → made ≡ all → AnswersPieces (pieces made closed row) nodes r →
     IfOk r (λ answer. AllByRecursion (IsFront all) (vec_items answer.0))
 fronts_kept all made closed row nodes (Ok (fronts, visits)) limits e told =
-    subst (AllByRecursion (IsFront all)) (ap (λ made. (pieces made closed row).fronts) (sym e) ∙ sym told.1) (pieces_within all closed row limits)
+    subst (AllByRecursion (IsFront all)) (ap (λ made. (pieces made closed row).fronts) (sym e) ∙ sym told.1) (pieces_are all closed row limits.searchable)
 fronts_kept all made closed row nodes (Err stop) limits e told = tt
+
+-- a front takes no more of a class than it has members
+pub front_within : (all : Classes) (front : List ℕ) → KeepsLimits all → IsFront all front → AreWithin all front
+front_within all front limits is t l = omega (arith, is.most t l, at all.classes t (recursion_from_All (λ (class : Class). class.most ≤ length class.members) all.classes limits.most))
+  where
+    at : (classes : List Class) (t : ℕ) → AllByRecursion (λ class. class.most ≤ length class.members) classes → slice_index (map (λ class. class.most) classes) t ≤ slice_index (map (λ class. length class.members) classes) t
+    at [] t h = omega arith
+    at (class ∷ classes) zero h = h.0
+    at (class ∷ classes) (suc t) h = at classes t h.1

@@ -4,12 +4,12 @@ use Rattle.row_definitions.specs.Row.{Row}
 use Rattle.search_definitions.specs.Classes.{Class, Classes}
 use Rattle.search_definitions.specs.Compositions.{counts_of}
 use Rattle.search_definitions.specs.Fronts.{is_live_above}
-use Rattle.front_laws.specs.Front.{AreWithin}
+use Rattle.wave_definitions.specs.Below.{IsFront}
 
--- a live front of so many first classes, with the floor at the row's right side
+-- a live front of the first `depth` classes, with the floor at the row's right side
 pub record IsLiveFront (all : Classes) (closed : List Row) (row : Row) (depth : ℕ) (front : List ℕ) : Type 0 where
   pub long : length front ≡ depth
-  pub within : AreWithin all front
+  pub is_front : IsFront all front
   pub live : is_live_above all closed row row.b front ≡ true
 
 -- the children of a front that are live above a floor, with these counts of the next class

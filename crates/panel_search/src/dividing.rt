@@ -98,6 +98,7 @@ fn next_fronts(
 }
 
 // Pushes the live fronts of one class more that go on from a live front.
+#[tactic(auto, using(crate::proofs::Kept::front_within))]
 fn push_children(
     alloc: Global,
     terms: &Terms<'_>,
@@ -109,6 +110,7 @@ fn push_children(
     requires live { IsLiveFront terms.now.classes.now terms.now.closed.now terms.now.row.now (length front.now) front.now }
     ensures { OnOk result (next.new.items ≡ next.old.items ++ live_children terms.now.classes.now terms.now.closed.now terms.now.row.now front.now) }
 {
+    terms.classes.facts();
     let mut search = BestSearch::new(alloc, terms, front.counts(), terms.row.side(), 0)?;
     let (low, end) = search.begin(terms, front);
     search.push_children(alloc, terms, front, low, end, next)

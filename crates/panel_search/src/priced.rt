@@ -104,7 +104,7 @@ impl<'p> PricedRow<'p> {
 
     /// The fronts of the pieces of the pricing's search in waves, in order, with the visits to the fronts before them, if these are at
     /// most `nodes`. Where the empty front isn't live there is no piece, and one visit. Each front has at most one count for each class,
-    /// and each count is at most the size of its class.
+    /// from the least to the most of the class.
     pub fn pieces(&self, alloc: Global, nodes: u64) -> Result<(Vec<Front>, u64), SearchStop>
         ensures answers { AnswersPieces (pieces self.now.classes self.now.closed self.now.row) nodes result }
         ensures fronts { IfOk result (λ answer. AllByRecursion (IsFront self.now.classes) answer.0.items) }
@@ -116,7 +116,8 @@ impl<'p> PricedRow<'p> {
     /// Of the compositions that begin with a front and whose weight in each closed row is at least its right side: the one of greatest
     /// weight in the row above a floor, of equals the first in order, or None exactly where none weighs more than the floor; with the
     /// visits of the search, if these are at most `nodes`. Where the front isn't live above the floor there is no visit. The front has
-    /// at most one count for each class, and each is at most the size of its class. All memory is taken before the first visit.
+    /// at most one count for each class, from the least to the most of the class. All memory is taken before the first visit.
+    #[tactic(auto, using(crate::proofs::Kept::front_within))]
     pub fn best_from(
         &self,
         alloc: Global,
@@ -133,6 +134,7 @@ impl<'p> PricedRow<'p> {
     }
 
     /// The same with the weight of what is found in the row.
+    #[tactic(auto, using(crate::proofs::Kept::front_within))]
     pub fn weighed_from(
         &self,
         alloc: Global,

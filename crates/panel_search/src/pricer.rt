@@ -158,7 +158,7 @@ pub fn pieces(
 
 /// The best composition below a front, with a floor of its own, and the visits of the search, if these are at most `nodes`:
 /// `PricedRow::best_from` of the rows. Each of the rows has one entry per class and a reach below 2^127; the front has at most one count for
-/// each class, and each is at most the size of its class.
+/// each class, from the least to the most of the class.
 pub fn best_from(
     alloc: Global,
     classes: &Classes,

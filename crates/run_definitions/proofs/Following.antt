@@ -5,7 +5,7 @@ use Rattle.row_definitions.specs.Table.{Table}
 use Rattle.run_definitions.specs.Run.{RunLimits, Ending, Ends, Next, GoOn, Ended, step, follow, opening}
 use Rattle.run_definitions.specs.Keeps.{IsReached}
 
-stays_ended : (all : Classes) (limits : RunLimits) (ending : Ending) (n : ℕ) → follow all limits (Ended ending) n ≡ Ended ending
+pub stays_ended : (all : Classes) (limits : RunLimits) (ending : Ending) (n : ℕ) → follow all limits (Ended ending) n ≡ Ended ending
 stays_ended all limits ending zero = refl
 stays_ended all limits ending (suc n) = refl
 

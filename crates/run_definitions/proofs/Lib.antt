@@ -1,5 +1,9 @@
 pub mod StepCases
 pub mod Following
+pub mod MoreBudget
+pub mod Wider
+pub mod MoreWidth
+pub mod OtherLimits
 pub mod Priced
 pub mod Kept
 pub mod Parts

@@ -1,4 +1,5 @@
 pub mod Run
 pub mod Keeps
+pub mod OtherLimits
 pub mod Work
 pub mod WorkedRuns

@@ -10,15 +10,28 @@ ghost use Rattle.pool_definitions.specs.Pool.{Pool};
 ghost use Rattle.pool_definitions.specs.WorkedExamples.{four};
 ghost use Rattle.row_definitions.specs.declared.Op.TheVariants.{Add};
 ghost use Rattle.row_definitions.specs.WorkedRun.{ended, entered, widened};
+ghost use Rattle.run_definitions.specs.OtherLimits.{AnswerOrNoPanel, BudgetsKeepEnding, LimitsKeepAnswer, LimitsKeepNoPanel, OneAnswerOverLimits, OneEndingOverBudgets};
 ghost use Rattle.run_definitions.specs.Run.{Ending, Limits, NoPanel, Found, TooWide, PivotsSpent, NodesSpent, RunEnds, RunFinds};
 ghost use Rattle.run_definitions.specs.Keeps.{ReachedIsKept, PricedMayBeAdded, PricedIsChosen, PartsSpread};
 ghost use Rattle.run_definitions.specs.Work.{EachEnds, EachRunEnds, StepLeavesLess};
 ghost use Rattle.run_definitions.specs.WorkedRuns.{limits, halves, pairs};
 ghost use Rattle.search_definitions.specs.WorkedSearches.{either};
 
-/// A run ends in one way.
+/// A run ends in one way under its limits. With other budgets of pivots and visits it ends so too, or one of the two stops since a budget
+/// is spent; and an answer, or that there is no panel, is the same with whatever width and budgets.
 pub fn one_ending()
-    ensures { (pool : Pool) (limits : Limits) (first second : Ending) → RunEnds pool limits first → RunEnds pool limits second → first ≡ second }
+    ensures limits { (pool : Pool) (limits : Limits) (first second : Ending) → RunEnds pool limits first → RunEnds pool limits second → first ≡ second }
+    ensures budgets { OneEndingOverBudgets }
+    ensures answers { OneAnswerOverLimits }
+    ensures no_panel { AnswerOrNoPanel }
+{}
+
+/// With greater budgets a run ends as it did, if it didn't stop since a budget was spent. With greater limits, the width among them, it
+/// finds the answer that it found, and no panel where it found none.
+pub fn greater_limits_keep_endings()
+    ensures budgets { BudgetsKeepEnding }
+    ensures answers { LimitsKeepAnswer }
+    ensures no_panel { LimitsKeepNoPanel }
 {}
 
 /// Each step of a run that goes on leaves less of the run, so a run over classes that keep the limits of a pool has an ending, and so

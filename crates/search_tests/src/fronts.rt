@@ -1,8 +1,8 @@
 //! Searches for the best composition that begin at a front, with a floor of their own, and the pieces into which a search is divided,
 //! with the visits that they take, as counted by hand.
 
-ghost use Rattle.std.specs.Prelude.{◌≡◌, ◌≤◌, true, length};
-ghost use Rattle.front_laws.specs.Front.{AreWithin};
+ghost use Rattle.std.specs.Prelude.{◌≡◌, true};
+ghost use Rattle.wave_definitions.specs.Below.{IsFront};
 
 use crate::given::{APART, classes_of, is_small};
 use alike::Classes;
@@ -73,17 +73,17 @@ const WORKED: &[Below<'static>] = &[
 // The fronts of the pieces of the search with the right side 0.
 const PIECES: &[&[usize]] = &[&[1, 0, 1, 0], &[0, 1, 1, 0], &[0, 0, 1, 1]];
 
-// Has the front at most one count for each class, each at most the size of its class?
+// Has the front at most one count for each class, from the least to the most of the class?
 fn fits(classes: &Classes, front: &Front) -> bool
-    ensures few { result ≡ true → length front.now ≤ length classes.now.classes }
-    ensures counts { result ≡ true → AreWithin classes.now front.now }
+    ensures { result ≡ true → IsFront classes.now front.now }
 {
     let counts = front.counts();
     if classes.classes().len() < counts.len() {
         return false;
     }
     for place in 0..counts.len() {
-        if classes.classes()[place].size() < counts[place] {
+        let class = &classes.classes()[place];
+        if counts[place] < class.least() || class.most() < counts[place] {
             return false;
         }
     }

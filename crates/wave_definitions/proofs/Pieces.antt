@@ -1,6 +1,6 @@
 -- The compositions below the pieces are those that are sought, and what pieces are.
-use Rattle.std.proofs.Common.{◌≡◌, ℕ, zero, suc, ◌+◌, ◌-◌, ◌≤◌, ◌<◌, Bool, true, false, cond, List, [], ◌∷◌, ◌++◌, map, length, filter, take, drop, fold, ℤ, Some, refl, sym, ap, ◌∙◌, arith, subst, length-append, append_assoc}
-use Rattle.std.specs.Prelude.{int_lt, nat_le, not, slice_index}
+use Rattle.std.proofs.Common.{◌≡◌, ℕ, zero, suc, ◌+◌, ◌-◌, ◌≤◌, Bool, true, false, cond, List, [], ◌∷◌, ◌++◌, map, length, filter, take, drop, fold, ℤ, Some, refl, sym, ap, ◌∙◌, arith, subst, length-append, append_assoc}
+use Rattle.std.specs.Prelude.{int_lt, nat_le, not}
 use Rattle.std.specs.List.{flat_map, AllByRecursion, position_or_len, range_with_len}
 use Rattle.std.proofs.lemmas.Grind.{flat_map-append}
 use Rattle.std.proofs.lemmas.List.{append-nil, length-take-le, take-append-drop}
@@ -8,15 +8,16 @@ use Rattle.std.proofs.lemmas.List.FromFn.{length-range_with_len}
 use Rattle.std.proofs.lemmas.List.Sums.{fold-append, prefix_len-le-length}
 use Rattle.std.proofs.lemmas.List.Elements.{recursion_from_All}
 use borrow.Author.Differences.{lt-true, lt-false}
-use Rattle.basic_laws.proofs.Each.{each_map, each_append, each_both, each_left, each_mapped, each_everywhere}
+use Rattle.basic_laws.proofs.Each.{each_map, each_append, each_everywhere, each_left, each_mapped}
 use Rattle.row_definitions.specs.Row.{Row}
-use Rattle.search_definitions.specs.Classes.{Class, Classes, KeepsLimits}
+use Rattle.search_definitions.specs.Classes.{Class, Classes, IsSearchable}
 use Rattle.search_definitions.specs.Compositions.{counts_of, counts_down, weight_in}
 use Rattle.search_definitions.specs.Fronts.{HaveEntries, is_live_above}
 use Rattle.search_definitions.proofs.FirstSearch.{InOrder, Split, child_splits}
 use Rattle.search_definitions.proofs.BestSearch.{Kept, keep, keep_none, sought, none_better, sought_by_child}
 use Rattle.wave_definitions.specs.Below.{IsFront}
 use Rattle.wave_definitions.specs.Waves.{Pieces, lists_of, piece_depth, together, pieces_below, pieces}
+use Rattle.wave_definitions.proofs.Below.{Fits, fits_none, fitting_is_front}
 
 -- ---- a floor that has risen
 
@@ -133,66 +134,40 @@ piece_lengths all closed row =
       | false ↦ tt
     ]
 
--- ---- counts within the classes' sizes
+-- ---- each is a front
 
--- each count is at most the size of its class, class by class
-abbrev Fit : List Class → List ℕ → Type 0
-Fit [] [] = Unit {0}
-Fit [] (c ∷ counts) = ⊥
-Fit (class ∷ classes) [] = Unit {0}
-Fit (class ∷ classes) (c ∷ counts) = (c ≤ length class.members) × Fit classes counts
+fits_more : (pre later : List Class) (class : Class) (front : List ℕ) (c : ℕ) → Fits (pre ++ class ∷ later) front → length front ≡ length pre → class.least ≤ c → c ≤ class.most → Fits (pre ++ class ∷ later) (front ++ c ∷ [])
+fits_more [] later class [] c fits e l m = ((l, m), fits_none later)
+fits_more [] later class (b ∷ front) c fits e l m = absurd (omega arith)
+fits_more (one ∷ pre) later class [] c fits e l m = absurd (omega arith)
+fits_more (one ∷ pre) later class (b ∷ front) c fits e l m = (fits.0, fits_more pre later class front c fits.1 (omega arith) l m)
 
-fit_none : (classes : List Class) → Fit classes []
-fit_none [] = tt
-fit_none (class ∷ classes) = tt
+pub counts_within : (least more most : ℕ) → least + more ≤ most → AllByRecursion (λ c. (least ≤ c) × (c ≤ most)) (counts_down least more)
+counts_within least more most l = by more l
+  where
+    by : (more : ℕ) → least + more ≤ most → AllByRecursion (λ c. (least ≤ c) × (c ≤ most)) (counts_down least more)
+    by zero l = ((omega arith, omega arith), tt)
+    by (suc more) l = ((omega arith, omega arith), by more (omega arith))
 
-fit_more : (pre later : List Class) (class : Class) (front : List ℕ) (c : ℕ) → Fit (pre ++ class ∷ later) front → length front ≡ length pre → c ≤ length class.members → Fit (pre ++ class ∷ later) (front ++ c ∷ [])
-fit_more [] later class [] c fit e l = (l, fit_none later)
-fit_more [] later class (b ∷ front) c fit e l = absurd (omega arith)
-fit_more (one ∷ pre) later class [] c fit e l = absurd (omega arith)
-fit_more (one ∷ pre) later class (b ∷ front) c fit e l = (fit.0, fit_more pre later class front c fit.1 (omega arith) l)
-
-fit_at : (classes : List Class) (counts : List ℕ) (t : ℕ) → Fit classes counts → t < length counts → slice_index counts t ≤ slice_index (map (λ class. length class.members) classes) t
-fit_at classes [] t fit l = absurd (omega arith)
-fit_at [] (c ∷ counts) t fit l = absurd fit
-fit_at (class ∷ classes) (c ∷ counts) zero fit l = fit.0
-fit_at (class ∷ classes) (c ∷ counts) (suc t) fit l = fit_at classes counts t fit.1 (omega arith)
-
-fit_few : (classes : List Class) (counts : List ℕ) → Fit classes counts → length counts ≤ length classes
-fit_few [] [] fit = omega arith
-fit_few [] (c ∷ counts) fit = absurd fit
-fit_few (class ∷ classes) [] fit = omega arith
-fit_few (class ∷ classes) (c ∷ counts) fit = omega (arith, fit_few classes counts fit.1)
-
--- a class has no less than its least, and no more than all members are taken
-abbrev InSize : Class → Type 0
-InSize class = (class.least ≤ class.most) × (class.most ≤ length class.members)
-
-counts_fit : (least more most : ℕ) → least + more ≤ most → AllByRecursion (λ c. c ≤ most) (counts_down least more)
-counts_fit least zero most l = (omega arith, tt)
-counts_fit least (suc more) most l = (omega arith, counts_fit least more most (omega arith))
-
-pieces_fit : (all : Classes) (closed : List Row) (row : Row) (pre firsts later : List Class) (front : List ℕ) → all.classes ≡ pre ++ (firsts ++ later) → length front ≡ length pre → AllByRecursion InSize firsts → Fit all.classes front →
-    AllByRecursion (Fit all.classes) (pieces_below all closed row firsts front).fronts
-pieces_fit all closed row pre [] later front whole long sizes fit = (fit, tt)
-pieces_fit all closed row pre (class ∷ firsts) later front whole long sizes fit =
+pieces_fit : (all : Classes) (closed : List Row) (row : Row) (pre firsts later : List Class) (front : List ℕ) → all.classes ≡ pre ++ (firsts ++ later) → length front ≡ length pre → InOrder firsts → Fits all.classes front →
+    AllByRecursion (Fits all.classes) (pieces_below all closed row firsts front).fronts
+pieces_fit all closed row pre [] later front whole long order fits = (fits, tt)
+pieces_fit all closed row pre (class ∷ firsts) later front whole long order fits =
     let next : all.classes ≡ (pre ++ class ∷ []) ++ (firsts ++ later) = whole ∙ sym (append_assoc pre (class ∷ []) (firsts ++ later)) in
-    each_child (Fit all.classes) (is_live_above all closed row row.b) (λ child. pieces_below all closed row firsts child) (map (λ c. front ++ c ∷ []) (counts_of class))
-    (each_mapped (λ child. AllByRecursion (Fit all.classes) (pieces_below all closed row firsts child).fronts) (λ c. front ++ c ∷ []) (counts_of class)
-    (each_map (λ c. c ≤ class.most) (λ c. AllByRecursion (Fit all.classes) (pieces_below all closed row firsts (front ++ c ∷ [])).fronts)
-    (λ c l. pieces_fit all closed row (pre ++ class ∷ []) firsts later (front ++ c ∷ []) next (omega (arith, long, length-append front (c ∷ []), length-append pre (class ∷ []))) sizes.1
-    (subst (λ classes. Fit classes (front ++ c ∷ [])) (sym whole) (fit_more pre (firsts ++ later) class front c (subst (λ classes. Fit classes front) whole fit) long (omega (arith, l, sizes.0.1)))))
-    (counts_of class) (counts_fit class.least (class.most - class.least) class.most (omega (arith, sizes.0.0)))))
+    each_child (Fits all.classes) (is_live_above all closed row row.b) (λ child. pieces_below all closed row firsts child) (map (λ c. front ++ c ∷ []) (counts_of class))
+    (each_mapped (λ child. AllByRecursion (Fits all.classes) (pieces_below all closed row firsts child).fronts) (λ c. front ++ c ∷ []) (counts_of class)
+    (each_map (λ c. (class.least ≤ c) × (c ≤ class.most)) (λ c. AllByRecursion (Fits all.classes) (pieces_below all closed row firsts (front ++ c ∷ [])).fronts)
+    (λ c within. pieces_fit all closed row (pre ++ class ∷ []) firsts later (front ++ c ∷ []) next (omega (arith, long, length-append front (c ∷ []), length-append pre (class ∷ []))) order.1
+    (subst (λ classes. Fits classes (front ++ c ∷ [])) (sym whole) (fits_more pre (firsts ++ later) class front c (subst (λ classes. Fits classes front) whole fits) long within.0 within.1)))
+    (counts_of class) (counts_within class.least (class.most - class.least) class.most (omega (arith, order.0)))))
 
-pub pieces_within : (all : Classes) (closed : List Row) (row : Row) → KeepsLimits all → AllByRecursion (IsFront all) (pieces all closed row).fronts
-pieces_within all closed row limits =
+pub pieces_are : (all : Classes) (closed : List Row) (row : Row) → IsSearchable all → AllByRecursion (IsFront all) (pieces all closed row).fronts
+pieces_are all closed row searchable =
     let firsts = take (piece_depth all) all.classes in
-    let sizes : AllByRecursion InSize all.classes = each_both (λ (class : Class). class.least ≤ class.most) (λ (class : Class). class.most ≤ length class.members) all.classes limits.searchable.in_order
-    (recursion_from_All (λ (class : Class). class.most ≤ length class.members) all.classes limits.most) in
+    let whole = take-append-drop (piece_depth all) all.classes in
     elim (is_live_above all closed row row.b []) as (λ b. AllByRecursion (IsFront all) (cond b (pieces_below all closed row firsts []) (record { visits = 1; fronts = [] })).fronts) [
-      | true ↦ each_map (Fit all.classes) (IsFront all) (λ front fit. record { few = fit_few all.classes front fit; within = λ t l. fit_at all.classes front t fit l })
-          (pieces_below all closed row firsts []).fronts
-          (pieces_fit all closed row [] firsts (drop (piece_depth all) all.classes) [] (sym (take-append-drop (piece_depth all) all.classes)) refl
-          (each_left InSize firsts (drop (piece_depth all) all.classes) (subst (AllByRecursion InSize) (sym (take-append-drop (piece_depth all) all.classes)) sizes)) (fit_none all.classes))
+      | true ↦ each_map (Fits all.classes) (IsFront all) (fitting_is_front all) (pieces_below all closed row firsts []).fronts
+          (pieces_fit all closed row [] firsts (drop (piece_depth all) all.classes) [] (sym whole) refl
+          (each_left (λ (class : Class). class.least ≤ class.most) firsts (drop (piece_depth all) all.classes) (subst InOrder (sym whole) searchable.in_order)) (fits_none all.classes))
       | false ↦ tt
     ]

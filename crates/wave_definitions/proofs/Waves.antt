@@ -7,7 +7,7 @@ use Rattle.std.proofs.lemmas.List.{drop-drop, drop-take, take-append-drop, take-
 use Rattle.std.proofs.Math.Nat.{mul-add, mul-suc}
 use Rattle.std.proofs.lemmas.List.Sums.{fold-append}
 use borrow.Author.Differences.{lt-true, true_is_lt}
-use Rattle.basic_laws.proofs.Each.{each_left, each_right}
+use Rattle.basic_laws.proofs.Each.{each_everywhere, each_left, each_right}
 use Rattle.row_definitions.specs.Row.{Row}
 use Rattle.search_definitions.specs.Classes.{Class, Classes, IsSearchable}
 use Rattle.search_definitions.specs.Compositions.{compositions, weight_in, attains, first_greatest, price}
@@ -15,9 +15,9 @@ use Rattle.search_definitions.specs.Fronts.{HaveEntries, is_live_above, later_th
 use Rattle.search_definitions.specs.Visits.{Pricing}
 use Rattle.search_definitions.proofs.FirstSearch.{InOrder, Split, completions_of_none}
 use Rattle.search_definitions.proofs.BestSearch.{Kept, keep, keep_none, keeps_first_greatest, told, sought, none_better}
-use Rattle.wave_definitions.specs.Below.{below, search_from}
+use Rattle.wave_definitions.specs.Below.{search_from}
 use Rattle.wave_definitions.specs.Waves.{best_in_waves, keep_heavier, piece_depth, pieces, pieces_below, take_piece, wave, waves}
-use Rattle.wave_definitions.proofs.Below.{finds_best}
+use Rattle.wave_definitions.proofs.Below.{finds_greatest, greatest_is}
 use Rattle.wave_definitions.proofs.Pieces.{IsAtLeast, floor_rises, not_above, pieces_keep, piece_lengths, depth_within}
 
 -- ---- what a piece kept is taken
@@ -35,24 +35,7 @@ keep_found weight now None = now
 keep_found weight now (Some counts) = keep weight now counts
 
 greatest_above : (weight : List ℕ → ℤ) (floor : ℤ) (xs : List (List ℕ)) (counts : List ℕ) → first_greatest weight floor xs ≡ Some counts → int_lt floor (weight counts) ≡ true
-greatest_above weight floor [] counts e = absurd cc
-greatest_above weight floor (x ∷ xs) counts e =
-    by (int_lt floor (weight x)) refl (λ z n. greatest_above weight (weight x) xs z n) (λ s. greatest_above weight floor xs counts s) e
-  where
-    above_above : (a b c : ℤ) → int_lt a b ≡ true → int_lt b c ≡ true → int_lt a c ≡ true
-    above_above a b c e f = sym (true_is_lt a c (omega (arith, lt-true a b e, lt-true b c f)))
-
-    here : int_lt floor (weight x) ≡ true → ((z : List ℕ) → first_greatest weight (weight x) xs ≡ Some z → int_lt (weight x) (weight z) ≡ true) → (o : Option (List ℕ)) → first_greatest weight (weight x) xs ≡ o →
-        Some (unwrap_or o x) ≡ Some counts → int_lt floor (weight counts) ≡ true
-    here t further None n s = let same : x ≡ counts = cc in subst (λ z. int_lt floor (weight z) ≡ true) same t
-    here t further (Some z) n s = let same : z ≡ counts = cc in
-        subst (λ z. int_lt floor (weight z) ≡ true) same (above_above floor (weight x) (weight z) t (further z n))
-
-    by : (b : Bool) → int_lt floor (weight x) ≡ b → ((z : List ℕ) → first_greatest weight (weight x) xs ≡ Some z → int_lt (weight x) (weight z) ≡ true) →
-        (first_greatest weight floor xs ≡ Some counts → int_lt floor (weight counts) ≡ true) →
-        cond b (Some (unwrap_or (first_greatest weight (weight x) xs) x)) (first_greatest weight floor xs) ≡ Some counts → int_lt floor (weight counts) ≡ true
-    by true t further rest s = here t further (first_greatest weight (weight x) xs) refl s
-    by false t further rest s = rest s
+greatest_above weight floor xs counts e = (greatest_is (λ x. Unit {0}) weight floor xs counts (each_everywhere (λ x. Unit {0}) (λ x. tt) xs) e).1
 
 -- a search with a lower floor finds what a search with the floor would have kept, or something no heavier than the floor
 found_keeps : (weight : List ℕ → ℤ) (base floor : ℤ) (kept : Option (List ℕ)) (xs : List (List ℕ)) → IsAtLeast floor base →
@@ -84,9 +67,9 @@ found_keeps weight base floor kept (x ∷ xs) h =
     higher false t mine theirs = first (first_greatest weight (weight x) xs) t ∙ theirs t ∙ rw t refl
 
 module _ (all : Classes) (closed : List Row) (row : Row) (searchable : IsSearchable all) (entries : HaveEntries all (row ∷ closed)) where
-  -- the compositions below a front that attain the closed rows
+  -- the compositions that a front goes on to and that attain the closed rows
   abbrev attaining : List ℕ → List (List ℕ)
-  attaining front = filter (attains closed) (below all front)
+  attaining front = sought all closed front (later_than front all.classes)
 
   abbrev keeping : Kept → List (List ℕ) → Kept
   keeping kept xs = fold (keep (weight_in row.a)) kept xs
@@ -97,7 +80,7 @@ module _ (all : Classes) (closed : List Row) (row : Row) (searchable : IsSearcha
   taken_keeps : (now : Pricing) (base : ℤ) (front : List ℕ) → IsShort front → IsAtLeast now.floor base → told (take_piece row now (search_from all closed row front base)) ≡ keeping (told now) (attaining front)
   taken_keeps now base front short h =
       by (search_from all closed row front base).kept
-      ∙ ap (keep_found (weight_in row.a) (told now)) (finds_best all closed row front base searchable entries short)
+      ∙ ap (keep_found (weight_in row.a) (told now)) (finds_greatest all closed row front base searchable entries short)
       ∙ found_keeps (weight_in row.a) base now.floor now.kept (attaining front) h
     where
       by : (found : Option (List ℕ)) → told (keep_heavier row (record now { visits = now.visits + (search_from all closed row front base).visits }) found) ≡ keep_found (weight_in row.a) (told now) found
@@ -193,6 +176,6 @@ waves_keep_price all closed row searchable entries =
     let short = each_short all closed row searchable entries fronts (piece_lengths all closed row) in
     ap (λ (now : Kept). now.1)
     (waves_taken all closed row searchable entries (waves fronts) (record { visits = (pieces all closed row).visits; floor = row.b; kept = None }) (subst (AllByRecursion (λ front. length front ≤ length all.classes)) (sym same) short)
-    ∙ ap (λ xs. fold (keep (weight_in row.a)) (row.b, None) (flat_map (λ front. filter (attains closed) (below all front)) xs)) same
+    ∙ ap (λ xs. fold (keep (weight_in row.a)) (row.b, None) (flat_map (λ front. sought all closed front (later_than front all.classes)) xs)) same
     ∙ all_pieces all closed row searchable entries)
     ∙ keeps_first_greatest (weight_in row.a) row.b (filter (attains closed) (compositions all))

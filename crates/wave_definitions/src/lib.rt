@@ -4,21 +4,31 @@
 //! The functions here have no body: their contracts are laws over the definitions, and worked examples.
 #![tactic(auto)]
 
-ghost use Rattle.std.specs.Prelude.{◌≡◌, ◌↔◌, ◌≤◌, ℕ, List, [], ◌∷◌, length, None, Some, IsTrue, IsFalse, pos, ℤ, int_lt};
+ghost use Rattle.std.specs.Prelude.{◌≡◌, ◌↔◌, ℕ, List, [], ◌∷◌, ◌++◌, filter, map, length, None, Some, IsTrue, IsFalse, pos, ℤ, int_lt};
 ghost use Rattle.std.specs.List.{AllByRecursion};
 ghost use Rattle.row_definitions.specs.Row.{Row};
-ghost use Rattle.search_definitions.specs.Classes.{Classes, IsSearchable, KeepsLimits, classes_of};
-ghost use Rattle.search_definitions.specs.Compositions.{attains, price, weight_in};
-ghost use Rattle.search_definitions.specs.Fronts.{HaveEntries};
+ghost use Rattle.search_definitions.specs.Classes.{Classes, IsSearchable, classes_of};
+ghost use Rattle.search_definitions.specs.Compositions.{all_counts, attains, is_composition, price, weight_in};
+ghost use Rattle.search_definitions.specs.Fronts.{HaveEntries, later_than};
 ghost use Rattle.search_definitions.specs.WorkedSearches.{either, apart, row};
-ghost use Rattle.wave_definitions.specs.Below.{IsFront, below, best_below, search_from};
+ghost use Rattle.wave_definitions.specs.Below.{IsFront, QualifiesBelow, below, best_below, search_from};
 ghost use Rattle.wave_definitions.specs.Waves.{best_in_waves, piece_depth, pieces};
+ghost use Rattle.wave_definitions.specs.WorkedFronts.{first_gone, first_seated};
+
+/// The compositions that begin with a front are those among the lists that go on from it with a count for each later class.
+pub fn below_goes_on()
+    ensures { (all : Classes) (front : List ℕ) → IsFront all front →
+        below all front ≡ filter (is_composition all) (map (λ counts. front ++ counts) (all_counts (later_than front all.classes))) }
+{}
 
 /// The search below a front keeps the best composition below it: of those that attain the closed rows, the first of greatest weight
-/// above the floor, and nothing exactly where none weighs more than the floor.
+/// above the floor, and nothing exactly where none weighs more than the floor. What is best below a front is a composition that begins
+/// with it.
 pub fn search_from_finds_best()
-    ensures best { (all : Classes) (closed : List Row) (priced : Row) (front : List ℕ) (floor : ℤ) → IsSearchable all → HaveEntries all (priced ∷ closed) → length front ≤ length all.classes →
+    ensures best { (all : Classes) (closed : List Row) (priced : Row) (front : List ℕ) (floor : ℤ) → IsSearchable all → HaveEntries all (priced ∷ closed) → IsFront all front →
         (search_from all closed priced front floor).kept ≡ best_below all closed priced front floor }
+    ensures found { (all : Classes) (closed : List Row) (priced : Row) (front : List ℕ) (floor : ℤ) (counts : List ℕ) →
+        best_below all closed priced front floor ≡ Some counts → QualifiesBelow all closed priced front floor counts }
     ensures none { (all : Classes) (closed : List Row) (priced : Row) (front : List ℕ) (floor : ℤ) →
         best_below all closed priced front floor ≡ None ↔ AllByRecursion (λ counts. IsTrue (attains closed counts) → IsFalse (int_lt floor (weight_in priced.a counts))) (below all front) }
 {}
@@ -30,9 +40,9 @@ pub fn waves_find_price()
         (best_in_waves all closed priced).kept ≡ price all closed priced }
 {}
 
-/// The front of each piece has one count for each of so many first classes, at most the class's size.
+/// The front of each piece has a count for each of the first `piece_depth` classes, from the least to the most of the class.
 pub fn pieces_are_fronts()
-    ensures fronts { (all : Classes) (closed : List Row) (priced : Row) → KeepsLimits all → AllByRecursion (IsFront all) (pieces all closed priced).fronts }
+    ensures fronts { (all : Classes) (closed : List Row) (priced : Row) → IsSearchable all → AllByRecursion (IsFront all) (pieces all closed priced).fronts }
     ensures depth { (all : Classes) (closed : List Row) (priced : Row) → AllByRecursion (λ front. length front ≡ piece_depth all) (pieces all closed priced).fronts }
 {}
 
@@ -51,4 +61,17 @@ pub fn worked_waves()
         ≡ record { visits = 3; floor = pos 1; kept = Some (0 ∷ 1 ∷ []) } }
     ensures either_again { best_in_waves (classes_of either) [] (row (pos 1) (pos 1 ∷ pos 1 ∷ []))
         ≡ record { visits = 1; floor = pos 1; kept = None } }
+{}
+
+/// One seat for one of two volunteers. Where the first one is gone, counts that begin with 1 are no front and no composition begins with
+/// them; where the first one is seated, counts that begin with 0.
+pub fn worked_fronts()
+    ensures gone { IsFront (classes_of first_gone) (1 ∷ []) → ⊥ }
+    ensures below_gone { below (classes_of first_gone) (1 ∷ []) ≡ [] }
+    ensures not_gone { IsFront (classes_of first_gone) (0 ∷ []) }
+    ensures below_not_gone { below (classes_of first_gone) (0 ∷ []) ≡ (0 ∷ 1 ∷ []) ∷ [] }
+    ensures unseated { IsFront (classes_of first_seated) (0 ∷ []) → ⊥ }
+    ensures below_unseated { below (classes_of first_seated) (0 ∷ []) ≡ [] }
+    ensures seated { IsFront (classes_of first_seated) (1 ∷ []) }
+    ensures below_seated { below (classes_of first_seated) (1 ∷ []) ≡ (1 ∷ 0 ∷ []) ∷ [] }
 {}

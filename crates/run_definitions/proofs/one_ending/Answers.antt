@@ -1,8 +1,14 @@
-use Rattle.search_definitions.specs.Classes.{classes_of}
-use Rattle.run_definitions.specs.Run.{opening, run_limits}
-use Rattle.run_definitions.proofs.Following.{same_ending}
+use Rattle.run_definitions.proofs.OtherLimits as limits
 use Rattle.run_definitions.proofs.one_ending.Goals as goal
 
-pub returns : goal.returns
-returns c = λ pool limits first second a b.
-    same_ending (classes_of pool) (run_limits limits) (opening (classes_of pool) (run_limits limits)) a.steps b.steps first second a.there b.there
+pub returns-clause-limits : goal.returns-clause-limits
+returns-clause-limits c = limits.one_ending
+
+pub returns-clause-budgets : goal.returns-clause-budgets
+returns-clause-budgets c = limits.one_over_budgets
+
+pub returns-clause-answers : goal.returns-clause-answers
+returns-clause-answers c = limits.one_answer
+
+pub returns-clause-no_panel : goal.returns-clause-no_panel
+returns-clause-no_panel c = limits.answer_or_no_panel

@@ -1,7 +1,7 @@
-use Rattle.std.proofs.Common.{rules, length, sym, ap, ◌∙◌, arith, FitsSigned, of_z, to_z}
+use Rattle.std.proofs.Common.{rules, sym, ap, ◌∙◌, subst, FitsSigned, of_z, to_z}
 use Rattle.std.specs.Int.{w128}
 use Rattle.std.proofs.lemmas.Int.{to_z-of_z}
-use Rattle.wave_definitions.specs.Below.{best_below, search_from}
+use Rattle.wave_definitions.specs.Below.{IsFront, best_below, search_from}
 use Rattle.wave_definitions.proofs.Below.{finds_best}
 use Rattle.panel_search.proofs.Kept.{answers_kept}
 use Rattle.panel_search.proofs.priced.PricedRow.best_from.Goals as goal
@@ -19,5 +19,5 @@ returns-clause-best c =
     ∙ ap (λ row. (search_from all closed row c.counts.result.now (to_z w128 (of_z w128 c.args.floor))).kept) (c.terms.ensures.row ∙ sym (ap (λ p. p.row) same))
     ∙ ap (λ front. (search_from all closed row front (to_z w128 (of_z w128 c.args.floor))).kept) c.counts.ensures
     ∙ ap (λ floor. (search_from all closed row front floor).kept) floor
-    ∙ finds_best all closed row front c.args.floor c.facts.ensures.searchable c.self.invariant.entries (omega (arith, c.requires.few, ap (λ p. length p.classes.classes) same))
+    ∙ finds_best all closed row front c.args.floor c.facts.ensures.searchable c.self.invariant.entries (subst (λ all. IsFront all front) (sym (ap (λ p. p.classes) same)) c.requires)
     ∙ ap (λ p. best_below p.classes p.closed p.row front c.args.floor) same) c.search_from.ensures
