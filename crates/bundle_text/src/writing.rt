@@ -2,6 +2,7 @@
 
 ghost use Rattle.std.specs.Prelude.{◌≡◌, ◌++◌, ◌∷◌, [], map, Ok, IfOk, OnOk};
 ghost use Rattle.line_definitions.specs.Lines.{text_of};
+ghost use Rattle.text_definitions.specs.PoolText.{spelling};
 ghost use Rattle.bundle_definitions.specs.Ranges.{IsInRanges};
 ghost use Rattle.bundle_definitions.specs.BundleText.{total_line, panel_line, stage_line, done_line, answer_lines, bundle_text};
 ghost use Rattle.bundle_definitions.specs.BundleReading.{read_bundle};
@@ -20,10 +21,16 @@ pub fn write_bundle(alloc: Global, pool: &Pool, answer: &Answer) -> Result<Vec<u
     pool.facts();
     let mut text = Vec::new(alloc);
     push_line(&mut text, b"bundle", &[version(has_households(pool))])?;
-    let pool_lines = write_pool(alloc, pool)?;
-    text.extend_from_slice(&pool_lines)?;
+    push_pool(alloc, &mut text, pool)?;
     push_answer(&mut text, answer)?;
     Ok(text)
+}
+
+fn push_pool(alloc: Global, text: &mut Vec<u8>, pool: &Pool) -> Result<(), AllocError>
+    ensures { OnOk result (text.new.items ≡ text.old.items ++ spelling pool.now) }
+{
+    let bytes = write_pool(alloc, pool)?;
+    text.extend_from_slice(&bytes)
 }
 
 /// Adds the lines behind those of the pool.
