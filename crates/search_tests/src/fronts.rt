@@ -4,13 +4,13 @@
 ghost use Rattle.std.specs.Prelude.{◌≡◌, true};
 ghost use Rattle.wave_definitions.specs.Below.{IsFront};
 
-use crate::given::{APART, classes_of, is_small};
+use crate::given::{APART, classes_of, counts_of, is_small};
 use alike::Classes;
-use panel_search::{Front, Row, SearchStop, best_from, pieces};
+use panel_search::{Front, Row, SearchStop, best, best_from, pieces};
 use std::test::Fail;
 
 /// A front, a floor, and what the search below it finds.
-#[derive(Clone, Copy, Debug)]
+#[derive(Clone, Copy)]
 struct Below<'a> {
     front: &'a [usize],
     floor: i128,
@@ -100,8 +100,7 @@ fn searches_begin_at_fronts(rt: HostRuntime) -> Result<(), Fail> {
         let front = Front::new(Vec::from_slice(alloc, below.front)?);
         assert!(rt; fits(&all, &front), "{:?}", below.front);
         let (found, visits) = best_from(alloc, &all, &[], &row, &front, below.floor, below.visits)?;
-        let counts = found.as_ref().map(|composition| composition.counts());
-        assert_eq!(rt; counts, below.found, "{:?}", below.front);
+        assert_eq!(rt; counts_of(&found), below.found, "{:?}", below.front);
         assert_eq!(rt; visits, below.visits, "{:?}", below.front);
         let less = below.visits.saturating_sub(1);
         let short = best_from(alloc, &all, &[], &row, &front, below.floor, less);
@@ -115,12 +114,16 @@ fn searches_begin_at_fronts(rt: HostRuntime) -> Result<(), Fail> {
     Ok(())
 }
 
+/// The whole search, and the pieces into which it is divided.
 #[test]
 fn a_search_is_divided(rt: HostRuntime) -> Result<(), Fail> {
     let alloc = rt.alloc();
     let all = classes_of(alloc, APART)?;
     let row = Row::new(0, vec![in alloc; 0, 0, 1, 0]?);
     assert!(rt; is_small(&all, &row));
+    let (found, visits) = best(alloc, &all, &[], &row, 5)?;
+    assert_eq!(rt; counts_of(&found), Some([1, 0, 1, 0].as_slice()));
+    assert_eq!(rt; visits, 5);
     let (fronts, visits) = pieces(alloc, &all, &[], &row, 9)?;
     assert_eq!(rt; visits, 9);
     assert_eq!(rt; fronts.len(), PIECES.len());

@@ -3,7 +3,7 @@
 ghost use Rattle.std.specs.Prelude.{◌≡◌, [], ◌∷◌, true};
 ghost use Rattle.search_definitions.specs.Fronts.{HaveEntries, HaveReach};
 
-use alike::{Classes, classes};
+use alike::{Classes, Composition, classes};
 use panel_search::Row;
 use pool_text::read_pool;
 use std::alloc::Global;
@@ -35,4 +35,12 @@ pub(crate) fn is_small(classes: &Classes, row: &Row) -> bool
 
 pub(crate) fn classes_of(alloc: Global, text: &[u8]) -> Result<Classes, Fail> {
     Ok(classes(alloc, &read_pool(alloc, text)?)?)
+}
+
+/// The counts of what a search found.
+pub(crate) fn counts_of(found: &Option<Composition>) -> Option<&[usize]> {
+    match found {
+        Some(composition) => Some(composition.counts()),
+        None => None,
+    }
 }

@@ -1,6 +1,6 @@
 //! Pricings of small pools by several workers. The visits are those of worked waves, which the definitions compute.
 
-use crate::given::{APART, classes_of, is_small};
+use crate::given::{APART, classes_of, counts_of, is_small};
 use outside::{NoWatch, Watch};
 use panel_search::{Row, SearchStop};
 use pricing_pool::best_by;
@@ -41,8 +41,7 @@ fn each_number_of_workers_finds_the_same(rt: HostRuntime) -> Result<(), Fail> {
     for workers in [1, 2, 3, 7, 64] {
         assert!(rt; 1 <= workers && workers <= 64);
         let (found, visits) = best_by(&rt, alloc, workers, &NoWatch, &all, &[], &row, 12)?;
-        let counts = found.as_ref().map(|composition| composition.counts());
-        assert_eq!(rt; counts, Some([1, 0, 1, 0].as_slice()));
+        assert_eq!(rt; counts_of(&found), Some([1, 0, 1, 0].as_slice()));
         assert_eq!(rt; visits, 12);
         let short = best_by(&rt, alloc, workers, &NoWatch, &all, &[], &row, 11);
         assert!(rt; matches!(short, Err(SearchStop::Spent)));

@@ -1,15 +1,15 @@
 //! The first and the best compositions of small pools, and the visits that they take. Another program listed all compositions, and counted
 //! the visits over the definitions.
 
-use crate::given::{APART, classes_of, is_small};
+use crate::given::{APART, classes_of, counts_of, is_small};
 use alike::Classes;
-use panel_search::{Pricer, Row, SearchStop, best, first};
+use panel_search::{Pricer, Row, SearchStop, first};
 use std::alloc::Global;
 use std::process::Abort;
 use std::test::Fail;
 
 /// A pool, and what the search for the first composition finds in it.
-#[derive(Clone, Copy, Debug)]
+#[derive(Clone, Copy)]
 struct Given<'a> {
     pool: &'a [u8],
     visits: u64,
@@ -18,7 +18,7 @@ struct Given<'a> {
 }
 
 /// Closed rows and a row, as right sides and entries, and what the search for the best composition finds.
-#[derive(Clone, Copy, Debug)]
+#[derive(Clone, Copy)]
 struct Asked<'a> {
     closed: &'a [(i128, &'a [i128])],
     row: (i128, &'a [i128]),
@@ -124,16 +124,16 @@ fn check_asked(
     let mut pricer = Pricer::new(alloc, all);
     for (side, entries) in asked.closed {
         let row = Row::new(*side, Vec::from_slice(alloc, entries)?);
-        assert!(rt; is_small(pricer.classes(), &row), "{asked:?}");
+        assert!(rt; is_small(pricer.classes(), &row), "{:?}", asked.row);
         pricer.add_row(row)?;
     }
     let row = Row::new(asked.row.0, Vec::from_slice(alloc, asked.row.1)?);
-    assert!(rt; is_small(pricer.classes(), &row), "{asked:?}");
+    assert!(rt; is_small(pricer.classes(), &row), "{:?}", asked.row);
     let (found, visits) = pricer.best(&row, asked.visits)?;
-    let counts = found.as_ref().map(|composition| composition.counts());
-    assert_eq!(rt; (counts, visits), (asked.found, asked.visits), "{asked:?}");
+    assert_eq!(rt; counts_of(&found), asked.found, "{:?}", asked.row);
+    assert_eq!(rt; visits, asked.visits, "{:?}", asked.row);
     let short = pricer.best(&row, asked.visits.saturating_sub(1));
-    assert!(rt; matches!(short, Err(SearchStop::Spent)), "{asked:?}");
+    assert!(rt; matches!(short, Err(SearchStop::Spent)), "{:?}", asked.row);
     Ok(())
 }
 
@@ -143,26 +143,16 @@ fn small_pools_are_searched(rt: HostRuntime) -> Result<(), Fail> {
     for given in GIVEN {
         let all = classes_of(alloc, given.pool)?;
         let found = first(alloc, &all, given.visits)?;
-        let counts = found.as_ref().map(|composition| composition.counts());
-        assert_eq!(rt; counts, given.found, "{given:?}");
+        assert_eq!(rt; counts_of(&found), given.found);
         let short = first(alloc, &all, given.visits.saturating_sub(1));
-        assert!(rt; matches!(short, Err(SearchStop::Spent)), "{given:?}");
+        assert!(rt;
+            matches!(short, Err(SearchStop::Spent)),
+            "{:?}",
+            given.found
+        );
         for asked in given.asked {
             check_asked(&rt, alloc, &all, asked)?;
         }
     }
-    Ok(())
-}
-
-/// Without closed rows, in one call.
-#[test]
-fn one_row_is_priced(rt: HostRuntime) -> Result<(), Fail> {
-    let alloc = rt.alloc();
-    let all = classes_of(alloc, APART)?;
-    let row = Row::new(0, vec![in alloc; 0, 0, 1, 0]?);
-    assert!(rt; is_small(&all, &row));
-    let (found, visits) = best(alloc, &all, &[], &row, 5)?;
-    let counts = found.as_ref().map(|composition| composition.counts());
-    assert_eq!(rt; (counts, visits), (Some([1, 0, 1, 0].as_slice()), 5));
     Ok(())
 }

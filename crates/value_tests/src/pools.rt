@@ -25,11 +25,14 @@ fn a_pool_is_built(rt: HostRuntime) -> Result<(), Fail> {
         pool.add_volunteer(id, &[Name::new(alloc, value)?])?;
     }
     assert!(rt; matches!(pool.add_category("age"), Err(BuildStop::Kind(1))));
-    assert!(rt; pool.volunteers().len() == 4);
-    pool.set_standing(1, Standing::Gone);
-    pool.set_standing(3, Standing::Seated);
-    pool.set_household(0, "h")?;
-    pool.set_household(2, "h")?;
+    for (number, standing) in [(1, Standing::Gone), (3, Standing::Seated)] {
+        assert!(rt; number < pool.volunteers().len());
+        pool.set_standing(number, standing);
+    }
+    for number in [0, 2] {
+        assert!(rt; number < pool.volunteers().len());
+        pool.set_household(number, "h")?;
+    }
     let copy = pool.copy()?;
     let text = write_pool(alloc, &copy)?;
     assert!(rt; text == spelled(alloc, BUILT)?);

@@ -11,7 +11,7 @@ use std::alloc::Global;
 use std::test::Fail;
 
 /// What a text is of.
-#[derive(Clone, Copy, Debug)]
+#[derive(Clone, Copy)]
 enum Form {
     Pool,
     Bundle,
@@ -138,12 +138,12 @@ fn texts_are_written_again(rt: HostRuntime) -> Result<(), Fail> {
     for (form, shown, length, kinds) in TEXTS {
         let text = spelled(alloc, shown)?;
         assert_eq!(rt; text.len(), *length);
-        assert!(rt; again(alloc, *form, &text)? == text, "{form:?} {length}");
+        assert!(rt; again(alloc, *form, &text)? == text, "{length}");
         let mut whole = 0;
         for (cut, byte) in text.iter().enumerate() {
             let (line, kind) = said(alloc, *form, &text[..cut]);
             let wanted = (usize::saturating_add(whole, 1), kinds.get(whole));
-            assert_eq!(rt; (line, Some(&kind)), wanted, "{form:?} {length} {cut}");
+            assert_eq!(rt; (line, Some(&kind)), wanted, "{length}, cut to {cut}");
             if *byte == b'\n' {
                 whole = usize::saturating_add(whole, 1);
             }

@@ -1,5 +1,5 @@
-//! Worked examples: small pools, lotteries, certificates and texts on which the definitions compute, those that hold and
-//! those that don't. Nothing stands on this crate, so a further example proves nothing else again.
+//! Worked examples: small pools, lotteries, certificates, texts and spread lotteries on which the definitions compute, those that hold
+//! and those that don't. Nothing stands on this crate, so a further example proves nothing else again.
 //!
 //! The functions have no body: their contracts are the examples.
 #![tactic(auto)]
@@ -7,4 +7,5 @@
 pub mod certificates;
 pub mod lotteries;
 pub mod pools;
+pub mod spreads;
 pub mod texts;
