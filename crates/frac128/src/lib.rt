@@ -162,4 +162,3 @@ pub fn lowest(num: i128, den: i128) -> Frac
         den: den / divisor,
     }
 }
-
