@@ -13,7 +13,7 @@ It prints, as fields parted by TABs,
 
 Of several files each line begins with the file's name, and the status is the greatest of theirs. Wrong words have status 2, and a fault of
 writing has 8. docs/PROOFS.md says what a proof is, how it is checked, why that suffices, and what each reason and kind means. This program
-was written from that page alone, stands on nothing of `sortition`, and isn't proved.
+follows that page, uses nothing of `sortition`, and isn't proved.
 """
 import os
 import sys
@@ -42,7 +42,8 @@ class Lines:
     """The lines of a text, which are taken one after another. `number` is that of the line that was taken last."""
 
     def __init__(self, text):
-        *self.lines, self.behind = text.split(b'\n')
+        self.lines = text.split(b'\n')
+        self.behind = self.lines.pop()
         self.number = 0
 
     def take(self, missing):
@@ -353,7 +354,7 @@ def check_lottery(pool, total, panels, stages, trees):
 
 
 def check(text):
-    """What a valid proof is told as. Raises a Fault where the text is no proof, and a Refusal where the proof doesn't hold."""
+    """The words for a valid proof. Raises a Fault if the text is no proof, and a Refusal if the proof doesn't hold."""
     lines = Lines(text)
     lines.refuse(21, lines.take(23) != b'proof\t1')
     line = lines.take(23)
@@ -392,7 +393,7 @@ def answer(text):
 
 
 def answer_of(file):
-    """The status and the line for a file, or for standard input where it is None."""
+    """The status and the line for a file, or for standard input if it is None."""
     try:
         with open(0 if file is None else file, 'rb', closefd=file is not None) as source:
             text = source.read(MOST_BYTES + 1)
@@ -402,7 +403,7 @@ def answer_of(file):
 
 
 def tell(stream, text):
-    """Writes to standard output, which is stream 1, or to standard error, 2. True where it was written."""
+    """Writes to standard output, which is stream 1, or to standard error, 2. True if it was written."""
     try:
         with open(stream, 'wb', closefd=False) as sink:
             sink.write(text)
