@@ -19,7 +19,7 @@ fn span(ends: (i64, i64)) -> Span {
 }
 
 // Two rows of three columns that share a span from 0, the rows' spans, and whether there is a point.
-#[derive(Clone, Copy)]
+#[derive(Drop)]
 struct Program {
     rows: [[i64; 3]; 2],
     spans: [(i64, i64); 2],
@@ -113,44 +113,43 @@ fn answers(alloc: Global, program: &Program, budget: &mut Budget) -> Result<bool
     Ok(found == program.has_point && is_shown)
 }
 
-const PROGRAMS: &[Program] = &[
-    Program {
-        rows: [[1, 1, 0], [0, 1, 1]],
-        spans: [(1, 1), (1, 2)],
-        most: 1,
-        has_point: true,
-    },
-    Program {
-        rows: [[1, 1, 0], [0, 1, 1]],
-        spans: [(3, 3), (0, 2)],
-        most: 1,
-        has_point: false,
-    },
-    Program {
-        rows: [[2, -3, 0], [0, 1, -1]],
-        spans: [(1, 1), (0, 0)],
-        most: 5,
-        has_point: true,
-    },
-    Program {
-        rows: [[1, 1, 1], [1, -1, 0]],
-        spans: [(1, 1), (2, 3)],
-        most: 1,
-        has_point: false,
-    },
-    // the only point is 1, 1/2, 0
-    Program {
-        rows: [[2, 2, 2], [4, 2, -2]],
-        spans: [(3, 3), (5, 5)],
-        most: 1,
-        has_point: true,
-    },
-];
-
 #[test]
 fn small_programs(rt: HostRuntime) -> Result<(), Fail> {
+    let rows: [Program; 5] = [
+        Program {
+            rows: [[1, 1, 0], [0, 1, 1]],
+            spans: [(1, 1), (1, 2)],
+            most: 1,
+            has_point: true,
+        },
+        Program {
+            rows: [[1, 1, 0], [0, 1, 1]],
+            spans: [(3, 3), (0, 2)],
+            most: 1,
+            has_point: false,
+        },
+        Program {
+            rows: [[2, -3, 0], [0, 1, -1]],
+            spans: [(1, 1), (0, 0)],
+            most: 5,
+            has_point: true,
+        },
+        Program {
+            rows: [[1, 1, 1], [1, -1, 0]],
+            spans: [(1, 1), (2, 3)],
+            most: 1,
+            has_point: false,
+        },
+        // the only point is 1, 1/2, 0
+        Program {
+            rows: [[2, 2, 2], [4, 2, -2]],
+            spans: [(3, 3), (5, 5)],
+            most: 1,
+            has_point: true,
+        },
+    ];
     let mut budget = Budget::new(20, 0);
-    for program in PROGRAMS {
+    for program in &rows {
         assert!(rt; answers(rt.alloc(), program, &mut budget)?);
     }
     assert!(rt; budget.pivots() < 20);
