@@ -119,55 +119,75 @@ fn tree(
     }
 }
 
-const UNIT: [(i64, i64); 4] = [(0, 1), (0, 1), (0, 1), (0, 1)];
+/// Spans of columns, or of rows.
+type Ends = &'static [(i64, i64)];
+
+/// The coefficients of rows.
+type Rows = &'static [&'static [i64]];
+
+const THREE: Ends = &[(0, 1), (0, 1), (0, 1)];
+
+const FOUR: Ends = &[(0, 1), (0, 1), (0, 1), (0, 1)];
+
+const APART: Ends = &[(0, 1), (0, 1), (0, 1), (2, 3)];
+
+const BOXES: Ends = &[(0, 3), (-2, 2), (0, 1)];
+
+const EXACT: Ends = &[(2, 2), (4, 5)];
+
+const ODD: Rows = &[&[2, 2, 2]];
+
+const PAIRS: Rows = &[&[1, 1, 0], &[0, 1, 1], &[1, 0, 1], &[1, 1, 1]];
+
+const SUMS: Rows = &[&[1, 1, 1], &[2, -1, 3]];
+
+const COINS: Rows = &[&[3, 5, 7, 11]];
+
+/// Programs, the most nodes of a search, and what it finds.
+const SEARCHES: &[(Ends, Rows, Ends, u64, &str)] = &[
+    (THREE, ODD, &[(3, 3)], 0, "doubt, 99 100"),
+    (THREE, ODD, &[(3, 3)], 1, "doubt, 98 99"),
+    (THREE, ODD, &[(3, 3)], 100, "nothing, 89 96"),
+    (THREE, PAIRS, APART, 1, "nothing, 99 97"),
+    (BOXES, SUMS, EXACT, 100, "point 2 0 0, 99 98"),
+    (FOUR, COINS, &[(13, 13)], 100, "nothing, 85 94"),
+    (FOUR, COINS, &[(14, 14)], 100, "point 1 0 0 1, 98 98"),
+];
+
+/// Programs, the row of weights if there is one, the nodes that are left, and the lines of the tree.
+const TREES: &[(Ends, Rows, Ends, Option<usize>, u64, &str)] = &[
+    (
+        THREE,
+        ODD,
+        &[(3, 3)],
+        None,
+        11,
+        "0 2 [0 7*-1] 1 [0 7*-1] [0 7*1] 1 2 [0 7*-1] [0 7*1] [0 7*1] ",
+    ),
+    (
+        THREE,
+        ODD,
+        &[(3, 3)],
+        Some(0),
+        11,
+        "0 2 [1] 1 [1] [0] 1 2 [1] [0] [0] ",
+    ),
+    (THREE, ODD, &[(3, 3)], None, 10, "a limit is spent"),
+    (THREE, PAIRS, APART, None, 1, "[0 1*-2 3*1 7*1 9*1] "),
+    (THREE, PAIRS, APART, Some(3), 1, "[2 3*1 7*1 9*1] "),
+    (BOXES, SUMS, EXACT, None, 100, "a point"),
+];
 
 #[test]
 fn searches_go_as_the_reference(rt: HostRuntime) -> Result<(), Fail> {
     let alloc = rt.alloc();
-    let odd: &[&[i64]] = &[&[2, 2, 2]];
-    let pairs: &[&[i64]] = &[&[1, 1, 0], &[0, 1, 1], &[1, 0, 1], &[1, 1, 1]];
-    let sums: &[&[i64]] = &[&[1, 1, 1], &[2, -1, 3]];
-    let coins: &[&[i64]] = &[&[3, 5, 7, 11]];
-    let (three, four) = (&UNIT[..3], &UNIT[..4]);
-    let apart: &[(i64, i64)] = &[(0, 1), (0, 1), (0, 1), (2, 3)];
-    let boxes: &[(i64, i64)] = &[(0, 3), (-2, 2), (0, 1)];
-    let exact: &[(i64, i64)] = &[(2, 2), (4, 5)];
-    for (columns, rows, allowed, most, want) in [
-        (three, odd, &[(3, 3)][..], 0, "doubt, 99 100"),
-        (three, odd, &[(3, 3)][..], 1, "doubt, 98 99"),
-        (three, odd, &[(3, 3)][..], 100, "nothing, 89 96"),
-        (three, pairs, apart, 1, "nothing, 99 97"),
-        (boxes, sums, exact, 100, "point 2 0 0, 99 98"),
-        (four, coins, &[(13, 13)][..], 100, "nothing, 85 94"),
-        (four, coins, &[(14, 14)][..], 100, "point 1 0 0 1, 98 98"),
-    ] {
-        let text = found(&rt, alloc, columns, rows, allowed, most)?;
-        assert_eq!(rt; text.as_str(), want);
+    for (columns, rows, allowed, most, want) in SEARCHES {
+        let text = found(&rt, alloc, columns, rows, allowed, *most)?;
+        assert_eq!(rt; text.as_str(), *want);
     }
-    for (columns, rows, allowed, weight_row, nodes, want) in [
-        (
-            three,
-            odd,
-            &[(3, 3)][..],
-            None,
-            11,
-            "0 2 [0 7*-1] 1 [0 7*-1] [0 7*1] 1 2 [0 7*-1] [0 7*1] [0 7*1] ",
-        ),
-        (
-            three,
-            odd,
-            &[(3, 3)][..],
-            Some(0),
-            11,
-            "0 2 [1] 1 [1] [0] 1 2 [1] [0] [0] ",
-        ),
-        (three, odd, &[(3, 3)][..], None, 10, "a limit is spent"),
-        (three, pairs, apart, None, 1, "[0 1*-2 3*1 7*1 9*1] "),
-        (three, pairs, apart, Some(3), 1, "[2 3*1 7*1 9*1] "),
-        (boxes, sums, exact, None, 100, "a point"),
-    ] {
-        let text = tree(&rt, alloc, columns, rows, allowed, weight_row, nodes)?;
-        assert_eq!(rt; text.as_str(), want);
+    for (columns, rows, allowed, weight_row, nodes, want) in TREES {
+        let text = tree(&rt, alloc, columns, rows, allowed, *weight_row, *nodes)?;
+        assert_eq!(rt; text.as_str(), *want);
     }
     Ok(())
 }
