@@ -1,4 +1,4 @@
-use Rattle.std.proofs.Common.{Ok, Some, [], refl, rules}
+use Rattle.std.proofs.Common.{Ok, [], refl, rules}
 use Rattle.command_shell.specs.Told.{empty_source}
 use Rattle.command_shell.proofs.CallLemmas.{answer_is_right}
 use Rattle.command_shell.proofs.calling.call_without_input.Goals as goal
