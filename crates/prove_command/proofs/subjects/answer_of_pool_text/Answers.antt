@@ -6,14 +6,14 @@ use Rattle.pool_text.specs.Answers.{fault_of}
 use Rattle.proof_answers.specs.Prove.{AboutPool, AboutPoolFault}
 use Rattle.prove_command.proofs.subjects.answer_of_pool_text.Goals as goal
 
-pub returns-in-Ok : goal.returns-in-Ok
-returns-in-Ok c =
+pub returns-in-Ok-clause-means : goal.returns-in-Ok-clause-means
+returns-in-Ok-clause-means c =
     let read = c.in-Ok.ensures in
     IfOk-weaker c.about_pool.result _ _
     (λ answer means. AboutPool c.in-Ok.pool (record { is_pool = read.spelled.0; spelled = read.spelled.1; read = read.exact }) means)
-    c.about_pool.ensures
+    c.about_pool.ensures.means
 
-pub returns-in_ok-input_line-in-Err-Fault : goal.returns-in_ok-input_line-in-Err-Fault
-returns-in_ok-input_line-in-Err-Fault c =
+pub returns-in_ok-input_line-in-Err-Fault-clause-means : goal.returns-in_ok-input_line-in-Err-Fault-clause-means
+returns-in_ok-input_line-in-Err-Fault-clause-means c =
     let fails = rw c.in-Err-Fault.field-0-is at c.in-Err-Fault.ensures.exact in
     AboutPoolFault (fault_of c.in-Err-Fault.fault) c.requires fails (ap (Stops Input) (rw c.in-Err-Fault.field-0-is at c.in_ok-input_line-in-Err-Fault.ensures))
