@@ -8,7 +8,7 @@ use Rattle.row_definitions.specs.Row.{Row}
 use Rattle.search_definitions.specs.Classes.{Class, Classes}
 use Rattle.search_definitions.specs.Fronts.{is_reachable, is_live_above, optimistic, taken_by}
 use Rattle.cap_search.specs.Front.{Tracks}
-use Rattle.cap_search.specs.Steps.{StandsAt}
+use Rattle.cap_search.specs.Steps.{Begins, StandsAt}
 use Rattle.front_laws.specs.Front.{CanTake, AreWithin}
 use Rattle.cap_search.specs.Weights.{Weighs, WeighEach}
 use Rattle.cap_search.specs.declared.searching.Search.{Search}
@@ -29,6 +29,20 @@ stands_with all closed row depth rest rest' before after stands e g h tracks = r
   weights = subst (λ xs. Weighs all row (take depth xs) after.weights) (sym e) (subst (Weighs all row (take depth before.counts.items)) (sym g) stands.weights);
   closed_rows = subst (λ xs. WeighEach all closed (take depth xs) after.closed.items) (sym e) (subst (WeighEach all closed (take depth before.counts.items)) (sym h) stands.closed_rows);
 }
+
+-- at the empty front, where it is live
+pub begins_there : (all : Classes) (closed : List Row) (row : Row) (search : Search) → Begins all closed row search → is_live_above all closed row row.b [] ≡ true → StandsAt all closed row 0 all.classes search
+begins_there all closed row search begins live =
+    let parts = and_parts (is_reachable all [] && list_all (λ r. int_le r.b (optimistic all r [])) closed) (int_lt row.b (optimistic all row [])) live in
+    record {
+      places = begins.places;
+      within = omega arith;
+      live = (and_parts (is_reachable all []) (list_all (λ r. int_le r.b (optimistic all r [])) closed) parts.0).0;
+      counts = λ t l. absurd (omega arith);
+      tally = begins.tally;
+      weights = begins.weights;
+      closed_rows = begins.closed_rows;
+    }
 
 pub whole_lack : (all : Classes) (size : ℕ) → size ≡ all.size → size ≡ all.size - taken_by all []
 whole_lack all size e = omega (arith, taken_none (λ class. true) all.classes)

@@ -19,10 +19,18 @@ use Rattle.exact_table.specs.Best.{better, best_of}
 one_left : (k n : ℕ) → k < n → n - k ≡ suc (n - (k + 1))
 one_left k n l = omega arith
 
+pub find_from-found : {X : Type 0} (p : X → Bool) (f : ℕ → X) (k n : ℕ) → k < n → p (f k) ≡ true → find p (map f (range_with_len k (n - k))) ≡ Some (f k)
+find_from-found p f k n l e =
+    ap (λ m. find p (map f (range_with_len k m))) (one_left k n l)
+    ∙ ap (λ b. cond b (Some (f k)) (find p (map f (range_with_len (k + 1) (n - (k + 1)))))) e
+
 pub find_from-more : {X : Type 0} (p : X → Bool) (f : ℕ → X) (k n : ℕ) → k < n → p (f k) ≡ false → find p (map f (range_with_len k (n - k))) ≡ find p (map f (range_with_len (k + 1) (n - (k + 1))))
 find_from-more p f k n l e =
     ap (λ m. find p (map f (range_with_len k m))) (one_left k n l)
     ∙ ap (λ b. cond b (Some (f k)) (find p (map f (range_with_len (k + 1) (n - (k + 1)))))) e
+
+pub find_from-end : {X : Type 0} (p : X → Bool) (f : ℕ → X) (k n : ℕ) → n ≤ k → find p (map f (range_with_len k (n - k))) ≡ None
+find_from-end p f k n l = let e : n - k ≡ 0 = omega arith in ap (λ m. find p (map f (range_with_len k m))) e
 
 -- in the one list, or else in the other
 pub find-left : {X : Type 0} (p : X → Bool) (xs ys : List X) (x : X) → find p xs ≡ Some x → find p (xs ++ ys) ≡ Some x

@@ -97,3 +97,7 @@ pub length-settled_marks : (stage : ℕ) (xs : List ℤ) (marks : List ℕ) → 
 length-settled_marks stage [] marks = refl
 length-settled_marks stage (x ∷ xs) [] = refl
 length-settled_marks stage (x ∷ xs) (at ∷ marks) = ap suc (length-settled_marks stage xs marks)
+
+-- a later stage's number changes no mark's meaning
+pub AreMarks-later : (stages : ℕ) (marks : List ℕ) → AreMarks marks stages → AreMarks marks (stages + 1)
+AreMarks-later stages marks h = λ k d l n. omega (arith, h k d l n)

@@ -7,12 +7,13 @@ use Rattle.std.proofs.lemmas.List.{length-set}
 use Rattle.row_definitions.specs.Row.{Row}
 use Rattle.search_definitions.specs.Classes.{Class, Classes}
 use Rattle.search_definitions.specs.Compositions.{counts_of}
-use Rattle.search_definitions.specs.Fronts.{is_reachable, is_live_above, optimistic}
+use Rattle.search_definitions.specs.Fronts.{is_reachable, is_live_above, optimistic, HaveEntries, HaveReach}
 use Rattle.search_definitions.specs.Visits.{Pricing, best_search, enter_best}
 use Rattle.panel_search.specs.Front.{Tracks}
 use Rattle.panel_search.specs.Pricing.{BeginsAt, StandsAt, Moves, children_best}
 use Rattle.front_laws.specs.Front.{CanTake, AreWithin}
 use Rattle.panel_search.specs.Steps.{counts_below}
+use Rattle.front_laws.specs.Weights.{AreNarrow, EachNarrow}
 use Rattle.panel_search.specs.Weights.{Weighs, WeighEach}
 use Rattle.panel_search.specs.declared.searching.BudgetSpent.{BudgetSpent}
 use Rattle.panel_search.specs.declared.pricing.BestSearch.{BestSearch}
@@ -143,6 +144,10 @@ first_of [] rest n l = refl
 first_of (c ∷ front) rest zero l = absurd (omega arith)
 first_of (c ∷ front) rest (suc n) l = ap (λ (xs : List ℕ). c ∷ xs) (first_of front rest n (omega arith))
 
+-- a front is written into the first places
+pub written_first : (front given items : List ℕ) (n : ℕ) → given ≡ front → length front ≤ n → take (length front) (take n (given ++ drop (length given) items)) ≡ front
+written_first front given items n e l = subst (λ xs. take (length front) (take n (xs ++ drop (length xs) items)) ≡ front) (sym e) (first_of front (drop (length front) items) n l)
+
 -- a search is set up at a front
 pub begins_at : (all : Classes) (closed : List Row) (row : Row) (front : List ℕ) (search : BestSearch) → length search.counts.items ≡ length all.classes → length search.kept.items ≡ length all.classes → length front ≤ length all.classes →
     take (length front) search.counts.items ≡ front → AreWithin all front → Tracks all front (drop (length front) all.classes) search.tally → Weighs all row front search.priced → WeighEach all closed front search.closed.items →
@@ -204,3 +209,9 @@ child_due all closed row later child now live weighs =
     ap (λ b. cond b (enter_best all closed row later child now) now) above
 
 -- ---- the rows
+
+pub each_narrow : (all : Classes) (rows : List Row) → HaveEntries all rows → HaveReach all rows → EachNarrow all rows
+each_narrow all [] h k i row e = cc
+each_narrow all (r ∷ rows) h k zero row e =
+    let is : r ≡ row = cc in subst (λ (r : Row). AreNarrow all r.a) is (record { one_each = h.0; narrow = let reach = k.0 in omega arith })
+each_narrow all (r ∷ rows) h k (suc i) row e = each_narrow all rows h.1 k.1 i row e

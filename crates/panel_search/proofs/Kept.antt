@@ -42,6 +42,12 @@ closed_more all rows sums row here kept entries reaches summed = record {
   };
 }
 
+-- a fact about each row of a list, at one of them
+pub row_has : (P : Row → Type 0) (rows : List Row) (i : ℕ) (row : Row) → AllByRecursion P rows → slice_get rows i ≡ Some row → P row
+row_has P [] i row h e = cc
+row_has P (r ∷ rows) zero row h e = let is : r ≡ row = cc in subst P is h.0
+row_has P (r ∷ rows) (suc i) row h e = row_has P rows i row h.1 e
+
 -- what the search kept is the answer
 pub answers_kept : (pricing : Pricing) (nodes : ℕ) (wanted : Option (List ℕ)) (r : Result (Option (List ℕ) × ℕ) SearchStop) → pricing.kept ≡ wanted → AnswersBest pricing nodes r →
     IfOk r (λ answer. answer.0 ≡ wanted)
