@@ -12,7 +12,7 @@ use Rattle.std.proofs.lemmas.Nat.{mul-le}
 use Rattle.basic_laws.proofs.Each.{each_append, each_filter, each_map, each_mapped}
 use Rattle.row_definitions.specs.Row.{Row}
 use Rattle.search_definitions.specs.Classes.{Class, Classes, KeepsLimits}
-use Rattle.search_definitions.specs.Compositions.{counts_of, counts_down}
+use Rattle.search_definitions.specs.Compositions.{counts_of}
 use Rattle.search_definitions.specs.Fronts.{is_live_above, is_reachable, optimistic}
 use Rattle.wave_definitions.specs.Waves.{Pieces, lists_of, piece_depth, pieces, pieces_below, together}
 use Rattle.wave_definitions.specs.Below.{IsFront}
