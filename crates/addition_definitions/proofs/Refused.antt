@@ -91,8 +91,8 @@ refusal_means (OfLottery pool answer trees) refusal refused = λ below certifies
     let first_line = lines_before_tree (OfLottery pool answer trees) + 1 in
     let none = none_from_valid (check.reasons pool answer) (certificates.valid_where_certified pool answer certifies) in
     let each = each_append (Of FromTree) (lottery_reasons pool answer.lottery) (reasons_from pool answer.lottery [] answer.stages first_line trees)
-        (each_of_none FromTree (lottery_reasons pool answer.lottery) (each_left (λ r. r ≡ None) (lottery_reasons pool answer.lottery) from none))
-        (stages_from_tree pool answer.lottery [] answer.stages first_line trees (each_right (λ r. r ≡ None) (lottery_reasons pool answer.lottery) from none)) in
+    (each_of_none FromTree (lottery_reasons pool answer.lottery) (each_left (λ r. r ≡ None) (lottery_reasons pool answer.lottery) from none))
+    (stages_from_tree pool answer.lottery [] answer.stages first_line trees (each_right (λ r. r ≡ None) (lottery_reasons pool answer.lottery) from none)) in
     not_both refusal.reason (first_of_each FromTree (reasons (OfLottery pool answer trees)) each refusal refused) below
 refusal_means (OfNoPanel pool lines) refusal refused =
     first_of_each FromTree (reasons (OfNoPanel pool lines)) (line_from_tree 0 (lines_before_tree (OfNoPanel pool lines) + 1) (no_panel_problem pool) (standings pool) lines, tt) refusal refused
@@ -183,7 +183,7 @@ module _ (pool : Pool) (answer : Answer) (trees : List (List TreeLine)) where
       let long : length lines ≡ length (get_or trees (length earlier) []) = ap length tree in
       let next : line + length lines + 1 ≡ lines_before_tree whole + lines_of_trees (take (suc (length earlier)) trees) + 1 = omega (arith, at, more, long) in
       let turned : answer.stages ≡ reverse (stage ∷ earlier) ++ later =
-          stages ∙ sym (append_assoc (reverse earlier) (stage ∷ []) later) ∙ ap (λ all. all ++ later) (sym (reverse_onto earlier stage [])) in
+      stages ∙ sym (append_assoc (reverse earlier) (stage ∷ []) later) ∙ ap (λ all. all ++ later) (sym (reverse_onto earlier stage [])) in
       let before = reasons_before_cap pool answer.lottery earlier stage in
       let of_tree = tree_reasons pool earlier stage line lines in
       let of_listed = listed_reasons answer.lottery earlier stage in

@@ -42,7 +42,7 @@ pub record NamesLineOfStage (pool : Pool) (answer : Answer) (trees : List (List 
   pub line : ℕ
   pub who : refusal.who ≡ line ∷ []
   pub first_fault : tree_fault (stage_problem pool earlier stage) (standings pool)
-    (lines_before (OfLottery pool answer trees) refusal.stage + 1) (tree_of (OfLottery pool answer trees) refusal.stage) ≡ fault line refusal.reason
+      (lines_before (OfLottery pool answer trees) refusal.stage + 1) (tree_of (OfLottery pool answer trees) refusal.stage) ≡ fault line refusal.reason
 
 -- and so does one of a proof that there is no quota panel, which has stage 0
 pub record NamesLineOfNone (pool : Pool) (lines : List TreeLine) (refusal : Refusal) : Type 0 where

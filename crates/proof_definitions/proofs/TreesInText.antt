@@ -116,7 +116,7 @@ line_is_named (OfLottery pool answer trees) refusal is refused reason =
     let named = names_line (OfLottery pool answer trees) refusal is.one_each refused reason in
     let number = named.number in
     let long : length answer.stages ≡ length named.earlier + suc (length named.later) =
-        ap length named.stages ∙ length-append (reverse named.earlier) (named.stage ∷ named.later) ∙ ap (λ n. n + suc (length named.later)) (length-reverse named.earlier) in
+    ap length named.stages ∙ length-append (reverse named.earlier) (named.stage ∷ named.later) ∙ ap (λ n. n + suc (length named.later)) (length-reverse named.earlier) in
     let one_each = is.one_each in
     let some : 1 ≤ refusal.stage = omega (arith, number) in
     let few : refusal.stage ≤ length trees = omega (arith, number, long, one_each) in

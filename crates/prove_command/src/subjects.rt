@@ -13,11 +13,7 @@ use proof_limits::Budget;
 use std::alloc::{AllocError, Global};
 
 /// What `prove` answers about a text, by a run under a budget, and what it leaves of that. A text that begins as a bundle's is read as one.
-pub fn answer_within(
-    alloc: Global,
-    budget: &mut Budget,
-    bytes: &[u8],
-) -> Result<Answer, AllocError>
+pub fn answer_within(alloc: Global, budget: &mut Budget, bytes: &[u8]) -> Result<Answer, AllocError>
     ensures means { IfOk result (λ answer. OfSubject (ProveMeans budget.new) bytes.now (saying answer)) }
     ensures spends { SpendsOn budget.old budget.new }
 {
