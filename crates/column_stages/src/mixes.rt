@@ -1,6 +1,6 @@
 //! The program of the compositions that were found.
 
-ghost use Rattle.std.specs.Prelude.{◌≡◌, IfOk, OnOk, length};
+ghost use Rattle.std.specs.Prelude.{IfOk, OnOk, length};
 ghost use Rattle.box_table.specs.Sizes.{Spends};
 ghost use Rattle.column_stages.specs.Shapes.{IsMix};
 
