@@ -1,4 +1,4 @@
--- Proofs that a lottery is leximin greatest, or that a pool has no quota panel, and the verdict on them by additions and comparisons alone.
+-- Proofs that a lottery is leximin greatest, or that a pool has no quota panel, and the verdict on them: whole numbers are multiplied, added and compared.
 use Rattle.std.specs.Prelude.{ℕ, ◌+◌, nat_le, not, List, [], ◌∷◌, ◌++◌, drop, length, slice_index_or, Option, Some, None, IsTrue}
 use Rattle.std.specs.List.{find}
 use Rattle.std.specs.Ordering.{int_eq}

@@ -1,4 +1,4 @@
--- What the command `verify` answers: the verdict on a proof, by additions and comparisons alone.
+-- What the command `verify` answers: the verdict on a proof.
 use Rattle.std.specs.Prelude.{◌≡◌, ℕ, List, [], ◌∷◌, codes}
 use Rattle.pool_definitions.specs.Certificate.{Answer}
 use Rattle.pool_definitions.specs.Pool.{Pool, panels}
