@@ -1,7 +1,8 @@
 //! Classes of volunteers, with the size of a panel and the bounds of the values: what a search for panels goes through.
 
-ghost use Rattle.std.specs.Prelude.{◌≡◌, length, take};
-ghost use Rattle.search_definitions.specs.Classes.{KeepsLimits, PartVolunteers, least_taken, most_taken, volunteer_count};
+ghost use Rattle.std.specs.Prelude.{◌≡◌, ◌<◌, length, take};
+ghost use Rattle.search_definitions.specs.Classes.{HasPlaces, KeepsLimits, PartVolunteers, least_taken, most_taken, volunteer_count};
+ghost use Rattle.front_laws.specs.Front.{Stands};
 
 use pool_definitions::Standing;
 use search_definitions::Bounds;
@@ -206,6 +207,17 @@ impl Classes {
         ensures parts { PartVolunteers self.now }
     {
         self.classes.iter().map(|class| class.size()).sum()
+    }
+
+    /// The class in this place, with what the classes keep of it.
+    pub fn class_at(&self, place: usize) -> &Class
+        requires { place < length self.now.classes }
+        ensures limits { KeepsLimits self.now }
+        ensures stands { Stands self.now place result.now }
+        ensures places { HasPlaces self.now.bounds result.now }
+    {
+        self.facts();
+        &self.classes()[place]
     }
 
     /// Does nothing; its contract tells what each `Classes` keeps.

@@ -7,10 +7,9 @@ use Rattle.search_definitions.specs.declared.Bounds.{Bounds}
 use Rattle.search_definitions.specs.Classes.{Class, Classes, HasPlaces, KeepsLimits}
 use Rattle.search_definitions.specs.Compositions.{is_of_household, takes_one_of, takes_one_a_household}
 use Rattle.search_definitions.specs.Fronts.{is_reachable, size_reachable, values_reachable}
-use Rattle.front_laws.specs.Front.{FrontTally, Tracks}
+use Rattle.front_laws.specs.Front.{FrontTally, Tracks, Stands}
 use Rattle.front_laws.specs.Tallies.{AllReach}
 use Rattle.front_laws.proofs.Liveness.{decided, reach_of_child, size_of_child, values_of_child}
-use Rattle.front_laws.proofs.Tracking.{Stands}
 use Rattle.cap_search.specs.Tallies.{OneFails}
 use Rattle.search_definitions.proofs.FirstSearch.{taken_none}
 

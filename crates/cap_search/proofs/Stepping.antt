@@ -12,8 +12,9 @@ use Rattle.search_definitions.specs.Visits.{Search as Due, one_by_one}
 use Rattle.cap_search.specs.Steps.{StandsAt, Steps, StepsFrom, child_above, children_above, counts_at, counts_of_first}
 use Rattle.cap_search.specs.declared.searching.BudgetSpent.{BudgetSpent}
 use Rattle.cap_search.specs.declared.searching.Search.{Search}
+use Rattle.front_laws.specs.Front.{Stands}
 use Rattle.front_laws.proofs.InTurn.{after_nothing, at_least_one, found_at_once, found_later, then_next}
-use Rattle.front_laws.proofs.Tracking.{Stands, comes_next}
+use Rattle.front_laws.proofs.Tracking.{comes_next}
 use Rattle.front_laws.proofs.WeightLaws.{element_at}
 
 -- a child, and the children after it

@@ -49,8 +49,7 @@ impl Tally {
         requires stands { Tracks classes.now front.now (drop (length front.now) classes.now.classes) self.old }
         ensures { Tracks classes.now front.now (drop (length front.now + 1) classes.now.classes) self.new }
     {
-        classes.facts();
-        let class = &classes.classes()[front.len()];
+        let class = classes.class_at(front.len());
         take_from(&mut self.later, class.values(), class.most());
         self.later_taken -= class.most();
     }
@@ -61,8 +60,7 @@ impl Tally {
         requires stands { Tracks classes.now front.now (drop (length front.now + 1) classes.now.classes) self.old }
         ensures { Tracks classes.now front.now (drop (length front.now) classes.now.classes) self.new }
     {
-        classes.facts();
-        let class = &classes.classes()[front.len()];
+        let class = classes.class_at(front.len());
         add_to(&mut self.later, class.values(), class.most());
         self.later_taken += class.most();
     }
@@ -75,8 +73,7 @@ impl Tally {
         requires stands { Tracks classes.now front.now (drop (length front.now + 1) classes.now.classes) self.old }
         ensures { Tracks classes.now (front.now ++ count ∷ []) (drop (length front.now + 1) classes.now.classes) self.new }
     {
-        classes.facts();
-        let class = &classes.classes()[front.len()];
+        let class = classes.class_at(front.len());
         add_to(&mut self.held, class.values(), count);
         homes::add_at(&mut self.homes, class.household(), count);
         self.taken += count;
@@ -88,8 +85,7 @@ impl Tally {
         requires stands { Tracks classes.now (front.now ++ count ∷ []) (drop (length front.now + 1) classes.now.classes) self.old }
         ensures { Tracks classes.now front.now (drop (length front.now + 1) classes.now.classes) self.new }
     {
-        classes.facts();
-        let class = &classes.classes()[front.len()];
+        let class = classes.class_at(front.len());
         take_from(&mut self.held, class.values(), count);
         homes::take_at(&mut self.homes, class.household(), count);
         self.taken -= count;
@@ -103,8 +99,7 @@ impl Tally {
         requires stands { Tracks classes.now front.now (drop (length front.now + 1) classes.now.classes) self.now }
         ensures { result ≡ is_reachable classes.now (front.now ++ count ∷ []) }
     {
-        classes.facts();
-        let class = &classes.classes()[front.len()];
+        let class = classes.class_at(front.len());
         self.counts_allow(classes, front, count)
             && homes::has_room(&self.homes, class.household(), count)
     }
@@ -117,8 +112,7 @@ impl Tally {
         requires stands { Tracks classes.now front.now (drop (length front.now + 1) classes.now.classes) self.now }
         ensures { result ≡ (size_reachable classes.now (front.now ++ count ∷ []) && values_reachable classes.now (front.now ++ count ∷ [])) }
     {
-        classes.facts();
-        let class = &classes.classes()[front.len()];
+        let class = classes.class_at(front.len());
         self.size_allows(classes.size(), count)
             && values_allow(
                 classes.bounds(),
@@ -136,8 +130,7 @@ impl Tally {
         ensures within { result ≤ most }
         ensures passed { (count : ℕ) → result < count → count ≤ most → is_reachable classes.now (front.now ++ count ∷ []) ≡ false }
     {
-        classes.facts();
-        let class = &classes.classes()[front.len()];
+        let class = classes.class_at(front.len());
         let lack = classes.size().saturating_sub(self.taken);
         room_left(classes.bounds(), &self.held, class.values(), most.min(lack))
     }
@@ -150,8 +143,7 @@ impl Tally {
         ensures within { least ≤ result }
         ensures lacking { (count : ℕ) → count < result → least ≤ count → is_reachable classes.now (front.now ++ count ∷ []) ≡ false }
     {
-        classes.facts();
-        let class = &classes.classes()[front.len()];
+        let class = classes.class_at(front.len());
         let lack = classes.size().saturating_sub(self.taken + self.later_taken);
         number_needed(
             classes.bounds(),

@@ -10,8 +10,7 @@ use Rattle.std.proofs.lemmas.List.Sums.{get_or-le-sum_by}
 use Rattle.std.proofs.lemmas.Option.{slice_get-get_or}
 use Rattle.search_definitions.specs.Classes.{Class, Classes, KeepsLimits}
 use Rattle.search_definitions.specs.Fronts.{sizes_of}
-use Rattle.front_laws.specs.Front.{AreWithin, CanTake, FrontTally, Tracks}
-use Rattle.front_laws.proofs.Tracking.{Stands}
+use Rattle.front_laws.specs.Front.{AreWithin, CanTake, FrontTally, Tracks, Stands}
 use Rattle.front_laws.proofs.WeightLaws.{element_at}
 
 -- the front of a search, and how long it is

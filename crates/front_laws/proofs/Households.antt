@@ -7,9 +7,9 @@ use Rattle.basic_laws.proofs.Each.{each_from_list_all, list_all_implies}
 use Rattle.search_definitions.specs.Classes.{Class, Classes, IsKnownHousehold, KeepsLimits, volunteer_count}
 use Rattle.search_definitions.specs.Compositions.{taken_of, is_of_household, takes_one_of, takes_one_a_household}
 use Rattle.search_definitions.specs.Fronts.{is_reachable, taken_by}
-use Rattle.front_laws.specs.Front.{FrontTally, Tracks}
+use Rattle.front_laws.specs.Front.{FrontTally, Tracks, Stands}
 use Rattle.front_laws.specs.Homes.{AreFew, CanGiveAt, HasMoreAt, has_room}
-use Rattle.front_laws.proofs.Tracking.{Stands, few_taken, taken_more, taken_within_all}
+use Rattle.front_laws.proofs.Tracking.{few_taken, taken_more, taken_within_all}
 
 -- ---- the household of a class
 

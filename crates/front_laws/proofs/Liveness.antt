@@ -9,8 +9,8 @@ use Rattle.search_definitions.specs.Classes.{Class, Classes, HasPlaces, KeepsLim
 use Rattle.search_definitions.specs.Compositions.{taken_of, has_value, takes_one_a_household}
 use Rattle.search_definitions.specs.Fronts.{most_given, is_reachable, size_reachable, value_reachable, values_reachable, later_than}
 use Rattle.front_laws.specs.Tallies.{cell, HasBound, reaches, AllReach, EachReaches, SomeFails}
-use Rattle.front_laws.specs.Front.{FrontTally, Tracks}
-use Rattle.front_laws.proofs.Tracking.{Stands, comes_next, few_places, most_more, taken_more, own_value}
+use Rattle.front_laws.specs.Front.{FrontTally, Tracks, Stands}
+use Rattle.front_laws.proofs.Tracking.{comes_next, few_places, most_more, taken_more, own_value}
 
 -- ---- a test of each element with its place
 

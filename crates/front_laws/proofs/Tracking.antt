@@ -13,15 +13,10 @@ use Rattle.search_definitions.specs.Compositions.{taken_of, has_value, is_of_hou
 use Rattle.search_definitions.specs.Fronts.{most_given, taken_by, is_reachable, size_reachable, values_reachable}
 use Rattle.search_definitions.proofs.FirstSearch.{Split, taken_split, taken_none}
 use Rattle.front_laws.specs.Tallies.{cell, HaveCells, CanGive, AreAtMost, HasMore, HaveBounds, AllReach, FitCells, EachReaches, SomeFails}
-use Rattle.front_laws.specs.Front.{FrontTally, Gives, Tracks}
+use Rattle.front_laws.specs.Front.{FrontTally, Gives, Tracks, Stands}
 use Rattle.front_laws.specs.Homes.{HasMoreAt}
 
 -- ---- classes
-
--- a class in its place
-pub record Stands (all : Classes) (i : ℕ) (class : Class) : Type 0 where
-  pub below : i < length all.classes
-  pub is : class ≡ get_or all.classes i class
 
 pub comes_next : (all : Classes) (i : ℕ) (class : Class) → Stands all i class → drop i all.classes ≡ class ∷ drop (i + 1) all.classes
 comes_next all i class stands = drop_more all.classes i class stands.below ∙ ap (λ (c : Class). c ∷ drop (i + 1) all.classes) (sym stands.is)

@@ -18,8 +18,9 @@ use Rattle.row_definitions.proofs.SumLaws.{abs_sum_le}
 use Rattle.search_definitions.specs.Classes.{Class, Classes, KeepsLimits}
 use Rattle.search_definitions.specs.Fronts.{most_given, put_falling, falling, units, sum_of, greatest_sum}
 use Rattle.search_definitions.proofs.GreatestSum.{AtMost, Falls, falling_falls, length-falling, length-replicate}
+use Rattle.front_laws.specs.Front.{Stands}
 use Rattle.front_laws.specs.Weights.{cell_of, HoldsSums, IsGreater, HasUnit, AreGreatest, AreNarrow, at, units_from}
-use Rattle.front_laws.proofs.Tracking.{Stands, comes_next, most_more, most_small}
+use Rattle.front_laws.proofs.Tracking.{comes_next, most_more, most_small}
 
 -- ---- sums
 

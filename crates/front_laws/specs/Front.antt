@@ -1,5 +1,5 @@
 -- What a search keeps of the front that it stands at.
-use Rattle.std.specs.Prelude.{◌≡◌, ℕ, ◌*◌, ◌≤◌, ◌<◌, true, List, length, slice_index, slice_get, Some}
+use Rattle.std.specs.Prelude.{◌≡◌, ℕ, ◌*◌, ◌≤◌, ◌<◌, true, List, length, slice_index, slice_get, get_or, Some}
 use Rattle.search_definitions.specs.Classes.{Class, Classes, volunteer_count}
 use Rattle.search_definitions.specs.Compositions.{taken_of, has_value, is_of_household}
 use Rattle.search_definitions.specs.Fronts.{sizes_of, taken_by, most_given}
@@ -38,3 +38,8 @@ AreWithin all counts = (t : ℕ) → t < length counts → slice_index counts t 
 -- at least so many of the class in a place can be taken
 abbrev pub CanTake : Classes → ℕ → ℕ → Type 0
 CanTake all depth count = (class : Class) → slice_get all.classes depth ≡ Some class → count ≤ length class.members
+
+-- a class in its place
+pub record Stands (all : Classes) (i : ℕ) (class : Class) : Type 0 where
+  pub below : i < length all.classes
+  pub is : class ≡ get_or all.classes i class

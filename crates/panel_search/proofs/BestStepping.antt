@@ -11,14 +11,14 @@ use Rattle.search_definitions.specs.Fronts.{is_reachable, is_live_above, optimis
 use Rattle.search_definitions.specs.Visits.{Pricing, best_search, enter_best}
 use Rattle.panel_search.specs.Front.{Tracks}
 use Rattle.panel_search.specs.Pricing.{BeginsAt, StandsAt, Moves, children_best}
-use Rattle.front_laws.specs.Front.{CanTake, AreWithin}
+use Rattle.front_laws.specs.Front.{CanTake, AreWithin, Stands}
 use Rattle.panel_search.specs.Steps.{counts_below}
 use Rattle.front_laws.specs.Weights.{AreNarrow, EachNarrow}
 use Rattle.panel_search.specs.Weights.{Weighs, WeighEach}
 use Rattle.panel_search.specs.declared.searching.BudgetSpent.{BudgetSpent}
 use Rattle.panel_search.specs.declared.pricing.BestSearch.{BestSearch}
 use Rattle.front_laws.proofs.ClosedRows.{each_back}
-use Rattle.front_laws.proofs.Tracking.{Stands, comes_next}
+use Rattle.front_laws.proofs.Tracking.{comes_next}
 use Rattle.panel_search.proofs.Ranges.{LiveBetween, below_next, below_none, live_counts}
 use Rattle.front_laws.proofs.Fronts.{within_more, placed, front_length}
 use Rattle.front_laws.proofs.WeightLaws.{weighs_back}

@@ -23,9 +23,10 @@ use Rattle.panel_search.specs.declared.searching.SearchStop.{SearchStop}
 use Rattle.panel_search.specs.declared.searching.SearchStop.TheVariants.{Spent}
 use Rattle.panel_search.specs.Pieces.{IsLiveFront, counts_first, live_among, live_children}
 use Rattle.panel_search.specs.Steps.{counts_below}
+use Rattle.front_laws.specs.Front.{Stands}
 use Rattle.front_laws.proofs.Fronts.{class_limits}
 use Rattle.panel_search.proofs.Ranges.{LiveBetween, below_next, below_none, live_counts}
-use Rattle.front_laws.proofs.Tracking.{Stands, comes_next, stands_there}
+use Rattle.front_laws.proofs.Tracking.{comes_next, stands_there}
 
 -- ---- how many classes
 

@@ -10,6 +10,7 @@ use Rattle.search_definitions.specs.Classes.{Class, Classes, HasPlaces, KeepsLim
 use Rattle.search_definitions.specs.Compositions.{counts_down, counts_of, takes_one_a_household}
 use Rattle.search_definitions.specs.Fronts.{is_reachable, size_reachable, values_reachable}
 use Rattle.panel_search.specs.Front.{Tracks}
+use Rattle.front_laws.specs.Front.{Stands}
 use Rattle.front_laws.specs.Homes.{has_room}
 use Rattle.panel_search.specs.Steps.{counts_below}
 use Rattle.front_laws.specs.Tallies.{AllReach, HasBound, reaches}
@@ -17,7 +18,6 @@ use Rattle.panel_search.specs.Tallies.{AreSmallBounds}
 use Rattle.panel_search.specs.declared.tally.Tally.{Tally}
 use Rattle.front_laws.proofs.Households.{child_households}
 use Rattle.front_laws.proofs.Liveness.{size_of_child, values_of_child, reach_of_child}
-use Rattle.front_laws.proofs.Tracking.{Stands}
 
 -- ---- the values
 

@@ -10,8 +10,9 @@ use Rattle.panel_search.specs.Steps.{StandsAt, Steps, StepsFrom, child_first, ch
 use Rattle.panel_search.specs.declared.searching.BudgetSpent.{BudgetSpent}
 use Rattle.panel_search.specs.declared.searching.Search.{Search}
 use Rattle.panel_search.proofs.Ranges.{LiveBetween, below_next, below_none, live_counts}
+use Rattle.front_laws.specs.Front.{Stands}
 use Rattle.front_laws.proofs.InTurn.{after_nothing, at_least_one, found_at_once, found_later, then_next}
-use Rattle.front_laws.proofs.Tracking.{Stands, comes_next}
+use Rattle.front_laws.proofs.Tracking.{comes_next}
 
 -- a child, and the children after it
 children_more : (all : Classes) (later : List Class) (front : List ℕ) (c : ℕ) (counts : List ℕ) →

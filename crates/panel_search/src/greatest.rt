@@ -83,8 +83,7 @@ fn put_class(
     ensures greatest { AreGreatest (units_from classes.now entries.now place) sums.new }
     ensures same { length sums.new ≡ length sums.old }
 {
-    classes.facts();
-    let most = classes.classes()[place].most();
+    let most = classes.class_at(place).most();
     for done in 0..most {
         put_unit(sums, units + done, entries[place]);
     }

@@ -68,8 +68,7 @@ impl Tally {
         requires stands { Tracks classes.now front.now (drop (length front.now) classes.now.classes) self.old }
         ensures { Tracks classes.now front.now (drop (length front.now + 1) classes.now.classes) self.new }
     {
-        classes.facts();
-        let class = &classes.classes()[front.len()];
+        let class = classes.class_at(front.len());
         take_from(&mut self.later, class.values(), class.most());
         self.later_taken -= class.most();
     }
@@ -80,8 +79,7 @@ impl Tally {
         requires stands { Tracks classes.now front.now (drop (length front.now + 1) classes.now.classes) self.old }
         ensures { Tracks classes.now front.now (drop (length front.now) classes.now.classes) self.new }
     {
-        classes.facts();
-        let class = &classes.classes()[front.len()];
+        let class = classes.class_at(front.len());
         add_to(&mut self.later, class.values(), class.most());
         self.later_taken += class.most();
     }
@@ -94,8 +92,7 @@ impl Tally {
         requires stands { Tracks classes.now front.now (drop (length front.now + 1) classes.now.classes) self.old }
         ensures { Tracks classes.now (front.now ++ count ∷ []) (drop (length front.now + 1) classes.now.classes) self.new }
     {
-        classes.facts();
-        let class = &classes.classes()[front.len()];
+        let class = classes.class_at(front.len());
         add_to(&mut self.held, class.values(), count);
         homes::add_at(&mut self.homes, class.household(), count);
         self.taken += count;
@@ -107,8 +104,7 @@ impl Tally {
         requires stands { Tracks classes.now (front.now ++ count ∷ []) (drop (length front.now + 1) classes.now.classes) self.old }
         ensures { Tracks classes.now front.now (drop (length front.now + 1) classes.now.classes) self.new }
     {
-        classes.facts();
-        let class = &classes.classes()[front.len()];
+        let class = classes.class_at(front.len());
         take_from(&mut self.held, class.values(), count);
         homes::take_at(&mut self.homes, class.household(), count);
         self.taken -= count;
@@ -130,8 +126,7 @@ impl Tally {
         ensures until { result.1 ≤ until }
         ensures outside { (count : ℕ) → from ≤ count → count < until → is_reachable classes.now (front.now ++ count ∷ []) ≡ true → (result.0 ≤ count) × (count < result.1) }
     {
-        classes.facts();
-        let class = &classes.classes()[front.len()];
+        let class = classes.class_at(front.len());
         let size = classes.size();
         let low = from.max(size.saturating_sub(self.taken + self.later_taken));
         let end = until.min((size + 1).saturating_sub(self.taken));

@@ -3,24 +3,22 @@ use Rattle.std.specs.Int.{w128}
 use Rattle.std.specs.Prelude.{unsigned_abs}
 use Rattle.std.proofs.lemmas.Int.{to_z-of_z}
 use Rattle.front_laws.specs.Weights.{at, CanAdd, HasUnit, AreGreatest, units_from}
-use Rattle.front_laws.proofs.Tracking.{stands_there, most_of_class}
+use Rattle.front_laws.proofs.Tracking.{most_of_class}
 use Rattle.front_laws.proofs.UnitSums.{unit_fits, units_more, units_few, units_next, greatest_more}
 use Rattle.panel_search.proofs.greatest.put_class.Goals as goal
 use Rattle.search_definitions.proofs.GreatestSum.{length-replicate}
 
 pub overflow_add-units : goal.overflow_add-units
 overflow_add-units c =
-    let all = c.args.classes.now in let place = c.args.place in let class = c.index-classes-place.result in
-    let stands = stands_there all place _ class c.requires.below c.classes.ensures c.index-classes-place.is in
-    omega (arith, c.requires.units, units_few all c.args.entries.now (place + 1) c.facts.ensures, c.most-most.ensures, most_of_class all place class c.facts.ensures stands)
+    let all = c.args.classes.now in let place = c.args.place in let class = c.class_at.result.now in
+    omega (arith, c.requires.units, units_few all c.args.entries.now (place + 1) c.class_at.ensures.limits, c.most-most.ensures, most_of_class all place class c.class_at.ensures.limits c.class_at.ensures.stands)
 
 pub put_unit-requires : goal.put_unit-requires
 put_unit-requires c =
-    let all = c.args.classes.now in let place = c.args.place in let class = c.index-classes-place.result in let entries = c.args.entries.now in
-    let stands = stands_there all place _ class c.requires.below c.classes.ensures c.index-classes-place.is in
+    let all = c.args.classes.now in let place = c.args.place in let class = c.class_at.result.now in let entries = c.args.entries.now in
     let fx : FitsSigned w128 (get_or entries place (pos 0)) = search rules in
     let can : CanAdd (at entries place) c.loop-done.sums = λ n l.
-    omega (arith, ap unsigned_abs (c.loop-done.invariant.greatest n l), unit_fits all entries place class c.loop-done.done n c.facts.ensures c.requires.narrow stands (omega (arith, c.most-most.ensures))) in
+    omega (arith, ap unsigned_abs (c.loop-done.invariant.greatest n l), unit_fits all entries place class c.loop-done.done n c.class_at.ensures.limits c.requires.narrow c.class_at.ensures.stands (omega (arith, c.most-most.ensures))) in
     simp to_z-of_z can
 
 pub loop-done-preserved : goal.loop-done-preserved
@@ -39,20 +37,17 @@ loop-done-preserved c =
 
 pub overflow_add-result : goal.overflow_add-result
 overflow_add-result c =
-    let all = c.args.classes.now in let place = c.args.place in let class = c.index-classes-place.result in
-    let stands = stands_there all place _ class c.requires.below c.classes.ensures c.index-classes-place.is in
-    omega (arith, c.requires.units, units_few all c.args.entries.now (place + 1) c.facts.ensures, c.most-most.ensures, most_of_class all place class c.facts.ensures stands)
+    let all = c.args.classes.now in let place = c.args.place in let class = c.class_at.result.now in
+    omega (arith, c.requires.units, units_few all c.args.entries.now (place + 1) c.class_at.ensures.limits, c.most-most.ensures, most_of_class all place class c.class_at.ensures.limits c.class_at.ensures.stands)
 
 pub returns-clause-units : goal.returns-clause-units
 returns-clause-units c =
-    let all = c.args.classes.now in let place = c.args.place in let class = c.index-classes-place.result in
-    let stands = stands_there all place _ class c.requires.below c.classes.ensures c.index-classes-place.is in
-    omega (arith, c.requires.units, c.most-most.ensures, units_more all c.args.entries.now place class c.requires.narrow stands)
+    let all = c.args.classes.now in let place = c.args.place in let class = c.class_at.result.now in
+    omega (arith, c.requires.units, c.most-most.ensures, units_more all c.args.entries.now place class c.requires.narrow c.class_at.ensures.stands)
 
 pub returns-clause-greatest : goal.returns-clause-greatest
 returns-clause-greatest c =
-    let all = c.args.classes.now in let place = c.args.place in let class = c.index-classes-place.result in let entries = c.args.entries.now in
-    let stands = stands_there all place _ class c.requires.below c.classes.ensures c.index-classes-place.is in
+    let all = c.args.classes.now in let place = c.args.place in let class = c.class_at.result.now in let entries = c.args.entries.now in
     let e : c.loop-done.done ≡ class.most = omega (arith, c.most-most.ensures) in
-    subst (λ us. AreGreatest us c.loop-done.sums) (ap (λ n. replicate n (at entries place) ++ units_from all entries (place + 1)) e ∙ sym (units_next all entries place class stands c.requires.narrow.one_each))
+    subst (λ us. AreGreatest us c.loop-done.sums) (ap (λ n. replicate n (at entries place) ++ units_from all entries (place + 1)) e ∙ sym (units_next all entries place class c.class_at.ensures.stands c.requires.narrow.one_each))
     c.loop-done.invariant.greatest

@@ -2,9 +2,9 @@ use Rattle.std.proofs.Common.{rules, ◌≡◌, ℕ, ◌+◌, ◌-◌, ◌<◌, 
 use Rattle.check_definitions.specs.Visits.{enter_above}
 use Rattle.search_definitions.specs.Fronts.{is_reachable}
 use Rattle.cap_search.specs.Front.{Tracks}
-use Rattle.front_laws.specs.Front.{CanTake}
+use Rattle.front_laws.specs.Front.{CanTake, Stands}
 use Rattle.cap_search.specs.Steps.{StandsAt, Steps, children_above, counts_at}
-use Rattle.front_laws.proofs.Tracking.{Stands, stands_there}
+use Rattle.front_laws.proofs.Tracking.{stands_there}
 use Rattle.front_laws.proofs.Fronts.{same_class, class_limits, child_tracks, from_front, from_front_more, front_length, placed, front_of, at_child}
 use Rattle.cap_search.proofs.Stands.{stands_with, child_stands, parent_stands, child_live}
 use Rattle.cap_search.proofs.Stepping.{steps_err, steps_true, steps_false, first_spent, first_found, last_none, next_steps, enter_visits, enter_due, none_left, only_within, child_due}

@@ -1,13 +1,10 @@
-use Rattle.std.proofs.Common.{◌-◌, length, refl, ap, ◌∙◌}
+use Rattle.std.proofs.Common.{◌-◌, refl, ap, ◌∙◌}
 use Rattle.cap_search.proofs.Liveness.{fails_same, passed_dead}
-use Rattle.front_laws.proofs.Tracking.{places_of_class, stands_there}
 use Rattle.cap_search.proofs.tally.Tally.greatest_count.Goals as goal
 
 pub returns-clause-passed : goal.returns-clause-passed
 returns-clause-passed c =
-    let all = c.args.classes.now in let front = c.args.front.now in let class = c.index-classes-front.result in let self = c.args.self.now in
-    let stands = stands_there all (length front) _ class c.requires.below c.classes.ensures c.index-classes-front.is in
-    let places = places_of_class all (length front) class c.facts.ensures stands in
-    passed_dead all front class _ c.facts.ensures places stands c.requires.stands c.args.most c.saturating_sub-lack.result c.min.result c.room_left.result
+    let all = c.args.classes.now in let front = c.args.front.now in let class = c.class_at-class.result.now in let self = c.args.self.now in
+    passed_dead all front class _ c.class_at-class.ensures.limits c.class_at-class.ensures.places c.class_at-class.ensures.stands c.requires.stands c.args.most c.saturating_sub-lack.result c.min.result c.room_left.result
     (c.saturating_sub-lack.ensures ∙ ap (λ n. n - self.taken) c.size.ensures) c.min.ensures
     (λ count l u. fails_same _ all.bounds _ self.held.items self.later.items self.later.items _ class.values count c.bounds.ensures c.deref.ensures.value refl c.values.ensures (c.room_left.ensures.passed count self.later.items l u))

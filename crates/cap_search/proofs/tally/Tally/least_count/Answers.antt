@@ -1,6 +1,6 @@
 use Rattle.std.proofs.Common.{◌+◌, ◌-◌, true, length, ap, ◌∙◌, arith}
 use Rattle.cap_search.proofs.Liveness.{fails_same, lacking_dead}
-use Rattle.front_laws.proofs.Tracking.{few_held, few_later, few_taken, most_small, places_of_class, small_same, stands_there}
+use Rattle.front_laws.proofs.Tracking.{few_held, few_later, few_taken, most_small, small_same}
 use Rattle.cap_search.proofs.tally.Tally.least_count.Goals as goal
 
 pub overflow_add-self : goal.overflow_add-self
@@ -9,30 +9,24 @@ overflow_add-self c =
     omega (
       arith,
       c.requires.stands.taken,
-      few_taken all c.args.front.now (λ class. true) c.facts.ensures c.requires.live,
+      few_taken all c.args.front.now (λ class. true) c.class_at-class.ensures.limits c.requires.live,
       c.requires.stands.later_taken,
-      most_small all (length c.args.front.now + 1) (λ class. true) c.facts.ensures,
+      most_small all (length c.args.front.now + 1) (λ class. true) c.class_at-class.ensures.limits,
     )
 
 pub number_needed-requires-clause-small : goal.number_needed-requires-clause-small
 number_needed-requires-clause-small c =
-    let all = c.args.classes.now in let front = c.args.front.now in let class = c.index-classes-front.result in
-    let stands = stands_there all (length front) _ class c.requires.below c.classes.ensures c.index-classes-front.is in
-    let places = places_of_class all (length front) class c.facts.ensures stands in
-    small_same _ _ _ c.args.self.now.held.items (ap length c.values.ensures) c.deref.ensures.value (few_held all front _ (length class.values) _ c.facts.ensures places.one_each c.requires.live c.requires.stands)
+    let all = c.args.classes.now in let front = c.args.front.now in let class = c.class_at-class.result.now in
+    small_same _ _ _ c.args.self.now.held.items (ap length c.values.ensures) c.deref.ensures.value (few_held all front _ (length class.values) _ c.class_at-class.ensures.limits c.class_at-class.ensures.places.one_each c.requires.live c.requires.stands)
 
 pub number_needed-requires-clause-small_later : goal.number_needed-requires-clause-small_later
 number_needed-requires-clause-small_later c =
-    let all = c.args.classes.now in let front = c.args.front.now in let class = c.index-classes-front.result in
-    let stands = stands_there all (length front) _ class c.requires.below c.classes.ensures c.index-classes-front.is in
-    let places = places_of_class all (length front) class c.facts.ensures stands in
-    small_same _ _ _ c.args.self.now.later.items (ap length c.values.ensures) c.deref-2.ensures.value (few_later all front (length front + 1) (length class.values) _ c.facts.ensures places.one_each c.requires.stands)
+    let all = c.args.classes.now in let front = c.args.front.now in let class = c.class_at-class.result.now in
+    small_same _ _ _ c.args.self.now.later.items (ap length c.values.ensures) c.deref-2.ensures.value (few_later all front (length front + 1) (length class.values) _ c.class_at-class.ensures.limits c.class_at-class.ensures.places.one_each c.requires.stands)
 
 pub returns-clause-lacking : goal.returns-clause-lacking
 returns-clause-lacking c =
-    let all = c.args.classes.now in let front = c.args.front.now in let class = c.index-classes-front.result in let self = c.args.self.now in
-    let stands = stands_there all (length front) _ class c.requires.below c.classes.ensures c.index-classes-front.is in
-    let places = places_of_class all (length front) class c.facts.ensures stands in
-    lacking_dead all front class _ c.facts.ensures places stands c.requires.stands c.args.least c.saturating_sub-lack.result c.max.result c.number_needed.result
+    let all = c.args.classes.now in let front = c.args.front.now in let class = c.class_at-class.result.now in let self = c.args.self.now in
+    lacking_dead all front class _ c.class_at-class.ensures.limits c.class_at-class.ensures.places c.class_at-class.ensures.stands c.requires.stands c.args.least c.saturating_sub-lack.result c.max.result c.number_needed.result
     (c.saturating_sub-lack.ensures ∙ ap (λ n. n - (self.taken + self.later_taken)) c.size.ensures) c.max.ensures
     (λ count l u. fails_same _ all.bounds _ self.held.items _ self.later.items _ class.values count c.bounds.ensures c.deref.ensures.value c.deref-2.ensures.value c.values.ensures (c.number_needed.ensures.lacking count l u))

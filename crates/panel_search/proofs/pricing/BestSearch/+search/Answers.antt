@@ -4,7 +4,8 @@ use Rattle.search_definitions.specs.Visits.{enter_best}
 use Rattle.panel_search.specs.Front.{Tracks}
 use Rattle.panel_search.specs.Pricing.{told, CanTakeWithin}
 use Rattle.panel_search.specs.Steps.{LiveWithin}
-use Rattle.front_laws.proofs.Tracking.{Stands, stands_there}
+use Rattle.front_laws.specs.Front.{Stands}
+use Rattle.front_laws.proofs.Tracking.{stands_there}
 use Rattle.front_laws.proofs.Fronts.{front_length, from_front, from_front_more, placed, front_of, at_child, same_class, class_limits, child_tracks}
 use Rattle.panel_search.proofs.Ranges.{between}
 use Rattle.panel_search.proofs.BestStepping.{moves_err, moves_same, children_within, child_within, children_none, children_next, enter_more, enter_children, stands_with, child_stands, parent_stands, child_due}
