@@ -18,7 +18,7 @@ fn pools_have_stages(rt: HostRuntime) -> Result<(), Fail> {
     };
     assert_eq!(rt;
         said.as_str(),
-        "[KindStage { weights: [Narrow { value: 1 }, Narrow { value: 1 }], cap: Narrow { value: 1 }, leaf: None }] Chances { shares: [Some(Share { num: Narrow { value: 1 }, den: Narrow { value: 2 } }), Some(Share { num: Narrow { value: 1 }, den: Narrow { value: 2 } })], common: Narrow { value: 2 } }"
+        "[KindStage { weights: [Narrow { value: 1 }, Narrow { value: 1 }], cap: Narrow { value: 1 }, shown_by: None }] Chances { shares: [Some(Share { num: Narrow { value: 1 }, den: Narrow { value: 2 } }), Some(Share { num: Narrow { value: 1 }, den: Narrow { value: 2 } })], common: Narrow { value: 2 } }"
     );
     Ok(())
 }

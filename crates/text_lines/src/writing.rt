@@ -1,5 +1,5 @@
 //! Adding lines to a growing text, field by field. Numbers take no memory of their own. After want of memory the text still begins with what
-//! was in it before, and some of what was to be added may follow.
+//! was in it before; anything may follow.
 
 ghost use Rattle.std.specs.Prelude.{◌≡◌, ◌++◌, ◌∷◌, [], map, OnErr, OnOk};
 ghost use Rattle.std.specs.Io.{StartsWith};
