@@ -1,8 +1,6 @@
 use Rattle.std.proofs.lemmas.Result.{IfOk-weaker}
-use Rattle.std.proofs.Common.{◌≡◌, ◌∙◌, ap, codes, refl, subst}
+use Rattle.std.proofs.Common.{◌≡◌, ap, arith, codes, refl, rules}
 use Rattle.proof_answers.specs.Prove.{IsSpent, IsWide, LotterySpent, NodesSpent, PivotsSpent, StepLost, spent_line}
-use Rattle.proof_limits.specs.declared.stops.Stop.TheVariants.{Spent}
-use Rattle.proof_run.specs.Made.{StopsSo}
 use Rattle.prove_command.proofs.lines.stopped.Goals as goal
 
 pub returns-in-Wide : goal.returns-in-Wide
@@ -10,13 +8,13 @@ returns-in-Wide c = IfOk-weaker c.wide.result _ _ (λ answer is. λ subject. IsW
 
 pub returns-in-Spent-Pivots : goal.returns-in-Spent-Pivots
 returns-in-Spent-Pivots c =
-    let none = subst (StopsSo c.args.left.now) (c.in-Spent-Pivots.is ∙ ap Spent c.in-Spent-Pivots.field-0-is) c.requires in
+    let none : c.args.left.now.pivots ≡ 0 = grind (arith, rules, c.requires, c.in-Spent-Pivots.is, c.in-Spent-Pivots.field-0-is) in
     let most = ap (spent_line (codes "pivots")) c.most_pivots.ensures in
     IfOk-weaker c.spent.result _ _ (λ answer is. λ subject. IsSpent _ (PivotsSpent none most) is) c.spent.ensures
 
 pub returns-in-Spent-Nodes : goal.returns-in-Spent-Nodes
 returns-in-Spent-Nodes c =
-    let none = subst (StopsSo c.args.left.now) (c.in-Spent-Nodes.is ∙ ap Spent c.in-Spent-Nodes.field-0-is) c.requires in
+    let none : c.args.left.now.nodes ≡ 0 = grind (arith, rules, c.requires, c.in-Spent-Nodes.is, c.in-Spent-Nodes.field-0-is) in
     let most = ap (spent_line (codes "nodes")) c.most_nodes.ensures in
     IfOk-weaker c.spent-in-Spent-Nodes.result _ _ (λ answer is. λ subject. IsSpent _ (NodesSpent none most) is) c.spent-in-Spent-Nodes.ensures
 

@@ -16,4 +16,4 @@ returns-in-Ok-clause-means c =
 pub returns-in_ok-input_line-in-Err-Fault-clause-means : goal.returns-in_ok-input_line-in-Err-Fault-clause-means
 returns-in_ok-input_line-in-Err-Fault-clause-means c =
     let fails = rw c.in-Err-Fault.field-0-is at c.in-Err-Fault.ensures.exact in
-    AboutPoolFault (fault_of c.in-Err-Fault.fault) c.requires fails (ap (Stops Input) (rw c.in-Err-Fault.field-0-is at c.in_ok-input_line-in-Err-Fault.ensures))
+    AboutPoolFault (fault_of c.in-Err-Fault.fault) c.requires fails (ap (Stops Input) c.in_ok-input_line-in-Err-Fault.ensures)
