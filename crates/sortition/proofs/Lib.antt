@@ -1,1 +1,2 @@
+pub mod MadePools
 pub mod WantOfMemory

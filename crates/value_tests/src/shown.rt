@@ -46,6 +46,7 @@ pub(crate) fn faulty(
         add(&mut text, line)?;
         text.push(b'\n')?;
     }
-    add(&mut text, fields.next().unwrap_or(""))?;
+    let last = fields.next().unwrap_or("");
+    add(&mut text, last)?;
     Ok((wanted, text))
 }
