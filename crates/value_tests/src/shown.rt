@@ -46,7 +46,8 @@ pub(crate) fn faulty(
         add(&mut text, line)?;
         text.push(b'\n')?;
     }
-    let last = fields.next().unwrap_or("");
-    add(&mut text, last)?;
+    if let Some(last) = fields.next() {
+        add(&mut text, last)?;
+    }
     Ok((wanted, text))
 }
