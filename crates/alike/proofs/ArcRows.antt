@@ -4,18 +4,18 @@ use Rattle.std.specs.Int.{◌∣◌}
 use Rattle.std.specs.List.{list_all, AllByRecursion}
 use Rattle.std.proofs.lemmas.Bool.{and_parts, ltb-true}
 use Rattle.std.proofs.Math.Nat.{mul-div_assoc, mul-div_cancel', mul-div_cancel_left, mul-le-mul_right, le_of_dvd}
-use Rattle.basic_laws.proofs.Lists.{map_same}
-use Rattle.basic_laws.proofs.Each.{each_map, each_everywhere}
+use Rattle.laws_basic.proofs.Lists.{map_same}
+use Rattle.laws_basic.proofs.Each.{each_map, each_everywhere}
 use Rattle.frac128.specs.Fractions.{Fraction}
-use Rattle.pool_definitions.specs.Lists.{is_increasing}
-use Rattle.pool_definitions.specs.Lottery.{LotteryRow}
-use Rattle.search_definitions.specs.Classes.{Classes}
-use Rattle.spread_definitions.specs.Spreading.{arcs, arcs_between, cuts, dial, panel_at, rows_of}
-use Rattle.spread_definitions.proofs.Cuts.{cuts_increase}
-use Rattle.spread_definitions.proofs.Dials.{Cut, cuts_are}
-use Rattle.spread_definitions.proofs.Lotteries.{row_at}
+use Rattle.define_pools.specs.Lists.{is_increasing}
+use Rattle.define_pools.specs.Lottery.{LotteryRow}
+use Rattle.define_searches.specs.Classes.{Classes}
+use Rattle.define_spreads.specs.Spreading.{arcs, arcs_between, cuts, dial, panel_at, rows_of}
+use Rattle.define_spreads.proofs.Cuts.{cuts_increase}
+use Rattle.define_spreads.proofs.Dials.{Cut, cuts_are}
+use Rattle.define_spreads.proofs.Lotteries.{row_at}
 use Rattle.alike.specs.Steps.{arc_row}
-use Rattle.spread_definitions.proofs.FewPanels.{length-arcs}
+use Rattle.define_spreads.proofs.FewPanels.{length-arcs}
 
 -- ---- arcs by their number
 

@@ -4,10 +4,10 @@ use Rattle.std.proofs.lemmas.Bool.{cases_lt}
 use Rattle.std.proofs.lemmas.List.{take-append-le, take_all, append-nil}
 use Rattle.std.proofs.Math.Seq.{take-append-add}
 use Rattle.std.proofs.Math.Bool.{or_assoc}
-use Rattle.pool_definitions.specs.Lists.{includes}
+use Rattle.define_pools.specs.Lists.{includes}
 use Rattle.alike.specs.Steps.{AreMarked}
-use Rattle.spread_definitions.specs.Spreading.{turned}
-use Rattle.spread_definitions.proofs.Cuts.{includes-append}
+use Rattle.define_spreads.specs.Spreading.{turned}
+use Rattle.define_spreads.proofs.Cuts.{includes-append}
 
 -- ---- the numbers that pass
 

@@ -5,11 +5,11 @@ use Rattle.std.specs.List.{All}
 use Rattle.std.proofs.lemmas.List.Elements.{All-from_recursion}
 use Rattle.std.proofs.Math.Nat.{dvd-mul_left}
 use Rattle.std.proofs.Math.Bool.{or-false, or_assoc}
-use Rattle.basic_laws.proofs.Each.{each_map}
-use Rattle.pool_definitions.specs.Lists.{includes}
-use Rattle.search_definitions.specs.Classes.{Class, Classes}
-use Rattle.spread_definitions.specs.Spreading.{dial, is_given, is_partly_taken, partly_taken, turned}
-use Rattle.spread_definitions.proofs.Dials.{Divided, IsPartly, divided_dial, each_partly}
+use Rattle.laws_basic.proofs.Each.{each_map}
+use Rattle.define_pools.specs.Lists.{includes}
+use Rattle.define_searches.specs.Classes.{Class, Classes}
+use Rattle.define_spreads.specs.Spreading.{dial, is_given, is_partly_taken, partly_taken, turned}
+use Rattle.define_spreads.proofs.Dials.{Divided, IsPartly, divided_dial, each_partly}
 
 -- one class more
 pub partly-more : (classes : List Class) (counts : List ℕ) (k : ℕ) (class : Class) (count : ℕ) → k < length classes → k < length counts → class ≡ get_or classes k class → count ≡ get_or counts k count →

@@ -8,10 +8,10 @@ use Rattle.std.proofs.lemmas.List.Kept.{Contains-dedup_nat, Contains-from_dedup}
 use Rattle.std.proofs.lemmas.Map.Keys.{IsStrictlyIncreasing-dedup}
 use Rattle.std.proofs.lemmas.List.Sorted.{Contains-permutation, IsPermutation-sym}
 use Rattle.std.proofs.Math.Bool.{or-true}
-use Rattle.pool_definitions.specs.Lists.{includes, is_increasing, rising}
-use Rattle.pool_definitions.proofs.Increasing.{is_increasing-from_neighbours}
-use Rattle.spread_definitions.specs.Spreading.{once_each}
-use Rattle.spread_definitions.proofs.Cuts.{once_increases, includes-once_rising}
+use Rattle.define_pools.specs.Lists.{includes, is_increasing, rising}
+use Rattle.define_pools.proofs.Increasing.{is_increasing-from_neighbours}
+use Rattle.define_spreads.specs.Spreading.{once_each}
+use Rattle.define_spreads.proofs.Cuts.{once_increases, includes-once_rising}
 
 -- a number below all of a list is not in it
 none_above : (x z : ℕ) (xs : List ℕ) → list_all (λ y. ltb x y) xs ≡ true → z ≤ x → includes xs z ≡ false

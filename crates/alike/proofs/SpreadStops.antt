@@ -2,9 +2,9 @@
 use Rattle.std.proofs.Common.{◌≡◌, ℕ, List, Ok, sym, ap, ◌∙◌}
 use Rattle.std.specs.List.{flat_map}
 use Rattle.frac128.specs.Fractions.{Fraction}
-use Rattle.pool_definitions.specs.Lottery.{LotteryRow, Lottery}
-use Rattle.search_definitions.specs.Classes.{Classes}
-use Rattle.spread_definitions.specs.Spreading.{lottery_of, rows_of, spread, total_from}
+use Rattle.define_pools.specs.Lottery.{LotteryRow, Lottery}
+use Rattle.define_searches.specs.Classes.{Classes}
+use Rattle.define_spreads.specs.Spreading.{lottery_of, rows_of, spread, total_from}
 use Rattle.alike.specs.declared.spreading.SpreadStop.{SpreadStop}
 use Rattle.alike.specs.declared.spreading.SpreadStop.TheVariants.{TotalPasses, OutOfMemory}
 use Rattle.alike.specs.Spreads.{IsStop}

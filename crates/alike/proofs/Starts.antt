@@ -7,14 +7,14 @@ use Rattle.std.proofs.lemmas.List.{length-take, length-replicate, take-append-dr
 use Rattle.std.proofs.lemmas.List.FromFn.{length-map-range_with_len}
 use Rattle.std.proofs.Math.Nat.{div-le_of_le-mul, dvd-mul_left}
 use Rattle.std.proofs.Math.Bool.{or_assoc}
-use Rattle.basic_laws.proofs.Lists.{slice_get-at, filter_range_same}
-use Rattle.pool_definitions.specs.Lists.{includes}
-use Rattle.search_definitions.specs.Classes.{Class, Classes}
-use Rattle.spread_definitions.specs.Spreading.{dial, is_partly_taken, partly_taken, turned}
-use Rattle.spread_definitions.proofs.Dials.{Divided, divided_dial, each_included, includes-partly}
-use Rattle.spread_definitions.specs.Spreading.{is_given}
+use Rattle.laws_basic.proofs.Lists.{slice_get-at, filter_range_same}
+use Rattle.define_pools.specs.Lists.{includes}
+use Rattle.define_searches.specs.Classes.{Class, Classes}
+use Rattle.define_spreads.specs.Spreading.{dial, is_partly_taken, partly_taken, turned}
+use Rattle.define_spreads.proofs.Dials.{Divided, divided_dial, each_included, includes-partly}
+use Rattle.define_spreads.specs.Spreading.{is_given}
 use Rattle.alike.specs.Steps.{AreMarked}
-use Rattle.spread_definitions.proofs.Cuts.{includes-append}
+use Rattle.define_spreads.proofs.Cuts.{includes-append}
 use Rattle.alike.proofs.Parts.{given-more, given-whole}
 
 pub some_size : (class : Class) (count : ℕ) → is_partly_taken class count ≡ true → 0 < length class.members

@@ -6,9 +6,9 @@ use Rattle.std.proofs.lemmas.List.Sums.{get_or-le-sum_by}
 use Rattle.std.proofs.Math.Seq.{drop-cons}
 use Rattle.frac128.specs.Divisors.{lcm_of}
 use Rattle.frac128.specs.Fractions.{Fraction}
-use Rattle.search_definitions.specs.Classes.{Classes}
-use Rattle.spread_definitions.specs.Spreading.{AreParts, IsCommonTotal, dial, greatest_total, total_from}
-use Rattle.spread_definitions.proofs.Parts.{sum_is_total}
+use Rattle.define_searches.specs.Classes.{Classes}
+use Rattle.define_spreads.specs.Spreading.{AreParts, IsCommonTotal, dial, greatest_total, total_from}
+use Rattle.define_spreads.proofs.Parts.{sum_is_total}
 use Rattle.alike.specs.Steps.{IsTotalOf}
 
 cut_here : (parts : List (List ℕ × Fraction)) (place : ℕ) (part : List ℕ × Fraction) → place < length parts → part ≡ get_or parts place part → drop place parts ≡ part ∷ drop (suc place) parts
@@ -42,9 +42,9 @@ total_of_each all parts total are common k d inside = record {
   within = common.within;
   over = are.over k d inside;
   multiple = common.multiple k d inside;
-  share = share parts k d inside (sum_is_total all parts total are common);
+  holds_part = holds_part parts k d inside (sum_is_total all parts total are common);
 }
   where
-    share : (parts : List (List ℕ × Fraction)) (k : ℕ) (d : List ℕ × Fraction) → k < length parts → sum_by (λ part. part.1.num * (total / part.1.den)) parts ≡ total →
+    holds_part : (parts : List (List ℕ × Fraction)) (k : ℕ) (d : List ℕ × Fraction) → k < length parts → sum_by (λ part. part.1.num * (total / part.1.den)) parts ≡ total →
         (get_or parts k d).1.num * (total / (get_or parts k d).1.den) ≤ total
-    share parts k d inside e = let one = get_or-le-sum_by (λ part. part.1.num * (total / part.1.den)) parts k d inside in omega arith
+    holds_part parts k d inside e = let one = get_or-le-sum_by (λ part. part.1.num * (total / part.1.den)) parts k d inside in omega arith

@@ -1,11 +1,11 @@
--- What spreading answers.
+-- What spreading answers. Over Spreading of `define_spreads`. The contracts of `spread` cite it.
 use Rattle.std.specs.Prelude.{◌≡◌, ℕ, Result, Ok, Err, pos}
-use Rattle.pool_definitions.specs.Lottery.{Lottery}
-use Rattle.spread_definitions.specs.Spreading.{TotalPass}
+use Rattle.define_pools.specs.Lottery.{Lottery}
+use Rattle.define_spreads.specs.Spreading.{TotalPass}
 use Rattle.alike.specs.declared.spreading.SpreadStop.{SpreadStop}
 use Rattle.alike.specs.declared.spreading.SpreadStop.TheVariants.{TotalPasses, OutOfMemory}
 
--- the place at which the total passes first; want of memory may come at any time
+-- the stop says at which place the total passes first; want of memory may come at any time
 abbrev pub IsStop : {X : Type 0} → SpreadStop → Result X TotalPass → Type 0
 IsStop (TotalPasses place total den) sought =
     (pass : TotalPass) × (sought ≡ Err pass) × (place ≡ pass.place) × (total ≡ pos pass.total) × (den ≡ pos pass.den)

@@ -1,19 +1,20 @@
-//! The panel of an arc of a dial: each class gives the members of its window, which turns on by one member at each of its marks.
+//! The panel of an arc of a dial: each class gives the members of its window, which turns on by one member at each of its marks. A
+//! helper of spreading.
 
 ghost use Rattle.std.specs.Prelude.{◌≡◌, ◌*◌, ◌/◌, ◌<◌, ◌≤◌, ℕ, false, filter, map, length, slice_index_or, All, IfOk, IsTrue};
 ghost use Rattle.std.specs.Int.{◌∣◌};
 ghost use Rattle.std.specs.List.{range_with_len};
 ghost use Rattle.alike.specs.Steps.{AreMarked};
-ghost use Rattle.pool_definitions.specs.Lists.{includes};
-ghost use Rattle.search_definitions.specs.Classes.{PartVolunteers, volunteer_count};
-ghost use Rattle.spread_definitions.specs.Spreading.{dial, is_given, is_partly_taken, panel_at, turned};
+ghost use Rattle.define_pools.specs.Lists.{includes};
+ghost use Rattle.define_searches.specs.Classes.{PartVolunteers, volunteer_count};
+ghost use Rattle.define_spreads.specs.Spreading.{dial, is_given, is_partly_taken, panel_at, turned};
 
 use crate::dials::is_partly_taken;
 use crate::groups::{Class, Classes};
 use pool_model::Panel;
 use std::alloc::{AllocError, Global};
 
-/// The panel of the arc that begins at a place of the dial, which has so many places.
+/// Returns the panel of the arc that begins at place `at` of a dial of `places` places.
 pub(crate) fn panel_at(
     alloc: Global,
     classes: &Classes,
@@ -50,7 +51,7 @@ fn given(
     Ok(given)
 }
 
-// Marks whom the classes give on this arc.
+// Marks those whom the classes give on this arc.
 fn mark_given(given: &mut [bool], classes: &Classes, counts: &[usize], places: u128, at: u128)
     requires given { length given.old ≡ volunteer_count classes.now }
     requires parts { PartVolunteers classes.now }
@@ -64,7 +65,7 @@ fn mark_given(given: &mut [bool], classes: &Classes, counts: &[usize], places: u
     }
 }
 
-// At which member a class's window begins at a place of the dial. Where all members are taken, or none, any start gives the same.
+// At which member a class's window begins at this place of the dial. If all members are taken, or none, any start gives the same.
 fn window_start(class: &Class, count: usize, places: u128, at: u128) -> usize
     requires places { IsTrue (is_partly_taken class.now count) → length class.now.members ∣ places }
     requires at { at < places }
@@ -79,7 +80,7 @@ fn window_start(class: &Class, count: usize, places: u128, at: u128) -> usize
     }
 }
 
-// How often a class's window has turned on at a place of the dial: each time after the same length.
+// How many times a class's window has turned on at this place of the dial: each time after the same length.
 fn turns(size: usize, places: u128, at: u128) -> usize
     requires size { (0 < size) × (size ∣ places) }
     requires at { at < places }
@@ -89,7 +90,7 @@ fn turns(size: usize, places: u128, at: u128) -> usize
     (at / (places / size as u128)) as usize
 }
 
-// Marks so many members from a start on, turning round at the end.
+// Marks `count` members from a start on, turning round at the end.
 fn mark_window(given: &mut [bool], members: &[usize], start: usize, count: usize)
     requires start { start ≤ length members.now }
     requires members { All (λ i. i < length given.old) members.now }

@@ -2,15 +2,15 @@
 
 ghost use Rattle.std.specs.Prelude.{◌≡◌, IfOk, filter};
 ghost use Rattle.std.specs.List.{range_with_len};
-ghost use Rattle.search_definitions.specs.Compositions.{first_panel, is_taken as is_taken_of};
+ghost use Rattle.define_searches.specs.Compositions.{first_panel, is_taken as is_taken_of};
 
 use crate::groups::{Class, Classes};
+use define_rows::Composition;
 use pool_model::Panel;
-use row_model::Composition;
 use std::alloc::{AllocError, Global};
 
-/// The first members of each class, as many as the composition takes of it. Where the composition is one of these classes, that
-/// is a quota panel.
+/// Returns the first members of each class, as many as the composition takes of it. For a composition of these classes, that is a quota
+/// panel.
 pub fn first_panel(
     alloc: Global,
     classes: &Classes,
@@ -30,7 +30,7 @@ pub fn first_panel(
     }
 }
 
-/// Who is taken, of so many volunteers.
+/// For each of these volunteers whether they are taken.
 fn first_members(
     alloc: Global,
     groups: &[Class],
@@ -44,7 +44,7 @@ fn first_members(
         .collect(alloc)
 }
 
-/// Is the volunteer among the first members of a class, as many as are taken of it?
+/// True if the volunteer is among the first members of a class, as many as are taken of it.
 fn is_taken(groups: &[Class], counts: &[usize], volunteer: usize) -> bool
     ensures { result ≡ is_taken_of groups.now counts.now volunteer }
 {

@@ -1,11 +1,12 @@
-//! The dial of a composition: the sizes of the classes that are taken in part, how many places it has, and where it is cut.
+//! The dial of a composition: the sizes of the classes that are taken in part, how many places it has, and where it is cut. A helper of
+//! spreading.
 
 ghost use Rattle.std.specs.Prelude.{◌≡◌, ◌<◌, ◌≤◌, ◌∷◌, ◌++◌, All, IfOk, OnOk, SomeIff};
 ghost use Rattle.std.specs.Int.{◌∣◌};
 ghost use Rattle.std.specs.List.{fold, flat_map};
 ghost use Rattle.frac128.specs.Divisors.{lcm_of};
-ghost use Rattle.pool_definitions.specs.Lists.{rising};
-ghost use Rattle.spread_definitions.specs.Spreading.{greatest_total, is_partly_taken, marks, once_each, partly_taken};
+ghost use Rattle.define_pools.specs.Lists.{rising};
+ghost use Rattle.define_spreads.specs.Spreading.{greatest_total, is_partly_taken, marks, once_each, partly_taken};
 
 use crate::groups::Class;
 use frac128::lcm;
@@ -14,7 +15,7 @@ use std::alloc::{AllocError, Global};
 /// The greatest total of a lottery, 10^38. No dial of a lottery has more places.
 pub(crate) const GREATEST_TOTAL: u128 = 100000000000000000000000000000000000000;
 
-/// Is the class taken in part: are some of its members taken, and not all?
+/// True if the class is taken in part: some of its members are taken, and not all.
 pub(crate) fn is_partly_taken(class: &Class, count: usize) -> bool
     ensures { result ≡ is_partly_taken class.now count }
 {
@@ -38,7 +39,7 @@ pub(crate) fn partly_taken(
     Ok(sizes)
 }
 
-/// How many places a dial has for classes of these sizes: their least common multiple, where that is at most 10^38.
+/// How many places the dial of classes of these sizes has: their least common multiple, if that is at most 10^38.
 pub(crate) fn places(sizes: &[usize]) -> Option<u128>
     requires { All (λ size. 0 < size) sizes.now }
     ensures { SomeIff result (fold lcm_of 1 sizes.now ≤ greatest_total) (fold lcm_of 1 sizes.now) }
@@ -50,7 +51,7 @@ pub(crate) fn places(sizes: &[usize]) -> Option<u128>
     Some(places)
 }
 
-/// The least common multiple, where it is at most 10^38.
+/// The least common multiple, if it is at most 10^38.
 pub(crate) fn common_multiple(x: u128, y: u128) -> Option<u128>
     requires x { (0 < x) × (x ≤ greatest_total) }
     requires y { (0 < y) × (y ≤ greatest_total) }
@@ -60,8 +61,8 @@ pub(crate) fn common_multiple(x: u128, y: u128) -> Option<u128>
     Some(multiple.unsigned_abs())
 }
 
-/// Where a dial is cut: 0 and the marks of each class that is taken in part, each once, along the dial. A class's marks divide the
-/// dial into as many equal pieces as it has members.
+/// Where a dial is cut: at 0 and at the marks of each class that is taken in part, each once, along the dial. A class's marks divide
+/// the dial into as many equal parts as the class has members.
 pub(crate) fn cuts(alloc: Global, sizes: &[usize], places: u128) -> Result<Vec<u128>, AllocError>
     requires places { 0 < places }
     requires sizes { All (λ size. (0 < size) × (size ∣ places)) sizes.now }
@@ -76,7 +77,7 @@ pub(crate) fn cuts(alloc: Global, sizes: &[usize], places: u128) -> Result<Vec<u
     Ok(cuts)
 }
 
-// Adds the marks of a class of a size.
+// Adds the marks of a class of this size.
 fn push_marks(cuts: &mut Vec<u128>, size: u128, places: u128) -> Result<(), AllocError>
     requires size { (0 < size) × (size ∣ places) }
     ensures { OnOk result (cuts.new.items ≡ cuts.old.items ++ marks places size) }

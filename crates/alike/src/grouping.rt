@@ -1,18 +1,18 @@
-//! The classes of a pool.
+//! Makes the classes of a pool.
 
 ghost use Rattle.std.specs.Prelude.{◌≡◌, ◌<◌, IfOk, map, filter, not, count_by, length};
 ghost use Rattle.std.specs.List.{find, list_any, range_with_len};
-ghost use Rattle.pool_definitions.specs.Pool.{share_household as share};
-ghost use Rattle.search_definitions.specs.Classes.{are_alike as alike, are_equal as equal, bounds_of, class_by, class_of, classes_of, is_same_standing, leaders, shared_household as shared, shares_household};
+ghost use Rattle.define_pools.specs.Pool.{share_household as share};
+ghost use Rattle.define_searches.specs.Classes.{are_alike as alike, are_equal as equal, bounds_of, class_by, class_of, classes_of, is_same_standing, leaders, shared_household as shared, shares_household};
 
 use crate::groups::{Class, Classes, ValueBounds};
-use pool_definitions::Standing;
+use define_pools::Standing;
+use define_searches::Bounds;
 use pool_model::{BoundedValue, Category, Pool, Volunteer, share_household};
-use search_definitions::Bounds;
 use std::alloc::{AllocError, Global};
 
-/// The classes of a pool, in the order of their first members: volunteers of equal values and equal standing are of one class, but
-/// who shares a household with another volunteer is a class alone.
+/// Returns the classes of a pool, in the order of their first members. Volunteers of equal values and equal standing are of one class;
+/// someone who shares a household with another volunteer is in a class alone.
 pub fn classes(alloc: Global, pool: &Pool) -> Result<Classes, AllocError>
     ensures { IfOk result (λ found. found ≡ classes_of pool.now) }
 {
@@ -86,7 +86,7 @@ fn group(
     ))
 }
 
-/// Who is alike a volunteer, in number order.
+/// All who are alike to a volunteer, in number order.
 fn members(
     alloc: Global,
     pool: &Pool,
@@ -106,7 +106,7 @@ fn members(
     Ok(found)
 }
 
-/// Is nobody before alike?
+/// True if nobody before is alike.
 fn leads(pool: &Pool, households: &[Option<usize>], i: usize) -> bool
     requires households { households.now ≡ map (shared pool.now.volunteers) (range_with_len 0 (length pool.now.volunteers)) }
     requires below { i < length pool.now.volunteers }
@@ -120,7 +120,7 @@ fn leads(pool: &Pool, households: &[Option<usize>], i: usize) -> bool
     true
 }
 
-/// Are two volunteers of one class?
+/// True if two volunteers are of one class.
 fn are_alike(pool: &Pool, households: &[Option<usize>], i: usize, j: usize) -> bool
     requires households { households.now ≡ map (shared pool.now.volunteers) (range_with_len 0 (length pool.now.volunteers)) }
     requires one { i < length pool.now.volunteers }
@@ -134,7 +134,7 @@ fn are_alike(pool: &Pool, households: &[Option<usize>], i: usize, j: usize) -> b
     i == j || (equal && !one && !other)
 }
 
-/// Does a volunteer share a household with another one?
+/// True if a volunteer shares a household with another one.
 fn shares(pool: &Pool, households: &[Option<usize>], i: usize) -> bool
     requires households { households.now ≡ map (shared pool.now.volunteers) (range_with_len 0 (length pool.now.volunteers)) }
     requires below { i < length pool.now.volunteers }
@@ -143,7 +143,7 @@ fn shares(pool: &Pool, households: &[Option<usize>], i: usize) -> bool
     household_of(pool, households, i).is_some()
 }
 
-/// The number of the household that a volunteer shares with another one.
+/// The number of the household that a volunteer shares with another one, if there is one.
 fn household_of(pool: &Pool, households: &[Option<usize>], i: usize) -> Option<usize>
     requires households { households.now ≡ map (shared pool.now.volunteers) (range_with_len 0 (length pool.now.volunteers)) }
     requires below { i < length pool.now.volunteers }
@@ -156,7 +156,7 @@ fn household_of(pool: &Pool, households: &[Option<usize>], i: usize) -> Option<u
     }
 }
 
-/// Do two volunteers have the same values and the same standing?
+/// True if two volunteers have the same values and the same standing.
 fn are_equal(one: &Volunteer, other: &Volunteer) -> bool
     ensures { result ≡ equal one.now other.now }
 {
@@ -174,7 +174,7 @@ fn is_same_standing(one: Standing, other: Standing) -> bool
     }
 }
 
-/// The number of the household that each volunteer shares with another one.
+/// For each volunteer the number of the household that they share with another one, if there is one.
 fn shared_households(
     alloc: Global,
     volunteers: &[Volunteer],
@@ -204,7 +204,7 @@ fn household_size(volunteers: &[Volunteer], i: usize) -> usize
         .count()
 }
 
-/// The first of them.
+/// The number of the first volunteer of a volunteer's household.
 fn household_number(volunteers: &[Volunteer], i: usize) -> Option<usize>
     ensures { result ≡ find (share volunteers.now i) (range_with_len 0 (length volunteers.now)) }
 {

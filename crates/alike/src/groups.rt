@@ -1,15 +1,15 @@
-//! Classes of volunteers, with the size of a panel and the bounds of the values: what a search for panels goes through.
+//! Classes as values, with the size of a panel and the bounds of the values: what a search for panels goes through.
 
 ghost use Rattle.std.specs.Prelude.{◌≡◌, ◌<◌, length, take};
-ghost use Rattle.search_definitions.specs.Classes.{HasPlaces, KeepsLimits, PartVolunteers, least_taken, most_taken, volunteer_count};
-ghost use Rattle.front_laws.specs.Front.{Stands};
+ghost use Rattle.define_searches.specs.Classes.{HasPlaces, KeepsLimits, PartVolunteers, least_taken, most_taken, volunteer_count};
+ghost use Rattle.laws_of_fronts.specs.Front.{Stands};
 
-use pool_definitions::Standing;
-use search_definitions::Bounds;
+use define_pools::Standing;
+use define_searches::Bounds;
 use std::marker::Model;
 
-/// Volunteers with the same values and standing, of whom a panel takes a number. Who shares a household with another volunteer is a class
-/// alone.
+/// Volunteers with the same values and standing, of whom a panel takes a number. Someone who shares a household with another volunteer
+/// is in a class alone.
 #[derive(Debug, Drop)]
 pub struct Class {
     members: Vec<usize>,
@@ -20,7 +20,7 @@ pub struct Class {
 
 impl Model for Class {
     ghost use Rattle.std.specs.Prelude.{◌≡◌, length};
-    ghost use Rattle.search_definitions.specs.Classes.{Class as Seen, least_taken, most_taken};
+    ghost use Rattle.define_searches.specs.Classes.{Class as Seen, least_taken, most_taken};
 
     ghost Value = { Seen };
 
@@ -71,7 +71,7 @@ impl Class {
         self.members().len()
     }
 
-    /// The members of the lowest numbers, so many, or all where there are fewer.
+    /// The `count` members of the lowest numbers, or all if there are fewer.
     pub fn first_members(&self, count: usize) -> &[usize]
         ensures { result.now ≡ take count self.now.members }
     {
@@ -86,15 +86,15 @@ impl Class {
         &self.values
     }
 
-    /// The number of the household that the one member shares with a volunteer of another class, if there is one: that of its first
-    /// member.
+    /// The number of the household that the one member shares with a volunteer of another class, if there is one: that of the
+    /// household's first member.
     pub fn household(&self) -> Option<usize>
         ensures { result ≡ self.now.household }
     {
         self.household
     }
 
-    /// The least number of members that a panel may have: all of a seated class, else none.
+    /// The least number of members that a panel can have: all of a seated class, else none.
     pub fn least(&self) -> usize
         ensures { result ≡ self.now.least }
     {
@@ -104,7 +104,7 @@ impl Class {
         }
     }
 
-    /// The greatest number of members that a panel may have: none of a class that is gone, else all.
+    /// The greatest number of members that a panel can have: none of a class that is gone, else all.
     pub fn most(&self) -> usize
         ensures { result ≡ self.now.most }
     {
@@ -123,7 +123,7 @@ pub struct ValueBounds {
 
 impl Model for ValueBounds {
     ghost use Rattle.std.specs.Prelude.{List};
-    ghost use Rattle.search_definitions.specs.declared.Bounds.{Bounds};
+    ghost use Rattle.define_searches.specs.declared.Bounds.{Bounds};
 
     ghost Value = { List Bounds };
 
@@ -137,7 +137,7 @@ impl ValueBounds {
         ValueBounds { bounds }
     }
 
-    /// The bounds by the values' places.
+    /// The bounds, by the values' places.
     pub fn as_slice(&self) -> &[Bounds]
         ensures { result.now ≡ self.now }
     {
@@ -145,10 +145,10 @@ impl ValueBounds {
     }
 }
 
-/// The classes of a pool, in the order of their first members, with the size of a panel and the bounds of each category's values.
-/// They keep the limits of a pool: a size from 1 to 200; at most 20 categories of at most 50 values, with bounds in order and at
-/// most 999; at most 400 classes with at most 400 members in all, each class with a member and with a value of each category.
-/// They part the volunteers: each is in exactly one class.
+/// The classes of a pool, in the order of their first members, with the size of a panel and the bounds of each category's values. They
+/// are within the limits of a pool: a size from 1 to 200; at most 20 categories of at most 50 values, with bounds in order and at most
+/// 999; at most 400 classes with at most 400 members in all, each class with a member and with a value of each category. Each volunteer
+/// is in exactly one class.
 #[derive(Debug, Drop)]
 pub struct Classes {
     size: usize,
@@ -157,7 +157,7 @@ pub struct Classes {
 }
 
 impl Model for Classes {
-    ghost use Rattle.search_definitions.specs.Classes.{Classes as Seen, KeepsLimits, PartVolunteers};
+    ghost use Rattle.define_searches.specs.Classes.{Classes as Seen, KeepsLimits, PartVolunteers};
 
     ghost Value = { Seen };
 
@@ -194,7 +194,7 @@ impl Classes {
         &self.bounds
     }
 
-    /// The classes in order.
+    /// The classes, in order.
     pub fn classes(&self) -> &[Class]
         ensures { result.now ≡ self.now.classes }
     {
@@ -209,7 +209,7 @@ impl Classes {
         self.classes.iter().map(|class| class.size()).sum()
     }
 
-    /// The class in this place, with what the classes keep of it.
+    /// The class in this place, with what holds of it.
     pub fn class_at(&self, place: usize) -> &Class
         requires { place < length self.now.classes }
         ensures limits { KeepsLimits self.now }
@@ -220,14 +220,14 @@ impl Classes {
         &self.classes()[place]
     }
 
-    /// Does nothing; its contract tells what each `Classes` keeps.
+    /// Does nothing; its contract says what holds of each `Classes`.
     pub fn facts(&self)
         ensures { KeepsLimits self.now }
     {
         let _ = &self.size;
     }
 
-    // Does nothing; its contract tells that the classes part the volunteers.
+    // Does nothing; its contract says that each volunteer is in exactly one class.
     pub(crate) fn part(&self)
         ensures { PartVolunteers self.now }
     {

@@ -1,6 +1,10 @@
-//! Classes of volunteers who are alike, the first panel of a composition, which says how many of each class are taken, and the lottery
-//! that spreads compositions over panels. Contracts see them as the records and lists of `search_definitions` and `spread_definitions`.
-//! `pool_model`, `row_model` and `frac128` stand below.
+//! Classes of volunteers who are alike, the first panel of a composition, and the lottery that spreads compositions over panels.
+//! Contracts see them as the records and lists of `define_searches` and `define_spreads`. Stands on `pool_model`,
+//! `define_rows` for `Composition`, and `frac128`. Above: `panel_search` and `pricing_pool`, which search over classes;
+//! `leximin_run`, which spreads; the command `panel`; the engine of `prove`.
+//!
+//! Promises: `classes`, `class_numbers`, `first_panel` and `spread`, each exactly the definition's. `facts` and `class_at` hand on what
+//! each `Classes` keeps; the modules `arcs` and `dials` are helpers.
 #![tactic(auto)]
 
 mod arcs;
@@ -12,9 +16,9 @@ mod numbers;
 mod spreading;
 
 pub use composing::first_panel;
+pub use define_rows::Composition;
+pub use define_searches::Bounds;
 pub use grouping::classes;
 pub use groups::{Class, Classes, ValueBounds};
 pub use numbers::class_numbers;
-pub use row_model::Composition;
-pub use search_definitions::Bounds;
 pub use spreading::{SpreadStop, spread};

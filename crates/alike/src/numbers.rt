@@ -1,13 +1,13 @@
-//! The class of each volunteer.
+//! The class of each volunteer. The run makes stages by it.
 
 ghost use Rattle.std.specs.Prelude.{◌≡◌, IfOk, map};
 ghost use Rattle.std.specs.List.{range_with_len};
-ghost use Rattle.search_definitions.specs.Classes.{class_number as class_number_of, volunteer_count};
+ghost use Rattle.define_searches.specs.Classes.{class_number as class_number_of, volunteer_count};
 
 use crate::groups::{Class, Classes};
 use std::alloc::{AllocError, Global};
 
-/// For each volunteer in order the number of the class that has the volunteer, counted from 0.
+/// Returns for each volunteer the number of their class, counted from 0.
 pub fn class_numbers(alloc: Global, classes: &Classes) -> Result<Vec<usize>, AllocError>
     ensures { IfOk result (λ numbers. numbers.items ≡ map (class_number_of classes.now.classes) (range_with_len 0 (volunteer_count classes.now))) }
 {
@@ -27,7 +27,7 @@ fn numbers_up_to(
         .collect(alloc)
 }
 
-// The number of a volunteer's class, or of all classes where the volunteer is in none.
+// The number of a volunteer's class, or the number of all classes if the volunteer is in none.
 fn class_number(groups: &[Class], volunteer: usize) -> usize
     ensures { result ≡ class_number_of groups.now volunteer }
 {

@@ -1,4 +1,4 @@
-//! Compositions with fractions, spread over panels.
+//! Spreads compositions with fractions over panels.
 
 ghost use Rattle.std.specs.Prelude.{◌≡◌, ◌*◌, ◌/◌, ◌<◌, ◌≤◌, ℕ, Bool, ◌+◌, ◌++◌, length, map, slice_index_or, All, IfOk, OnOk, SomeIff};
 ghost use Rattle.std.specs.Int.{◌∣◌};
@@ -6,30 +6,29 @@ ghost use Rattle.std.specs.List.{fold, flat_map};
 ghost use Rattle.alike.specs.Spreads.{IsSpread, IsTotal};
 ghost use Rattle.alike.specs.Steps.{IsTotalOf, arc_row};
 ghost use Rattle.frac128.specs.Divisors.{lcm_of};
-ghost use Rattle.pool_definitions.specs.Lottery.{IsLottery};
-ghost use Rattle.pool_definitions.specs.Pool.{Pool};
-ghost use Rattle.search_definitions.specs.Classes.{MakesClasses, classes_by};
-ghost use Rattle.spread_definitions.specs.Spreading.{AreParts, HasEvenChances, arcs, cuts as cuts_of, dial, greatest_total, rows_of, spread, total_from};
+ghost use Rattle.define_pools.specs.Lottery.{IsLottery};
+ghost use Rattle.define_pools.specs.Pool.{Pool};
+ghost use Rattle.define_searches.specs.Classes.{MakesClasses, classes_by};
+ghost use Rattle.define_spreads.specs.Spreading.{AreParts, HasEvenChances, arcs, cuts as cuts_of, dial, greatest_total, rows_of, spread, total_from};
 
 use crate::arcs::panel_at;
 use crate::dials::{GREATEST_TOTAL, common_multiple, cuts, partly_taken, places};
 use crate::groups::Classes;
+use define_rows::Composition;
 use frac128::Frac;
 use pool_model::{Lottery, LotteryRow};
-use row_model::Composition;
 use std::alloc::{AllocError, Global};
 use thiserror::Error;
 
 /// Why compositions could not be spread.
 #[derive(Debug, Drop, Error)]
 pub enum SpreadStop {
-    /// The lottery's total passes 10^38 at a composition, counted from 0: the total of those before it, 1 at first, and the
-    /// denominator of its fraction.
+    /// The lottery's total passes 10^38 at this composition.
     #[error("the total {total} passes 10^38 at composition {place}, of denominator {den}")]
     TotalPasses {
         /// The number of the composition, from 0.
         place: usize,
-        /// The total of those before it, from 1 to 10^38.
+        /// The total of those before it, from 1 to 10^38; 1 before the first.
         total: i128,
         /// The denominator of its fraction, at least 1.
         den: i128,
@@ -50,8 +49,8 @@ impl From<AllocError> for SpreadStop {
     }
 }
 
-/// The lottery over the panels of different compositions, whose fractions are positive and sum to one: each composition's panels
-/// have its fraction of the total, and in each class the members' chances are even. The total is the least common multiple of the
+/// Returns the lottery over the panels of different compositions, whose fractions are positive and sum to one. Each composition's
+/// panels have its fraction of the total, and all members of a class have one chance. The total is the least common multiple of the
 /// denominators, each times the length of its composition's dial.
 pub fn spread(
     alloc: Global,
@@ -96,8 +95,8 @@ fn common_total(
     Ok(total)
 }
 
-// The least common multiple of a total and a denominator times the length of the dial for these sizes, where it is at most 10^38.
-// It is a multiple of the dial's length, and of the product.
+// The least common multiple of a total and a denominator times the length of the dial for these sizes, if it is at most 10^38. It is a
+// multiple of the dial's length, and of that product.
 fn next_total(total: u128, den: u128, sizes: &[usize]) -> Option<u128>
     requires total { (0 < total) × (total ≤ greatest_total) }
     requires den { 0 < den }
@@ -156,12 +155,12 @@ fn push_rows(
     push_arcs(rows, alloc, classes, counts, &cuts, places, weight)
 }
 
-// What one place of a dial of so many weighs: its part of the fraction of the total.
+// The weight of one place of a dial of `places` places: its part of the fraction of the total.
 fn place_weight(fraction: Frac, total: u128, places: u128) -> u128
     requires total { (0 < total) × (total ≤ greatest_total) }
     requires places { 0 < places }
     requires multiple { fraction.den * places ∣ total }
-    requires share { fraction.num * (total / fraction.den) ≤ total }
+    requires holds_part { fraction.num * (total / fraction.den) ≤ total }
     ensures value { result ≡ fraction.num * (total / (fraction.den * places)) }
     ensures within { places * result ≤ total }
 {
@@ -192,7 +191,7 @@ fn push_arcs(
     Ok(())
 }
 
-// The cut after that of a number, or the dial's end.
+// The cut after the one of this number, or the dial's end.
 fn next_cut(cuts: &[u128], number: usize, end: u128) -> u128
     requires { number < length cuts.now }
     ensures { result ≡ slice_index_or cuts.now (number + 1) end }

@@ -1,17 +1,17 @@
 -- The pieces of a text, one line at a time.
 use Rattle.std.proofs.Common.{◌≡◌, ℕ, List, ◌∷◌, Result, Err, sym, subst}
-use Rattle.line_definitions.specs.Lines.{Fault, pieces_of}
-use Rattle.line_definitions.specs.Reading.{read_lines}
-use Rattle.line_definitions.proofs.LineByLine as reading
+use Rattle.define_lines.specs.Lines.{Fault, pieces_of}
+use Rattle.define_lines.specs.Reading.{read_lines}
+use Rattle.define_lines.proofs.LineByLine as reading
 use Rattle.pool_model.specs.declared.building.BuildStop.{BuildStop}
 use Rattle.pool_model.specs.declared.building.BuildStop.TheVariants.{Kind, OutOfMemory}
 use Rattle.pool_text.specs.Answers.{Tells}
-use Rattle.bundle_definitions.specs.BundleReading.{Progress, Begun, InPool, InRows, InStages, Done, line_kind, reader}
-use Rattle.bundle_definitions.proofs.Spelled.{IsRight}
+use Rattle.define_bundles.specs.BundleReading.{Progress, Begun, InPool, InRows, InStages, Done, line_kind, reader}
+use Rattle.define_bundles.proofs.Spelled.{IsRight}
 use Rattle.bundle_text.specs.declared.faults.ReadBundle.{ReadBundle}
 use Rattle.bundle_text.specs.Answers.{Reads, stopped}
 use Rattle.bundle_text.specs.Progress.{IsDoneRight}
-use Rattle.bundle_definitions.specs.BundleText.{Bundle}
+use Rattle.define_bundles.specs.BundleText.{Bundle}
 
 -- a stop at a line is what the reading comes to
 pub stops_at : (T : Type 0) (number : ℕ) (progress : Progress) (rest line later : List ℕ) → pieces_of rest ≡ line ∷ pieces_of later → (wanted : Result Bundle Fault) →

@@ -6,9 +6,9 @@ use Rattle.std.specs.Fmt.{decimal}
 use Rattle.std.proofs.lemmas.Int.{ints}
 use Rattle.std.proofs.lemmas.Fmt.{decimal_by_steps_wide}
 use Rattle.std.proofs.lemmas.List.{map-append, take_more, drop_more, take-append-drop}
-use Rattle.line_definitions.specs.Numbers.{number_up_to, signed_up_to}
-use Rattle.line_definitions.proofs.NumberLemmas.{number_again, no_number, signed_again, signed_spelled}
-use Rattle.bundle_definitions.specs.BundleReading.{with_number, numbers_up_to, signed_of, stage_limit}
+use Rattle.define_lines.specs.Numbers.{number_up_to, signed_up_to}
+use Rattle.define_lines.proofs.NumberLemmas.{number_again, no_number, signed_again, signed_spelled}
+use Rattle.define_bundles.specs.BundleReading.{with_number, numbers_up_to, signed_of, stage_limit}
 
 with_none : {A : Type 0} (first : Option A) → with_number first None ≡ None
 with_none None = refl

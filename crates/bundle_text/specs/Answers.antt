@@ -1,7 +1,7 @@
--- What reading a text answers.
+-- What reading a bundle's text answers. The contracts of the readers cite it.
 use Rattle.std.specs.Prelude.{◌≡◌, ℕ, Result, Ok, Err, ⊤}
-use Rattle.line_definitions.specs.Lines.{Fault}
-use Rattle.bundle_definitions.specs.BundleText.{Bundle}
+use Rattle.define_lines.specs.Lines.{Fault}
+use Rattle.define_bundles.specs.BundleText.{Bundle}
 use Rattle.pool_model.specs.declared.building.BuildStop.{BuildStop}
 use Rattle.pool_model.specs.declared.building.BuildStop.TheVariants.{Kind, OutOfMemory as NoMemory}
 use Rattle.bundle_text.specs.declared.faults.BundleFault.{BundleFault}
@@ -12,13 +12,13 @@ use Rattle.bundle_text.specs.declared.faults.ReadBundle.TheVariants.{Fault as fa
 abbrev pub fault_of : BundleFault → Fault
 fault_of f = record { line = f.line; kind = f.kind }
 
--- a bundle only where the bytes say this bundle, a fault only where they say this fault; want of memory may come at any time
+-- a bundle only if the bytes say this bundle, a fault only if they say this fault; want of memory may come at any time
 abbrev pub Reads : Result Bundle Fault → Result Bundle ReadBundle → Type 0
 Reads said (Ok bundle) = said ≡ Ok bundle
 Reads said (Err (fault f)) = said ≡ Err (fault_of f)
 Reads said (Err OutOfMemory) = ⊤
 
--- what a stop at a line makes of the reading
+-- what a stop at this line makes the reader answer
 abbrev pub stopped : ℕ → BuildStop → ReadBundle
 stopped line (Kind kind) = fault (record { line = line; kind = kind })
 stopped line NoMemory = OutOfMemory

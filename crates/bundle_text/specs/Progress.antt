@@ -1,6 +1,6 @@
--- What the lines that were read make of a text, and what a line says, as the definitions have it.
-use Rattle.bundle_definitions.specs.Ranges.{IsInRanges}
-use Rattle.bundle_definitions.specs.BundleReading as words
+-- The progress and the lines of the code as those of the definitions. The reading of proofs cites it.
+use Rattle.define_bundles.specs.Ranges.{IsInRanges}
+use Rattle.define_bundles.specs.BundleReading as words
 use Rattle.pool_text.specs.Progress as pools
 use Rattle.bundle_text.specs.declared.lines.AnswerLine.{AnswerLine}
 use Rattle.bundle_text.specs.declared.lines.AnswerLine.TheVariants.{Row, Stage, FaultyStage, Done as TheDone, Unknown}
@@ -21,7 +21,7 @@ seen (InRows pool lottery) = words.InRows pool lottery
 seen (InStages pool lottery stages) = words.InStages pool (record { lottery = lottery; stages = stages })
 seen (Done pool answer) = words.Done (record { pool = pool; answer = answer })
 
--- where the last line stood the answer's numbers keep the ranges
+-- after the last line, the answer's numbers are in the ranges
 abbrev pub IsDoneRight : words.Progress → Type 0
 IsDoneRight words.Begun = Unit {0}
 IsDoneRight (words.InPool second progress) = Unit {0}

@@ -1,17 +1,17 @@
-//! Bundles: a pool with its answer, whose numbers keep the ranges of a bundle.
+//! Bundles as values: a pool with its answer, whose numbers are in the ranges of a bundle.
 
 ghost use Rattle.std.specs.Prelude.{◌≡◌, ◌↔◌, IfOk, IfSome, IsSome};
-ghost use Rattle.bundle_definitions.specs.Ranges.{IsInRanges};
-ghost use Rattle.bundle_definitions.specs.BundleText.{IsBundle};
+ghost use Rattle.define_bundles.specs.Ranges.{IsInRanges};
+ghost use Rattle.define_bundles.specs.BundleText.{IsBundle};
 
 use crate::ranges::is_in_ranges;
 use pool_model::{Answer, Pool};
 use std::alloc::AllocError;
 use std::marker::Model;
 
-/// A pool with its answer, whose numbers keep the ranges of a bundle: the total and the panels' weights are from 1 to 10^38, there
-/// is at least one panel and at least one stage, a panel has at least one member and none that the pool hasn't, and a stage has
-/// one weight per volunteer and a reach of at most 2^127 - 1.
+/// A pool with its answer, whose numbers are in the ranges of a bundle: the total and the panels' weights are from 1 to 10^38; there is
+/// at least one panel and at least one stage; a panel has at least one member, and each member is a volunteer of the pool; a stage has
+/// one weight per volunteer, and a reach of at most 2^127 - 1.
 #[derive(Debug, Drop)]
 pub struct Bundle {
     pool: Pool,
@@ -19,8 +19,8 @@ pub struct Bundle {
 }
 
 impl Model for Bundle {
-    ghost use Rattle.bundle_definitions.specs.BundleText.{Bundle as Seen};
-    ghost use Rattle.bundle_definitions.specs.Ranges.{IsInRanges};
+    ghost use Rattle.define_bundles.specs.BundleText.{Bundle as Seen};
+    ghost use Rattle.define_bundles.specs.Ranges.{IsInRanges};
 
     ghost Value = { Seen };
 
@@ -30,7 +30,7 @@ impl Model for Bundle {
 }
 
 impl Bundle {
-    /// The bundle of this pool and answer, exactly where the answer's numbers keep the ranges.
+    /// Returns the bundle of this pool and answer, exactly if the answer's numbers are in the ranges.
     pub fn new(pool: Pool, answer: Answer) -> Option<Bundle>
         ensures value { IfSome result (λ bundle. bundle ≡ record { pool = pool; answer = answer }) }
         ensures exact { IsSome result ↔ IsInRanges pool answer }
@@ -49,7 +49,7 @@ impl Bundle {
         &self.pool
     }
 
-    /// The answer, whose numbers keep the ranges.
+    /// The answer.
     pub fn answer(&self) -> &Answer
         ensures value { result.now ≡ self.now.answer }
         ensures in_ranges { IsInRanges self.now.pool self.now.answer }
@@ -57,14 +57,14 @@ impl Bundle {
         &self.answer
     }
 
-    /// Does nothing; its contract tells what each bundle keeps.
+    /// Does nothing; its contract says what holds of each bundle.
     pub fn facts(&self)
         ensures { IsBundle self.now }
     {
         self.pool.facts();
     }
 
-    /// An equal bundle.
+    /// Returns an equal bundle.
     pub fn copy(&self) -> Result<Bundle, AllocError>
         ensures { IfOk result (λ copied. copied ≡ self.now) }
     {

@@ -1,8 +1,8 @@
-//! Faults of the text of a bundle.
+//! Faults of the text of a bundle, and why none was read.
 
 use thiserror::Error;
 
-/// Where a text first goes wrong.
+/// Where a bundle's text first goes wrong.
 #[derive(Clone, Copy, Debug, PartialEq, Eq)]
 pub struct BundleFault {
     /// The first faulty line, counted from 1.
@@ -10,9 +10,9 @@ pub struct BundleFault {
     /// The lowest kind of fault in it:
     /// - 1 to 12 within the pool's text, as there; 1 also where the pool's version isn't that of the bundle
     /// - 13 the first line isn't that of a bundle of version 1 or 2
-    /// - 14 the line behind the pool isn't a total from 1 to 10^38
-    /// - 15 before any stage line, the line is neither a right panel line nor, behind one, a right stage line
-    /// - 16 behind a stage line, the line is neither a right stage line nor `done`; or behind a panel line it begins with `stage` and
+    /// - 14 the line after the pool isn't a total from 1 to 10^38
+    /// - 15 before any stage line, the line is neither a right panel line nor, after one, a right stage line
+    /// - 16 after a stage line, the line is neither a right stage line nor `done`; or after a panel line it begins with `stage` and
     ///   isn't right
     /// - 17 the lines run out outside the pool's text, or anything follows `done`
     pub kind: u8,

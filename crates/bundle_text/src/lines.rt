@@ -1,9 +1,9 @@
-//! The lines behind the pool: what one says.
+//! The lines after the pool: what one says.
 
 ghost use Rattle.std.specs.Prelude.{◌≡◌, ◌≤◌, ◌-◌, ◌^◌, ◌≤ℤ◌, pos, map, Some, IfOk, IfSome, option_map, unsigned_abs};
-ghost use Rattle.line_definitions.specs.Lines.{fields_of};
-ghost use Rattle.line_definitions.specs.Numbers.{number_up_to as number_in, signed_up_to};
-ghost use Rattle.bundle_definitions.specs.BundleReading.{answer_line as line_in, panel_said as panel_in, stage_said as stage_in, row_of as row_in, stage_of as stage_words, numbers_up_to as numbers_in, signed_of, total_of as total_in};
+ghost use Rattle.define_lines.specs.Lines.{fields_of};
+ghost use Rattle.define_lines.specs.Numbers.{number_up_to as number_in, signed_up_to};
+ghost use Rattle.define_bundles.specs.BundleReading.{answer_line as line_in, panel_said as panel_in, stage_said as stage_in, row_of as row_in, stage_of as stage_words, numbers_up_to as numbers_in, signed_of, total_of as total_in};
 ghost use Rattle.bundle_text.specs.Progress.{said};
 
 use crate::ranges::{MAX_WEIGHT, is_row, is_stage, is_weight};
@@ -19,18 +19,18 @@ const STAGE: &[u8] = b"stage";
 
 const DONE: &[u8] = b"done";
 
-/// What a line behind the total says.
+/// A line after the total.
 #[derive(Debug, Drop)]
 pub(crate) enum AnswerLine {
     Row(LotteryRow),
     Stage(Stage),
-    /// It begins as a stage's line, and is none.
+    /// It begins as a stage line, and isn't one.
     FaultyStage,
     Done,
     Unknown,
 }
 
-/// What a line behind the total says, where there are so many volunteers.
+/// Returns what a line after the total says, in a bundle of a pool with this number of volunteers.
 pub(crate) fn answer_line(
     alloc: Global,
     volunteers: usize,
@@ -60,7 +60,7 @@ fn line_of(alloc: Global, volunteers: usize, fields: &[&[u8]]) -> Result<AnswerL
     }
 }
 
-/// What the fields behind `panel` say.
+/// What the fields after `panel` say.
 fn panel_of(alloc: Global, volunteers: usize, fields: &[&[u8]]) -> Result<AnswerLine, AllocError>
     ensures { IfOk result (λ answer. said answer ≡ panel_in volunteers (map (λ field. field.now) fields.now)) }
 {
@@ -92,7 +92,7 @@ fn row_of(volunteers: usize, weight: i128, members: Vec<usize>) -> AnswerLine
     }
 }
 
-/// What the fields behind `stage` say.
+/// What the fields after `stage` say.
 fn stage_of(alloc: Global, volunteers: usize, fields: &[&[u8]]) -> Result<AnswerLine, AllocError>
     ensures { IfOk result (λ answer. said answer ≡ stage_in volunteers (map (λ field. field.now) fields.now)) }
 {
@@ -119,7 +119,7 @@ fn right_stage(volunteers: usize, stage: Stage) -> AnswerLine
     }
 }
 
-/// The numbers up to `limit` of fields each of which spells one.
+/// The numbers up to `limit` that the fields spell, if each spells one.
 fn numbers_up_to(
     alloc: Global,
     limit: usize,
@@ -137,7 +137,7 @@ fn numbers_up_to(
     Ok(Some(numbers))
 }
 
-/// The numbers with a sign of fields each of which spells one.
+/// The numbers with a sign that the fields spell, if each spells one.
 fn signed_numbers(alloc: Global, fields: &[&[u8]]) -> Result<Option<Vec<i128>>, AllocError>
     ensures { IfOk result (λ numbers. option_map (λ v. v.items) numbers ≡ signed_of (map (λ field. field.now) fields.now)) }
 {
@@ -151,7 +151,7 @@ fn signed_numbers(alloc: Global, fields: &[&[u8]]) -> Result<Option<Vec<i128>>, 
     Ok(Some(numbers))
 }
 
-/// The number with a sign that the field spells. One digit, which most weights are, is read at once.
+/// The number with a sign that the field spells. One digit, as most weights have, is read at once.
 fn weight_of(field: &[u8]) -> Option<i128>
     ensures { result ≡ signed_up_to (2 ^ 127 - 1) field.now }
 {

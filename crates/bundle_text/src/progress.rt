@@ -1,10 +1,10 @@
-//! What the lines that were read make of a bundle's text so far, and what one more makes of it.
+//! The progress of a bundle's text, and how one more line moves it on.
 
 ghost use Rattle.std.specs.Prelude.{◌≡◌, IfOk};
 ghost use Rattle.pool_text.specs.Answers.{Tells};
 ghost use Rattle.pool_text.specs.Progress.{seen as pool_seen};
-ghost use Rattle.text_definitions.specs.PoolText.{version_line};
-ghost use Rattle.bundle_definitions.specs.BundleReading.{line_kind, after_line, Begun, InPool, InRows, InStages};
+ghost use Rattle.define_pool_texts.specs.PoolText.{version_line};
+ghost use Rattle.define_bundles.specs.BundleReading.{line_kind, after_line, Begun, InPool, InRows, InStages};
 ghost use Rattle.bundle_text.specs.Progress.{seen};
 
 use crate::lines::{AnswerLine, answer_line, total_of};
@@ -16,7 +16,7 @@ const FIRST_VERSION: &[u8] = b"bundle\t1";
 
 const SECOND_VERSION: &[u8] = b"bundle\t2";
 
-/// The pool's first line in a bundle of version 1, and of version 2.
+/// The pool's first line in a bundle of version 1.
 const FIRST_POOL: &[u8] = b"pool\t1";
 
 const SECOND_POOL: &[u8] = b"pool\t2";
@@ -27,34 +27,34 @@ const FORM: u8 = 1;
 /// The kind of a first line that is no bundle's.
 const VERSION: u8 = 13;
 
-/// The kind of a line behind the pool that is no total.
+/// The kind of a line after the pool that is no total.
 const TOTAL: u8 = 14;
 
-/// The kind of a faulty line before any stage's.
+/// The kind of a faulty line before any stage line.
 const ROW: u8 = 15;
 
-/// The kind of a faulty line behind a stage's, and of a faulty stage's behind a panel's.
+/// The kind of a faulty line after a stage line, and of a faulty stage line after a panel line.
 const STAGE: u8 = 16;
 
-/// The kind of lines that run out behind the pool, and of what follows the last line.
+/// The kind if the lines run out after the pool, and of a line after the last.
 pub(crate) const ENDING: u8 = 17;
 
-/// What right lines make of a text so far.
+/// The progress of a bundle's text after right lines.
 #[derive(Debug, Drop)]
 pub enum Progress {
-    /// No line stood.
+    /// Before the first line.
     Begun,
-    /// The first line stood, of version 2 or 1, and the pool's lines up to now come to this.
+    /// After the first line, of version 2 or 1: the progress of the pool's lines.
     InPool(bool, PoolProgress),
-    /// The total's line stood, and these panels' lines.
+    /// After the total: the panels of the panel lines.
     InRows(Pool, Lottery),
-    /// And these stages' lines, at least one.
+    /// After at least one stage line: the stages too.
     InStages(Pool, Lottery, Certificate),
-    /// The last line stood.
+    /// After the last line.
     Done(Pool, Answer),
 }
 
-/// What one more line makes of it. Stops with the lowest kind of fault that the line has.
+/// Returns the progress after one more line. Stops with the lowest kind of fault of the line.
 pub fn after(alloc: Global, progress: Progress, line: &[u8]) -> Result<Progress, BuildStop>
     ensures kind { Tells (line_kind (seen progress) line.now) result }
     ensures ok { IfOk result (λ next. seen next ≡ after_line (seen progress) line.now) }
@@ -83,7 +83,7 @@ fn first_line(line: &[u8]) -> Result<Progress, BuildStop>
     }
 }
 
-/// The line is one of the pool, or the total's behind the pool's end.
+/// The progress after a line of the pool, or after the total's.
 fn after_pool(
     alloc: Global,
     second: bool,
@@ -110,7 +110,7 @@ fn pool_line(second: bool) -> &'static [u8]
     if second { SECOND_POOL } else { FIRST_POOL }
 }
 
-/// The line stands behind the total and before any stage's.
+/// The progress after a line that follows the total, before any stage line.
 fn after_row(
     alloc: Global,
     pool: Pool,
@@ -136,7 +136,7 @@ fn after_row(
     }
 }
 
-/// The line stands behind a stage's.
+/// The progress after a line that follows a stage line.
 fn after_stage(
     alloc: Global,
     pool: Pool,

@@ -1,8 +1,8 @@
-//! The ranges that the numbers of an answer have to keep, so that it has a text.
+//! Tests whether the numbers of an answer are in the ranges in which it has a text. `Bundle::new` calls it.
 
 ghost use Rattle.std.specs.Prelude.{◌≡◌, ◌≤ℤ◌, ◌↔◌, ◌-◌, ◌^◌, pos, unsigned_abs, nat_lt, nat_le, length, IsTrue};
 ghost use Rattle.std.specs.List.{list_all};
-ghost use Rattle.bundle_definitions.specs.Ranges.{IsInRanges, is_weight as keeps_weight, is_row as keeps_row, is_stage as keeps_stage, reach};
+ghost use Rattle.define_bundles.specs.Ranges.{IsInRanges, is_weight as keeps_weight, is_row as keeps_row, is_stage as keeps_stage, reach};
 
 use pool_model::{Answer, LotteryRow, Pool, Stage};
 
@@ -11,7 +11,7 @@ pub(crate) const MAX_WEIGHT: i128 = 100_000_000_000_000_000_000_000_000_000_000_
 
 const MAX_REACH: u128 = 170_141_183_460_469_231_731_687_303_715_884_105_727;
 
-/// Whether the answer's numbers keep the ranges of a bundle of this pool.
+/// True if the answer's numbers are in the ranges of a bundle of this pool.
 pub fn is_in_ranges(pool: &Pool, answer: &Answer) -> bool
     ensures { IsTrue result ↔ IsInRanges pool.now answer.now }
 {
@@ -25,7 +25,7 @@ pub fn is_in_ranges(pool: &Pool, answer: &Answer) -> bool
         && are_stages(volunteers, stages)
 }
 
-/// From 1 to 10^38.
+/// True from 1 to 10^38.
 pub(crate) fn is_weight(weight: i128) -> bool
     requires { pos 0 ≤ℤ weight }
     ensures { result ≡ keeps_weight (unsigned_abs weight) }
@@ -64,7 +64,7 @@ pub(crate) fn is_stage(volunteers: usize, stage: &Stage) -> bool
     stage.weights().len() == volunteers && keeps_reach(stage)
 }
 
-/// The absolute values of the stage's numbers sum to at most 2^127 - 1.
+/// True if the absolute values of the stage's numbers sum to at most 2^127 - 1.
 fn keeps_reach(stage: &Stage) -> bool
     ensures { result ≡ nat_le (reach stage.now) (2 ^ 127 - 1) }
 {

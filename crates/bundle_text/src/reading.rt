@@ -1,9 +1,9 @@
-//! Reading the text of a bundle, line by line.
+//! Reads the text of a bundle, line by line.
 
 ghost use Rattle.std.specs.Prelude.{◌≡◌, Ok, IfOk};
-ghost use Rattle.bundle_definitions.specs.BundleText.{Bundle as Words, IsBundle, bundle_spelling};
-ghost use Rattle.bundle_definitions.specs.BundleReading.{read_bundle as read, at_last, missing_kind};
-ghost use Rattle.bundle_definitions.specs.Ranges.{IsInRanges};
+ghost use Rattle.define_bundles.specs.BundleText.{Bundle as Words, IsBundle, bundle_spelling};
+ghost use Rattle.define_bundles.specs.BundleReading.{read_bundle as read, at_last, missing_kind};
+ghost use Rattle.define_bundles.specs.Ranges.{IsInRanges};
 ghost use Rattle.bundle_text.specs.Answers.{Reads, stopped};
 ghost use Rattle.bundle_text.specs.Progress.{seen, IsDoneRight};
 
@@ -15,15 +15,15 @@ use pool_text::Progress as PoolProgress;
 use std::alloc::Global;
 use text_lines::next_line;
 
-/// The kind of a text whose lines run out within the pool's.
+/// The kind if the lines run out within the pool's.
 const MISSING_END: u8 = 12;
 
-/// The bundle that the bytes spell, all of them. A fault comes exactly where they are not the text of a bundle: the first line that
-/// has a fault, and the lowest kind in it.
+/// Reads the bytes as the text of a bundle. Fails exactly if they aren't the text of a bundle, with the first faulty line and its
+/// lowest kind of fault, or if memory runs out.
 pub fn read_bundle(alloc: Global, bytes: &[u8]) -> Result<Bundle, ReadBundle>
-    // What is read is spelled so, each byte of it.
+    // A bundle that is read has this text, byte for byte.
     ensures spelled { IfOk result (λ bundle. IsBundle bundle × (bytes.now ≡ bundle_spelling bundle)) }
-    // What is spelled so is read, unless memory runs out.
+    // The text of each bundle is read as this bundle, unless memory runs out.
     ensures read { (bundle : Words) → IsBundle bundle → bytes.now ≡ bundle_spelling bundle → Reads (Ok bundle) result }
     // Which fault it is.
     ensures exact { Reads (read bytes.now) result }
@@ -48,7 +48,7 @@ fn read_lines(alloc: Global, bytes: &[u8]) -> Result<Bundle, ReadBundle>
     last(progress, number, rest)
 }
 
-/// A stop at a line.
+/// Turns a stop at this line into one of the reader.
 fn stop_at(line: usize, stop: BuildStop) -> ReadBundle
     ensures { result ≡ stopped line stop }
 {
@@ -58,7 +58,7 @@ fn stop_at(line: usize, stop: BuildStop) -> ReadBundle
     }
 }
 
-/// What the text comes to, where `rest` stands behind its last LF.
+/// Returns the bundle or the fault of the whole text, where `rest` is the bytes after its last LF.
 fn last(progress: Progress, line: usize, rest: &[u8]) -> Result<Bundle, ReadBundle>
     requires { IsDoneRight (seen progress) }
     ensures { Reads (at_last line (seen progress) rest.now) result }
@@ -77,7 +77,7 @@ fn last(progress: Progress, line: usize, rest: &[u8]) -> Result<Bundle, ReadBund
     }
 }
 
-/// The bundle of this pool and answer, whose numbers keep the ranges.
+/// The bundle of this pool and answer, whose numbers are in the ranges.
 fn finished(pool: Pool, answer: Answer) -> Bundle
     requires { IsInRanges pool answer }
     ensures { result ≡ record { pool = pool; answer = answer } }
@@ -88,7 +88,7 @@ fn finished(pool: Pool, answer: Answer) -> Bundle
     }
 }
 
-/// The kind of lines that run out: of the pool's, or behind it.
+/// The kind of fault if the lines run out: within the pool's, or after it.
 fn missing_kind(progress: &Progress) -> u8
     ensures { result ≡ missing_kind (seen progress.now) }
 {

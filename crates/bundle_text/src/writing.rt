@@ -1,18 +1,18 @@
-//! Writing the text of a bundle, line by line into one growing buffer.
+//! Writes the text of a bundle, line by line into one growing buffer.
 
 ghost use Rattle.std.specs.Prelude.{◌≡◌, ◌++◌, ◌∷◌, [], map, Ok, IfOk, OnOk};
-ghost use Rattle.line_definitions.specs.Lines.{text_of};
-ghost use Rattle.text_definitions.specs.PoolText.{spelling};
-ghost use Rattle.bundle_definitions.specs.Ranges.{IsInRanges};
-ghost use Rattle.bundle_definitions.specs.BundleText.{total_line, panel_line, stage_line, done_line, answer_lines, bundle_text};
-ghost use Rattle.bundle_definitions.specs.BundleReading.{read_bundle};
+ghost use Rattle.define_lines.specs.Lines.{text_of};
+ghost use Rattle.define_pool_texts.specs.PoolText.{spelling};
+ghost use Rattle.define_bundles.specs.Ranges.{IsInRanges};
+ghost use Rattle.define_bundles.specs.BundleText.{total_line, panel_line, stage_line, done_line, answer_lines, bundle_text};
+ghost use Rattle.define_bundles.specs.BundleReading.{read_bundle};
 
 use pool_model::{Answer, Lottery, LotteryRow, Pool, Stage, has_households};
 use pool_text::{version, write_pool};
 use std::alloc::{AllocError, Global};
 use text_lines::{end_line, push_line, push_numbers, push_signed, push_signed_numbers};
 
-/// The text of the pool with this answer, whose numbers keep the ranges of a bundle. It is read again as this bundle.
+/// Returns the text of the pool with this answer, whose numbers are in the ranges of a bundle. It is read as this bundle.
 pub fn write_bundle(alloc: Global, pool: &Pool, answer: &Answer) -> Result<Vec<u8>, AllocError>
     requires { IsInRanges pool.now answer.now }
     ensures spelled { IfOk result (λ bytes. bytes.items ≡ bundle_text pool.now answer.now) }
@@ -33,7 +33,7 @@ fn push_pool(alloc: Global, text: &mut Vec<u8>, pool: &Pool) -> Result<(), Alloc
     text.extend_from_slice(&bytes)
 }
 
-/// Adds the lines behind those of the pool.
+/// Appends the lines after those of the pool.
 fn push_answer(text: &mut Vec<u8>, answer: &Answer) -> Result<(), AllocError>
     ensures { OnOk result (text.new.items ≡ text.old.items ++ text_of (answer_lines answer.now ++ done_line ∷ [])) }
 {
@@ -61,7 +61,7 @@ fn push_rows(text: &mut Vec<u8>, rows: &[LotteryRow]) -> Result<(), AllocError>
     Ok(())
 }
 
-/// Adds a panel's line: its weight, and the numbers of its members.
+/// Appends a panel's line: its weight, and the numbers of its members.
 fn push_row(text: &mut Vec<u8>, row: &LotteryRow) -> Result<(), AllocError>
     ensures { OnOk result (text.new.items ≡ text.old.items ++ text_of (panel_line row.now ∷ [])) }
 {
@@ -80,7 +80,7 @@ fn push_stages(text: &mut Vec<u8>, stages: &[Stage]) -> Result<(), AllocError>
     Ok(())
 }
 
-/// Adds a stage's line: its cap, and the weight of each volunteer.
+/// Appends a stage's line: its cap, and the weight of each volunteer.
 fn push_stage(text: &mut Vec<u8>, stage: &Stage) -> Result<(), AllocError>
     ensures { OnOk result (text.new.items ≡ text.old.items ++ text_of (stage_line stage.now ∷ [])) }
 {

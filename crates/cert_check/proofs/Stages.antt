@@ -6,16 +6,16 @@ use Rattle.std.proofs.lemmas.Bool.{false≢true}
 use Rattle.std.proofs.lemmas.List.{reverse-append}
 use Rattle.std.proofs.lemmas.List.Folds.{list_all-append}
 use Rattle.std.proofs.Math.Seq.{drop-cons}
-use Rattle.basic_laws.proofs.Each.{passes_at}
-use Rattle.pool_definitions.specs.Certificate.{Answer, Stage}
-use Rattle.pool_definitions.specs.Lottery.{Lottery}
-use Rattle.pool_definitions.specs.Pool.{Pool}
-use Rattle.certificate_reasons.specs.Courses.{Course, passed}
-use Rattle.certificate_reasons.specs.Sayings.{holds}
-use Rattle.check_definitions.specs.Reasons.{Refused, Valid, Verdict, cap_reasons, first_reason, reasons_before_cap}
-use Rattle.check_definitions.specs.Steps.{answer_from, or_next}
-use Rattle.check_definitions.specs.Visits.{check_answer, stage_search}
-use Rattle.check_definitions.proofs.GoesOn.{goes_on_by_stages}
+use Rattle.laws_basic.proofs.Each.{passes_at}
+use Rattle.define_pools.specs.Certificate.{Answer, Stage}
+use Rattle.define_pools.specs.Lottery.{Lottery}
+use Rattle.define_pools.specs.Pool.{Pool}
+use Rattle.check_reasons.specs.Courses.{Course, passed}
+use Rattle.check_reasons.specs.Sayings.{holds}
+use Rattle.define_checks.specs.Reasons.{Refused, Valid, Verdict, cap_reasons, first_reason, reasons_before_cap}
+use Rattle.define_checks.specs.Steps.{answer_from, or_next}
+use Rattle.define_checks.specs.Visits.{check_answer, stage_search}
+use Rattle.define_checks.proofs.GoesOn.{goes_on_by_stages}
 use Rattle.cert_check.specs.Answers.{Answers, stage_answer}
 use Rattle.cert_check.specs.declared.stops.CheckStop.{CheckStop}
 use Rattle.cert_check.specs.declared.stops.CheckStop.TheVariants.{NodesSpent, OutOfMemory}

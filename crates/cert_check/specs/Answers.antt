@@ -1,25 +1,25 @@
--- What a check answers.
+-- What a check answers. Over Steps of `define_checks`. The promise of `check` cites it.
 use Rattle.std.specs.Prelude.{◌≡◌, ℕ, ◌+◌, nat_lt, if◌then◌else◌, List, length, Result, Ok, Err}
-use Rattle.pool_definitions.specs.Certificate.{Stage}
-use Rattle.pool_definitions.specs.Lottery.{Lottery}
-use Rattle.pool_definitions.specs.Pool.{Pool}
-use Rattle.check_definitions.specs.Reasons.{Verdict, cap_reasons, first_reason, reasons_before_cap}
-use Rattle.check_definitions.specs.Steps.{or_next}
-use Rattle.check_definitions.specs.Visits.{stage_search}
+use Rattle.define_pools.specs.Certificate.{Stage}
+use Rattle.define_pools.specs.Lottery.{Lottery}
+use Rattle.define_pools.specs.Pool.{Pool}
+use Rattle.define_checks.specs.Reasons.{Verdict, cap_reasons, first_reason, reasons_before_cap}
+use Rattle.define_checks.specs.Steps.{or_next}
+use Rattle.define_checks.specs.Visits.{stage_search}
 use Rattle.cert_check.specs.declared.stops.CheckStop.{CheckStop}
 use Rattle.cert_check.specs.declared.stops.CheckStop.TheVariants.{NodesSpent, OutOfMemory}
 
--- the verdict that is wanted, or the stage at which the visits are spent; want of memory may come at any time
+-- the verdict, or the stage at which the visits are spent, as wanted; want of memory may come at any time
 abbrev pub Answers : Result Verdict ℕ → Result Verdict CheckStop → Type 0
 Answers wanted (Ok verdict) = wanted ≡ Ok verdict
 Answers wanted (Err (NodesSpent stage)) = wanted ≡ Err stage
 Answers wanted (Err OutOfMemory) = Unit {0}
 
--- what is to be said of the cap of a stage after earlier ones
+-- the answer on the cap of a stage after earlier ones
 abbrev pub cap_answer : Pool → Lottery → ℕ → List Stage → Stage → Result Verdict ℕ
 cap_answer pool lottery nodes earlier stage =
     if nat_lt nodes (stage_search pool earlier stage).visits then Err (length earlier + 1) else Ok (first_reason (cap_reasons pool lottery earlier stage))
 
--- what is to be said of the stage
+-- the answer on the stage
 abbrev pub stage_answer : Pool → Lottery → ℕ → List Stage → Stage → Result Verdict ℕ
 stage_answer pool lottery nodes earlier stage = or_next (first_reason (reasons_before_cap pool lottery earlier stage)) (cap_answer pool lottery nodes earlier stage)

@@ -2,24 +2,24 @@
 
 ghost use Rattle.std.specs.Prelude.{◌≡◌, ◌↔◌, [], length, IfOk, IsTrue};
 ghost use Rattle.std.specs.List.{list_all};
-ghost use Rattle.bundle_definitions.specs.Ranges.{IsInRanges, is_stage};
+ghost use Rattle.define_bundles.specs.Ranges.{IsInRanges, is_stage};
 ghost use Rattle.cert_check.specs.Answers.{Answers, cap_answer, stage_answer};
-ghost use Rattle.check_definitions.specs.Reasons.{Refusal as SeenRefusal, Refused, Valid};
-ghost use Rattle.check_definitions.specs.Steps.{answer_from};
-ghost use Rattle.check_definitions.specs.Visits.{check_answer};
-ghost use Rattle.pool_definitions.specs.Certificate.{Certifies};
-ghost use Rattle.pool_definitions.specs.Lottery.{LeximinGreatest};
+ghost use Rattle.define_checks.specs.Reasons.{Refusal as SeenRefusal, Refused, Valid};
+ghost use Rattle.define_checks.specs.Steps.{answer_from};
+ghost use Rattle.define_checks.specs.Visits.{check_answer};
+ghost use Rattle.define_pools.specs.Certificate.{Certifies};
+ghost use Rattle.define_pools.specs.Lottery.{LeximinGreatest};
 
 use crate::stops::CheckStop;
 use bundle_text::Bundle;
-use cap_search::{SearchStop, panel_above_cap};
-use certificate_reasons::{Course, Verdict, lottery_verdict};
+use check_reasons::{Course, Verdict, lottery_verdict};
+use check_search::{CapStop, panel_above_cap};
 use pool_model::{Answer, Pool, Stage};
 use std::alloc::Global;
 
-/// Whether the certificate of a bundle is valid, or why it is refused, where each search may take so many visits. `NodesSpent` names the
-/// first stage at which a search takes more, where no reason comes before that search. Valid is answered only of a lottery that is leximin
-/// greatest.
+/// Returns whether the certificate of a bundle is valid, or why it is refused, with at most `nodes` visits of each search. `NodesSpent`
+/// names the first stage at which a search makes more, if no reason comes before that search. Valid is answered only of a lottery that
+/// is leximin greatest.
 pub fn check(alloc: Global, bundle: &Bundle, nodes: u64) -> Result<Verdict, CheckStop>
     ensures answer { Answers (check_answer bundle.now.pool bundle.now.answer nodes) result }
     ensures valid { IfOk result (λ verdict. verdict ≡ Valid ↔ Certifies bundle.now.pool bundle.now.answer.lottery bundle.now.answer.stages) }
@@ -29,7 +29,7 @@ pub fn check(alloc: Global, bundle: &Bundle, nodes: u64) -> Result<Verdict, Chec
     answer_verdict(alloc, bundle.pool(), bundle.answer(), nodes)
 }
 
-/// The same of an answer over a pool.
+/// The same for an answer over a pool.
 fn answer_verdict(
     alloc: Global,
     pool: &Pool,
@@ -47,7 +47,7 @@ fn answer_verdict(
     stages_verdict(alloc, course, answer.certificate().stages(), nodes)
 }
 
-/// What is said of stages, and of who is left behind them.
+/// The verdict on the stages, and on who is left unsettled after them.
 fn stages_verdict(
     alloc: Global,
     mut course: Course<'_>,
@@ -69,7 +69,7 @@ fn stages_verdict(
     Ok(course.left(alloc)?)
 }
 
-/// What is said of a stage.
+/// The verdict on a stage.
 fn stage_verdict(
     alloc: Global,
     course: &Course<'_>,
@@ -87,7 +87,7 @@ fn stage_verdict(
     cap_verdict(alloc, course, stage, nodes)
 }
 
-/// What is said of its cap.
+/// The verdict on a stage's cap.
 fn cap_verdict(
     alloc: Global,
     course: &Course<'_>,
@@ -102,7 +102,7 @@ fn cap_verdict(
     match panel_above_cap(alloc, course.pool(), course.earlier(), stage, nodes) {
         Ok(Some(panel)) => Ok(Verdict::refused(alloc, number, 8, panel.members())?),
         Ok(None) => Ok(course.off_cap(alloc, stage)?),
-        Err(SearchStop::Spent) => Err(CheckStop::NodesSpent { stage: number }),
-        Err(SearchStop::OutOfMemory) => Err(CheckStop::OutOfMemory),
+        Err(CapStop::Spent) => Err(CheckStop::NodesSpent { stage: number }),
+        Err(CapStop::OutOfMemory) => Err(CheckStop::OutOfMemory),
     }
 }

@@ -1,10 +1,13 @@
-//! The check of a certificate: whether the stages of a bundle show that its lottery is leximin greatest, and where they don't, why. It
-//! stands apart from what finds the lottery: it uses no crate of that.
+//! The check of a certificate: whether the stages of a bundle show that its lottery is leximin greatest, and if not, why. It shares no
+//! crate of code with what finds the lottery. Stands on `check_reasons` and `check_search`, `bundle_text` for bundles, and
+//! `define_checks`. Above: the command `check`.
+//!
+//! Promise: `check`.
 #![tactic(auto)]
 
 mod checking;
 mod stops;
 
-pub use certificate_reasons::{Refusal, Verdict};
+pub use check_reasons::{Refusal, Verdict};
 pub use checking::check;
 pub use stops::CheckStop;

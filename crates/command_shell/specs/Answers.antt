@@ -1,4 +1,5 @@
--- What a command answers, and the number of a status.
+-- What a command answers, the number of its status, and what makes an answer right. It stands on nothing; every meaning of a command
+-- is written in its words.
 use Rattle.std.specs.Prelude.{◌≡◌, ℕ, List}
 use Rattle.command_shell.specs.declared.answer.Answer.{Answer}
 use Rattle.command_shell.specs.declared.answer.Answer.TheVariants as answer
@@ -47,6 +48,46 @@ abbrev pub bytes_of : Saying → List ℕ
 bytes_of (Prints printed text) = text
 bytes_of (Stops cause line) = line
 
--- at most one answer is right about an input
-abbrev pub AnswersOnce : {Input : Type 0} → (Input → Saying → Type 0) → Type 0
-AnswersOnce {Input} Means = (input : Input) (first second : Saying) → Means input first → Means input second → first ≡ second
+-- What the answers of a command mean: for each status, which text for out, or which line for errs, is right.
+pub record Meaning : Type 1 where
+  -- 0: the text that the command is for
+  pub done : List ℕ → Type 0
+  -- 1: no quota panel exists
+  pub no_panel : List ℕ → Type 0
+  -- 3: the input is not of its format
+  pub input : List ℕ → Type 0
+  -- 4: a number passes its width
+  pub wide : List ℕ → Type 0
+  -- 5: a budget is spent
+  pub spent : List ℕ → Type 0
+  -- 6: a rule refuses
+  pub rule : List ℕ → Type 0
+  -- 11: a certificate or a proof is refused
+  pub refused : List ℕ → Type 0
+
+-- no text is right
+abbrev pub never : List ℕ → Type 0
+never text = ⊥
+
+-- a meaning by which no answer is right; a command names the statuses that it has
+abbrev pub no_answer : Meaning
+no_answer = record { done = never; no_panel = never; input = never; wide = never; spent = never; rule = never; refused = never }
+
+-- the answer is right by this meaning
+abbrev pub IsRight : Meaning → Saying → Type 0
+IsRight meaning (Prints Done text) = meaning.done text
+IsRight meaning (Prints NoPanel text) = meaning.no_panel text
+IsRight meaning (Prints Refused text) = meaning.refused text
+IsRight meaning (Stops Input line) = meaning.input line
+IsRight meaning (Stops Wide line) = meaning.wide line
+IsRight meaning (Stops Spent line) = meaning.spent line
+IsRight meaning (Stops Rule line) = meaning.rule line
+
+-- at most one answer is right by this meaning
+abbrev pub HasOneAnswer : Meaning → Type 0
+HasOneAnswer meaning = (first second : Saying) → IsRight meaning first → IsRight meaning second → first ≡ second
+
+-- the answer is right by this meaning, and no other is
+pub record IsTheAnswer (meaning : Meaning) (answer : Saying) : Type 0 where
+  pub right : IsRight meaning answer
+  pub only : (other : Saying) → IsRight meaning other → other ≡ answer

@@ -1,5 +1,6 @@
 pub mod Told
 pub mod Answers
 pub mod Lines
-pub mod Calls
-pub mod Telling
+pub mod Outcomes
+pub mod Subjects
+pub mod Formats

@@ -1,7 +1,7 @@
 -- The lines that every command may tell: fields parted by TAB, ended by LF.
 use Rattle.std.specs.Prelude.{ℕ, List, [], ◌∷◌, codes}
 use Rattle.std.specs.Fmt.{decimal}
-use Rattle.line_definitions.specs.Lines.{Fault, line_of, text_of}
+use Rattle.define_lines.specs.Lines.{Fault, line_of, text_of}
 
 -- one line of these fields
 abbrev pub line : List (List ℕ) → List ℕ

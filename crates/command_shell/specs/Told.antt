@@ -1,5 +1,6 @@
--- What one call of the program told of the outside.
-use Rattle.std.specs.Prelude.{◌≡◌, ℕ, List, [], Option, Some}
+-- What one call of the program told of the outside: its status, and the objects that it was handed, before and after.
+-- Stands on the definitions of `outside`; cited by Outcomes and by every contract of a call.
+use Rattle.std.specs.Prelude.{◌≡◌, ℕ, List, Option}
 use Rattle.std.specs.Io.KnownBytes.{Appends}
 use Rattle.outside.specs.Faults.{Rose}
 use Rattle.outside.specs.Content.{AppendsPart, LosesMore, ReadsAll}
@@ -18,11 +19,6 @@ object before after faults_before faults_after = record { before = before; after
 -- an object that tells bytes
 abbrev pub Bytes : Type 0
 Bytes = Object (List ℕ)
-
--- a source that has no bytes, counted no fault and was left alone. It is one fixed object: over one whose count is at its last value,
--- each answer `read fault` would be right
-abbrev pub empty_source : Bytes
-empty_source = object (Some []) (Some []) 0 0
 
 -- what a call told: its status, and the objects
 pub record Told : Type 0 where

@@ -1,26 +1,41 @@
-//! What a command about the text of the input is.
+//! What a command is: its arguments, what its answers mean, and how it answers. `calling` reads the source for it and tells its answer.
 
-ghost use Rattle.std.specs.Prelude.{List, ℕ, IfOk};
-ghost use Rattle.command_shell.specs.Answers.{AnswersOnce, Saying, saying};
+ghost use Rattle.std.specs.Prelude.{IfOk};
+ghost use Rattle.command_shell.specs.Answers.{Saying, saying};
 
 use crate::answer::Answer;
+use crate::subject::Subject;
 use std::alloc::{AllocError, Global};
 
-/// A command about the text of the input, with its arguments, as far as its answers go.
-pub trait TextMeaning {
-    /// Which answers are right about some bytes.
-    ghost means: { Self → List ℕ → Saying → Type 0 };
+/// What a command that starts threads takes from the machine to do its work.
+#[derive(Drop)]
+pub struct Resources<'a, R, W> {
+    /// Starts threads.
+    pub rt: &'a R,
+    /// Hands out memory.
+    pub alloc: Global,
+    /// Is told of each piece of a pricing as a worker starts it.
+    pub watch: &'a W,
 }
 
-/// A command whose answers are determined by its arguments and the text of the input.
-pub trait OneAnswer: TextMeaning {
-    /// At most one answer is right about some bytes.
-    ghost answers_once: { (command : Self) → AnswersOnce (Self.means command) };
+/// A command with its arguments, as far as its answers go.
+pub trait Meaning {
+    /// What its input is read as.
+    type About: Subject;
+
+    /// Which answers are right about a value.
+    ghost means: { Self → Self.About → Saying → Type 0 };
 }
 
-/// A command about the text of the input, with its arguments: a function from its bytes to an answer.
-pub trait TextCommand: OneAnswer {
-    /// An answer that is right about the bytes, or want of memory.
-    fn answer(&self, alloc: Global, bytes: &[u8]) -> Result<Answer, AllocError>
-        ensures { IfOk result (λ answer. Self.means self.now bytes.now (saying answer)) };
+/// A command with its arguments that starts no threads. It is a function from what its input says to an answer; it sees neither `out` nor
+/// `errs`.
+pub trait Command: Meaning {
+    /// An answer that is right about the value that the text says.
+    ///
+    /// # Errors
+    ///
+    /// Want of memory.
+    fn answer(&self, alloc: Global, about: &Self::About, text: &[u8]) -> Result<Answer, AllocError>
+        requires { Self.About.format.spells about.now text.now }
+        ensures { IfOk result (λ answer. Self.means self.now about.now (saying answer)) };
 }

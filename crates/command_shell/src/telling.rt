@@ -4,10 +4,10 @@ ghost use Rattle.std.specs.Prelude.{◌≡◌, ◌<◌, ◌≤◌, length, OnErr
 ghost use Rattle.std.specs.Io.KnownBytes.{Appends};
 ghost use Rattle.outside.specs.Content.{AppendsPart};
 ghost use Rattle.outside.specs.Faults.{Rose};
-ghost use Rattle.command_shell.specs.Told.{object, GainsLine};
+ghost use Rattle.command_shell.specs.Told.{Bytes, object, told, GainsLine};
 ghost use Rattle.command_shell.specs.Answers.{number_of, saying};
 ghost use Rattle.command_shell.specs.Lines.{read_fault_line, too_long_line, want_of_memory_line, write_fault_line};
-ghost use Rattle.command_shell.specs.Telling.{IsTold};
+ghost use Rattle.command_shell.specs.Outcomes.{IsToldOrCutOff};
 
 use crate::answer::Answer;
 use crate::status::{Cause, Status};
@@ -25,9 +25,9 @@ const WANT_OF_MEMORY_LINE: &[u8] = b"want of memory\n";
 
 /// Tells an answer. Where `out` fails on the way, the status is that of a write fault, and `errs` gets its line.
 pub(crate) fn tell<O: Sink, E: Sink>(out: &mut O, errs: &mut E, answer: &Answer) -> Status
-    ensures { IsTold (saying answer.now) (number_of result)
+    ensures { (source : Bytes) → IsToldOrCutOff (saying answer.now) (told (number_of result) source
         (object (O.written out.old) (O.written out.new) (O.faults out.old) (O.faults out.new))
-        (object (E.written errs.old) (E.written errs.new) (E.faults errs.old) (E.faults errs.new)) }
+        (object (E.written errs.old) (E.written errs.new) (E.faults errs.old) (E.faults errs.new))) }
 {
     match answer {
         Answer::Prints { printed, text } => match put_lines(out, text) {

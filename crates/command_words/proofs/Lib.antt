@@ -1,2 +1,5 @@
 pub mod NumberLemmas
+pub mod PlainLemmas
+pub mod ProgramLemmas
+pub mod ValueLemmas
 pub mod WordsLemmas

@@ -1,11 +1,21 @@
-//! The words of a call of the program, read by `clap`: which command they ask for, with its values in their ranges. Below stand the
-//! ranges of a run's limits.
+//! The words of a call of the program, read by `clap`: which command they ask for, with a value for each of its options.
+//!
+//! The commands are a table (`table.rt`), and a command's words are one entry of it. Building the program for `clap` (`program.rt`), reading
+//! the values of its options (`values.rt`) and the rule that says what words give (`specs/Words.antt`) are proved once for every table.
+//!
+//! Below stands `clap` alone. Above stands `sortition`, which makes its own command of what it gets. `read_words` and the calls of `Given`
+//! and `Word` are promises.
 #![tactic(auto)]
 
-mod asked;
+mod given;
 mod program;
 mod reading;
+mod table;
 mod values;
+mod words;
+mod worked;
 
-pub use asked::{Asked, Made, WordsStop};
-pub use reading::read_words;
+pub use given::{Given, Value, Word};
+pub use reading::{WordsStop, read_words};
+pub use words::CommandName;
+pub use worked::words_are_worked;

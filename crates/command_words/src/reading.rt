@@ -1,37 +1,75 @@
 //! The words of a call, read by `clap`.
 
 ghost use Rattle.std.specs.Prelude.{map, string_bytes};
-ghost use Rattle.command_words.specs.Words.{MatchesSay, StopSays, WordsSay};
+ghost use Rattle.command_words.specs.Table.{command_entry};
+ghost use Rattle.command_words.specs.Words.{MatchesSay, Says, StopSays, given_by, given_in};
 
-use crate::asked::{Asked, WordsStop};
-use crate::program::program;
-use crate::values::asked_by;
+use crate::given::Given;
+use crate::program::program_of;
+use crate::table::command_table;
+use crate::values::given_of;
+use crate::words::TableCommand;
 use clap::ArgMatches;
 use clap::error::ErrorKind;
 use std::alloc::Global;
+use thiserror::Error;
 
-/// The text for a number that `clap` took out of its range: no words lead there.
-const OUT_OF_RANGE: &str = "error: a number is out of its range\n";
+/// The text for a value that `clap` took and that hasn't its option's form: no words lead there.
+const OUT_OF_FORM: &str = "error: a value is out of its range\n";
 
-/// The command that the words ask for. They don't include the program's name.
-pub fn read_words<'a>(alloc: Global, words: &'a [String]) -> Result<Asked<'a>, WordsStop>
-    ensures { WordsSay (map string_bytes words.entry.now) result }
+/// Why the words give nothing.
+#[derive(Debug, Drop, Error)]
+pub enum WordsStop {
+    /// The words are not of the forms, or ask for help: what `clap` says of them.
+    #[error("{0}")]
+    Usage(String),
+    /// No memory was left.
+    #[error("out of memory")]
+    OutOfMemory,
+}
+
+/// Reads the words of a call, which don't include the program's name.
+pub fn read_words<'a>(alloc: Global, words: &'a [String]) -> Result<Given<'a>, WordsStop>
+    ensures { Says (given_in (map string_bytes words.entry.now)) result }
 {
-    let matches = matches_of(alloc, words)?;
-    match asked_by(&matches) {
-        Some(asked) => Ok(asked),
-        None => match String::from_str(alloc, OUT_OF_RANGE) {
-            Ok(text) => Err(WordsStop::Usage(text)),
-            Err(_) => Err(WordsStop::OutOfMemory),
-        },
+    let Ok(table) = command_table(alloc) else {
+        return Err(WordsStop::OutOfMemory);
+    };
+    read_by(alloc, &table, words)
+}
+
+/// Reads the words by a table.
+fn read_by<'a>(
+    alloc: Global,
+    commands: &[TableCommand],
+    words: &'a [String],
+) -> Result<Given<'a>, WordsStop>
+    ensures { Says (given_by (map command_entry commands.now) (map string_bytes words.entry.now)) result }
+{
+    let matches = matches_of(alloc, commands, words)?;
+    match given_of(alloc, commands, &matches) {
+        Ok(Some(given)) => Ok(given),
+        Ok(None) => Err(out_of_form(alloc)),
+        Err(_) => Err(WordsStop::OutOfMemory),
+    }
+}
+
+fn out_of_form(alloc: Global) -> WordsStop {
+    match String::from_str(alloc, OUT_OF_FORM) {
+        Ok(text) => WordsStop::Usage(text),
+        Err(_) => WordsStop::OutOfMemory,
     }
 }
 
 /// What `clap` makes of the words.
-fn matches_of<'a>(alloc: Global, words: &'a [String]) -> Result<ArgMatches<'a>, WordsStop>
-    ensures { MatchesSay (map string_bytes words.entry.now) result }
+fn matches_of<'a>(
+    alloc: Global,
+    commands: &[TableCommand],
+    words: &'a [String],
+) -> Result<ArgMatches<'a>, WordsStop>
+    ensures { MatchesSay (map command_entry commands.now) (map string_bytes words.entry.now) result }
 {
-    let Ok(program) = program(alloc) else {
+    let Ok(program) = program_of(alloc, commands) else {
         return Err(WordsStop::OutOfMemory);
     };
     match program.try_get_matches_from(words) {

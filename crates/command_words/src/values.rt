@@ -1,140 +1,120 @@
-//! The values of the subcommand that was met, where its numbers are in their ranges.
+//! The values of the subcommand that was met, where each has the form of its option.
 
-ghost use Rattle.std.specs.Prelude.{◌≡◌, option_map};
+ghost use Rattle.std.specs.Prelude.{◌≡◌, find, IfOk, map, option_map};
+ghost use Rattle.std.specs.Str.{bytes_eq};
 ghost use Rattle.clap.specs.Words.{first_of, found_of, rows_of, subcommand_rows_of};
+ghost use Rattle.command_words.specs.Given.{named};
+ghost use Rattle.command_words.specs.Table.{command_entry, option_entry};
 ghost use Rattle.command_words.specs.Words.{
-  asked_of,
-  check_asked,
-  draw_asked,
-  limits_asked,
-  lottery_asked,
-  made_asked,
-  make_asked,
+  command_given as words_command_given,
+  given_of as words_given_of,
+  named_given as words_named_given,
   number_at as number_said,
   number_within as number_said_within,
-  order,
-  panel_asked,
-  prove_asked,
-  workers_asked,
+  option_value,
+  option_values,
 };
 
-use crate::asked::{Asked, LEAST_VOLUNTEERS, MOST_SEED, MOST_VOLUNTEERS, Made};
+use crate::given::{Given, OptionValue, Value, Word};
+use crate::words::{Form, TableCommand, TableOption};
 use clap::ArgMatches;
-use run_limits::{
-    LEAST_BITS, LEAST_WORKERS, Limits, MOST_BITS, MOST_NODES, MOST_PIVOTS, MOST_WORKERS, Workers,
-};
+use std::alloc::{AllocError, Global};
 
-/// What the subcommand that was met asks for, where its numbers are in their ranges.
-pub(crate) fn asked_by<'a>(matches: &ArgMatches<'a>) -> Option<Asked<'a>>
-    ensures { option_map order result ≡ asked_of (subcommand_rows_of matches.now) }
+/// What the subcommand that was met gives, where each value has its form.
+pub(crate) fn given_of<'a>(
+    alloc: Global,
+    commands: &[TableCommand],
+    matches: &ArgMatches<'a>,
+) -> Result<Option<Given<'a>>, AllocError>
+    ensures { IfOk result (λ given. given ≡ words_given_of (map command_entry commands.now) (subcommand_rows_of matches.now)) }
 {
     match matches.subcommand() {
-        Some(("panel", own)) => panel_of(own),
-        Some(("lottery", own)) => lottery_of(own),
-        Some(("make", own)) => make_of(own),
-        Some(("seal", _)) => Some(Asked::Seal),
-        Some(("draw", own)) => draw_of(own),
-        Some(("check", own)) => check_of(own),
-        Some(("prove", own)) => prove_of(own),
-        Some(("verify", _)) => Some(Asked::Verify),
-        Some(("bundle", _)) => Some(Asked::Bundle),
-        _ => None,
+        Some((name, own)) => named_given(alloc, commands, name, own),
+        None => Ok(None),
     }
 }
 
-fn panel_of<'a>(matches: &ArgMatches<'a>) -> Option<Asked<'a>>
-    ensures { option_map order result ≡ panel_asked (rows_of (found_of matches.now)) }
+/// What the command of this name gives.
+fn named_given<'a>(
+    alloc: Global,
+    commands: &[TableCommand],
+    name: &str,
+    matches: &ArgMatches<'a>,
+) -> Result<Option<Given<'a>>, AllocError>
+    ensures { IfOk result (λ given. given ≡ words_named_given (map command_entry commands.now) name.now (rows_of (found_of matches.now))) }
 {
-    let nodes = number_within(matches, "nodes", 0, MOST_NODES)?;
-    Some(Asked::Panel { nodes })
+    match command_named(commands, name) {
+        Some(words) => command_given(alloc, words, matches),
+        None => Ok(None),
+    }
 }
 
-fn lottery_of<'a>(matches: &ArgMatches<'a>) -> Option<Asked<'a>>
-    ensures { option_map order result ≡ lottery_asked (rows_of (found_of matches.now)) }
+fn command_named<'w>(commands: &'w [TableCommand], name: &str) -> Option<&'w TableCommand>
+    ensures { option_map (λ words. words.now) result ≡ find (λ words. bytes_eq words.name.now name.now) commands.now }
 {
-    let limits = limits_of(matches)?;
-    let workers = workers_of(matches)?;
-    Some(Asked::Lottery { limits, workers })
+    commands.iter().find(|words| words.name == name)
 }
 
-fn make_of<'a>(matches: &ArgMatches<'a>) -> Option<Asked<'a>>
-    ensures { option_map order result ≡ make_asked (rows_of (found_of matches.now)) }
+/// The command with the values of its options, where all have their forms.
+fn command_given<'a>(
+    alloc: Global,
+    words: &TableCommand,
+    matches: &ArgMatches<'a>,
+) -> Result<Option<Given<'a>>, AllocError>
+    ensures { IfOk result (λ given. given ≡ words_command_given (rows_of (found_of matches.now)) (command_entry words.now)) }
 {
-    let made = made_of(matches)?;
-    let limits = limits_of(matches)?;
-    let workers = workers_of(matches)?;
-    Some(Asked::Make {
-        made,
-        limits,
-        workers,
-    })
+    match values_of(alloc, words.options, matches) {
+        Ok(Some(values)) => Ok(Some(Given::new(words.command, values))),
+        Ok(None) => Ok(None),
+        Err(error) => Err(error),
+    }
 }
 
-fn draw_of<'a>(matches: &ArgMatches<'a>) -> Option<Asked<'a>>
-    ensures { option_map order result ≡ draw_asked (rows_of (found_of matches.now)) }
+/// The value of each option, where all have their forms.
+fn values_of<'a>(
+    alloc: Global,
+    options: &[TableOption],
+    matches: &ArgMatches<'a>,
+) -> Result<Option<Vec<OptionValue<'a>>>, AllocError>
+    ensures { IfOk result (λ values. option_map (λ values. map named values.items) values
+        ≡ option_values (rows_of (found_of matches.now)) (map option_entry options.now)) }
 {
-    let seal = text_at(matches, "seal")?;
-    let digits = text_at(matches, "digits")?;
-    Some(Asked::Draw { seal, digits })
+    let mut values = Vec::new(alloc);
+    for option in options {
+        let Some(value) = value_of(option, matches) else {
+            return Ok(None);
+        };
+        values.push(OptionValue {
+            name: option.name,
+            value,
+        })?;
+    }
+    Ok(Some(values))
 }
 
-fn check_of<'a>(matches: &ArgMatches<'a>) -> Option<Asked<'a>>
-    ensures { option_map order result ≡ check_asked (rows_of (found_of matches.now)) }
+/// The value of an option, where it has the option's form.
+fn value_of<'a>(option: &TableOption, matches: &ArgMatches<'a>) -> Option<Value<'a>>
+    ensures { result ≡ option_value (rows_of (found_of matches.now)) (option_entry option.now) }
 {
-    let nodes = number_within(matches, "nodes", 0, MOST_NODES)?;
-    Some(Asked::Check { nodes })
+    match option.form {
+        Form::Number { least, most } => {
+            let number = number_within(matches, option.name, least, most)?;
+            Some(Value::Number(number))
+        }
+        Form::Text => {
+            let text = text_at(matches, option.name)?;
+            Some(Value::Text(text))
+        }
+    }
 }
 
-fn prove_of<'a>(matches: &ArgMatches<'a>) -> Option<Asked<'a>>
-    ensures { option_map order result ≡ prove_asked (rows_of (found_of matches.now)) }
+fn text_at<'a>(matches: &ArgMatches<'a>, name: &str) -> Option<Word<'a>>
+    ensures { result ≡ first_of name.now (rows_of (found_of matches.now)) }
 {
-    let pivots = number_within(matches, "pivots", 0, MOST_PIVOTS)?;
-    let nodes = number_within(matches, "nodes", 0, MOST_NODES)?;
-    Some(Asked::Prove { pivots, nodes })
-}
-
-/// The text that an option has.
-fn text_at<'a>(matches: &ArgMatches<'a>, name: &str) -> Option<&'a str>
-    ensures { option_map (λ text. text.now) result ≡ first_of name.now (rows_of (found_of matches.now)) }
-{
-    matches.get_str(name)
-}
-
-/// Which pool is to be made, where its number and its volunteers are in their ranges.
-fn made_of(matches: &ArgMatches) -> Option<Made>
-    ensures { result ≡ made_asked (rows_of (found_of matches.now)) }
-{
-    let seed = number_within(matches, "seed", 0, MOST_SEED)?;
-    let volunteers = number_within(
-        matches,
-        "volunteers",
-        u64::from(LEAST_VOLUNTEERS),
-        u64::from(MOST_VOLUNTEERS),
-    )?;
-    Made::new(seed, u32::try_from(volunteers).ok()?)
-}
-
-/// The limits of a run, where each is in its range.
-fn limits_of(matches: &ArgMatches) -> Option<Limits>
-    ensures { result ≡ limits_asked (rows_of (found_of matches.now)) }
-{
-    let bits = number_within(matches, "bits", u64::from(LEAST_BITS), u64::from(MOST_BITS))?;
-    let pivots = number_within(matches, "pivots", 0, MOST_PIVOTS)?;
-    let nodes = number_within(matches, "nodes", 0, MOST_NODES)?;
-    Limits::new(u32::try_from(bits).ok()?, pivots, nodes)
-}
-
-/// How many workers, where that is in its range.
-fn workers_of(matches: &ArgMatches) -> Option<Workers>
-    ensures { result ≡ workers_asked (rows_of (found_of matches.now)) }
-{
-    let number = number_within(
-        matches,
-        "workers",
-        u64::from(LEAST_WORKERS),
-        u64::from(MOST_WORKERS),
-    )?;
-    Workers::new(u32::try_from(number).ok()?)
+    match matches.get_str(name) {
+        Some(text) => Some(Word::new(text)),
+        None => None,
+    }
 }
 
 /// The number that an option has, where it is from `least` to `most`.

@@ -2,16 +2,16 @@
 use Rattle.std.proofs.Common.{◌≡◌, ◌≢◌, ℕ, zero, suc, ◌+◌, ◌-◌, ◌<◌, ◌≤◌, Bool, true, false, cond, not, ◌&&◌, ◌||◌, List, [], ◌∷◌, ◌++◌, map, length, Option, Some, None, pos, ◌≤ℤ◌, refl, sym, ap, ◌∙◌, subst, arith, inl, inr, ⊎_elim}
 use Rattle.std.specs.List.{find, list_all, range_with_len}
 use Rattle.std.proofs.lemmas.Bool.{cases_eq, and_parts}
-use Rattle.basic_laws.proofs.Integers.{lt-tested}
-use Rattle.basic_laws.proofs.Each.{each_from_list_all}
-use Rattle.basic_laws.proofs.Found.{find_range-none, find_range-first}
-use Rattle.row_definitions.specs.declared.Var.{Var}
-use Rattle.row_definitions.specs.declared.Var.TheVariants.{Slack}
-use Rattle.row_definitions.specs.Table.{Table, coefficient_at, row_at, basic_at, row_numbers}
-use Rattle.row_definitions.specs.Choice.{may_leave, leaves_before, is_least, leaving}
-use Rattle.row_definitions.proofs.Chosen.{row_each}
-use Rattle.row_definitions.proofs.Ratios.{IsCandidate, before-other}
-use Rattle.row_definitions.proofs.Leaving.{IsBest, IsBest-takes, IsBest-keeps, IsBest-first, best_is_least}
+use Rattle.laws_basic.proofs.Integers.{lt-tested}
+use Rattle.laws_basic.proofs.Each.{each_from_list_all}
+use Rattle.laws_basic.proofs.Found.{find_range-none, find_range-first}
+use Rattle.define_rows.specs.declared.Var.{Var}
+use Rattle.define_rows.specs.declared.Var.TheVariants.{Slack}
+use Rattle.define_rows.specs.Table.{Table, coefficient_at, row_at, basic_at, row_numbers}
+use Rattle.define_rows.specs.Choice.{may_leave, leaves_before, is_least, leaving}
+use Rattle.define_rows.proofs.Chosen.{row_each}
+use Rattle.define_rows.proofs.Ratios.{IsCandidate, before-other}
+use Rattle.define_rows.proofs.Leaving.{IsBest, IsBest-takes, IsBest-keeps, IsBest-first, best_is_least}
 use Rattle.exact_table.specs.Parts.{AreDifferent}
 use Rattle.exact_table.specs.Best.{better, best_of}
 

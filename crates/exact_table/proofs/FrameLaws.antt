@@ -2,7 +2,7 @@
 use Rattle.std.proofs.Common.{◌≡◌, ℕ, ◌+◌, ◌-◌, ◌<◌, ◌≤◌, Bool, true, false, List, length, set, take, refl, ap, ap₂, ◌∙◌, arith, ℤ}
 use Rattle.std.proofs.lemmas.List.{take_more_set}
 use Rattle.std.proofs.lemmas.Bool.{true≢false, false≢true}
-use Rattle.row_definitions.specs.Steps.{enter_stage, closed_by, settled_by}
+use Rattle.define_rows.specs.Steps.{enter_stage, closed_by, settled_by}
 use Rattle.exact_table.specs.Marks.{marks_of, settled_of, settled_marks}
 use Rattle.exact_table.specs.Parts.{frame_of, IsFrame}
 use Rattle.exact_table.proofs.MarkLaws.{marks_of-more, marks_of-settled_marks, settled_of-settled_marks}

@@ -5,7 +5,7 @@ use Rattle.std.specs.List.{AllByRecursion, range_with_len}
 use Rattle.std.proofs.lemmas.Bool.{cases_eq, eq-eqb, ne_eqb, le-leb, lt-leb, lt-ltb, le-ltb}
 use Rattle.std.proofs.lemmas.List.Elements.{recursion_from_All, All-from_recursion}
 use Rattle.std.proofs.lemmas.List.FromFn.{map-range_with_len_more}
-use Rattle.row_definitions.specs.Steps.{settled_by}
+use Rattle.define_rows.specs.Steps.{settled_by}
 use Rattle.exact_table.specs.Marks.{never, unsettled_before, marks_of, settled_of, AreMarks, settled_marks}
 
 -- a mark changes only from `never`, and only where the entry is positive

@@ -1,8 +1,8 @@
--- What enters and what leaves, found as the variables and the rows are looked at in turn.
+-- What enters and what leaves, found by looking at the variables and the rows in turn. Over Choice of `define_rows`. For `choosing`.
 use Rattle.std.specs.Prelude.{◌≡◌, ◌<◌, ℕ, zero, suc, length, ℤ, ◌≤ℤ◌, ◌<ℤ◌, if◌then◌else◌, Bool, ◌&&◌, Option, Some, None, pos, int_lt}
-use Rattle.row_definitions.specs.declared.Var.{Var}
-use Rattle.row_definitions.specs.Table.{Table, coefficient_at, row_at, basic_at}
-use Rattle.row_definitions.specs.Choice.{is_eligible, may_leave, leaves_before}
+use Rattle.define_rows.specs.declared.Var.{Var}
+use Rattle.define_rows.specs.Table.{Table, coefficient_at, row_at, basic_at}
+use Rattle.define_rows.specs.Choice.{is_eligible, may_leave, leaves_before}
 
 -- a variable is eligible, and its coefficient in the row is below 0
 abbrev pub may_enter : Table → ℕ → Var → Bool
@@ -17,16 +17,16 @@ pub record IsLeaver (table : Table) (v : Var) (row : ℕ) (side coefficient : �
   pub some_side : pos 0 ≤ℤ side
   pub positive : pos 0 <ℤ coefficient
 
--- the better of a row and the best one so far
+-- the better one of a row and the best one so far
 abbrev pub better : Table → Var → ℕ → Option ℕ → Option ℕ
 better table v i None = Some i
 better table v i (Some b) = if leaves_before table v i b then Some i else Some b
 
--- the best row once row i was looked at
+-- the best row after row i was looked at
 abbrev pub next_best : Table → Var → ℕ → Option ℕ → Option ℕ
 next_best table v i best = if may_leave table v i then better table v i best else best
 
--- the best of the first n rows, if any may be left
+-- the best of the first n rows, if one of them may be left
 abbrev pub best_of : Table → Var → ℕ → Option ℕ
 best_of table v zero = None
 best_of table v (suc n) = next_best table v n (best_of table v n)

@@ -1,4 +1,4 @@
--- How the table keeps who is settled: for each class the stage at whose close it was settled.
+-- How the table keeps who is settled: for each class the stage at whose close it was settled. For `marks` and `frame`.
 use Rattle.std.specs.Prelude.{◌≢◌, ℕ, ◌-◌, ◌<◌, ◌^◌, nat_le, nat_lt, ◌==◌, ◌&&◌, if◌then◌else◌, Bool, List, [], ◌∷◌, map, ℤ, pos, int_lt}
 use Rattle.std.specs.List.{All, range_with_len}
 
@@ -10,7 +10,7 @@ never = 2 ^ 64 - 1
 abbrev pub unsettled_before : List ℕ → ℕ → List Bool
 unsettled_before settled_at stage = map (λ at. nat_le stage at) settled_at
 
--- for each stage entered, which classes were unsettled then
+-- for each stage that was entered, which classes were unsettled then
 abbrev pub marks_of : List ℕ → ℕ → List (List Bool)
 marks_of settled_at stages = map (unsettled_before settled_at) (range_with_len 0 stages)
 
@@ -18,11 +18,11 @@ marks_of settled_at stages = map (unsettled_before settled_at) (range_with_len 0
 abbrev pub settled_of : List ℕ → List Bool
 settled_of settled_at = map (λ at. nat_lt at never) settled_at
 
--- each class that is settled was settled as a stage closed
+-- each settled class was settled when some stage closed
 abbrev pub AreMarks : List ℕ → ℕ → Type 0
 AreMarks settled_at stages = All (λ at. at ≢ never → at < stages) settled_at
 
--- the marks once a stage closes: its number for each unsettled class of positive entry
+-- the marks after a stage closes: its number for each unsettled class of positive entry
 abbrev pub settled_marks : ℕ → List ℤ → List ℕ → List ℕ
 settled_marks stage [] marks = marks
 settled_marks stage (x ∷ xs) [] = []

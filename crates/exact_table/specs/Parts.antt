@@ -1,23 +1,23 @@
--- The parts of the table that are no rows, and what they keep.
+-- The parts of the table that are no rows, and what they keep. Over Table and InOrder of `define_rows`. For `frame` and `table`.
 use Rattle.std.specs.Prelude.{◌≡◌, ◌≢◌, ℕ, ◌+◌, ◌-◌, nat_lt, ◌<◌, ◌≤◌, ◌^◌, ◌≤ℤ◌, ◌<ℤ◌, ℤ, pos, unsigned_abs, Bool, true, if◌then◌else◌, Option, Some, None, List, [], length, take, slice_index, slice_index_or}
 use Rattle.std.specs.List.{All}
-use Rattle.row_definitions.specs.declared.Var.{Var}
-use Rattle.row_definitions.specs.Row.{Row, reach}
-use Rattle.row_definitions.specs.declared.Var.TheVariants.{Column}
-use Rattle.row_definitions.specs.Choice.{basic_row}
-use Rattle.row_definitions.specs.Table.{Table, coefficient_at, row_at}
-use Rattle.row_definitions.specs.InOrder.{count_in, IsInOrder}
+use Rattle.define_rows.specs.declared.Var.{Var}
+use Rattle.define_rows.specs.Row.{Row, reach}
+use Rattle.define_rows.specs.declared.Var.TheVariants.{Column}
+use Rattle.define_rows.specs.Choice.{basic_row}
+use Rattle.define_rows.specs.Table.{Table, coefficient_at, row_at}
+use Rattle.define_rows.specs.InOrder.{count_in, IsInOrder}
 use Rattle.exact_table.specs.Marks.{marks_of, settled_of, AreMarks}
 
--- one more, of a count that stays at its last value 2 ^ 64 - 1
+-- one more, for a count that stays at its last value 2 ^ 64 - 1
 abbrev pub counted_on : ℕ → ℕ
 counted_on count = if nat_lt count (2 ^ 64 - 1) then count + 1 else count
 
--- how many stages are closed, of those entered
+-- how many of the entered stages are closed
 abbrev pub closed_count : ℕ → Bool → ℕ
 closed_count stages in_stage = stages - (if in_stage then 1 else 0)
 
--- the table that has these parts, and no row yet
+-- the table of these parts, without rows yet
 abbrev pub frame_of : List ℕ → List ℕ → ℕ → List (List ℕ) → List ℕ → Bool → ℕ → ℕ → Table
 frame_of sizes settled_at stages columns closed in_stage bits pivots = record {
   sizes = sizes;
@@ -32,7 +32,7 @@ frame_of sizes settled_at stages columns closed in_stage bits pivots = record {
   pivots = pivots;
 }
 
--- what the parts keep: there is a mark and room for a closed row for each class
+-- what the parts keep: a mark for each class, and room for a closed row for each class
 pub record IsFrame (sizes settled_at : List ℕ) (stages : ℕ) (columns : List (List ℕ)) (closed : List ℕ) (in_stage : Bool) (bits : ℕ) : Type 0 where
   pub some_each : All (λ size. 1 ≤ size) sizes
   pub marks_each : length settled_at ≡ length sizes
@@ -50,13 +50,13 @@ pub record IsFrame (sizes settled_at : List ℕ) (stages : ℕ) (columns : List 
 abbrev pub with_rows : Table → List Row → List Var → Table
 with_rows frame rows basic = record frame { rows = rows; basic = basic }
 
--- what the coefficients of a table's rows need so that they fit 128 bits
+-- what a table's rows need so that their coefficients fit 128 bits
 pub record AreRows (table : Table) : Type 0 where
   pub entry_count : All (λ row. length row.a ≡ length table.sizes) table.rows
   pub small : All (λ row. reach table.sizes row < 2 ^ 127) table.rows
   pub sides : All (λ row. pos 0 ≤ℤ row.b) table.rows
 
--- where a column is basic: the right side of its row, and its coefficient there, which is above 0
+-- the row in which a column is basic: its right side, and the column's coefficient there, which is above 0
 abbrev pub TellsBasic : Table → ℕ → Option (ℤ × ℤ) → Type 0
 TellsBasic table column None = basic_row table (Column column) ≡ None
 TellsBasic table column (Some entry) =
@@ -67,11 +67,11 @@ pub record IsSmall (row : Row) : Type 0 where
   pub side : unsigned_abs row.b < 2 ^ 127
   pub entries : All (λ x. unsigned_abs x < 2 ^ 127) row.a
 
--- the counts are those of no column
+-- no column has these counts
 abbrev pub IsNew : Table → List ℕ → Type 0
 IsNew table counts = (c : ℕ) → c < length table.columns → slice_index_or table.columns c [] ≢ counts
 
--- no variable stands twice
+-- no variable comes twice
 abbrev pub AreDifferent : List Var → Type 0
 AreDifferent basic = (i j : ℕ) (d : Var) → i < length basic → j < length basic → slice_index_or basic i d ≡ slice_index_or basic j d → i ≡ j
 

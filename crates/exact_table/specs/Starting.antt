@@ -1,16 +1,16 @@
--- Whether steps pass, without what they give.
+-- Whether steps pass the width, without their outcomes. For `starting` and `table`.
 use Rattle.std.specs.Prelude.{◌≡◌, Result, Ok, Err, List, ℤ}
-use Rattle.row_definitions.specs.declared.Pass.{Pass}
-use Rattle.row_definitions.specs.Table.{Table}
+use Rattle.define_rows.specs.declared.Pass.{Pass}
+use Rattle.define_rows.specs.Table.{Table}
 use Rattle.exact_table.specs.declared.TableStop.{TableStop}
 use Rattle.exact_table.specs.declared.TableStop.TheVariants.{OutOfMemory}
 
--- an answer says whether steps in turn pass, and at which
+-- whether steps in turn pass the width, and at which
 abbrev pub PassesWith : Result (Unit {0}) Pass → Result (List ℤ) Pass → Type 0
 PassesWith (Ok x) steps = (reaches : List ℤ) × (steps ≡ Ok reaches)
 PassesWith (Err pass) steps = steps ≡ Err pass
 
--- a table was made as the definitions have it, or its first pass was met, or memory ran out
+-- a table was made as the definition says, or its first Pass came, or memory ran out
 abbrev pub IsStarted : Result Table TableStop → Result Table Pass → Type 0
 IsStarted (Ok table) started = started ≡ Ok table
 IsStarted (Err (TableStop.Pass pass)) started = started ≡ Err pass

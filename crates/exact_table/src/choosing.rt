@@ -1,18 +1,17 @@
-//! Bland's rule over the rows of a table.
+//! Bland's rule over the rows of a table. `Table::bland` calls it.
 
 ghost use Rattle.std.specs.Prelude.{◌≡◌, ◌<◌, ◌^◌, [], length, map, IfNone, IfSome, true, false, pos, ◌≤ℤ◌, ◌<ℤ◌, unsigned_abs, position};
 ghost use Rattle.std.specs.List.{All, find, range_with_len};
 ghost use Rattle.std.specs.Option.{option_map};
-ghost use Rattle.row_definitions.specs.Table.{variables, coefficient_at, is_same, comes_before};
-ghost use Rattle.row_definitions.specs.Choice.{is_eligible, goes_before, may_leave, leaving, entering, choice};
+ghost use Rattle.define_rows.specs.Table.{variables, coefficient_at, is_same, comes_before};
+ghost use Rattle.define_rows.specs.Choice.{is_eligible, goes_before, may_leave, leaving, entering, choice};
 ghost use Rattle.exact_table.specs.Best.{may_enter, IsLeaver, next_best};
-ghost use Rattle.row_definitions.specs.InOrder.{IsKnown, IsInOrder};
+ghost use Rattle.define_rows.specs.InOrder.{IsKnown, IsInOrder};
 ghost use Rattle.exact_table.specs.Parts.{with_rows, AreRows, AreDifferent};
 
 use crate::frame::Frame;
+use define_rows::{Row, Var};
 use frac128::compare;
-use row_definitions::Var;
-use row_model::Row;
 use std::cmp::Ordering;
 
 fn is_same(first: Var, second: Var) -> bool
@@ -60,7 +59,7 @@ pub(crate) fn coefficient_in(frame: &Frame, rows: &[Row], row: usize, variable: 
     frame.coefficient(&rows[row], variable)
 }
 
-// A variable's coefficient is 0 in each closed row.
+// True if a variable's coefficient is 0 in each closed row.
 fn is_eligible(frame: &Frame, rows: &[Row], variable: Var) -> bool
     requires known { IsKnown frame.now variable }
     requires rows { AreRows (with_rows frame.now rows.now []) }
@@ -76,7 +75,7 @@ fn is_eligible(frame: &Frame, rows: &[Row], variable: Var) -> bool
     true
 }
 
-// A variable is eligible, and its coefficient in the open row is below 0.
+// True if a variable is eligible and its coefficient in the open row is below 0.
 fn may_enter(frame: &Frame, rows: &[Row], at: usize, variable: Var) -> bool
     requires known { IsKnown frame.now variable }
     requires rows { AreRows (with_rows frame.now rows.now []) }
@@ -91,7 +90,7 @@ fn may_enter(frame: &Frame, rows: &[Row], at: usize, variable: Var) -> bool
     }
 }
 
-// The first slack that may enter.
+// The first slack that may enter, or None.
 fn first_slack(frame: &Frame, rows: &[Row], at: usize) -> Option<Var>
     requires rows { AreRows (with_rows frame.now rows.now []) }
     requires closed { All (λ i. i < length rows.now) frame.now.closed }
@@ -107,7 +106,7 @@ fn first_slack(frame: &Frame, rows: &[Row], at: usize) -> Option<Var>
     None
 }
 
-// The first stage variable that may enter.
+// The first stage variable that may enter, or None.
 fn first_stage(frame: &Frame, rows: &[Row], at: usize) -> Option<Var>
     requires rows { AreRows (with_rows frame.now rows.now []) }
     requires closed { All (λ i. i < length rows.now) frame.now.closed }
@@ -123,7 +122,7 @@ fn first_stage(frame: &Frame, rows: &[Row], at: usize) -> Option<Var>
     None
 }
 
-// The first column that may enter.
+// The first column that may enter, or None.
 fn first_column(frame: &Frame, rows: &[Row], at: usize) -> Option<Var>
     requires rows { AreRows (with_rows frame.now rows.now []) }
     requires closed { All (λ i. i < length rows.now) frame.now.closed }
@@ -139,7 +138,7 @@ fn first_column(frame: &Frame, rows: &[Row], at: usize) -> Option<Var>
     None
 }
 
-// The variable of least number that may enter.
+// The first variable in order that may enter, or None.
 fn first_to_enter(frame: &Frame, rows: &[Row], at: usize) -> Option<Var>
     requires rows { AreRows (with_rows frame.now rows.now []) }
     requires closed { All (λ i. i < length rows.now) frame.now.closed }
@@ -165,7 +164,7 @@ struct Leaver {
     basic: Var,
 }
 
-// Of two rows that may be left, the first leaves rather than the second.
+// True if of two rows that may be left, the first is left rather than the second.
 fn goes_before(one: Leaver, other: Leaver) -> bool
     requires side { pos 0 ≤ℤ one.side }
     requires coefficient { pos 0 <ℤ one.coefficient }
@@ -180,7 +179,7 @@ fn goes_before(one: Leaver, other: Leaver) -> bool
     }
 }
 
-// A row, where it has a positive coefficient on a variable.
+// A row, if it has a positive coefficient on a variable.
 fn leaver_at(
     frame: &Frame,
     rows: &[Row],
@@ -210,7 +209,7 @@ fn leaver_at(
     }
 }
 
-// The best row once one more was looked at.
+// The best row after one more was looked at.
 fn next_best(
     frame: &Frame,
     rows: &[Row],
@@ -243,7 +242,7 @@ fn next_best(
     }
 }
 
-// The row that is left where a variable enters.
+// The row that is left when a variable enters.
 fn row_to_leave(frame: &Frame, rows: &[Row], basic: &[Var], variable: Var) -> Option<usize>
     requires known { IsKnown frame.now variable }
     requires rows { AreRows (with_rows frame.now rows.now []) }

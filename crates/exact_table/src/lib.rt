@@ -1,6 +1,8 @@
-//! The exact simplex table of the leximin program, in whole numbers under a width: rows `(b; a_1 .. a_m)` whose greatest
-//! common divisor is 1, Bland's rule, and a pivot that is made whole or passes the width at its first operation.
-//! It stands on `frac128`, on the values of `row_model` and on the definitions of `row_definitions`.
+//! The exact simplex table of the leximin program, in whole numbers under a width: rows `(b; a_1 .. a_m)` whose greatest common divisor
+//! is 1, Bland's rule, and a pivot that is made whole or stops at the first operation that passes the width. Stands on `frac128`, and
+//! on `define_rows`, whose table its value is. Above: `leximin_run`.
+//!
+//! Promises: the calls of `Table`, each exactly the definition's step. All other modules are helpers over numbers and slices.
 #![tactic(auto)]
 
 mod bounds;
@@ -13,15 +15,14 @@ mod starting;
 mod table;
 mod width;
 
-pub use row_definitions::{Op, Pass, Var};
-pub use row_model::{Composition, Row};
+pub use define_rows::{Composition, Op, Pass, Row, Var};
 pub use table::Table;
 use thiserror::Error;
 
 /// Why a table was not made.
 #[derive(Debug, Drop, Error)]
 pub enum TableStop {
-    /// The first operation of the rows' reaches whose result passes the width.
+    /// An operation of the rows' reaches passes the width; this is the first.
     #[error("row {} passes the width", .0.row)]
     Pass(Pass),
     /// No memory was left.

@@ -1,4 +1,4 @@
-//! For each class the stage at whose close it was settled.
+//! For each class the stage at whose close it was settled. A helper of `frame`.
 
 ghost use Rattle.std.specs.Prelude.{◌≡◌, ◌==◌, ◌&&◌, if◌then◌else◌, count_by, length, replicate, IfOk, pos, int_lt};
 ghost use Rattle.exact_table.specs.Marks.{never, settled_of, settled_marks};
@@ -8,7 +8,7 @@ use std::alloc::{AllocError, Global};
 // The mark of a class that is not settled.
 pub(crate) const NEVER: usize = usize::MAX;
 
-// The marks of so many classes of which none is settled.
+// The marks of `classes` classes, none settled yet.
 pub(crate) fn none_settled(alloc: Global, classes: usize) -> Result<Vec<usize>, AllocError>
     ensures { IfOk result (λ marks. marks.items ≡ replicate classes never) }
 {
@@ -22,7 +22,7 @@ pub(crate) fn settled_count(settled_at: &[usize]) -> usize
     settled_at.iter().filter(|at| **at < NEVER).count()
 }
 
-// A class's mark once a stage closes where the class has an entry.
+// A class's mark after a stage closes, given the class's entry.
 fn mark_after(stage: usize, entry: i128, at: usize) -> usize
     ensures { result ≡ (if at == never && int_lt (pos 0) entry then stage else at) }
 {

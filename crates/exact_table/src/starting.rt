@@ -1,18 +1,17 @@
-//! The rows of the first table.
+//! The rows of the first table. `Table::start` calls it.
 
 ghost use Rattle.std.specs.Prelude.{◌≡◌, ◌+◌, ◌<◌, ◌^◌, ◌∷◌, map, length, IfOk, Ok, pos, ◌≤ℤ◌, unsigned_abs};
 ghost use Rattle.std.specs.List.{All, range_with_len};
-ghost use Rattle.row_definitions.specs.Row.{reach};
-ghost use Rattle.row_definitions.specs.Width.{all_in_turn, reach_operations};
-ghost use Rattle.row_definitions.specs.Pivot.{first_rows};
+ghost use Rattle.define_rows.specs.Row.{reach};
+ghost use Rattle.define_rows.specs.Width.{all_in_turn, reach_operations};
+ghost use Rattle.define_rows.specs.Pivot.{first_rows};
 ghost use Rattle.exact_table.specs.Starting.{PassesWith};
 
 use crate::rows;
-use row_definitions::{Pass, Var};
-use row_model::Row;
+use define_rows::{Pass, Row, Var};
 use std::alloc::{AllocError, Global};
 
-// The rows of the first table, of the counts of the first column.
+// The rows of the first table, given the counts of the first column.
 pub(crate) fn first_rows(alloc: Global, first: &[usize]) -> Result<Vec<Row>, AllocError>
     ensures { IfOk result (λ rows. rows.items ≡ first_rows first.now) }
 {
@@ -25,7 +24,7 @@ pub(crate) fn first_rows(alloc: Global, first: &[usize]) -> Result<Vec<Row>, All
     Ok(rows)
 }
 
-// The operations of the reach of each row.
+// Makes the operations of the reach of each row.
 pub(crate) fn check_reaches(most: i128, sizes: &[usize], rows: &[Row]) -> Result<(), Pass>
     requires most { pos 0 ≤ℤ most }
     requires entries { All (λ row. length row.a ≡ length sizes.now) rows.now }

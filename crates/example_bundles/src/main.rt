@@ -2,9 +2,10 @@
 //! and the command.
 #![tactic(auto)]
 
+use command_pools::{Lottery, call_lottery};
+use command_shell::Resources;
+use define_runs::{Limits, Workers};
 use outside::{MemSink, MemSource, NoWatch};
-use pool_commands::call_lottery;
-use run_limits::{Limits, Workers};
 use std::alloc::Global;
 use std::thread::Threads;
 use std::{fs, io};
@@ -44,15 +45,12 @@ fn printed<R: Threads + Sync>(rt: &R, alloc: Global, pool: &[u8]) -> io::Result<
     let mut source = MemSource::new(alloc, pool, &[])?;
     let mut out = MemSink::new(alloc, ROOM, &[])?;
     let mut errs = MemSink::new(alloc, ROOM, &[])?;
-    let _ = call_lottery(
+    let resources = Resources {
         rt,
         alloc,
-        limits,
-        workers,
-        &NoWatch,
-        &mut source,
-        &mut out,
-        &mut errs,
-    );
+        watch: &NoWatch,
+    };
+    let lottery = Lottery { limits, workers };
+    let _ = call_lottery(&resources, &lottery, &mut source, &mut out, &mut errs);
     Ok(out.written().to_vec(alloc)?)
 }

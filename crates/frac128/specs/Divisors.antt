@@ -1,4 +1,5 @@
--- Common divisors and common multiples of whole numbers of any size.
+-- Common divisors and common multiples of whole numbers of any size. Stands on nothing. `define_rows` and `define_spreads` cite
+-- it.
 use Rattle.std.specs.Prelude.{ℕ, zero, suc, ◌*◌, ◌/◌, ◌%◌, max, ◌==◌, ◌&&◌, if◌then◌else◌, Bool, List}
 use Rattle.std.specs.Int.{IsGcd, ◌∣◌}
 use Rattle.std.specs.List.{fold}
@@ -7,7 +8,7 @@ use Rattle.std.specs.List.{fold}
 abbrev pub divides : ℕ → ℕ → Bool
 divides d n = n % d == 0
 
--- the greatest number from 1 to the first number that divides both x and y, or 0 where there is none
+-- the greatest number from 1 to the first argument that divides both x and y, or 0 if there is none
 unfoldable pub common_divisor_up_to : ℕ → ℕ → ℕ → ℕ
 common_divisor_up_to zero x y = 0
 common_divisor_up_to (suc d) x y =
@@ -21,7 +22,7 @@ gcd_of x y = common_divisor_up_to (max x y) x y
 unfoldable pub IsGreatestCommonDivisor : ℕ → ℕ → ℕ → Type 0
 IsGreatestCommonDivisor x y g = IsGcd x y g
 
--- the greatest common divisor of all numbers of a list; 0 where each is 0
+-- the greatest common divisor of all numbers of a list; 0 if each is 0
 abbrev pub gcd_of_list : List ℕ → ℕ
 gcd_of_list xs = fold gcd_of 0 xs
 

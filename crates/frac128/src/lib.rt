@@ -1,5 +1,9 @@
-//! Exact fractions in 128 bits: greatest common divisors, least common multiples, lowest terms
-//! and comparison. No call takes memory. Stands on nothing but `std`.
+//! Exact fractions in 128 bits: greatest common divisors, least common multiples, lowest terms and comparison. No call takes memory.
+//! Stands on nothing but std. Above: the exact table (`exact_table`), spreading (`alike`), summaries (`office_reports`), and the run
+//! that makes proofs; `define_rows` and `define_spreads` cite the definitions in `specs/`.
+//!
+//! Promises: `gcd`, `lcm`, `compare`, `lowest` and `Frac`, each by its meaning over whole numbers of any size. The functions without
+//! `pub` are helpers.
 #![tactic(auto)]
 
 ghost use Rattle.std.specs.Prelude.{◌≡◌, ◌≤ℤ◌, ◌<ℤ◌, pos, unsigned_abs, Some, SomeIff, max, ◌*◌, ◌^◌, ◌<◌, ◌≤◌};
@@ -11,7 +15,7 @@ use std::cmp::Ordering;
 use std::fmt;
 use std::marker::Model;
 
-/// The greatest common divisor of `x` and `y`, both at least 0. That of 0 and 0 is 0.
+/// Returns the greatest common divisor of `x` and `y`, both at least 0. That of 0 and 0 is 0.
 pub fn gcd(x: i128, y: i128) -> i128
     requires x { pos 0 ≤ℤ x }
     requires y { pos 0 ≤ℤ y }
@@ -21,9 +25,8 @@ pub fn gcd(x: i128, y: i128) -> i128
     common_divisor(x.unsigned_abs(), y.unsigned_abs()) as i128
 }
 
-// Euclid's algorithm. After the first turn `larger` is the larger one. Two turns later it is what
-// it left by a division by a smaller number, so below half of what it was: numbers below 2^127
-// take at most 255 turns.
+// Euclid's algorithm. After the first turn `larger` is the larger one. A division by a smaller number leaves less than half of `larger`,
+// so two turns at least halve it: numbers below 2^127 take at most 255 turns.
 fn common_divisor(x: u128, y: u128) -> u128
     ensures value { result ≡ gcd_of x y }
     ensures small { result ≤ max x y }
@@ -35,8 +38,8 @@ fn common_divisor(x: u128, y: u128) -> u128
     larger
 }
 
-/// The least common multiple of `x` and `y` where it is at most `limit`, and `None` exactly where
-/// it is above `limit`, however large it is. All three are at least 1.
+/// Returns the least common multiple of `x` and `y` if it is at most `limit`, and `None` exactly if it is above `limit`, however large
+/// it is. All three are at least 1.
 pub fn lcm(x: i128, y: i128, limit: i128) -> Option<i128>
     requires x { pos 0 <ℤ x }
     requires y { pos 0 <ℤ y }
@@ -50,7 +53,8 @@ pub fn lcm(x: i128, y: i128, limit: i128) -> Option<i128>
     Some(multiple as i128)
 }
 
-// `y` times what `x` has beyond the common divisor, tested by a division before it is formed.
+// Returns `y` times the part of `x` beyond the common divisor, or `None` above `limit`. A division tests this before the product is
+// formed.
 fn common_multiple(x: u128, y: u128, limit: u128) -> Option<u128>
     requires { 0 < x }
     ensures { SomeIff result (lcm_of x y ≤ limit) (lcm_of x y) }
@@ -63,8 +67,8 @@ fn common_multiple(x: u128, y: u128, limit: u128) -> Option<u128>
     }
 }
 
-/// Compares the fraction `an / ad` with `bn / bd`, exactly. The upper numbers are at least 0 and
-/// the lower ones at least 1. No product is formed, so any such numbers can be compared.
+/// Compares the fraction `an / ad` with `bn / bd`, exactly. The upper numbers are at least 0 and the lower ones at least 1. No product
+/// is formed, so no such numbers are too large.
 pub fn compare(an: i128, ad: i128, bn: i128, bd: i128) -> Ordering
     requires an { pos 0 ≤ℤ an }
     requires ad { pos 0 <ℤ ad }
@@ -81,10 +85,8 @@ pub fn compare(an: i128, ad: i128, bn: i128, bd: i128) -> Ordering
     )
 }
 
-// Euclid's algorithm on both fractions side by side: the quotients decide, or else the divisors
-// over the remainders, compared the other way round. Two turns later each divisor is what it left
-// by a division by a smaller number, so below half of what it was: divisors below 2^127 take at
-// most 255 turns.
+// Euclid's algorithm on both fractions side by side: the quotients decide, or else the divisors over the remainders, compared the other
+// way round. Two turns at least halve each divisor, so divisors below 2^127 take at most 255 turns.
 fn compare_quotients(mut an: u128, mut ad: u128, mut bn: u128, mut bd: u128) -> Ordering
     requires ad { 0 < ad }
     requires bd { 0 < bd }
@@ -147,7 +149,7 @@ impl fmt::Display for Frac {
     }
 }
 
-/// The fraction `num / den` in lowest terms, for a `num` of at least 0 and a `den` of at least 1.
+/// Returns the fraction `num / den` in lowest terms, for a `num` of at least 0 and a `den` of at least 1.
 pub fn lowest(num: i128, den: i128) -> Frac
     requires num { pos 0 ≤ℤ num }
     requires den { pos 0 <ℤ den }

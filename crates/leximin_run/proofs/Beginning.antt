@@ -1,18 +1,18 @@
 -- What the first table needs, and where the run begins.
 use Rattle.std.proofs.Common.{◌≡◌, ℕ, ◌<◌, ◌≤◌, cond, List, [], Some, None, Ok, Err, ap, ◌∙◌}
 use Rattle.std.proofs.lemmas.Bool.{le-ltb, lt-ltb}
-use Rattle.row_definitions.specs.declared.Pass.{Pass}
-use Rattle.row_definitions.specs.Pivot.{start}
-use Rattle.row_definitions.specs.Table.{Table}
-use Rattle.search_definitions.specs.Classes.{Classes, KeepsLimits}
-use Rattle.search_definitions.specs.Compositions.{compositions, first_composition}
-use Rattle.search_definitions.specs.Fronts.{sizes_of}
-use Rattle.search_definitions.specs.Visits.{first_search}
-use Rattle.run_definitions.specs.Keeps.{AreRunLimits}
-use Rattle.run_definitions.specs.Run.{Ends, RunLimits, Ended, NoPanel, NodesSpent, TooWide, closed_rows, opened, opening, started}
-use Rattle.run_definitions.proofs.Following.{ends_at_once, opens_at}
-use Rattle.search_definitions.proofs.Contained.{first_there}
-use Rattle.run_definitions.proofs.Kept.{MayBegin, first_table_is, may_begin, reached_kept}
+use Rattle.define_rows.specs.declared.Pass.{Pass}
+use Rattle.define_rows.specs.Pivot.{start}
+use Rattle.define_rows.specs.Table.{Table}
+use Rattle.define_searches.specs.Classes.{Classes, KeepsLimits}
+use Rattle.define_searches.specs.Compositions.{compositions, first_composition}
+use Rattle.define_searches.specs.Fronts.{sizes_of}
+use Rattle.define_searches.specs.Visits.{first_search}
+use Rattle.define_runs.specs.Keeps.{AreRunLimits}
+use Rattle.define_runs.specs.Run.{Ends, RunLimits, Ended, NoPanel, NodesSpent, TooWide, closed_rows, opened, opening, started}
+use Rattle.define_runs.proofs.Following.{ends_at_once, opens_at}
+use Rattle.define_searches.proofs.Contained.{first_there}
+use Rattle.define_runs.proofs.Kept.{MayBegin, first_table_is, may_begin, reached_kept}
 use Rattle.leximin_run.specs.Advancing.{Reaches}
 
 -- the opening, where its search stays within the budget

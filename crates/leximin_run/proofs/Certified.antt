@@ -1,21 +1,21 @@
 -- What the run answers is certified, and keeps the ranges of a bundle.
 use Rattle.std.specs.Prelude.{Result, Ok, Err}
-use Rattle.pool_definitions.specs.Pool.{IsPool, Pool}
-use Rattle.pool_definitions.proofs.Greatest.{greatest_from_Certifies}
-use Rattle.search_definitions.specs.Classes.{are_alike, classes_of}
-use Rattle.search_definitions.proofs.AlikeClasses.{alike_makes}
-use Rattle.run_definitions.specs.Keeps.{AreLimits}
-use Rattle.run_definitions.specs.Run.{Limits, run_limits}
-use Rattle.run_laws.proofs.Certified.{found_certified}
-use Rattle.run_laws.proofs.Ranges.{found_in_ranges}
-use Rattle.run_laws.proofs.NoPanels.{none_where_no_panel}
+use Rattle.define_pools.specs.Pool.{IsPool, Pool}
+use Rattle.define_pools.proofs.Greatest.{greatest_from_Certifies}
+use Rattle.define_searches.specs.Classes.{are_alike, classes_of}
+use Rattle.define_searches.proofs.AlikeClasses.{alike_makes}
+use Rattle.define_runs.specs.Keeps.{AreLimits}
+use Rattle.define_runs.specs.Run.{Limits, run_limits}
+use Rattle.laws_of_runs.proofs.Certified.{found_certified}
+use Rattle.laws_of_runs.proofs.Ranges.{found_in_ranges}
+use Rattle.laws_of_runs.proofs.NoPanels.{none_where_no_panel}
 use Rattle.leximin_run.specs.declared.stops.Solved.{Solved}
 use Rattle.leximin_run.specs.declared.stops.Solved.TheVariants.{Found, NoPanel}
 use Rattle.leximin_run.specs.declared.stops.Stop.{Stop}
 use Rattle.leximin_run.specs.declared.stops.SolvedSized.{SolvedSized}
 use Rattle.leximin_run.specs.declared.stops.SolvedSized.TheVariants as sized
-use Rattle.run_definitions.specs.Run.{RunLimits}
-use Rattle.search_definitions.specs.Classes.{Classes}
+use Rattle.define_runs.specs.Run.{RunLimits}
+use Rattle.define_searches.specs.Classes.{Classes}
 use Rattle.leximin_run.specs.Answers.{IsCertified, KeepsRanges, TellsEnding, TellsSized, unsized}
 
 pub certified : (pool : Pool) (limits : Limits) → IsPool pool → AreLimits limits → (answer : Result Solved Stop) → TellsEnding (classes_of pool) (run_limits limits) answer → IsCertified pool answer

@@ -3,18 +3,18 @@ use Rattle.std.proofs.Common.{◌≡◌, ◌<◌, ◌≤◌, false, cond, ltb, L
 use Rattle.std.specs.List.{All}
 use Rattle.std.proofs.lemmas.Bool.{le-ltb}
 use Rattle.std.proofs.lemmas.List.Elements.{All-from_recursion, recursion_from_All}
-use Rattle.basic_laws.proofs.Each.{each_mapped}
-use Rattle.pool_definitions.specs.Lottery.{Lottery}
-use Rattle.row_definitions.specs.Choice.{choice}
-use Rattle.row_definitions.specs.InOrder.{IsInOrder, settled_count}
-use Rattle.row_definitions.specs.Row.{Row}
-use Rattle.row_definitions.specs.Steps.{enter_stage, fraction_of, solution}
-use Rattle.row_definitions.specs.Table.{Table}
-use Rattle.row_definitions.proofs.Satisfied.{solution-stands}
-use Rattle.search_definitions.specs.Classes.{Classes}
-use Rattle.spread_definitions.specs.Spreading.{TotalPass, spread}
-use Rattle.run_definitions.specs.Run.{Ends, RunLimits, GoOn, Ended, Found, NodesSpent, PivotsSpent, TooWide, TotalPasses, answered, parts_of, stage_of, step, step_in_stage}
-use Rattle.run_definitions.proofs.Following.{comes_to_end, goes_on}
+use Rattle.laws_basic.proofs.Each.{each_mapped}
+use Rattle.define_pools.specs.Lottery.{Lottery}
+use Rattle.define_rows.specs.Choice.{choice}
+use Rattle.define_rows.specs.InOrder.{IsInOrder, settled_count}
+use Rattle.define_rows.specs.Row.{Row}
+use Rattle.define_rows.specs.Steps.{enter_stage, fraction_of, solution}
+use Rattle.define_rows.specs.Table.{Table}
+use Rattle.define_rows.proofs.Satisfied.{solution-stands}
+use Rattle.define_searches.specs.Classes.{Classes}
+use Rattle.define_spreads.specs.Spreading.{TotalPass, spread}
+use Rattle.define_runs.specs.Run.{Ends, RunLimits, GoOn, Ended, Found, NodesSpent, PivotsSpent, TooWide, TotalPasses, answered, parts_of, stage_of, step, step_in_stage}
+use Rattle.define_runs.proofs.Following.{comes_to_end, goes_on}
 use Rattle.leximin_run.specs.declared.running.Refusal.{Refusal}
 use Rattle.leximin_run.specs.declared.running.Refusal.TheVariants.{Wide, NoPivot, NoVisit, NoMemory}
 use Rattle.leximin_run.specs.Advancing.{Reaches, Refuses, Stands}

@@ -6,24 +6,24 @@ use Rattle.std.proofs.lemmas.Bool.{le-ltb, lt-ltb}
 use Rattle.std.proofs.lemmas.Nat.{pow_pos}
 use Rattle.std.proofs.lemmas.List.{length-map, map-append}
 use Rattle.std.proofs.lemmas.List.Elements.{recursion_from_All}
-use Rattle.basic_laws.proofs.Each.{each_map, each_mapped}
-use Rattle.row_definitions.specs.declared.Var.{Var}
-use Rattle.row_definitions.specs.Choice.{choice}
-use Rattle.row_definitions.specs.InOrder.{settled_count}
-use Rattle.row_definitions.specs.Laws.{MayAdd}
-use Rattle.row_definitions.specs.Pivot.{pivot}
-use Rattle.row_definitions.specs.Row.{Row, reach}
-use Rattle.row_definitions.specs.Steps.{add_column, close_stage, closed_by, enter_stage, open_row}
-use Rattle.row_definitions.specs.Table.{Table, row_at}
-use Rattle.search_definitions.specs.Classes.{Classes}
-use Rattle.search_definitions.specs.Compositions.{price}
-use Rattle.search_definitions.specs.Fronts.{HaveEntries, HaveReach, sizes_of}
-use Rattle.wave_definitions.specs.Waves.{best_in_waves}
-use Rattle.run_definitions.specs.Run.{RunLimits, Next, GoOn, Ended, NodesSpent, PivotsSpent, answered, closed_rows, parts_of, pivoted, priced, pricing_visits, step, step_in_stage}
-use Rattle.spread_definitions.specs.Spreading.{spread}
-use Rattle.run_definitions.specs.Keeps.{IsPriced, KeepsRun}
-use Rattle.run_definitions.proofs.Kept.{step_kept}
-use Rattle.run_definitions.proofs.Priced.{may_be_added}
+use Rattle.laws_basic.proofs.Each.{each_map, each_mapped}
+use Rattle.define_rows.specs.declared.Var.{Var}
+use Rattle.define_rows.specs.Choice.{choice}
+use Rattle.define_rows.specs.InOrder.{settled_count}
+use Rattle.define_rows.specs.Laws.{MayAdd}
+use Rattle.define_rows.specs.Pivot.{pivot}
+use Rattle.define_rows.specs.Row.{Row, reach}
+use Rattle.define_rows.specs.Steps.{add_column, close_stage, closed_by, enter_stage, open_row}
+use Rattle.define_rows.specs.Table.{Table, row_at}
+use Rattle.define_searches.specs.Classes.{Classes}
+use Rattle.define_searches.specs.Compositions.{price}
+use Rattle.define_searches.specs.Fronts.{HaveEntries, HaveReach, sizes_of}
+use Rattle.define_waves.specs.Waves.{best_in_waves}
+use Rattle.define_runs.specs.Run.{RunLimits, Next, GoOn, Ended, NodesSpent, PivotsSpent, answered, closed_rows, parts_of, pivoted, priced, pricing_visits, step, step_in_stage}
+use Rattle.define_spreads.specs.Spreading.{spread}
+use Rattle.define_runs.specs.Keeps.{IsPriced, KeepsRun}
+use Rattle.define_runs.proofs.Kept.{step_kept}
+use Rattle.define_runs.proofs.Priced.{may_be_added}
 use Rattle.panel_search.specs.Answers.{AnswersBest}
 use Rattle.panel_search.specs.declared.searching.SearchStop.{SearchStop}
 use Rattle.panel_search.specs.declared.searching.SearchStop.TheVariants.{Spent, OutOfMemory}

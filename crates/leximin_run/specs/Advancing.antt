@@ -1,24 +1,24 @@
--- One step of a run, as it is made.
+-- One step of a run, as it is made. Over Run and Keeps of `define_runs`. For `running`.
 use Rattle.std.specs.Prelude.{◌≡◌, ◌≤◌, Bool, true, false, List, length, Some, Result, Ok, Err}
-use Rattle.row_definitions.specs.InOrder.{settled_count}
-use Rattle.row_definitions.specs.Row.{Row}
-use Rattle.row_definitions.specs.Table.{Table}
-use Rattle.run_definitions.specs.Keeps.{AreRunLimits, IsReached, KeepsRun}
-use Rattle.run_definitions.specs.Run.{RunLimits, GoOn, Ended, TooWide, PivotsSpent, NodesSpent, closed_rows, step}
-use Rattle.search_definitions.specs.Classes.{Classes, KeepsLimits}
+use Rattle.define_rows.specs.InOrder.{settled_count}
+use Rattle.define_rows.specs.Row.{Row}
+use Rattle.define_rows.specs.Table.{Table}
+use Rattle.define_runs.specs.Keeps.{AreRunLimits, IsReached, KeepsRun}
+use Rattle.define_runs.specs.Run.{RunLimits, GoOn, Ended, TooWide, PivotsSpent, NodesSpent, closed_rows, step}
+use Rattle.define_searches.specs.Classes.{Classes, KeepsLimits}
 use Rattle.panel_search.specs.declared.searching.SearchStop.{SearchStop}
 use Rattle.panel_search.specs.declared.searching.SearchStop.TheVariants.{Spent, OutOfMemory}
 use Rattle.leximin_run.specs.declared.running.Refusal.{Refusal}
 use Rattle.leximin_run.specs.declared.running.Refusal.TheVariants.{Wide, NoPivot, NoVisit, NoMemory}
 
--- a step that is due is refused, and the table stands as before; want of memory may come at any time
+-- the step that is due is refused, and the table is unchanged; want of memory may come at any time
 abbrev pub Refuses : Classes → RunLimits → Table → Refusal → Table → Type 0
 Refuses all limits before (Wide pass) after = (step all limits before ≡ Ended (TooWide (Some before) pass)) × (after ≡ before)
 Refuses all limits before NoPivot after = (step all limits before ≡ Ended (PivotsSpent before)) × (after ≡ before)
 Refuses all limits before NoVisit after = (step all limits before ≡ Ended (NodesSpent (Some before))) × (after ≡ before)
 Refuses all limits before NoMemory after = Unit {0}
 
--- why a pricing finds no answer
+-- the refusal of a pricing that finds no answer
 abbrev pub refusal_of : SearchStop → Refusal
 refusal_of Spent = NoVisit
 refusal_of OutOfMemory = NoMemory
@@ -34,14 +34,15 @@ Advances all limits before (Ok true) after = step all limits before ≡ GoOn aft
 Advances all limits before (Ok false) after = (before.in_stage ≡ false) × (length before.sizes ≤ settled_count before) × (after ≡ before)
 Advances all limits before (Err refusal) after = Refuses all limits before refusal after
 
--- the rows that were kept are the closed ones, and the table is as each of the run's is, over classes and limits in their ranges
+-- the rows that were kept are the closed ones, and the table keeps what each table of the run keeps, for classes and limits in their
+-- ranges
 pub record Stands (all : Classes) (limits : RunLimits) (table : Table) (closed : List Row) : Type 0 where
   pub limited : KeepsLimits all
   pub ranges : AreRunLimits limits
   pub keeps : KeepsRun all limits table
   pub closed_are : closed ≡ closed_rows table
 
--- the run comes to the table, and the rows that were kept are its closed ones
+-- the run reaches this table, and the rows that were kept are its closed ones
 pub record Reaches (all : Classes) (limits : RunLimits) (table : Table) (closed : List Row) : Type 0 where
   pub reached : IsReached all limits table
   pub stands : Stands all limits table closed

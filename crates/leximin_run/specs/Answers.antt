@@ -1,13 +1,13 @@
--- What the run answers.
+-- What the run answers. Over Run of `define_runs`. The promises of `solve` cite it.
 use Rattle.std.specs.Prelude.{◌≡◌, [], ℕ, ℤ, pos, length, Option, Some, None, Result, Ok, Err}
-use Rattle.bundle_definitions.specs.Ranges.{IsInRanges}
-use Rattle.pool_definitions.specs.Certificate.{Certifies}
-use Rattle.pool_definitions.specs.Lottery.{LeximinGreatest}
-use Rattle.pool_definitions.specs.Pool.{Pool, panels}
-use Rattle.row_definitions.specs.Table.{Table}
-use Rattle.run_definitions.specs.Run.{Ending, Ends, RunLimits}
-use Rattle.search_definitions.specs.Classes.{Classes}
-use Rattle.spread_definitions.specs.Spreading.{TotalPass}
+use Rattle.define_bundles.specs.Ranges.{IsInRanges}
+use Rattle.define_pools.specs.Certificate.{Certifies}
+use Rattle.define_pools.specs.Lottery.{LeximinGreatest}
+use Rattle.define_pools.specs.Pool.{Pool, panels}
+use Rattle.define_rows.specs.Table.{Table}
+use Rattle.define_runs.specs.Run.{Ending, Ends, RunLimits}
+use Rattle.define_searches.specs.Classes.{Classes}
+use Rattle.define_spreads.specs.Spreading.{TotalPass}
 use Rattle.leximin_run.specs.declared.running.Refusal.{Refusal}
 use Rattle.leximin_run.specs.declared.running.Refusal.TheVariants.{Wide, NoPivot, NoVisit, NoMemory}
 use Rattle.leximin_run.specs.declared.stops.At.{At}
@@ -16,22 +16,22 @@ use Rattle.leximin_run.specs.declared.stops.Solved.{Solved}
 use Rattle.leximin_run.specs.declared.stops.Solved.TheVariants.{Found, NoPanel}
 use Rattle.leximin_run.specs.declared.stops.SolvedSized.{SolvedSized}
 use Rattle.leximin_run.specs.declared.stops.SolvedSized.TheVariants as sized
-use Rattle.run_limits.specs.declared.RunSizes.{RunSizes}
+use Rattle.define_runs.specs.declared.sizes.RunSizes.{RunSizes}
 use Rattle.leximin_run.specs.declared.stops.Stop.{Stop}
 use Rattle.leximin_run.specs.declared.stops.Stop.TheVariants.{TooWide, TotalPasses, PivotsSpent, NodesSpent, OutOfMemory}
 
--- the table as it stood, if there was one
+-- the table as it was, if there was one
 abbrev pub stood : At → Option Table
 stood Opening = None
 stood (At.Table table) = Some table
 
--- the numbers tell where the total passes
+-- the numbers say at which composition the total passes
 pub record IsTotalPass (pass : TotalPass) (place : ℕ) (total den : ℤ) : Type 0 where
   pub place_is : place ≡ pass.place
   pub total_is : total ≡ pos pass.total
   pub den_is : den ≡ pos pass.den
 
--- the answer tells how the run over classes ends; want of memory may come at any time
+-- the answer is how the run over these classes ends; want of memory may come at any time
 abbrev pub TellsEnding : Classes → RunLimits → Result Solved Stop → Type 0
 TellsEnding all limits (Ok (Found answer)) = (last : Table) × Ends all limits (Ending.Found last answer)
 TellsEnding all limits (Ok NoPanel) = Ends all limits Ending.NoPanel
@@ -42,19 +42,19 @@ TellsEnding all limits (Err (PivotsSpent place)) = (table : Table) × (stood pla
 TellsEnding all limits (Err (NodesSpent place)) = Ends all limits (Ending.NodesSpent (stood place))
 TellsEnding all limits (Err OutOfMemory) = Unit {0}
 
--- a lottery that is found is certified by its stages and leximin greatest; where no panel is told, the pool has none
+-- a lottery that is found is certified by its stages and leximin greatest; if the answer is that there is no panel, the pool has none
 abbrev pub IsCertified : Pool → Result Solved Stop → Type 0
 IsCertified pool (Ok (Found answer)) = Certifies pool answer.lottery answer.stages × LeximinGreatest pool answer.lottery
 IsCertified pool (Ok NoPanel) = panels pool ≡ []
 IsCertified pool (Err stop) = Unit {0}
 
--- the numbers of what is found keep the ranges that they have in the text of a bundle
+-- the numbers of what is found are in the ranges that they have in the text of a bundle
 abbrev pub KeepsRanges : Pool → Result Solved Stop → Type 0
 KeepsRanges pool (Ok (Found answer)) = IsInRanges pool answer
 KeepsRanges pool (Ok NoPanel) = Unit {0}
 KeepsRanges pool (Err stop) = Unit {0}
 
--- why the run stops where a step is refused
+-- why the run stops when a step is refused
 abbrev pub stop_of : Table → Refusal → Stop
 stop_of table (Wide pass) = TooWide (At.Table table) pass
 stop_of table NoPivot = PivotsSpent (At.Table table)
@@ -71,7 +71,7 @@ unsized (Ok (sized.Found answer sizes)) = Ok (Found answer)
 unsized (Ok sized.NoPanel) = Ok NoPanel
 unsized (Err stop) = Err stop
 
--- the same with the sizes of the run's last table, where a lottery is found
+-- the same with the sizes of the run's last table, if a lottery is found
 abbrev pub TellsSized : Classes → RunLimits → Result SolvedSized Stop → Type 0
 TellsSized all limits (Ok (sized.Found answer sizes)) = (last : Table) × (sizes ≡ sizes_in last) × Ends all limits (Ending.Found last answer)
 TellsSized all limits (Ok sized.NoPanel) = TellsEnding all limits (Ok NoPanel)

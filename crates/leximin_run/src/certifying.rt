@@ -1,10 +1,10 @@
-//! The closed rows as the stages of a certificate.
+//! Turns the closed rows into the stages of a certificate.
 
 ghost use Rattle.std.specs.Prelude.{◌≡◌, map, IfOk};
 ghost use Rattle.std.specs.List.{range_with_len};
-ghost use Rattle.row_definitions.specs.Row.{entry};
-ghost use Rattle.run_definitions.specs.Run.{stage_of};
-ghost use Rattle.search_definitions.specs.Classes.{Classes as ClassesOf, class_number, volunteer_count};
+ghost use Rattle.define_rows.specs.Row.{entry};
+ghost use Rattle.define_runs.specs.Run.{stage_of};
+ghost use Rattle.define_searches.specs.Classes.{Classes as ClassesOf, class_number, volunteer_count};
 
 use alike::{Classes, class_numbers};
 use panel_search::Row;
@@ -27,7 +27,7 @@ pub(crate) fn certificate(
     Ok(Certificate::new(stages))
 }
 
-// A row's stage: its right side is the cap, and each volunteer weighs the entry of the volunteer's class.
+// A row's stage: its right side is the cap, and a volunteer weighs the entry of their class.
 fn stage(alloc: Global, numbers: &[usize], row: &Row) -> Result<Stage, AllocError>
     ensures { IfOk result (λ stage. (all : ClassesOf) → numbers.now ≡ map (class_number all.classes) (range_with_len 0 (volunteer_count all)) → stage ≡ stage_of all row.now) }
 {
@@ -44,7 +44,7 @@ fn weights(alloc: Global, numbers: &[usize], row: &Row) -> Result<Vec<i128>, All
         .collect(alloc)
 }
 
-// The entry of a class, or 0 where there is no such class.
+// The entry of a class, or 0 if there is no such class.
 fn entry_of(row: &Row, class: usize) -> i128
     ensures { result ≡ entry row.now class }
 {

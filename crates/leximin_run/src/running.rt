@@ -1,17 +1,17 @@
-//! The run's steps.
+//! The run's steps: pivot, pricing, and closing of a stage.
 
 ghost use Rattle.std.specs.Prelude.{◌≡◌, ◌≤◌, ◌++◌, [], ◌∷◌, true, OnOk, Some, None};
 ghost use Rattle.leximin_run.specs.Advancing.{Advances, Makes, Stands};
-ghost use Rattle.row_definitions.specs.Choice.{choice};
-ghost use Rattle.row_definitions.specs.Steps.{close_stage, open_row};
-ghost use Rattle.row_definitions.specs.Table.{row_at};
-ghost use Rattle.run_definitions.specs.Run.{run_limits};
+ghost use Rattle.define_rows.specs.Choice.{choice};
+ghost use Rattle.define_rows.specs.Steps.{close_stage, open_row};
+ghost use Rattle.define_rows.specs.Table.{row_at};
+ghost use Rattle.define_runs.specs.Run.{run_limits};
 
+use define_runs::Limits;
 use exact_table::{Pass, Table, Var};
 use outside::Watch;
 use panel_search::{Pricer, SearchStop};
 use pricing_pool::price_by;
-use run_limits::Limits;
 use std::alloc::{AllocError, Global};
 use std::thread::Threads;
 
@@ -22,7 +22,7 @@ pub(crate) enum Refusal {
     Wide(Pass),
     // A pivot is due, and no more may be made.
     NoPivot,
-    // Pricing takes more visits than it may.
+    // Pricing makes more visits than its budget.
     NoVisit,
     NoMemory,
 }
@@ -49,7 +49,7 @@ impl From<Pass> for Refusal {
     }
 }
 
-// Of a pricing.
+// The refusal of a pricing.
 impl From<SearchStop> for Refusal {
     ghost use Rattle.std.specs.Prelude.{◌≡◌};
     ghost use Rattle.leximin_run.specs.Advancing.{refusal_of};
@@ -73,7 +73,7 @@ pub(crate) struct Run<'c> {
 }
 
 impl<'c> Run<'c> {
-    // The next step. Is one made? If not, everybody is settled.
+    // Makes the next step. Returns true if one was made; if none was, everybody is settled.
     pub(crate) fn advance<R: Threads + Sync, W: Watch + Sync>(
         &mut self,
         rt: &R,
@@ -103,7 +103,7 @@ impl<'c> Run<'c> {
         }
     }
 
-    // The chosen pivot.
+    // Makes the chosen pivot.
     fn pivot(&mut self, row: usize, variable: Var) -> Result<(), Refusal>
         requires stands { Stands self.old.pricer.classes (run_limits self.old.limits) self.old.table self.old.pricer.closed }
         requires open { self.old.table.in_stage ≡ true }
@@ -119,7 +119,7 @@ impl<'c> Run<'c> {
         Ok(self.table.pivot(row, variable)?)
     }
 
-    // No pivot is chosen: the open row is priced, by so many workers, and a column comes or the stage closes.
+    // No pivot is chosen: prices the open row with this number of workers, and adds a column or closes the stage.
     fn price<R: Threads + Sync, W: Watch + Sync>(
         &mut self,
         rt: &R,
@@ -153,7 +153,7 @@ impl<'c> Run<'c> {
         }
     }
 
-    // No composition was found: the stage closes, and its row, which was priced, is kept.
+    // Closes the stage, for which no composition was found, and keeps its row.
     fn close(&mut self) -> Result<(), AllocError>
         requires stands { Stands self.old.pricer.classes (run_limits self.old.limits) self.old.table self.old.pricer.closed }
         requires open { self.old.table.in_stage ≡ true }

@@ -1,31 +1,31 @@
-//! The whole run.
+//! The whole run, from a pool to an answer.
 
 ghost use Rattle.std.specs.Prelude.{◌≡◌, ◌≤◌, ◌<◌, false, Some, IfOk, [], length, slice_index_or};
 ghost use Rattle.leximin_run.specs.Advancing.{Reaches};
 ghost use Rattle.leximin_run.specs.Answers.{IsCertified, KeepsRanges, TellsEnding, TellsSized, sizes_in, stop_of, unsized};
-ghost use Rattle.run_definitions.specs.Run.{parts_of, run_limits};
-ghost use Rattle.row_definitions.specs.InOrder.{settled_count};
-ghost use Rattle.search_definitions.specs.Classes.{classes_of};
-ghost use Rattle.search_definitions.specs.Compositions.{first_composition};
-ghost use Rattle.search_definitions.specs.Fronts.{sizes_of};
-ghost use Rattle.search_definitions.specs.Visits.{first_search};
+ghost use Rattle.define_runs.specs.Run.{parts_of, run_limits};
+ghost use Rattle.define_rows.specs.InOrder.{settled_count};
+ghost use Rattle.define_searches.specs.Classes.{classes_of};
+ghost use Rattle.define_searches.specs.Compositions.{first_composition};
+ghost use Rattle.define_searches.specs.Fronts.{sizes_of};
+ghost use Rattle.define_searches.specs.Visits.{first_search};
 
 use crate::certifying::certificate;
 use crate::running::{Refusal, Run};
 use crate::stops::{At, Solved, SolvedSized, Stop};
 use alike::{Classes, Composition, SpreadStop, classes, spread};
+use define_runs::{Limits, RunSizes};
 use exact_table::{Table, TableStop};
 use frac128::Frac;
 use outside::Watch;
 use panel_search::{Pricer, SearchStop, first};
 use pool_model::{Answer, Pool};
-use run_limits::{Limits, RunSizes};
 use std::alloc::{AllocError, Global};
 use std::thread::Threads;
 
-/// The run over a pool under limits: the lottery with its certificate, or that the pool has no quota panel, or the first step that is
-/// refused, with the table as it stood. A lottery is leximin greatest, and its stages certify it. The pieces of each pricing are worked by
-/// so many workers, from 1 to 64, and the watch is told as they start; nothing that is answered depends on either.
+/// Runs over a pool under limits. Returns the lottery with its certificate, or that the pool has no quota panel; or fails with the
+/// first step that is refused, with the table as it was then. A lottery is leximin greatest, and its stages certify it. From 1 to 64
+/// workers price, and the watch is told when pieces of work start; the answer depends on neither.
 pub fn solve<R: Threads + Sync, W: Watch + Sync>(
     rt: &R,
     alloc: Global,
@@ -48,7 +48,7 @@ pub fn solve<R: Threads + Sync, W: Watch + Sync>(
     }
 }
 
-/// The same run, and where it finds a lottery the sizes of its last table.
+/// The same run. If it finds a lottery, it also returns the sizes of its last table.
 pub fn solve_sized<R: Threads + Sync, W: Watch + Sync>(
     rt: &R,
     alloc: Global,
@@ -68,7 +68,7 @@ pub fn solve_sized<R: Threads + Sync, W: Watch + Sync>(
     run(rt, alloc, pool, limits, workers, watch)
 }
 
-// The run.
+// The run over a pool's classes.
 fn run<R: Threads + Sync, W: Watch + Sync>(
     rt: &R,
     alloc: Global,
@@ -90,7 +90,7 @@ fn run<R: Threads + Sync, W: Watch + Sync>(
     }
 }
 
-// The run from the first composition on.
+// The run after the opening search found the first composition.
 fn begin<R: Threads + Sync, W: Watch + Sync>(
     rt: &R,
     alloc: Global,
@@ -136,7 +136,7 @@ fn sizes(alloc: Global, classes: &Classes) -> Result<Vec<usize>, AllocError>
         .collect(alloc)
 }
 
-// The run from a table on.
+// The run from this table on.
 fn finish<R: Threads + Sync, W: Watch + Sync>(
     rt: &R,
     alloc: Global,
@@ -158,7 +158,7 @@ fn finish<R: Threads + Sync, W: Watch + Sync>(
     }
 }
 
-// Why the run stops where a step is refused.
+// Why the run stops when a step is refused.
 fn stop(run: Run<'_>, refusal: Refusal) -> Stop
     ensures { result ≡ stop_of run.entry.table refusal }
 {
@@ -171,7 +171,7 @@ fn stop(run: Run<'_>, refusal: Refusal) -> Stop
     }
 }
 
-// Everybody is settled: the columns of positive value are spread, and the closed rows certify the lottery.
+// Everybody is settled: spreads the columns of positive value, with the closed rows as the certificate.
 fn answer(alloc: Global, run: Run<'_>) -> Result<SolvedSized, Stop>
     requires reached { Reaches run.pricer.classes (run_limits run.limits) run.table run.pricer.closed }
     requires shut { run.table.in_stage ≡ false }
@@ -217,7 +217,7 @@ fn parts(alloc: Global, table: &Table) -> Result<Vec<(Composition, Frac)>, Alloc
     Ok(parts)
 }
 
-// A copy of a column, by its number.
+// A copy of the column of this number.
 fn copied_column(table: &Table, column: usize) -> Result<Composition, AllocError>
     requires { column < length table.now.columns }
     ensures { IfOk result (λ copied. copied ≡ slice_index_or table.now.columns column []) }

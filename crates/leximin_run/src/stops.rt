@@ -1,16 +1,16 @@
 //! What a run answers, and why it stops.
 
+use define_runs::RunSizes;
 use exact_table::{Pass, Table};
 use pool_model::Answer;
-use run_limits::RunSizes;
 use std::alloc::AllocError;
 
-/// Where a run stood when a step was refused.
+/// Where a run was when a step was refused.
 #[derive(Drop)]
 pub enum At {
     /// There was no table yet.
     Opening,
-    /// The table as it stood when the refused step was due.
+    /// The table as it was when the refused step was due.
     Table(Table),
 }
 
@@ -37,12 +37,12 @@ pub enum SolvedSized {
 pub enum Stop {
     /// An operation passes the width.
     TooWide(At, Pass),
-    /// The lottery's total passes 10^38: the number of the composition at which it does, counted from 0, the total of those before
-    /// it, and the denominator of its fraction.
+    /// The lottery's total passes 10^38: the number of the composition at which it does, counted from 0; the total of those before
+    /// it; and the denominator of its fraction.
     TotalPasses(At, usize, i128, i128),
-    /// A pivot is due, and as many as may be made were made.
+    /// A pivot is due, and the budget of pivots is spent.
     PivotsSpent(At),
-    /// A search takes more visits than it may.
+    /// A search makes more visits than its budget.
     NodesSpent(At),
     /// No memory was left.
     OutOfMemory,

@@ -2,11 +2,11 @@
 use Rattle.std.proofs.Common.{◌≡◌, ℕ, suc, ◌+◌, ◌*◌, ◌/◌, ◌≤◌, max, List, [], ◌∷◌, ◌++◌, map, length, refl, sym, ◌∙◌, ap, arith}
 use Rattle.std.specs.List.{range_with_len}
 use Rattle.std.proofs.lemmas.List.FromFn.{length-map-range_with_len, map-range_with_len_more}
-use Rattle.pool_definitions.specs.Building.{empty_pool}
-use Rattle.pool_definitions.specs.Pool.{Pool, Volunteer}
-use Rattle.make_definitions.specs.Generator.{next_state, state}
-use Rattle.make_definitions.specs.MadePools.{made_categories, made_pool, made_values, made_volunteer, made_volunteers}
-use Rattle.make_definitions.proofs.Volunteers.{members_are_counted}
+use Rattle.define_pools.specs.Building.{empty_pool}
+use Rattle.define_pools.specs.Pool.{Pool, Volunteer}
+use Rattle.define_made_pools.specs.Generator.{next_state, state}
+use Rattle.define_made_pools.specs.MadePools.{made_categories, made_pool, made_values, made_volunteer, made_volunteers}
+use Rattle.define_made_pools.proofs.Volunteers.{members_are_counted}
 use Rattle.office_reports.specs.Making.{categories_by, values_behind, with_values}
 
 -- a volunteer takes three numbers

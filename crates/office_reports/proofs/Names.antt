@@ -4,11 +4,11 @@ use Rattle.std.specs.Prelude.{OnOk, Result, bytes_eq, unwrap_or}
 use Rattle.std.specs.declared.alloc.AllocError.{AllocError}
 use Rattle.std.proofs.lemmas.Bool.{and_from, eq-eqb, lt-leb}
 use Rattle.std.proofs.lemmas.List.{length-map}
-use Rattle.pool_definitions.specs.Lists.{includes_list}
-use Rattle.pool_definitions.specs.Pool.{BoundedValue, Category, Pool}
-use Rattle.pool_definitions.specs.Building.{are_known, ids, place_of, places_of, value_names, volunteer_added, volunteer_kind}
-use Rattle.make_definitions.specs.MadePools.{ages, areas, genders, made_id}
-use Rattle.make_definitions.proofs.Volunteers.{id_keeps_limits}
+use Rattle.define_pools.specs.Lists.{includes_list}
+use Rattle.define_pools.specs.Pool.{BoundedValue, Category, Pool}
+use Rattle.define_pools.specs.Building.{are_known, ids, place_of, places_of, value_names, volunteer_added, volunteer_kind}
+use Rattle.define_made_pools.specs.MadePools.{ages, areas, genders, made_id}
+use Rattle.define_made_pools.proofs.Volunteers.{id_keeps_limits}
 use Rattle.office_reports.specs.Making.{ArePlaces, made_names, names_of_values, with_values}
 
 -- what a builder's call reads of the categories is the names of their values

@@ -3,13 +3,13 @@ use Rattle.std.proofs.Common.{◌≡◌, ℕ, List, [], ◌∷◌, ◌++◌, map
 use Rattle.std.specs.Prelude.{OnOk, Result}
 use Rattle.std.proofs.lemmas.Grind.{flat_map-append}
 use Rattle.frac128.specs.Fractions.{Fraction, fraction_text, lowest_of}
-use Rattle.pool_definitions.specs.Pool.{Pool}
-use Rattle.pool_definitions.specs.Lottery.{counts}
-use Rattle.pool_definitions.specs.Certificate.{Answer}
-use Rattle.bundle_definitions.specs.BundleText.{bundle_text}
-use Rattle.draw_definitions.specs.Seal.{seal_of}
-use Rattle.line_definitions.specs.Lines.{line_feed, text_of}
-use Rattle.make_definitions.specs.Summary.{Sizes, field_line, greatest, least, number_line, size_lines, summary_lines, summary_text}
+use Rattle.define_pools.specs.Pool.{Pool}
+use Rattle.define_pools.specs.Lottery.{counts}
+use Rattle.define_pools.specs.Certificate.{Answer}
+use Rattle.define_bundles.specs.BundleText.{bundle_text}
+use Rattle.define_draws.specs.Seal.{seal_of}
+use Rattle.define_lines.specs.Lines.{line_feed, text_of}
+use Rattle.define_made_pools.specs.Summary.{Sizes, field_line, greatest, least, number_line, size_lines, summary_lines, summary_text}
 
 pub naturals : (ns : List ℕ) → map pos ns ≡ map pos (map unsigned_abs (map pos ns))
 naturals [] = refl

@@ -1,13 +1,13 @@
--- What the steps of making a pool make.
+-- What the steps of making a pool make. Over MadePools of `define_made_pools`. For `made_pools`.
 use Rattle.std.specs.Prelude.{ℕ, ◌==◌, ◌%◌, ◌<◌, None, List, [], ◌∷◌, count_by, codes, map, slice_index}
 use Rattle.std.specs.List.{enumerate_from}
-use Rattle.pool_definitions.specs.declared.Standing.TheVariants.{Open}
-use Rattle.pool_definitions.specs.Pool.{Category, Volunteer}
-use Rattle.pool_definitions.specs.Building.{value_names}
-use Rattle.make_definitions.specs.Generator.{next_state, upper_bits}
-use Rattle.make_definitions.specs.MadePools.{ages, areas, bounded_by, genders, made_id}
+use Rattle.define_pools.specs.declared.Standing.TheVariants.{Open}
+use Rattle.define_pools.specs.Pool.{Category, Volunteer}
+use Rattle.define_pools.specs.Building.{value_names}
+use Rattle.define_made_pools.specs.Generator.{next_state, upper_bits}
+use Rattle.define_made_pools.specs.MadePools.{ages, areas, bounded_by, genders, made_id}
 
--- the values of the volunteer whose numbers follow a state
+-- the values of the volunteer whose numbers come after a state
 abbrev pub values_behind : ℕ → List ℕ
 values_behind x =
     let first = next_state x in
@@ -15,11 +15,11 @@ values_behind x =
     let third = next_state second in
     upper_bits first % 2 ∷ upper_bits second % 3 ∷ upper_bits third % 2 ∷ []
 
--- how many lists of values have one at a place
+-- how many lists of values have this one in this place
 abbrev pub members_with : List (List ℕ) → ℕ → ℕ → ℕ
 members_with first place value_place = count_by (λ values. slice_index values place == value_place) first
 
--- a category, bounded by the values of the first volunteers
+-- a category with its bounds, which the values of the first volunteers give
 abbrev pub category_by : List (List ℕ) → ℕ → List ℕ → List (List ℕ) → Category
 category_by first place name value_names = record {
   name = name;
@@ -42,7 +42,7 @@ made_names = genders ∷ ages ∷ areas ∷ []
 abbrev pub ArePlaces : List ℕ → Type 0
 ArePlaces values = (slice_index values 0 < 2) × (slice_index values 1 < 3) × (slice_index values 2 < 2)
 
--- the volunteer of a number with these three values
+-- the volunteer of this number with these three values
 abbrev pub with_values : ℕ → List ℕ → Volunteer
 with_values number values = record {
   id = made_id number;

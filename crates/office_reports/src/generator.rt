@@ -1,7 +1,7 @@
-//! The generator of numbers from a seed.
+//! The generator of numbers from a seed. A helper of `made_pools`.
 
 ghost use Rattle.std.specs.Prelude.{◌≡◌};
-ghost use Rattle.make_definitions.specs.Generator.{next_state, upper_bits};
+ghost use Rattle.define_made_pools.specs.Generator.{next_state, upper_bits};
 ghost use Rattle.office_reports.specs.Making.{values_behind};
 
 const MULTIPLIER: u64 = 6_364_136_223_846_793_005;

@@ -1,19 +1,20 @@
-//! Making a pool from a seed and a number of volunteers.
+//! Makes a pool from a seed and a number of volunteers.
 
 ghost use Rattle.std.specs.Prelude.{◌≡◌, ◌≤◌, ◌<◌, ◌++◌, ◌∷◌, [], None, false, map, length, slice_index_or, IfOk, OnOk};
 ghost use Rattle.std.specs.List.{range_with_len};
-ghost use Rattle.pool_definitions.specs.Building.{empty_pool, ids, value_added, value_kind};
-ghost use Rattle.pool_definitions.specs.Lists.{includes_list};
-ghost use Rattle.make_definitions.specs.MadePools.{ages, areas, bounded_by, genders, made_id, made_pool, made_values, made_volunteers};
+ghost use Rattle.define_pools.specs.Building.{empty_pool, ids, value_added, value_kind};
+ghost use Rattle.define_pools.specs.Lists.{includes_list};
+ghost use Rattle.define_made_pools.specs.MadePools.{ages, areas, bounded_by, genders, made_id, made_pool, made_values, made_volunteers};
 ghost use Rattle.office_reports.specs.Making.{ArePlaces, categories_by, made_names, members_with, names_of_values, with_values};
 
 use crate::generator::Generator;
 use pool_model::Pool;
 use std::alloc::{AllocError, Global};
 
-/// The pool that is made from a seed and 1 to 400 volunteers, `v1`, `v2` and so on. A generator gives each of them a gender, an age and
-/// an area, by three numbers in turn. A panel has a tenth of the volunteers, and at least one; and of each value one member fewer or more
-/// than as many of the first volunteers have it. All are open, without households. Stops only where no memory is left.
+/// Returns the pool that is made from a seed and 1 to 400 volunteers, `v1`, `v2` and so on. A generator gives each of them a gender, an
+/// age and an area, by three numbers in turn. A panel has a tenth of the volunteers, and at least one. Of a value that n of the first
+/// volunteers have, as many volunteers as a panel has, a panel has from n - 1 to n + 1. All volunteers are open, without households.
+/// Fails only if memory runs out.
 pub fn made_pool(alloc: Global, seed: u64, volunteers: u32) -> Result<Pool, AllocError>
     requires some { 1 ≤ volunteers }
     requires few { volunteers ≤ 400 }
@@ -39,7 +40,7 @@ fn empty_pool(alloc: Global, size: usize) -> Pool
     }
 }
 
-/// The values of the first volunteers, so many as a panel has.
+/// The values of the first volunteers, as many as a panel has.
 fn first_values(alloc: Global, seed: u64, size: usize) -> Result<Vec<[usize; 3]>, AllocError>
     ensures { IfOk result (λ first. first.items ≡ map (made_values seed) (range_with_len 0 size)) }
 {
@@ -51,7 +52,7 @@ fn first_values(alloc: Global, seed: u64, size: usize) -> Result<Vec<[usize; 3]>
     Ok(first)
 }
 
-/// Adds the three categories, whose bounds the first volunteers' values give.
+/// Adds the three categories with their bounds, which the first volunteers' values give.
 fn add_categories(pool: &mut Pool, first: &[[usize; 3]]) -> Result<(), AllocError>
     requires no_category { pool.old.categories ≡ [] }
     requires nobody { pool.old.volunteers ≡ [] }
@@ -70,7 +71,7 @@ fn add_categories(pool: &mut Pool, first: &[[usize; 3]]) -> Result<(), AllocErro
     add_bounded(pool, "country", members_with(first, 2, 1))
 }
 
-/// How many of the first volunteers have the value of a place.
+/// How many of the first volunteers have this value in this place.
 fn members_with(first: &[[usize; 3]], place: usize, value_place: usize) -> usize
     requires { place < 3 }
     ensures value { result ≡ members_with first.now place value_place }
@@ -82,7 +83,7 @@ fn members_with(first: &[[usize; 3]], place: usize, value_place: usize) -> usize
         .count()
 }
 
-/// Adds a value that so many of the first volunteers have.
+/// Adds a value that `members` of the first volunteers have.
 fn add_bounded(pool: &mut Pool, name: &str, members: usize) -> Result<(), AllocError>
     requires few { members ≤ 40 }
     requires kind { value_kind pool.old (bounded_by name.now members) ≡ None }
@@ -91,7 +92,7 @@ fn add_bounded(pool: &mut Pool, name: &str, members: usize) -> Result<(), AllocE
     pool.add_right_value(name, members.saturating_sub(1), members + 1)
 }
 
-/// Adds so many volunteers to a pool that has the three categories.
+/// Adds this number of volunteers to a pool that has the three categories.
 fn add_volunteers(
     alloc: Global,
     pool: &mut Pool,
@@ -110,7 +111,7 @@ fn add_volunteers(
     Ok(())
 }
 
-/// Adds the volunteer of a number, counted from 0, who has these values.
+/// Adds the volunteer of a number, counted from 0, with these values.
 fn add_volunteer(
     alloc: Global,
     pool: &mut Pool,

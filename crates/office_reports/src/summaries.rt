@@ -2,22 +2,22 @@
 
 ghost use Rattle.std.specs.Prelude.{◌≡◌, ◌≤ℤ◌, ◌<ℤ◌, ◌++◌, ◌∷◌, [], codes, map, pos, string_bytes, unsigned_abs, IfOk, OnOk};
 ghost use Rattle.frac128.specs.Fractions.{fraction_text, lowest_of};
-ghost use Rattle.pool_definitions.specs.Lottery.{TotalAgrees};
-ghost use Rattle.line_definitions.specs.Lines.{text_of};
-ghost use Rattle.bundle_definitions.specs.Ranges.{IsInRanges};
-ghost use Rattle.make_definitions.specs.Summary.{field_line, greatest as words_of_greatest, least as words_of_least, number_line, size_lines, summary_text};
+ghost use Rattle.define_pools.specs.Lottery.{TotalAgrees};
+ghost use Rattle.define_lines.specs.Lines.{text_of};
+ghost use Rattle.define_bundles.specs.Ranges.{IsInRanges};
+ghost use Rattle.define_made_pools.specs.Summary.{field_line, greatest as words_of_greatest, least as words_of_least, number_line, size_lines, summary_text};
 
 use bundle_text::write_bundle;
+use define_runs::RunSizes;
 use frac128::lowest;
 use pool_model::{Answer, Pool, chances};
-use run_limits::RunSizes;
 use sealed_draw::seal;
 use std::alloc::{AllocError, Global};
 
-/// The summary of a run that found this answer: lines of a word and a field, parted by TAB and ended by LF. The fields are the number of
-/// volunteers, of classes, the size of a panel, the numbers of the lottery's panels, of columns, of pivots and of stages, the total, the
-/// least and the greatest chance of a volunteer in lowest terms, and the seal of the bundle. The answer's numbers keep the ranges of a
-/// bundle, and its weights sum to its total.
+/// Returns the summary of a run that found this answer: lines of a word and a field, parted by TAB and ended by LF. The fields are the
+/// numbers of volunteers and classes, the size of a panel, the numbers of the lottery's panels, of columns, pivots and stages, the
+/// total, the least and the greatest chance of a volunteer in lowest terms, and the seal of the bundle. The answer's numbers are in the
+/// ranges of a bundle, and its weights sum to its total.
 pub fn run_summary(
     alloc: Global,
     pool: &Pool,
@@ -41,7 +41,7 @@ pub fn run_summary(
     Ok(text)
 }
 
-/// Adds the lines of the sizes.
+/// Appends the lines before the total.
 fn push_sizes(
     text: &mut String,
     pool: &Pool,
@@ -60,7 +60,7 @@ fn push_sizes(
     push_number(text, "stages", answer.certificate().stages().len())
 }
 
-/// Adds the line of the total, which is at least 0.
+/// Appends the line of the total, which is at least 0.
 fn push_total(text: &mut String, total: i128) -> Result<(), AllocError>
     requires { pos 0 ≤ℤ total }
     ensures { OnOk result (string_bytes text.new ≡ string_bytes text.old ++ text_of (number_line (codes "total") (unsigned_abs total) ∷ [])) }
@@ -68,7 +68,7 @@ fn push_total(text: &mut String, total: i128) -> Result<(), AllocError>
     writeln!(text, "total\t{total}")
 }
 
-/// Adds the line of a chance, in lowest terms: a count of at least 0 over the total, which is at least 1.
+/// Appends the line of a chance, in lowest terms: a count of at least 0 over the total, which is at least 1.
 fn push_chance(text: &mut String, word: &str, count: i128, total: i128) -> Result<(), AllocError>
     requires count { pos 0 ≤ℤ count }
     requires total { pos 0 <ℤ total }
@@ -79,21 +79,21 @@ fn push_chance(text: &mut String, word: &str, count: i128, total: i128) -> Resul
     writeln!(text, "{word}\t{chance}")
 }
 
-/// Adds the line of a word and a number.
+/// Appends the line of a word and a number.
 fn push_number(text: &mut String, word: &str, number: usize) -> Result<(), AllocError>
     ensures { OnOk result (string_bytes text.new ≡ string_bytes text.old ++ text_of (number_line word.now number ∷ [])) }
 {
     writeln!(text, "{word}\t{number}")
 }
 
-/// Adds the line of a word and a field.
+/// Appends the line of a word and a field.
 fn push_line(text: &mut String, word: &str, field: &str) -> Result<(), AllocError>
     ensures { OnOk result (string_bytes text.new ≡ string_bytes text.old ++ text_of (field_line word.now field.now ∷ [])) }
 {
     writeln!(text, "{word}\t{field}")
 }
 
-/// The least of some numbers of at least 0, and 0 of none.
+/// The least of some numbers of at least 0, or 0 if there are none.
 fn least(counts: &[i128]) -> i128
     requires { counts.now ≡ map pos (map unsigned_abs counts.now) }
     ensures { result ≡ pos (words_of_least (map unsigned_abs counts.now)) }
@@ -105,7 +105,7 @@ fn least(counts: &[i128]) -> i128
     least
 }
 
-/// The greatest of some numbers of at least 0, and 0 of none.
+/// The greatest of some numbers of at least 0, or 0 if there are none.
 fn greatest(counts: &[i128]) -> i128
     requires { counts.now ≡ map pos (map unsigned_abs counts.now) }
     ensures { result ≡ pos (words_of_greatest (map unsigned_abs counts.now)) }

@@ -1,24 +1,25 @@
--- What calls do to the content of an object, where the object tells it: `Some` of the bytes, or `None`.
+-- What calls do to the bytes of an object, if it can tell them: `Some` of the bytes, or `None`. The contracts of sources and sinks cite
+-- it.
 use Rattle.std.specs.Prelude.{◌≡◌, ◌<◌, ℕ, List, [], length, Option, Some, None, take, ⊤}
 use Rattle.std.specs.Io.KnownBytes.{Appends, Consumes}
 
--- told bytes grew by a prefix of the piece
+-- the bytes, if they are told, grew by a prefix of the piece
 abbrev pub AppendsPart : Option (List ℕ) → Option (List ℕ) → List ℕ → Type 0
 AppendsPart old new piece = (count : ℕ) × Appends old new (take count piece)
 
--- told bytes grew by a prefix of the piece, and not by all of it
+-- the bytes, if they are told, grew by a prefix of the piece, and not by all of it
 abbrev pub AppendsLess : Option (List ℕ) → Option (List ℕ) → List ℕ → Type 0
 AppendsLess old new piece = (count : ℕ) × (count < length piece) × Appends old new (take count piece)
 
--- told bytes lost some bytes, or none, from their front
+-- the bytes, if they are told, lost some bytes, or none, from their front
 abbrev pub LosesFront : Option (List ℕ) → Option (List ℕ) → Type 0
 LosesFront old new = (front : List ℕ) × Consumes old new front
 
--- told bytes lost more than so many bytes from their front
+-- the bytes, if they are told, lost more than `count` bytes from their front
 abbrev pub LosesMore : ℕ → Option (List ℕ) → Option (List ℕ) → Type 0
 LosesMore limit old new = (front : List ℕ) × (limit < length front) × Consumes old new front
 
--- bytes is all that was told as left, and nothing is left
+-- these bytes are all that was told as left, and nothing is left
 abbrev pub ReadsAll : Option (List ℕ) → Option (List ℕ) → List ℕ → Type 0
 ReadsAll None new bytes = ⊤
 ReadsAll (Some left) new bytes = (bytes ≡ left) × (new ≡ Some [])

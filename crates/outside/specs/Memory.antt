@@ -1,9 +1,9 @@
--- A source and a sink in memory, and what a call of each does.
+-- A source and a sink in memory, and what a call of each does. Over Faults. Their contracts cite it.
 use Rattle.std.specs.Prelude.{ℕ, ◌+◌, ◌-◌, ◌==◌, ◌||◌, ◌++◌, Bool, List, length, take, drop, nat_lt, if◌then◌else◌}
 use Rattle.std.specs.List.{list_any}
 use Rattle.outside.specs.Faults.{raised}
 
--- the calls of an object: the numbers of those that are to fail, how many were made, and how many faults came
+-- the calls of an object: the numbers of those that are to fail, how many were made, and how many faults were counted
 pub record Calls : Type 0 where
   pub failing : List ℕ
   pub made : ℕ
@@ -17,7 +17,7 @@ no_calls failing = record { failing = failing; made = 0; faults = 0 }
 abbrev pub next_fails : Calls → Bool
 next_fails calls = list_any (λ number. number == raised calls.made) calls.failing
 
--- after one more call, which was a fault or was none
+-- after one more call, which was a fault or not
 abbrev pub after_call : Calls → Bool → Calls
 after_call calls is_fault = record calls { made = raised calls.made; faults = if is_fault then raised calls.faults else calls.faults }
 
@@ -26,7 +26,7 @@ pub record SourceState : Type 0 where
   pub left : List ℕ
   pub calls : Calls
 
--- after a read into a room of this size: a call that fails takes nothing, and each other one all that fits
+-- after a read into a room of this size: a call that fails takes nothing, and any other takes all that fits
 abbrev pub after_read : SourceState → ℕ → SourceState
 after_read source size = record {
   left = if next_fails source.calls then source.left else drop size source.left;
@@ -39,11 +39,11 @@ pub record SinkState : Type 0 where
   pub room : ℕ
   pub calls : Calls
 
--- a put fails where its call is to fail or where the piece passes the room
+-- a put fails if its call is to fail or if the piece doesn't fit
 abbrev pub put_fails : SinkState → List ℕ → Bool
 put_fails sink piece = next_fails sink.calls || nat_lt sink.room (length sink.written + length piece)
 
--- after a put of this piece: a call that is to fail appends nothing, and each other one what fits
+-- after a put of this piece: a call that is to fail appends nothing, and any other appends what fits
 abbrev pub after_put : SinkState → List ℕ → SinkState
 after_put sink piece = record {
   written = if next_fails sink.calls then sink.written else sink.written ++ take (sink.room - length sink.written) piece;

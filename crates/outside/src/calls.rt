@@ -1,4 +1,4 @@
-//! The calls of an object in memory: which are to fail, and how many were made and failed.
+//! Counts the calls of an object in memory, and says which of them fail. The source and the sink in memory keep one.
 ghost use Rattle.std.specs.Prelude.{◌≡◌, ◌≤◌, IfOk};
 ghost use Rattle.outside.specs.Memory.{no_calls, next_fails, after_call};
 
@@ -31,14 +31,14 @@ impl CallPlan {
         })
     }
 
-    // Whether the next call is to fail.
+    // True if the next call is to fail.
     pub fn next_fails(&self) -> bool
         ensures { result ≡ next_fails self.now }
     {
         self.failing.contains(&self.made.saturating_add(1))
     }
 
-    // Counts a call, and a fault where it was one.
+    // Counts a call, and a fault if it was one.
     pub fn count(&mut self, is_fault: bool)
         ensures state { self.new ≡ after_call self.old is_fault }
         ensures never_falls { self.old.faults ≤ self.new.faults }

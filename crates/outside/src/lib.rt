@@ -1,6 +1,10 @@
-//! The traits through which the program meets the world: a source of bytes and a sink of bytes,
-//! each of which counts its faults. In memory for tests, and over std's readers and writers.
-//! And who is told that pieces of work start. Below it stands nothing of the repository.
+//! The traits through which the program meets the world: a source of bytes and a sink of bytes, each of which counts its faults; in
+//! memory for tests, and over std's readers and writers; and a watch, which is told when pieces of work start. Stands on nothing of the
+//! repository. Above: the shell of the commands, which reads and writes through it; `pricing_pool`, `leximin_run` and the commands on
+//! pools, for the watch.
+//!
+//! Promises: what `Source` and `Sink` say of each implementation, and `read_all`. The definitions in `specs/` say what a call does to
+//! the bytes and to the count of faults.
 #![tactic(auto)]
 
 mod calls;

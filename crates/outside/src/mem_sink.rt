@@ -1,4 +1,4 @@
-//! A sink in memory.
+//! A sink in memory, for tests.
 ghost use Rattle.std.specs.Prelude.{◌≡◌, ◌+◌, ◌-◌, ◌≤◌, ◌++◌, [], length, take, is_err, Some, IfOk, OnErr, OnOk, vec_capacity};
 ghost use Rattle.std.specs.Io.KnownBytes.{Appends};
 ghost use Rattle.outside.specs.Content.{AppendsPart};
@@ -10,7 +10,7 @@ use crate::{Failed, Sink};
 use std::alloc::{AllocError, Global};
 use std::marker::Model;
 
-/// Room in memory, with a list of the calls that are to fail. It tells what was written.
+/// Room in memory, with a list of the calls that are to fail. Its meaning has the bytes that were written.
 #[derive(Drop)]
 pub struct MemSink {
     written: Vec<u8>,
@@ -31,8 +31,8 @@ impl Model for MemSink {
 }
 
 impl MemSink {
-    /// An empty sink that takes `room` bytes in all. The calls of `put` whose numbers are in
-    /// `failing`, counted from 1, will fail.
+    /// Returns an empty sink that takes `room` bytes in all. The calls of `put` whose numbers are in `failing`, counted from 1,
+    /// will fail.
     pub fn new(alloc: Global, room: usize, failing: &[u64]) -> Result<MemSink, AllocError>
         ensures written { IfOk result (λ sink. sink.written ≡ []) }
         ensures room { IfOk result (λ sink. sink.room ≡ room) }
@@ -45,7 +45,7 @@ impl MemSink {
         })
     }
 
-    /// What was written.
+    /// The bytes that were written.
     pub fn written(&self) -> &[u8]
         ensures { result.now ≡ self.now.written }
     {
@@ -73,7 +73,7 @@ impl Sink for MemSink {
         ensures cause { OnErr result (Rose self.old.calls.faults self.new.calls.faults) }
         ensures none { OnOk result (self.new.calls.faults ≡ self.old.calls.faults) }
 
-        // Exactly what a put does.
+        // What a put does, exactly.
         ensures failed { is_err result ≡ put_fails self.old piece.now }
         ensures state { self.new ≡ after_put self.old piece.now }
     {

@@ -1,4 +1,4 @@
-//! A source in memory.
+//! A source in memory, for tests and for programs with a fixed input.
 ghost use Rattle.std.specs.Prelude.{◌≡◌, ◌+◌, ◌<◌, ◌≤◌, ◌++◌, [], length, min, take, drop, is_err, Some, IfOk, OnErr, OnOk};
 ghost use Rattle.std.specs.Io.{ReadsAtMost};
 ghost use Rattle.std.specs.Io.KnownBytes.{ReadConsumes};
@@ -10,7 +10,7 @@ use crate::{Failed, Source};
 use std::alloc::{AllocError, Global};
 use std::marker::Model;
 
-/// Bytes in memory, with a list of the calls that are to fail. It tells what is left.
+/// Bytes in memory, with a list of the calls that are to fail. Its meaning has the bytes that are left.
 #[derive(Drop)]
 pub struct MemSource {
     bytes: Vec<u8>,
@@ -30,8 +30,7 @@ impl Model for MemSource {
 }
 
 impl MemSource {
-    /// A source of these bytes. The calls of `read` whose numbers are in `failing`, counted from
-    /// 1, will fail.
+    /// Returns a source of these bytes. The calls of `read` whose numbers are in `failing`, counted from 1, will fail.
     pub fn new(alloc: Global, bytes: &[u8], failing: &[u64]) -> Result<MemSource, AllocError>
         ensures left { IfOk result (λ source. source.left ≡ bytes.now) }
         ensures calls { IfOk result (λ source. source.calls ≡ no_calls failing.now) }
@@ -43,7 +42,7 @@ impl MemSource {
         })
     }
 
-    /// The bytes still to come.
+    /// The bytes that are left.
     pub fn left(&self) -> &[u8]
         ensures { result.now ≡ self.now.left }
     {
@@ -70,7 +69,7 @@ impl Source for MemSource {
         ensures cause { OnErr result (Rose self.old.calls.faults self.new.calls.faults) }
         ensures none { OnOk result (self.new.calls.faults ≡ self.old.calls.faults) }
 
-        // Exactly what a read does.
+        // What a read does, exactly.
         ensures failed { is_err result ≡ next_fails self.old.calls }
         ensures count { IfOk result (λ n. n ≡ min (length room.old) (length self.old.left)) }
         ensures room { IfOk result (λ n. room.new ≡ take n self.old.left ++ drop n room.old) }
@@ -88,7 +87,7 @@ impl Source for MemSource {
     }
 }
 
-// Copies as many bytes as there are and fit.
+// Copies as many bytes as there are and fit, and returns how many.
 fn copy_front(bytes: &[u8], room: &mut [u8]) -> usize
     ensures count { result ≡ min (length room.old) (length bytes.now) }
     ensures room { room.new ≡ take result bytes.now ++ drop result room.old }

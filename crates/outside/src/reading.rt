@@ -1,4 +1,4 @@
-//! All the bytes of a source, up to a limit.
+//! Reads all the bytes of a source, up to a limit. The shell of the commands calls it.
 ghost use Rattle.std.specs.Prelude.{◌≡◌, ◌≢◌, ◌+◌, ◌<◌, ◌≤◌, ◌^◌, length, IfOk};
 ghost use Rattle.outside.specs.Content.{LosesFront, LosesMore, ReadsAll};
 ghost use Rattle.outside.specs.Faults.{Rose};
@@ -21,24 +21,24 @@ pub enum ReadStop {
     OutOfMemory,
 }
 
-// How many bytes one read may give.
+// The most bytes of one read.
 const ROOM: usize = 4096;
 
-/// Reads all that is left, at most `limit` bytes. Each turn but the last takes at least one byte,
-/// so there are at most `limit + 2` turns, as the loop's bound shows.
+/// Reads all that is left, at most `limit` bytes. Each turn but the last takes at least one byte, so there are at most `limit + 2`
+/// turns, as the loop's bound shows.
 pub fn read_all<S: Source>(alloc: Global, source: &mut S, limit: usize) -> Result<Vec<u8>, ReadStop>
     requires { limit + 2 < 2 ^ 64 }
     ensures all { IfOk result
         (λ bytes. ReadsAll (S.left source.old) (S.left source.new) bytes.items) }
     ensures within { IfOk result (λ bytes. length bytes.items ≤ limit) }
 
-    // When each error comes. Want of memory is free.
+    // When each error comes. Want of memory may come at any time.
     ensures fault { result ≡ Err ReadStop.Fault
         → Rose (S.faults source.old) (S.faults source.new) }
     ensures long { result ≡ Err ReadStop.TooLong
         → LosesMore limit (S.left source.old) (S.left source.new) }
 
-    // What stands after each answer.
+    // What is left of the source after each answer.
     ensures front { LosesFront (S.left source.old) (S.left source.new) }
     ensures none { result ≢ Err ReadStop.Fault → S.faults source.new ≡ S.faults source.old }
     ensures never_falls { S.faults source.old ≤ S.faults source.new }

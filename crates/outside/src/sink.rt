@@ -1,4 +1,4 @@
-//! A sink of bytes.
+//! A sink of bytes. In memory and over std, below.
 ghost use Rattle.std.specs.Prelude.{◌≡◌, ◌≤◌, List, ℕ, OnErr, OnOk, Option};
 ghost use Rattle.std.specs.Io.KnownBytes.{Appends};
 ghost use Rattle.outside.specs.Content.{AppendsPart};
@@ -8,14 +8,14 @@ use crate::Failed;
 
 /// Where bytes go.
 pub trait Sink {
-    /// The bytes that were written, where the sink tells them.
+    /// The bytes that were written, if the sink can tell.
     ghost written: { Self → Option (List ℕ) };
 
     /// How many faults the sink has counted.
     ghost faults: { Self → ℕ };
 
-    /// Appends a prefix of the piece: all of it at `Ok`, and none, some or all of it at `Failed`, which counts a fault.
-    /// `Ok` counts none.
+    /// Appends the piece. `Ok`: all of it was appended, and no fault is counted. `Failed`: none, some or all of it was, and a fault
+    /// is counted.
     fn put(&mut self, piece: &[u8]) -> Result<(), Failed>
         ensures part { AppendsPart (written self.old) (written self.new) piece.now }
         ensures whole { OnOk result (Appends (written self.old) (written self.new) piece.now) }

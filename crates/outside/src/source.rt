@@ -1,4 +1,4 @@
-//! A source of bytes.
+//! A source of bytes. In memory and over std, below.
 ghost use Rattle.std.specs.Prelude.{◌≡◌, ◌≤◌, List, ℕ, OnErr, OnOk, Option};
 ghost use Rattle.std.specs.Io.{ReadsAtMost};
 ghost use Rattle.std.specs.Io.KnownBytes.{ReadConsumes};
@@ -13,15 +13,14 @@ pub struct Failed;
 
 /// Where bytes come from.
 pub trait Source {
-    /// The bytes still to come, where the source tells them.
+    /// The bytes that are left, if the source can tell.
     ghost left: { Self → Option (List ℕ) };
 
     /// How many faults the source has counted.
     ghost faults: { Self → ℕ };
 
-    /// Fills the front of `room` with bytes from the front of what is left, takes them from there
-    /// and answers how many. For a room that isn't empty the answer is 0 only at the end.
-    /// `Failed` gives and takes nothing, and counts a fault; an answer counts none.
+    /// Moves bytes from the front of what is left to the front of `room`, and returns how many. If `room` isn't empty, the answer
+    /// is 0 only at the end. `Failed` moves nothing and counts a fault; an answer counts none.
     fn read(&mut self, room: &mut [u8]) -> Result<usize, Failed>
         ensures fits { ReadsAtMost result room.new }
         ensures given { ReadConsumes (left self.old) (left self.new) result room.new }

@@ -1,4 +1,4 @@
-//! A sink over any writer of std.
+//! A sink over any writer of std. The program's standard output and errors are such sinks.
 ghost use Rattle.std.specs.Prelude.{◌≡◌, ◌≤◌, if◌then◌else◌, is_err, false, true, OnErr, OnOk};
 ghost use Rattle.std.specs.Io.KnownBytes.{Appends};
 ghost use Rattle.outside.specs.Content.{AppendsLess, AppendsPart};
@@ -7,8 +7,8 @@ ghost use Rattle.outside.specs.Faults.{Rose, raised};
 use crate::{Failed, Sink};
 use std::io::Write;
 
-/// Any writer of std. It tells what was written where the writer does. Each error of the writer is
-/// a fault, an interrupted call too, and so is a write that takes nothing. Nothing is tried again.
+/// Any writer of std. Its meaning has the bytes that were written, if the writer's has. Each error of the writer is a fault, also an
+/// interrupted call, and so is a write that takes nothing. Nothing is tried again.
 #[derive(Drop)]
 pub struct StdSink<W: Write> {
     inner: W,
@@ -16,7 +16,7 @@ pub struct StdSink<W: Write> {
 }
 
 impl<W: Write> StdSink<W> {
-    /// A sink that writes to `inner` and has counted no fault.
+    /// Returns a sink that writes to `inner` and has counted no fault.
     pub fn new(inner: W) -> StdSink<W>
         ensures written { ⟦<StdSink<W> as Sink>⟧.written result ≡ W.contents inner }
         ensures faults { ⟦<StdSink<W> as Sink>⟧.faults result ≡ 0 }
@@ -49,7 +49,7 @@ impl<W: Write> Sink for StdSink<W> {
         ensures none { OnOk result (⟦<StdSink<W> as Sink>⟧.faults self.new
             ≡ ⟦<StdSink<W> as Sink>⟧.faults self.old) }
 
-        // One fault for each put that fails, and no other. A put whose piece went out whole doesn't fail.
+        // Each put that fails counts one fault, and no other does. A put whose piece was written whole doesn't fail.
         ensures less { OnErr result (AppendsLess (⟦<StdSink<W> as Sink>⟧.written self.old)
             (⟦<StdSink<W> as Sink>⟧.written self.new) piece.now) }
         ensures counted { ⟦<StdSink<W> as Sink>⟧.faults self.new
@@ -64,7 +64,7 @@ impl<W: Write> Sink for StdSink<W> {
     }
 }
 
-// Writes the piece, and answers whether the writer took it all.
+// Writes the piece, and returns whether the writer took all of it.
 fn write_piece<W: Write>(inner: &mut W, piece: &[u8]) -> bool
     ensures part { AppendsPart (W.contents inner.old) (W.contents inner.new) piece.now }
     ensures whole { result ≡ true

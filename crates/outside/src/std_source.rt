@@ -1,4 +1,4 @@
-//! A source over any reader of std.
+//! A source over any reader of std. The program's standard input is such a source.
 ghost use Rattle.std.specs.Prelude.{◌≡◌, ◌≤◌, if◌then◌else◌, is_err, OnErr, OnOk};
 ghost use Rattle.std.specs.Io.{ReadsAtMost};
 ghost use Rattle.std.specs.Io.KnownBytes.{ReadConsumes};
@@ -7,8 +7,8 @@ ghost use Rattle.outside.specs.Faults.{Rose, raised};
 use crate::{Failed, Source};
 use std::io::Read;
 
-/// Any reader of std. It tells what is left where the reader does, and each error of the reader is
-/// a fault, an interrupted call too. Nothing is tried again.
+/// Any reader of std. Its meaning has the bytes that are left, if the reader's has. Each error of the reader is a fault, also an
+/// interrupted call. Nothing is tried again.
 #[derive(Drop)]
 pub struct StdSource<R: Read> {
     inner: R,
@@ -16,7 +16,7 @@ pub struct StdSource<R: Read> {
 }
 
 impl<R: Read> StdSource<R> {
-    /// A source that reads from `inner` and has counted no fault.
+    /// Returns a source that reads from `inner` and has counted no fault.
     pub fn new(inner: R) -> StdSource<R>
         ensures left { ⟦<StdSource<R> as Source>⟧.left result ≡ R.remaining inner }
         ensures faults { ⟦<StdSource<R> as Source>⟧.faults result ≡ 0 }
@@ -48,7 +48,7 @@ impl<R: Read> Source for StdSource<R> {
         ensures none { OnOk result (⟦<StdSource<R> as Source>⟧.faults self.new
             ≡ ⟦<StdSource<R> as Source>⟧.faults self.old) }
 
-        // One fault for each error, and no other.
+        // Each error counts one fault, and nothing else does.
         ensures counted { ⟦<StdSource<R> as Source>⟧.faults self.new
             ≡ (if is_err result then raised (⟦<StdSource<R> as Source>⟧.faults self.old)
             else ⟦<StdSource<R> as Source>⟧.faults self.old) }

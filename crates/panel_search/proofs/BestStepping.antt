@@ -4,25 +4,25 @@ use Rattle.std.specs.Prelude.{IsErr, int_le, int_lt}
 use Rattle.std.specs.List.{list_all}
 use Rattle.std.proofs.lemmas.Bool.{false≢true, and_parts, and_from}
 use Rattle.std.proofs.lemmas.List.{length-set}
-use Rattle.row_definitions.specs.Row.{Row}
-use Rattle.search_definitions.specs.Classes.{Class, Classes}
-use Rattle.search_definitions.specs.Compositions.{counts_of}
-use Rattle.search_definitions.specs.Fronts.{is_reachable, is_live_above, optimistic, HaveEntries, HaveReach}
-use Rattle.search_definitions.specs.Visits.{Pricing, best_search, enter_best}
+use Rattle.define_rows.specs.Row.{Row}
+use Rattle.define_searches.specs.Classes.{Class, Classes}
+use Rattle.define_searches.specs.Compositions.{counts_of}
+use Rattle.define_searches.specs.Fronts.{is_reachable, is_live_above, optimistic, HaveEntries, HaveReach}
+use Rattle.define_searches.specs.Visits.{Pricing, best_search, enter_best}
 use Rattle.panel_search.specs.Front.{Tracks}
 use Rattle.panel_search.specs.Pricing.{BeginsAt, StandsAt, Moves, children_best}
-use Rattle.front_laws.specs.Front.{CanTake, AreWithin, Stands}
+use Rattle.laws_of_fronts.specs.Front.{CanTake, AreWithin, Stands}
 use Rattle.panel_search.specs.Steps.{counts_below}
-use Rattle.front_laws.specs.Weights.{AreNarrow, EachNarrow}
+use Rattle.laws_of_fronts.specs.Weights.{AreNarrow, EachNarrow}
 use Rattle.panel_search.specs.Weights.{Weighs, WeighEach}
 use Rattle.panel_search.specs.declared.searching.BudgetSpent.{BudgetSpent}
 use Rattle.panel_search.specs.declared.pricing.BestSearch.{BestSearch}
-use Rattle.front_laws.proofs.ClosedRows.{each_back}
-use Rattle.front_laws.proofs.Tracking.{comes_next}
+use Rattle.laws_of_fronts.proofs.ClosedRows.{each_back}
+use Rattle.laws_of_fronts.proofs.Tracking.{comes_next}
 use Rattle.panel_search.proofs.Ranges.{LiveBetween, below_next, below_none, live_counts}
-use Rattle.front_laws.proofs.Fronts.{within_more, placed, front_length}
-use Rattle.front_laws.proofs.WeightLaws.{weighs_back}
-use Rattle.wave_definitions.specs.Below.{child_best, search_from}
+use Rattle.laws_of_fronts.proofs.Fronts.{within_more, placed, front_length}
+use Rattle.laws_of_fronts.proofs.WeightLaws.{weighs_back}
+use Rattle.define_waves.specs.Below.{child_best, search_from}
 
 -- ---- visits only grow
 

@@ -9,24 +9,24 @@ use Rattle.std.proofs.lemmas.List.{append-nil, drop_more, length-take-le}
 use Rattle.std.proofs.lemmas.List.FromFn.{get_or-range_with_len, length-range_with_len}
 use Rattle.std.proofs.lemmas.List.Sums.{fold-append, position_or_len_is}
 use Rattle.std.proofs.lemmas.Nat.{mul-le}
-use Rattle.basic_laws.proofs.Each.{each_append, each_filter, each_map, each_mapped}
-use Rattle.row_definitions.specs.Row.{Row}
-use Rattle.search_definitions.specs.Classes.{Class, Classes, KeepsLimits}
-use Rattle.search_definitions.specs.Compositions.{counts_of}
-use Rattle.search_definitions.specs.Fronts.{is_live_above, is_reachable, optimistic}
-use Rattle.wave_definitions.specs.Waves.{Pieces, lists_of, piece_depth, pieces, pieces_below, together}
-use Rattle.wave_definitions.specs.Below.{IsFront}
-use Rattle.wave_definitions.proofs.Below.{Fits, fitting_is_front, fits_none, front_fits}
-use Rattle.wave_definitions.proofs.Pieces.{counts_within, depth_within}
+use Rattle.laws_basic.proofs.Each.{each_append, each_filter, each_map, each_mapped}
+use Rattle.define_rows.specs.Row.{Row}
+use Rattle.define_searches.specs.Classes.{Class, Classes, KeepsLimits}
+use Rattle.define_searches.specs.Compositions.{counts_of}
+use Rattle.define_searches.specs.Fronts.{is_live_above, is_reachable, optimistic}
+use Rattle.define_waves.specs.Waves.{Pieces, lists_of, piece_depth, pieces, pieces_below, together}
+use Rattle.define_waves.specs.Below.{IsFront}
+use Rattle.define_waves.proofs.Below.{Fits, fitting_is_front, fits_none, front_fits}
+use Rattle.define_waves.proofs.Pieces.{counts_within, depth_within}
 use Rattle.panel_search.specs.Answers.{AnswersPieces}
 use Rattle.panel_search.specs.declared.searching.SearchStop.{SearchStop}
 use Rattle.panel_search.specs.declared.searching.SearchStop.TheVariants.{Spent}
 use Rattle.panel_search.specs.Pieces.{IsLiveFront, counts_first, live_among, live_children}
 use Rattle.panel_search.specs.Steps.{counts_below}
-use Rattle.front_laws.specs.Front.{Stands}
-use Rattle.front_laws.proofs.Fronts.{class_limits}
+use Rattle.laws_of_fronts.specs.Front.{Stands}
+use Rattle.laws_of_fronts.proofs.Fronts.{class_limits}
 use Rattle.panel_search.proofs.Ranges.{LiveBetween, below_next, below_none, live_counts}
-use Rattle.front_laws.proofs.Tracking.{comes_next, stands_there}
+use Rattle.laws_of_fronts.proofs.Tracking.{comes_next, stands_there}
 
 -- ---- how many classes
 

@@ -4,21 +4,21 @@ use Rattle.std.specs.Prelude.{slice_get, slice_index, IfOk, Vec, vec_items}
 use Rattle.std.specs.declared.alloc.Global.{Global}
 use Rattle.std.specs.List.{AllByRecursion}
 use Rattle.std.proofs.lemmas.List.Elements.{recursion_from_All}
-use Rattle.basic_laws.proofs.Each.{each_append}
-use Rattle.row_definitions.specs.Row.{Row, reach}
-use Rattle.search_definitions.specs.Classes.{Class, Classes, KeepsLimits}
-use Rattle.search_definitions.specs.Fronts.{HaveEntries, HaveReach, sizes_of}
-use Rattle.search_definitions.specs.Visits.{Pricing}
-use Rattle.wave_definitions.specs.Below.{IsFront}
-use Rattle.wave_definitions.specs.Waves.{pieces}
-use Rattle.wave_definitions.proofs.Pieces.{pieces_are}
+use Rattle.laws_basic.proofs.Each.{each_append}
+use Rattle.define_rows.specs.Row.{Row, reach}
+use Rattle.define_searches.specs.Classes.{Class, Classes, KeepsLimits}
+use Rattle.define_searches.specs.Fronts.{HaveEntries, HaveReach, sizes_of}
+use Rattle.define_searches.specs.Visits.{Pricing}
+use Rattle.define_waves.specs.Below.{IsFront}
+use Rattle.define_waves.specs.Waves.{pieces}
+use Rattle.define_waves.proofs.Pieces.{pieces_are}
 use Rattle.panel_search.specs.Answers.{AnswersBest, AnswersPieces}
 use Rattle.panel_search.specs.Pricers.{AreClosed}
 use Rattle.panel_search.specs.Weights.{IsSummed}
 use Rattle.panel_search.specs.declared.greatest.Sums.{Sums}
 use Rattle.panel_search.specs.declared.searching.SearchStop.{SearchStop}
-use Rattle.front_laws.specs.Front.{AreWithin}
-use Rattle.front_laws.proofs.Beside.{get_pushed}
+use Rattle.laws_of_fronts.specs.Front.{AreWithin}
+use Rattle.laws_of_fronts.proofs.Beside.{get_pushed}
 
 -- one row more
 pub closed_more : (all : Classes) (rows : List Row) (sums : List Sums) (row : Row) (here : Sums) → AreClosed all rows sums → HaveEntries all (row ∷ []) → HaveReach all (row ∷ []) →

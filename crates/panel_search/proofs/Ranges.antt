@@ -5,19 +5,19 @@ use Rattle.std.specs.List.{All}
 use Rattle.std.proofs.lemmas.Bool.{and_parts, and_from, eqb-true, eqb-false, false≢true, leb-true, leb-false, le-leb, ltb-true, ltb-false}
 use Rattle.std.proofs.lemmas.List.Elements.{All-get_or}
 use Rattle.std.proofs.lemmas.Option.{get_or_from_slice_get, slice_get_within}
-use Rattle.search_definitions.specs.declared.Bounds.{Bounds}
-use Rattle.search_definitions.specs.Classes.{Class, Classes, HasPlaces, KeepsLimits}
-use Rattle.search_definitions.specs.Compositions.{counts_down, counts_of, takes_one_a_household}
-use Rattle.search_definitions.specs.Fronts.{is_reachable, size_reachable, values_reachable}
+use Rattle.define_searches.specs.declared.Bounds.{Bounds}
+use Rattle.define_searches.specs.Classes.{Class, Classes, HasPlaces, KeepsLimits}
+use Rattle.define_searches.specs.Compositions.{counts_down, counts_of, takes_one_a_household}
+use Rattle.define_searches.specs.Fronts.{is_reachable, size_reachable, values_reachable}
 use Rattle.panel_search.specs.Front.{Tracks}
-use Rattle.front_laws.specs.Front.{Stands}
-use Rattle.front_laws.specs.Homes.{has_room}
+use Rattle.laws_of_fronts.specs.Front.{Stands}
+use Rattle.laws_of_fronts.specs.Homes.{has_room}
 use Rattle.panel_search.specs.Steps.{counts_below}
-use Rattle.front_laws.specs.Tallies.{AllReach, HasBound, reaches}
+use Rattle.laws_of_fronts.specs.Tallies.{AllReach, HasBound, reaches}
 use Rattle.panel_search.specs.Tallies.{AreSmallBounds}
 use Rattle.panel_search.specs.declared.tally.Tally.{Tally}
-use Rattle.front_laws.proofs.Households.{child_households}
-use Rattle.front_laws.proofs.Liveness.{size_of_child, values_of_child, reach_of_child}
+use Rattle.laws_of_fronts.proofs.Households.{child_households}
+use Rattle.laws_of_fronts.proofs.Liveness.{size_of_child, values_of_child, reach_of_child}
 
 -- ---- the values
 

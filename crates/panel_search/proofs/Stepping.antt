@@ -2,17 +2,17 @@
 use Rattle.std.proofs.Common.{◌≡◌, ℕ, ◌+◌, ◌-◌, ◌≤◌, ◌<◌, Bool, true, false, cond, List, [], ◌∷◌, ◌++◌, take, drop, filter, map, Some, None, Result, Ok, Err, refl, sym, ap, ◌∙◌, arith, subst}
 use Rattle.std.specs.Prelude.{IsErr}
 use Rattle.std.proofs.lemmas.Bool.{false≢true}
-use Rattle.search_definitions.specs.Classes.{Class, Classes}
-use Rattle.search_definitions.specs.Compositions.{counts_of}
-use Rattle.search_definitions.specs.Fronts.{is_reachable}
-use Rattle.search_definitions.specs.Visits.{Search as Due, one_by_one, enter_first}
+use Rattle.define_searches.specs.Classes.{Class, Classes}
+use Rattle.define_searches.specs.Compositions.{counts_of}
+use Rattle.define_searches.specs.Fronts.{is_reachable}
+use Rattle.define_searches.specs.Visits.{Search as Due, one_by_one, enter_first}
 use Rattle.panel_search.specs.Steps.{StandsAt, Steps, StepsFrom, child_first, children_first, counts_below}
 use Rattle.panel_search.specs.declared.searching.BudgetSpent.{BudgetSpent}
 use Rattle.panel_search.specs.declared.searching.Search.{Search}
 use Rattle.panel_search.proofs.Ranges.{LiveBetween, below_next, below_none, live_counts}
-use Rattle.front_laws.specs.Front.{Stands}
-use Rattle.front_laws.proofs.InTurn.{after_nothing, at_least_one, found_at_once, found_later, then_next}
-use Rattle.front_laws.proofs.Tracking.{comes_next}
+use Rattle.laws_of_fronts.specs.Front.{Stands}
+use Rattle.laws_of_fronts.proofs.InTurn.{after_nothing, at_least_one, found_at_once, found_later, then_next}
+use Rattle.laws_of_fronts.proofs.Tracking.{comes_next}
 
 -- a child, and the children after it
 children_more : (all : Classes) (later : List Class) (front : List ℕ) (c : ℕ) (counts : List ℕ) →

@@ -1,13 +1,14 @@
--- What a search under a budget of visits answers.
+-- What a search under a budget of visits answers. Over Visits of `define_searches` and Waves. The contracts of the public calls cite
+-- it.
 use Rattle.std.specs.Prelude.{◌≡◌, ◌≤◌, ◌<◌, ℕ, ℤ, List, Option, Some, None, Result, Ok, Err, Vec, vec_items}
 use Rattle.std.specs.declared.alloc.Global.{Global}
-use Rattle.search_definitions.specs.Visits.{Search, Pricing}
-use Rattle.wave_definitions.specs.Waves.{Pieces}
+use Rattle.define_searches.specs.Visits.{Search, Pricing}
+use Rattle.define_waves.specs.Waves.{Pieces}
 use Rattle.panel_search.specs.declared.searching.BudgetSpent.{BudgetSpent}
 use Rattle.panel_search.specs.declared.searching.SearchStop.{SearchStop}
 use Rattle.panel_search.specs.declared.searching.SearchStop.TheVariants.{Spent, OutOfMemory}
 
--- what a search finds where its visits stay within the budget, else that the budget is spent; want of memory may come at any time
+-- what a search finds if its visits are within the budget, else that the budget is spent; want of memory may come at any time
 abbrev pub Answers : Search → ℕ → Result (Option (List ℕ)) SearchStop → Type 0
 Answers search nodes (Ok found) = (search.visits ≤ nodes) × (found ≡ search.found)
 Answers search nodes (Err Spent) = nodes < search.visits
@@ -18,13 +19,13 @@ abbrev pub AnswersBestWithin : Pricing → ℕ → Result (Option (List ℕ) × 
 AnswersBestWithin pricing nodes (Ok (found, visits)) = (pricing.visits ≤ nodes) × (found ≡ pricing.kept) × (visits ≡ pricing.visits)
 AnswersBestWithin pricing nodes (Err spent) = nodes < pricing.visits
 
--- what the search for the best composition kept and its visits, where these stay within the budget, else that the budget is spent
+-- what the search for the best composition kept and its visits, if these are within the budget, else that the budget is spent
 abbrev pub AnswersBest : Pricing → ℕ → Result (Option (List ℕ) × ℕ) SearchStop → Type 0
 AnswersBest pricing nodes (Ok (found, visits)) = (pricing.visits ≤ nodes) × (found ≡ pricing.kept) × (visits ≡ pricing.visits)
 AnswersBest pricing nodes (Err Spent) = nodes < pricing.visits
 AnswersBest pricing nodes (Err OutOfMemory) = Unit {0}
 
--- the fronts of pieces and the visits before them, where these stay within the budget, else that the budget is spent
+-- the fronts of pieces and the visits before them, if these are within the budget, else that the budget is spent
 abbrev pub AnswersPieces : Pieces → ℕ → Result (Vec (List ℕ) Global × ℕ) SearchStop → Type 0
 AnswersPieces parts nodes (Ok (fronts, visits)) = (parts.visits ≤ nodes) × (vec_items fronts ≡ parts.fronts) × (visits ≡ parts.visits)
 AnswersPieces parts nodes (Err Spent) = nodes < parts.visits
@@ -35,7 +36,7 @@ abbrev pub IsKept : Pricing → Option (List ℕ × ℤ) → Type 0
 IsKept pricing None = pricing.kept ≡ None
 IsKept pricing (Some (counts, weight)) = (pricing.kept ≡ Some counts) × (weight ≡ pricing.floor)
 
--- what a search that has its memory kept, with its weight, and its visits, where these stay within the budget, else that the budget is spent
+-- what a search that has its memory kept, with its weight, and its visits, if these are within the budget, else that the budget is spent
 abbrev pub AnswersWeighedWithin : Pricing → ℕ → Result (Option (List ℕ × ℤ) × ℕ) BudgetSpent → Type 0
 AnswersWeighedWithin pricing nodes (Ok (found, visits)) = (pricing.visits ≤ nodes) × IsKept pricing found × (visits ≡ pricing.visits)
 AnswersWeighedWithin pricing nodes (Err spent) = nodes < pricing.visits

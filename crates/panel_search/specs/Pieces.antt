@@ -1,12 +1,12 @@
--- The pieces of a search, as they are made class by class.
+-- The pieces of a search, as they are made class by class. For `dividing`.
 use Rattle.std.specs.Prelude.{◌≡◌, ℕ, true, List, [], ◌∷◌, ◌++◌, drop, filter, length, map, ℤ}
-use Rattle.row_definitions.specs.Row.{Row}
-use Rattle.search_definitions.specs.Classes.{Class, Classes}
-use Rattle.search_definitions.specs.Compositions.{counts_of}
-use Rattle.search_definitions.specs.Fronts.{is_live_above}
-use Rattle.wave_definitions.specs.Below.{IsFront}
+use Rattle.define_rows.specs.Row.{Row}
+use Rattle.define_searches.specs.Classes.{Class, Classes}
+use Rattle.define_searches.specs.Compositions.{counts_of}
+use Rattle.define_searches.specs.Fronts.{is_live_above}
+use Rattle.define_waves.specs.Below.{IsFront}
 
--- a live front of the first `depth` classes, with the floor at the row's right side
+-- a live front of the first `depth` classes, with the row's right side as the floor
 pub record IsLiveFront (all : Classes) (closed : List Row) (row : Row) (depth : ℕ) (front : List ℕ) : Type 0 where
   pub long : length front ≡ depth
   pub is_front : IsFront all front
@@ -21,6 +21,6 @@ abbrev pub counts_first : List Class → List ℕ
 counts_first [] = []
 counts_first (class ∷ later) = counts_of class
 
--- the live children of a front, with the floor at the row's right side
+-- the live children of a front, with the row's right side as the floor
 abbrev pub live_children : Classes → List Row → Row → List ℕ → List (List ℕ)
 live_children all closed row front = live_among all closed row row.b front (counts_first (drop (length front) all.classes))

@@ -1,20 +1,20 @@
--- One step of a search under a budget.
+-- One step of the search for the first composition. For `searching`.
 use Rattle.std.specs.Prelude.{◌≡◌, ◌≤◌, ◌<◌, ◌+◌, ℕ, zero, suc, nat_le, if◌then◌else◌, Bool, true, false, List, [], ◌∷◌, ◌++◌, length, take, filter, map, Result, Ok, Err, Some, None}
-use Rattle.search_definitions.specs.Classes.{Class, Classes}
-use Rattle.search_definitions.specs.Fronts.{is_reachable}
-use Rattle.search_definitions.specs.Visits.{Search as Due, one_by_one, enter_first}
+use Rattle.define_searches.specs.Classes.{Class, Classes}
+use Rattle.define_searches.specs.Fronts.{is_reachable}
+use Rattle.define_searches.specs.Visits.{Search as Due, one_by_one, enter_first}
 use Rattle.panel_search.specs.Front.{Tracks}
 use Rattle.panel_search.specs.declared.searching.BudgetSpent.{BudgetSpent}
 use Rattle.panel_search.specs.declared.searching.Search.{Search}
 
--- a search stands at a live front of the first classes, where these classes come after it
-pub record StandsAt (all : Classes) (depth : ℕ) (rest : List Class) (search : Search) : Type 0 where
+-- a search is at a live front of the first classes, and these classes come after it
+pub record StandsAt (all : Classes) (depth : ℕ) (later : List Class) (search : Search) : Type 0 where
   pub places : length search.counts.items ≡ length all.classes
   pub within : depth ≤ length all.classes
   pub live : is_reachable all (take depth search.counts.items) ≡ true
-  pub tally : Tracks all (take depth search.counts.items) rest search.tally
+  pub tally : Tracks all (take depth search.counts.items) later search.tally
 
--- a child where it is live, else nothing
+-- the search of a child if it is live, else no visit
 abbrev pub child_first : Classes → List Class → List ℕ → Due
 child_first all later child = if is_reachable all child then enter_first all later child else record { visits = 0; found = None }
 
@@ -22,27 +22,27 @@ child_first all later child = if is_reachable all child then enter_first all lat
 abbrev pub children_first : Classes → List Class → List ℕ → List ℕ → Due
 children_first all later front counts = one_by_one (map (λ child. enter_first all later child) (filter (is_reachable all) (map (λ c. front ++ c ∷ []) counts)))
 
--- the counts from one number on and below another, the greatest first
+-- the counts in `low..end`, the greatest first
 abbrev pub counts_below : ℕ → ℕ → List ℕ
 counts_below low zero = []
 counts_below low (suc n) = if nat_le low n then n ∷ counts_below low n else []
 
--- with each count from one number on and below another the front is live
+-- with each count in `low..end` the front is live
 abbrev pub LiveWithin : Classes → List ℕ → ℕ → ℕ → Type 0
 LiveWithin all front low end = (count : ℕ) → low ≤ count → count < end → is_reachable all (front ++ count ∷ []) ≡ true
 
--- a step from a front, with so many visits left: it finds what is due and takes the visits that are due, or it finds that they are
--- more than are left; without a find it stands where it stood
+-- a step from a front with `left` visits left: it finds what is due and makes the visits that are due, or these are more than are left;
+-- if it finds nothing it returns to the front
 abbrev pub StepsFrom : Classes → ℕ → List Class → Due → ℕ → List ℕ → Result Bool BudgetSpent → Search → Type 0
-StepsFrom all depth rest due left front (Ok true) after = (left ≡ after.left + due.visits) × (due.found ≡ Some after.counts.items)
-StepsFrom all depth rest due left front (Ok false) after =
-    (left ≡ after.left + due.visits) × (due.found ≡ None) × (take depth after.counts.items ≡ front) × StandsAt all depth rest after
-StepsFrom all depth rest due left front (Err spent) after = left < due.visits
+StepsFrom all depth later due left front (Ok true) after = (left ≡ after.left + due.visits) × (due.found ≡ Some after.counts.items)
+StepsFrom all depth later due left front (Ok false) after =
+    (left ≡ after.left + due.visits) × (due.found ≡ None) × (take depth after.counts.items ≡ front) × StandsAt all depth later after
+StepsFrom all depth later due left front (Err spent) after = left < due.visits
 
 abbrev pub Steps : Classes → ℕ → List Class → Due → Search → Result Bool BudgetSpent → Search → Type 0
-Steps all depth rest due before result after = StepsFrom all depth rest due before.left (take depth before.counts.items) result after
+Steps all depth later due before result after = StepsFrom all depth later due before.left (take depth before.counts.items) result after
 
--- what a whole search finds, with so many visits left
+-- what a whole search finds with `left` visits left
 abbrev pub Finds : Due → ℕ → Result Bool BudgetSpent → Search → Type 0
 Finds due left (Ok true) after = (left ≡ after.left + due.visits) × (due.found ≡ Some after.counts.items)
 Finds due left (Ok false) after = (left ≡ after.left + due.visits) × (due.found ≡ None)

@@ -1,7 +1,7 @@
--- Numbers for the values of the categories that a search can count with.
+-- Bounds that a search can count with in 64 bits.
 use Rattle.std.specs.Prelude.{ℕ, ◌≤◌, ◌<◌, List, length}
-use Rattle.search_definitions.specs.declared.Bounds.{Bounds}
-use Rattle.front_laws.specs.Tallies.{HasBound}
+use Rattle.define_searches.specs.declared.Bounds.{Bounds}
+use Rattle.laws_of_fronts.specs.Tallies.{HasBound}
 
 -- the upper bounds are small
 abbrev pub AreSmallBounds : List (List Bounds) → Type 0

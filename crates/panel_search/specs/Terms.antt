@@ -1,9 +1,9 @@
--- What a search for the best composition reads.
-use Rattle.front_laws.specs.Weights.{AreNarrow, EachNarrow}
+-- What a search for the best composition reads. For `pricing`.
+use Rattle.laws_of_fronts.specs.Weights.{AreNarrow, EachNarrow}
 use Rattle.panel_search.specs.Weights.{IsSummed, SumEach}
 use Rattle.panel_search.specs.declared.pricing.Terms.{Terms}
 
--- no weight in the rows is too wide, and the sums are theirs
+-- every weight in the rows fits 128 bits, and these are the rows' greatest sums
 pub record AreTerms (terms : Terms) : Type 0 where
   pub narrow : AreNarrow terms.classes.now terms.row.now.a
   pub closed_narrow : EachNarrow terms.classes.now terms.closed.now

@@ -1,8 +1,8 @@
--- The greatest sums of units in rows, and what fronts weigh in them.
+-- The greatest sums and the weights that the code keeps, as the lists of `laws_of_fronts`.
 use Rattle.std.specs.Prelude.{ℕ, List, ℤ}
-use Rattle.row_definitions.specs.Row.{Row}
-use Rattle.search_definitions.specs.Classes.{Classes}
-use Rattle.front_laws.specs.Weights as laws
+use Rattle.define_rows.specs.Row.{Row}
+use Rattle.define_searches.specs.Classes.{Classes}
+use Rattle.laws_of_fronts.specs.Weights as laws
 use Rattle.panel_search.specs.declared.greatest.Sums.{Sums}
 use Rattle.panel_search.specs.declared.weighing.Weights.{Weights}
 
@@ -10,7 +10,7 @@ use Rattle.panel_search.specs.declared.weighing.Weights.{Weights}
 abbrev pub table_of : Sums → List ℤ
 table_of sums = sums.cells.items
 
--- the weights by the lengths of fronts
+-- the weights, by the lengths of fronts
 abbrev pub weights_of : Weights → List ℤ
 weights_of weights = weights.by_length.items
 
@@ -18,14 +18,14 @@ weights_of weights = weights.by_length.items
 abbrev pub IsSummed : Classes → Row → Sums → Type 0
 IsSummed all row sums = laws.IsSummed all row (table_of sums)
 
--- those in each of the rows
+-- the same for each of the rows
 abbrev pub SumEach : Classes → List Row → List Sums → Type 0
 SumEach = laws.SumEach table_of
 
--- what a front, and each front that it goes on from, weighs in a row
+-- the weights in a row of a front and of each front before it
 abbrev pub Weighs : Classes → Row → List ℕ → Weights → Type 0
 Weighs all row front weights = laws.Weighs all row front (weights_of weights)
 
--- the same in each of the rows
+-- the same for each of the rows
 abbrev pub WeighEach : Classes → List Row → List ℕ → List Weights → Type 0
 WeighEach = laws.WeighEach weights_of

@@ -1,12 +1,12 @@
-//! The pieces of a search: the live fronts of the first classes, of so many that the pieces are enough for many workers.
+//! The pieces of a search: the live fronts of the first classes, enough of them for many workers.
 
 ghost use Rattle.std.specs.Prelude.{◌≡◌, ◌≤◌, ◌<◌, ◌+◌, ◌++◌, [], ◌∷◌, filter, length, IfOk, OnOk, OnErr};
 ghost use Rattle.std.specs.List.{All, flat_map};
 ghost use Rattle.panel_search.specs.Answers.{AnswersPieces};
 ghost use Rattle.panel_search.specs.Pieces.{IsLiveFront, live_children};
 ghost use Rattle.panel_search.specs.Terms.{AreTerms};
-ghost use Rattle.search_definitions.specs.Fronts.{is_live_above};
-ghost use Rattle.wave_definitions.specs.Waves.{piece_depth, pieces};
+ghost use Rattle.define_searches.specs.Fronts.{is_live_above};
+ghost use Rattle.define_waves.specs.Waves.{piece_depth, pieces};
 
 use crate::fronts::Front;
 use crate::pricing::{BestSearch, Terms};
@@ -14,7 +14,7 @@ use crate::searching::{BudgetSpent, SearchStop};
 use alike::Classes;
 use std::alloc::{AllocError, Global};
 
-// The fronts of the pieces of the search for the best composition, in order, with the visits to the fronts before them.
+// Returns the fronts of the pieces of the search for the best composition, in order, with the visits to the fronts before them.
 pub(crate) fn pieces(
     alloc: Global,
     terms: &Terms<'_>,
@@ -36,7 +36,7 @@ pub(crate) fn pieces(
     Ok((fronts, visits))
 }
 
-// The empty front, where it is live with the floor at the row's right side.
+// The empty front, if it is live with the row's right side as the floor.
 fn begun(alloc: Global, terms: &Terms<'_>) -> Result<Vec<Front>, AllocError>
     requires { AreTerms terms.now }
     ensures { IfOk result (λ fronts. fronts.items ≡ filter (is_live_above terms.now.classes.now terms.now.closed.now terms.now.row.now terms.now.row.now.b) ([] ∷ [])) }
@@ -49,7 +49,7 @@ fn begun(alloc: Global, terms: &Terms<'_>) -> Result<Vec<Front>, AllocError>
     Ok(fronts)
 }
 
-// The visits, where so many more fronts are entered.
+// The visits after `fronts` more fronts were entered.
 fn entered(visits: u64, fronts: usize, nodes: u64) -> Result<u64, BudgetSpent>
     requires { visits ≤ nodes }
     ensures ok { OnOk result (visits + fronts ≤ nodes) }
@@ -63,7 +63,7 @@ fn entered(visits: u64, fronts: usize, nodes: u64) -> Result<u64, BudgetSpent>
     Ok(visits + more)
 }
 
-// How many classes a piece's front has: the least number of first classes that have 64 lists of counts.
+// How many classes a piece's front has: the least number of first classes that have at least 64 lists of counts, or all classes.
 fn piece_depth(classes: &Classes) -> usize
     ensures { result ≡ piece_depth classes.now }
 {
@@ -78,7 +78,7 @@ fn piece_depth(classes: &Classes) -> usize
     classes.classes().len()
 }
 
-// The live fronts of one class more that go on from live fronts, in order.
+// The live fronts of one class more that continue live fronts, in order.
 fn next_fronts(
     alloc: Global,
     terms: &Terms<'_>,
@@ -97,7 +97,7 @@ fn next_fronts(
     Ok(next)
 }
 
-// Pushes the live fronts of one class more that go on from a live front.
+// Appends the live fronts of one class more that continue a live front.
 #[tactic(auto, using(crate::proofs::Kept::front_within))]
 fn push_children(
     alloc: Global,

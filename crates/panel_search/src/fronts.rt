@@ -1,4 +1,4 @@
-//! Fronts: counts for the first classes.
+//! Fronts as values: counts for the first classes.
 
 ghost use Rattle.std.specs.Prelude.{◌≡◌, ◌++◌, [], ◌∷◌, IfOk};
 
@@ -20,7 +20,7 @@ impl Model for Front {
 }
 
 impl Front {
-    /// The front of these counts.
+    /// Returns the front of these counts.
     pub fn new(counts: Vec<usize>) -> Front
         ensures { result ≡ counts.items }
     {
@@ -34,7 +34,7 @@ impl Front {
         &self.counts
     }
 
-    // The front with so many of the next class.
+    // The front that continues this one with `count` of the next class.
     pub(crate) fn child(&self, alloc: Global, count: usize) -> Result<Front, AllocError>
         ensures { IfOk result (λ child. child ≡ self.now ++ count ∷ []) }
     {

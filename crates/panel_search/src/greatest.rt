@@ -1,15 +1,15 @@
-//! The greatest sums of units that classes give in a row, as a table which is made once.
+//! The greatest sums of units that classes give in a row, as a table that is made once. `weighing` reads it.
 
 ghost use Rattle.std.specs.Prelude.{◌≡◌, ◌+◌, ◌<◌, ◌≤◌, drop, length, IfOk};
-ghost use Rattle.front_laws.specs.Weights.{AreNarrow, CanAdd, HasUnit, IsGreater, AreGreatest, HoldsSums, units_from};
+ghost use Rattle.laws_of_fronts.specs.Weights.{AreNarrow, CanAdd, HasUnit, IsGreater, AreGreatest, HoldsSums, units_from};
 ghost use Rattle.panel_search.specs.Weights.{IsSummed};
-ghost use Rattle.search_definitions.specs.Fronts.{greatest_sum};
+ghost use Rattle.define_searches.specs.Fronts.{greatest_sum};
 
 use alike::Classes;
-use row_model::Row;
+use define_rows::Row;
 use std::alloc::{AllocError, Global};
 
-/// For the classes from each place on, the greatest sums of 0, 1, 2 and more units out of them, up to as many as the size: (classes + 1)
+/// For the classes from each place on, the greatest sums of 0, 1, 2 and more of their units, up to as many as the size: (classes + 1)
 /// times (size + 1) numbers of 16 bytes, from the last class to the first.
 #[derive(Debug, Drop)]
 pub(crate) struct Sums {
@@ -17,7 +17,7 @@ pub(crate) struct Sums {
 }
 
 impl Sums {
-    // In a row.
+    // The table of a row.
     pub(crate) fn new(alloc: Global, classes: &Classes, row: &Row) -> Result<Sums, AllocError>
         requires { AreNarrow classes.now row.now.a }
         ensures { IfOk result (λ sums. IsSummed classes.now row.now sums) }
@@ -26,7 +26,7 @@ impl Sums {
         Ok(Sums { cells })
     }
 
-    // The greatest sum of so many units out of the classes from a place on.
+    // The greatest sum of `count` units of the classes from a place on.
     pub(crate) fn greatest_of(
         &self,
         classes: &Classes,
@@ -45,7 +45,7 @@ impl Sums {
     }
 }
 
-// For so many classes at the end, from none on: the greatest sums of units out of them, up to as many units as the size.
+// For the last 0, 1, 2 and more classes: the greatest sums of their units, up to as many units as the size.
 fn greatest_sums(
     alloc: Global,
     classes: &Classes,
@@ -67,7 +67,7 @@ fn greatest_sums(
     Ok(table)
 }
 
-// The greatest sums with the units of the class in this place too: how many units are there then?
+// Adds the units of the class in this place to the sums. Returns how many units there are then.
 fn put_class(
     sums: &mut [i128],
     classes: &Classes,
@@ -90,7 +90,7 @@ fn put_class(
     units + most
 }
 
-// The greatest sums with one more unit of a weight.
+// The greatest sums with one more unit of this weight.
 fn put_unit(sums: &mut [i128], units: usize, weight: i128)
     requires { CanAdd weight sums.old }
     ensures { HasUnit units weight sums.old sums.new }
@@ -101,7 +101,8 @@ fn put_unit(sums: &mut [i128], units: usize, weight: i128)
     }
 }
 
-// The greater sum of so many units, with one of them or without it, where only so many others are there.
+// The greatest sum of `count` units out of `units` others and one more: with this one if all the others are taken, else the greater of
+// the two.
 fn greater(units: usize, count: usize, without: i128, with_it: i128) -> i128
     ensures { IsGreater units count without with_it result }
 {

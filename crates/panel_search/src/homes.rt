@@ -1,10 +1,10 @@
-//! Numbers for the households: how many are taken of each, and whether so many more may be.
+//! Counters for households: how many members are taken of each. A helper of `tally`.
 
 ghost use Rattle.std.specs.Prelude.{◌≡◌, ◌≤◌, ◌<◌, ℕ, true, length};
-ghost use Rattle.search_definitions.specs.Classes.{IsKnownHousehold};
-ghost use Rattle.front_laws.specs.Homes.{AreFew, HasMoreAt, CanGiveAt, has_room};
+ghost use Rattle.define_searches.specs.Classes.{IsKnownHousehold};
+ghost use Rattle.laws_of_fronts.specs.Homes.{AreFew, HasMoreAt, CanGiveAt, has_room};
 
-// So many more are taken of a household, if there is one.
+// Adds `count` to the counter of a household, if there is one.
 pub(crate) fn add_at(homes: &mut [usize], household: Option<usize>, count: usize)
     requires known { IsKnownHousehold (length homes.old) household }
     requires small { AreFew homes.old }
@@ -16,7 +16,7 @@ pub(crate) fn add_at(homes: &mut [usize], household: Option<usize>, count: usize
     }
 }
 
-// They are given back.
+// Takes `count` from the counter of a household, if there is one.
 pub(crate) fn take_at(homes: &mut [usize], household: Option<usize>, count: usize)
     requires known { IsKnownHousehold (length homes.old) household }
     requires enough { CanGiveAt household count homes.old }
@@ -27,7 +27,7 @@ pub(crate) fn take_at(homes: &mut [usize], household: Option<usize>, count: usiz
     }
 }
 
-// Is at most one taken of the household, if there is one?
+// True if at most one is taken of the household, or there is none.
 pub(crate) fn has_one(homes: &[usize], household: Option<usize>) -> bool
     requires known { IsKnownHousehold (length homes.now) household }
     requires small { AreFew homes.now }
@@ -39,7 +39,8 @@ pub(crate) fn has_one(homes: &[usize], household: Option<usize>) -> bool
     }
 }
 
-// Of the counts below a number, those with which at most one is taken of the household, if there is one: they are below the result.
+// Returns `end`: exactly the counts below `end`, of those below `until`, take at most one of the household with those that are taken
+// already. Without a household that is `until`.
 pub(crate) fn room(homes: &[usize], household: Option<usize>, until: usize) -> usize
     requires { IsKnownHousehold (length homes.now) household }
     ensures inside { (count : ℕ) → count < result → (count < until) × (has_room homes.now household count ≡ true) }

@@ -1,6 +1,9 @@
-//! The searches for the first composition of a pool's classes, and for the best one in a row, under a budget of visits. `alike` stands
-//! below, which makes the classes; `search_definitions` says what a visit is, and what a search finds. A `Pricer` keeps what each search
-//! for the best composition needs of the rows that compositions are to attain.
+//! The searches for the first composition of a pool's classes, and for the best one in a row, under a budget of visits. Stands on
+//! `alike`, which makes the classes, and on `define_searches` and `define_waves`, which say what a visit is and what a search
+//! finds. Above: `pricing_pool`, which searches the pieces on threads; `leximin_run`; the command `panel`.
+//!
+//! Promises: `first`, `best`, `pieces` and `best_from`, and the same calls of `Pricer` and `PricedRow`, which keep what each search
+//! needs of the closed rows and of the priced one. The modules `tally`, `weighing` and `greatest` and what they use are helpers.
 #![tactic(auto)]
 
 mod dividing;
@@ -15,8 +18,8 @@ mod tallies;
 mod tally;
 mod weighing;
 
+pub use define_rows::Row;
 pub use fronts::Front;
 pub use priced::PricedRow;
 pub use pricer::{Pricer, best, best_from, pieces, pricer_of};
-pub use row_model::Row;
 pub use searching::{SearchStop, first};

@@ -1,14 +1,14 @@
-//! A row that is priced over closed rows, with all that the searches of its pricing read.
+//! A row that is priced over closed rows, with all that the searches of its pricing read. `pricing_pool` shares it among its workers.
 
 ghost use Rattle.std.specs.Prelude.{◌≡◌, ◌∷◌, IfOk};
-ghost use Rattle.search_definitions.specs.Classes.{IsSearchable};
-ghost use Rattle.search_definitions.specs.Fronts.{HaveEntries};
+ghost use Rattle.define_searches.specs.Classes.{IsSearchable};
+ghost use Rattle.define_searches.specs.Fronts.{HaveEntries};
 ghost use Rattle.std.specs.List.{AllByRecursion};
 ghost use Rattle.panel_search.specs.Answers.{AnswersBest, AnswersPieces, AnswersWeighed};
 ghost use Rattle.panel_search.specs.Pricers.{ArePriced};
 ghost use Rattle.panel_search.specs.Terms.{AreTerms};
-ghost use Rattle.wave_definitions.specs.Below.{IsFront, best_below, search_from};
-ghost use Rattle.wave_definitions.specs.Waves.{pieces};
+ghost use Rattle.define_waves.specs.Below.{IsFront, best_below, search_from};
+ghost use Rattle.define_waves.specs.Waves.{pieces};
 
 use crate::dividing::pieces;
 use crate::fronts::Front;
@@ -16,7 +16,7 @@ use crate::greatest::Sums;
 use crate::pricing::{Terms, search_from, search_weighed};
 use crate::searching::SearchStop;
 use alike::{Classes, Composition};
-use row_model::Row;
+use define_rows::Row;
 use std::alloc::Global;
 use std::marker::Model;
 
@@ -44,7 +44,7 @@ impl<'p> Model for PricedRow<'p> {
 }
 
 impl<'p> PricedRow<'p> {
-    // Of a row with its sums, over closed rows with theirs.
+    // A row with its sums, over closed rows with theirs.
     pub(crate) fn new(
         classes: &'p Classes,
         closed: &'p [Row],
@@ -78,7 +78,7 @@ impl<'p> PricedRow<'p> {
         self.row
     }
 
-    /// Does nothing; its contract tells what is kept: the classes can be searched, and each row has one entry per class.
+    /// Does nothing; its contract says what holds: the classes can be searched, and each row has one entry per class.
     pub fn facts(&self)
         ensures searchable { IsSearchable self.now.classes }
         ensures entries { HaveEntries self.now.classes (self.now.row ∷ self.now.closed) }
@@ -102,9 +102,9 @@ impl<'p> PricedRow<'p> {
         }
     }
 
-    /// The fronts of the pieces of the pricing's search in waves, in order, with the visits to the fronts before them, if these are at
-    /// most `nodes`. Where the empty front isn't live there is no piece, and one visit. Each front has at most one count for each class,
-    /// from the least to the most of the class.
+    /// Returns the fronts of the pieces of the pricing's search in waves, in order, with the visits to the fronts before them, if
+    /// these are at most `nodes`. If the empty front isn't live there is no piece, and one visit. Each front has at most one count
+    /// for each class, from the class's least to its most.
     pub fn pieces(&self, alloc: Global, nodes: u64) -> Result<(Vec<Front>, u64), SearchStop>
         ensures answers { AnswersPieces (pieces self.now.classes self.now.closed self.now.row) nodes result }
         ensures fronts { IfOk result (λ answer. AllByRecursion (IsFront self.now.classes) answer.0.items) }
@@ -113,10 +113,10 @@ impl<'p> PricedRow<'p> {
         pieces(alloc, &self.terms(), nodes)
     }
 
-    /// Of the compositions that begin with a front and whose weight in each closed row is at least its right side: the one of greatest
-    /// weight in the row above a floor, of equals the first in order, or None exactly where none weighs more than the floor; with the
-    /// visits of the search, if these are at most `nodes`. Where the front isn't live above the floor there is no visit. The front has
-    /// at most one count for each class, from the least to the most of the class. All memory is taken before the first visit.
+    /// Searches the compositions that begin with a front and weigh at least the right side in each closed row. Returns the one of
+    /// greatest weight in the row, the first of equals, or None exactly if none weighs more than the floor; and the visits of the
+    /// search, if these are at most `nodes`. If the front isn't live above the floor there is no visit. The front has at most one
+    /// count for each class, from the class's least to its most. All memory is taken before the first visit.
     #[tactic(auto, using(crate::proofs::Kept::front_within))]
     pub fn best_from(
         &self,
@@ -133,7 +133,7 @@ impl<'p> PricedRow<'p> {
         search_from(alloc, &self.terms(), front.counts(), floor, nodes)
     }
 
-    /// The same with the weight of what is found in the row.
+    /// The same with the weight in the row of the composition that is found.
     #[tactic(auto, using(crate::proofs::Kept::front_within))]
     pub fn weighed_from(
         &self,

@@ -1,13 +1,13 @@
-//! The rows that compositions are to attain, with what each pricing needs of them.
+//! The rows that compositions must attain, with what each pricing needs of them. The run adds a row when a stage closes.
 
 ghost use Rattle.std.specs.Prelude.{◌≡◌, ◌++◌, [], ◌∷◌, IfOk, OnOk, OnErr, take};
 ghost use Rattle.std.specs.List.{AllByRecursion};
 ghost use Rattle.panel_search.specs.Answers.{AnswersBest, AnswersPieces};
-ghost use Rattle.search_definitions.specs.Compositions.{price};
-ghost use Rattle.search_definitions.specs.Fronts.{HaveEntries, HaveReach};
-ghost use Rattle.search_definitions.specs.Visits.{best_search};
-ghost use Rattle.wave_definitions.specs.Below.{IsFront, best_below, search_from};
-ghost use Rattle.wave_definitions.specs.Waves.{pieces};
+ghost use Rattle.define_searches.specs.Compositions.{price};
+ghost use Rattle.define_searches.specs.Fronts.{HaveEntries, HaveReach};
+ghost use Rattle.define_searches.specs.Visits.{best_search};
+ghost use Rattle.define_waves.specs.Below.{IsFront, best_below, search_from};
+ghost use Rattle.define_waves.specs.Waves.{pieces};
 
 use crate::fronts::Front;
 use crate::greatest::Sums;
@@ -15,12 +15,12 @@ use crate::priced::PricedRow;
 use crate::pricing::search_best;
 use crate::searching::SearchStop;
 use alike::{Classes, Composition};
-use row_model::Row;
+use define_rows::Row;
 use std::alloc::{AllocError, Global};
 use std::marker::Model;
 
-/// The closed rows over classes, which compositions are to attain, and for each the greatest sums of units that classes give in it: they
-/// are made once, as the row is added, and each pricing reads them. A row takes 16 bytes times (classes + 1) times (size + 1): 1.3
+/// The closed rows over classes, which compositions must attain, and for each the greatest sums of units that classes give in it. They
+/// are made once, when the row is added, and each pricing reads them. A row takes 16 bytes times (classes + 1) times (size + 1): 1.3
 /// megabytes at 400 classes and a panel of 200.
 #[derive(Debug, Drop)]
 pub struct Pricer<'c> {
@@ -42,7 +42,7 @@ impl<'c> Model for Pricer<'c> {
 }
 
 impl<'c> Pricer<'c> {
-    /// Of no row yet.
+    /// Returns a pricer without rows.
     pub fn new(alloc: Global, classes: &'c Classes) -> Pricer<'c>
         ensures { result ≡ record { classes = classes.now; closed = [] } }
     {
@@ -67,7 +67,7 @@ impl<'c> Pricer<'c> {
         &self.closed
     }
 
-    /// A row is added, of one entry per class and a reach below 2^127. Fails where no memory is left, and the rows are then as before.
+    /// Adds a row, of one entry per class and a reach below 2^127. Fails if memory runs out; the rows are then unchanged.
     pub fn add_row(&mut self, row: Row) -> Result<(), AllocError>
         requires entries { HaveEntries self.old.classes (row ∷ []) }
         requires reach { HaveReach self.old.classes (row ∷ []) }
@@ -86,10 +86,9 @@ impl<'c> Pricer<'c> {
         }
     }
 
-    /// Of the compositions whose weight in each closed row is at least its right side, and whose weight in the row is above its right
-    /// side: the one of greatest weight in the row, of equals the first in order, or None where there is none; with the visits of the
-    /// search, if these are at most `nodes`. The row has one entry per class and a reach below 2^127. All memory is taken before the
-    /// first visit.
+    /// Searches the compositions that weigh at least the right side in each closed row. Returns the one of greatest weight in the
+    /// row, above the row's right side, the first of equals, or None if there is none; and the visits of the search, if these are
+    /// at most `nodes`. The row has one entry per class and a reach below 2^127. All memory is taken before the first visit.
     pub fn best(&self, row: &Row, nodes: u64) -> Result<(Option<Composition>, u64), SearchStop>
         requires entries { HaveEntries self.now.classes (row.now ∷ []) }
         requires reach { HaveReach self.now.classes (row.now ∷ []) }
@@ -102,8 +101,8 @@ impl<'c> Pricer<'c> {
         search_best(alloc, &priced.terms(), nodes)
     }
 
-    /// The row as one that is priced over the closed rows, with its greatest sums, which are made once for all searches of the pricing.
-    /// It has one entry per class and a reach below 2^127. Fails where no memory is left.
+    /// Returns the row as one that is priced over the closed rows, with its greatest sums, which are made once for all searches of
+    /// the pricing. It has one entry per class and a reach below 2^127. Fails if memory runs out.
     pub fn priced<'p>(&'p self, row: &'p Row) -> Result<PricedRow<'p>, AllocError>
         requires entries { HaveEntries self.now.classes (row.now ∷ []) }
         requires reach { HaveReach self.now.classes (row.now ∷ []) }
@@ -115,12 +114,12 @@ impl<'c> Pricer<'c> {
     }
 }
 
-/// Of the compositions whose weight in each closed row is at least its right side, and whose weight in the row is above its right
-/// side: the one of greatest weight in the row, of equals the first in order, or None where there is none; with the visits of the
-/// search, if these are at most `nodes`. A `Pricer` keeps what this makes of the closed rows.
+/// Searches the compositions that weigh at least the right side in each closed row. Returns the one of greatest weight in the row,
+/// above the row's right side, the first of equals, or None if there is none; and the visits of the search, if these are at most
+/// `nodes`. A `Pricer` keeps what this makes of the closed rows.
 ///
-/// Each of the rows has one entry per class and a reach below 2^127, which is its right side and each class's size times its entry, all
-/// without their signs: so no weight passes 128 bits. All memory is taken before the first visit.
+/// Each of the rows has one entry per class and a reach below 2^127: the absolute value of its right side, and of each entry times its
+/// class's size. So every weight fits 128 bits. All memory is taken before the first visit.
 pub fn best(
     alloc: Global,
     classes: &Classes,
@@ -137,8 +136,9 @@ pub fn best(
     pricer.best(row, nodes)
 }
 
-/// The fronts of the pieces of the search in waves for the best composition, in order, with the visits to the fronts before them, if these
-/// are at most `nodes`: `PricedRow::pieces` of the rows. Each of the rows has one entry per class and a reach below 2^127.
+/// Returns the fronts of the pieces of the search in waves for the best composition, in order, with the visits to the fronts before
+/// them, if these are at most `nodes`: `PricedRow::pieces` for these rows. Each of the rows has one entry per class and a reach below
+/// 2^127.
 pub fn pieces(
     alloc: Global,
     classes: &Classes,
@@ -156,9 +156,9 @@ pub fn pieces(
     priced.pieces(alloc, nodes)
 }
 
-/// The best composition below a front, with a floor of its own, and the visits of the search, if these are at most `nodes`:
-/// `PricedRow::best_from` of the rows. Each of the rows has one entry per class and a reach below 2^127; the front has at most one count for
-/// each class, from the least to the most of the class.
+/// Returns the best composition below a front, with a floor of its own, and the visits of the search, if these are at most `nodes`:
+/// `PricedRow::best_from` for these rows. Each of the rows has one entry per class and a reach below 2^127; the front has at most one
+/// count for each class, from the class's least to its most.
 pub fn best_from(
     alloc: Global,
     classes: &Classes,
@@ -179,7 +179,7 @@ pub fn best_from(
     priced.best_from(alloc, front, floor, nodes)
 }
 
-/// A pricer of these rows, each of one entry per class and a reach below 2^127.
+/// Returns a pricer of these rows, each of one entry per class and a reach below 2^127.
 pub fn pricer_of<'c>(
     alloc: Global,
     classes: &'c Classes,

@@ -1,19 +1,20 @@
-//! The search for the best composition, front by front, with a floor that rises as compositions are kept.
+//! The search for the best composition, front by front, with a floor that rises as compositions are kept. A helper of `pricer` and
+//! `priced`.
 
 ghost use Rattle.std.specs.Prelude.{◌≡◌, ◌≤◌, ◌<◌, ◌+◌, ◌++◌, [], ◌∷◌, true, false, ◌&&◌, length, take, drop, int_le, int_lt, Some, None, if◌then◌else◌, IfOk, OnOk, OnErr};
 ghost use Rattle.std.specs.List.{list_all};
 ghost use Rattle.panel_search.specs.Answers.{AnswersBest, AnswersBestWithin, AnswersWeighed, AnswersWeighedWithin};
 ghost use Rattle.panel_search.specs.Front.{Tracks};
-ghost use Rattle.panel_search.specs.Pricing.{BeginsAt, StandsAt, Moves, EndsWithin, told, CanTakeWithin, children_best};
-ghost use Rattle.front_laws.specs.Front.{CanTake, AreWithin};
+ghost use Rattle.panel_search.specs.Pricing.{BeginsAt, StandsAt, Moves, EndsWithin, pricing_of, CanTakeWithin, children_best};
+ghost use Rattle.laws_of_fronts.specs.Front.{CanTake, AreWithin};
 ghost use Rattle.panel_search.specs.Pieces.{live_among, live_children};
 ghost use Rattle.panel_search.specs.Steps.{counts_below, LiveWithin};
 ghost use Rattle.panel_search.specs.Terms.{AreTerms};
 ghost use Rattle.panel_search.specs.Weights.{Weighs, WeighEach};
-ghost use Rattle.search_definitions.specs.Compositions.{price, weight_in};
-ghost use Rattle.search_definitions.specs.Fronts.{HaveEntries, HaveReach, is_live_above, is_reachable, optimistic};
-ghost use Rattle.search_definitions.specs.Visits.{best_search, enter_best};
-ghost use Rattle.wave_definitions.specs.Below.{child_best, search_from};
+ghost use Rattle.define_searches.specs.Compositions.{price, weight_in};
+ghost use Rattle.define_searches.specs.Fronts.{HaveEntries, HaveReach, is_live_above, is_reachable, optimistic};
+ghost use Rattle.define_searches.specs.Visits.{best_search, enter_best};
+ghost use Rattle.define_waves.specs.Below.{child_best, search_from};
 
 use crate::fronts::Front;
 use crate::greatest::Sums;
@@ -21,7 +22,7 @@ use crate::searching::{BudgetSpent, SearchStop};
 use crate::tally::Tally;
 use crate::weighing::{Weights, all_weights, child_attains, front_attains};
 use alike::{Classes, Composition};
-use row_model::Row;
+use define_rows::Row;
 use std::alloc::{AllocError, Global};
 
 /// What a search for the best composition reads: the classes, the rows to attain and the one to price, each with its greatest sums. The
@@ -35,8 +36,8 @@ pub(crate) struct Terms<'a> {
     pub(crate) sums: &'a Sums,
 }
 
-// The search below a front, with a floor of its own: where the front isn't live above the floor, it makes no visit. The front has at
-// most one count for each class, and each is at most the size of its class.
+// Searches below a front, with a floor of its own: if the front isn't live above the floor, it makes no visit. The front has at most one
+// count for each class, and each is at most its class's size.
 pub(crate) fn search_from(
     alloc: Global,
     terms: &Terms<'_>,
@@ -70,8 +71,8 @@ pub(crate) fn search_weighed(
     Ok(search.run_weighed(terms, front.len())?)
 }
 
-// The search from the empty front on, with a floor that begins at the priced row's right side. The empty front counts one visit even
-// where it isn't live.
+// Searches from the empty front on, with a floor that begins at the priced row's right side. The empty front counts one visit even if it
+// isn't live.
 pub(crate) fn search_best(
     alloc: Global,
     terms: &Terms<'_>,
@@ -90,7 +91,7 @@ pub(crate) fn search_best(
     Ok((None, 1))
 }
 
-// So many places for counts, the first of them with the front's.
+// `places` places for counts, with the front's in the first of them.
 fn places_after(alloc: Global, front: &[usize], places: usize) -> Result<Vec<usize>, AllocError>
     requires { length front.now ≤ places }
     ensures places { IfOk result (λ counts. length counts.items ≡ places) }
@@ -102,8 +103,8 @@ fn places_after(alloc: Global, front: &[usize], places: usize) -> Result<Vec<usi
     Ok(counts)
 }
 
-// Where a search for the best composition stands: the counts of the front's classes, of which there is a place for each class; what
-// the front takes and weighs; the floor, and the composition that was kept last, if there is one; and the visits, at most so many.
+// Where a search for the best composition is: the counts of the front's classes, with a place for each class; what the front takes and
+// weighs; the floor, and the composition that was kept last, if there is one; the visits, and the budget of visits.
 #[derive(Debug, Drop)]
 pub(crate) struct BestSearch {
     counts: Vec<usize>,
@@ -118,7 +119,7 @@ pub(crate) struct BestSearch {
 }
 
 impl BestSearch {
-    // At a front, of which nothing is entered yet.
+    // At a front, before anything is entered.
     pub(crate) fn new(
         alloc: Global,
         terms: &Terms<'_>,
@@ -129,7 +130,7 @@ impl BestSearch {
         requires terms { AreTerms terms.now }
         requires within { length front.now ≤ length terms.now.classes.now.classes }
         requires counts { AreWithin terms.now.classes.now front.now }
-        ensures told { IfOk result (λ search. told search ≡ record { visits = 0; floor = floor; kept = None }) }
+        ensures pricing { IfOk result (λ search. pricing_of search ≡ record { visits = 0; floor = floor; kept = None }) }
         ensures nodes { IfOk result (λ search. search.nodes ≡ nodes) }
         ensures front { IfOk result (λ search. take (length front.now) search.counts.items ≡ front.now) }
         ensures begins { IfOk result (λ search. BeginsAt terms.now.classes.now terms.now.closed.now terms.now.row.now (length front.now) search) }
@@ -154,7 +155,7 @@ impl BestSearch {
         depth: usize,
     ) -> Result<(Option<Composition>, u64), BudgetSpent>
         requires terms { AreTerms terms.now }
-        requires told { told self ≡ record { visits = 0; floor = self.floor; kept = None } }
+        requires pricing { pricing_of self ≡ record { visits = 0; floor = self.floor; kept = None } }
         requires begins { BeginsAt terms.now.classes.now terms.now.closed.now terms.now.row.now depth self }
         ensures { AnswersBestWithin (search_from terms.now.classes.now terms.now.closed.now terms.now.row.now (take depth self.counts.items) self.floor) self.nodes result }
     {
@@ -162,14 +163,14 @@ impl BestSearch {
         Ok(self.answer())
     }
 
-    // The same with the weight of what it kept, which is the floor then.
+    // The same with the weight of what it kept, which is then the floor.
     fn run_weighed(
         mut self,
         terms: &Terms<'_>,
         depth: usize,
     ) -> Result<(Option<(Composition, i128)>, u64), BudgetSpent>
         requires terms { AreTerms terms.now }
-        requires told { told self ≡ record { visits = 0; floor = self.floor; kept = None } }
+        requires pricing { pricing_of self ≡ record { visits = 0; floor = self.floor; kept = None } }
         requires begins { BeginsAt terms.now.classes.now terms.now.closed.now terms.now.row.now depth self }
         ensures { AnswersWeighedWithin (search_from terms.now.classes.now terms.now.closed.now terms.now.row.now (take depth self.counts.items) self.floor) self.nodes result }
     {
@@ -181,7 +182,7 @@ impl BestSearch {
 
     // What was kept, and the visits.
     fn answer(self) -> (Option<Composition>, u64)
-        ensures found { result.0 ≡ (told self).kept }
+        ensures found { result.0 ≡ (pricing_of self).kept }
         ensures visits { result.1 ≡ self.visits }
     {
         if self.is_found {
@@ -191,10 +192,10 @@ impl BestSearch {
         }
     }
 
-    // Enters the front of the first `depth` classes, where it is live.
+    // Enters the front of the first `depth` classes, if it is live.
     fn below(&mut self, terms: &Terms<'_>, depth: usize) -> Result<(), BudgetSpent>
         requires terms { AreTerms terms.now }
-        requires told { told self.old ≡ record { visits = 0; floor = self.old.floor; kept = None } }
+        requires pricing { pricing_of self.old ≡ record { visits = 0; floor = self.old.floor; kept = None } }
         requires begins { BeginsAt terms.now.classes.now terms.now.closed.now terms.now.row.now depth self.old }
         ensures { EndsWithin (search_from terms.now.classes.now terms.now.closed.now terms.now.row.now (take depth self.old.counts.items) self.old.floor) self.old.nodes result self.new }
     {
@@ -204,7 +205,7 @@ impl BestSearch {
         Ok(())
     }
 
-    // Is the front of the first `depth` classes live above the floor?
+    // True if the front of the first `depth` classes is live above the floor.
     pub(crate) fn is_live(&self, terms: &Terms<'_>, depth: usize) -> bool
         requires terms { AreTerms terms.now }
         requires begins { BeginsAt terms.now.classes.now terms.now.closed.now terms.now.row.now depth self.now }
@@ -250,7 +251,7 @@ impl BestSearch {
         requires kept_places { length self.old.kept.items ≡ length self.old.counts.items }
         requires places { length self.old.counts.items ≡ length terms.now.classes.now.classes }
         requires priced { Weighs terms.now.classes.now terms.now.row.now self.old.counts.items self.old.priced }
-        ensures told { told self.new ≡ record { visits = self.old.visits; floor = weight_in terms.now.row.now.a self.old.counts.items; kept = Some self.old.counts.items } }
+        ensures pricing { pricing_of self.new ≡ record { visits = self.old.visits; floor = weight_in terms.now.row.now.a self.old.counts.items; kept = Some self.old.counts.items } }
         ensures kept_places { length self.new.kept.items ≡ length self.new.counts.items }
         ensures counts { self.new.counts ≡ self.old.counts }
         ensures tally { self.new.tally ≡ self.old.tally }
@@ -263,7 +264,7 @@ impl BestSearch {
         self.is_found = true;
     }
 
-    // Are the child's optimistic weights at least the closed rows' right sides, and above the floor?
+    // True if the child's optimistic weights are at least the closed rows' right sides, and above the floor.
     fn weights_allow(&mut self, terms: &Terms<'_>, depth: usize, count: usize) -> bool
         requires terms { AreTerms terms.now }
         requires below { depth < length terms.now.classes.now.classes }
@@ -273,7 +274,7 @@ impl BestSearch {
         ensures value { result ≡ (list_all (λ r. int_le r.b (optimistic terms.now.classes.now r (take depth self.old.counts.items ++ count ∷ []))) terms.now.closed.now
             && int_lt self.old.floor (optimistic terms.now.classes.now terms.now.row.now (take depth self.old.counts.items ++ count ∷ []))) }
         ensures stands { StandsAt terms.now.classes.now terms.now.closed.now terms.now.row.now depth (drop (depth + 1) terms.now.classes.now.classes) self.new }
-        ensures told { told self.new ≡ told self.old }
+        ensures pricing { pricing_of self.new ≡ pricing_of self.old }
         ensures counts { self.new.counts ≡ self.old.counts }
         ensures nodes { self.new.nodes ≡ self.old.nodes }
         ensures priced { result ≡ true → Weighs terms.now.classes.now terms.now.row.now (take depth self.old.counts.items ++ count ∷ []) self.new.priced }
@@ -296,8 +297,8 @@ impl BestSearch {
                 .child(terms.sums, classes, terms.row, front, count, lack)
     }
 
-    // The class after a live front is the next whose counts are tried: those with which size, values and households are in reach go from
-    // the first result on and below the second.
+    // Makes the class after a live front the next one to try. Returns `(low, end)`: exactly the counts in `low..end` keep size,
+    // values and households within reach.
     pub(crate) fn begin(&mut self, terms: &Terms<'_>, front: &Front) -> (usize, usize)
         requires below { length front.now < length terms.now.classes.now.classes }
         requires front { take (length front.now) self.old.counts.items ≡ front.now }
@@ -320,8 +321,8 @@ impl BestSearch {
             .range(classes, front.counts(), class.least(), class.most() + 1)
     }
 
-    // Pushes the live children of a front, with counts of the next class from one number on and below another, the greatest first. Size,
-    // values and households are in reach with each of them.
+    // Appends the live children of a front with counts of the next class in `low..end`, the greatest first. Size, values and
+    // households are within reach with each of them.
     pub(crate) fn push_children(
         &mut self,
         alloc: Global,
@@ -347,7 +348,8 @@ impl BestSearch {
         self.push_children(alloc, terms, front, low, end - 1, children)
     }
 
-    // Pushes the child of a front with this count of the next class, where it is live. Its size, values and households are in reach.
+    // Appends the child of a front with this count of the next class, if it is live. Its size, values and households are within
+    // reach.
     fn push_child(
         &mut self,
         alloc: Global,
@@ -382,7 +384,7 @@ impl BestSearch {
         requires few { self.old.visits ≤ self.old.nodes }
         requires stands { StandsAt terms.now.classes.now terms.now.closed.now terms.now.row.now depth (drop depth terms.now.classes.now.classes) self.old }
         ensures { Moves terms.now.classes.now terms.now.closed.now terms.now.row.now depth (drop depth terms.now.classes.now.classes)
-            (enter_best terms.now.classes.now terms.now.closed.now terms.now.row.now (drop depth terms.now.classes.now.classes) (take depth self.old.counts.items) (told self.old))
+            (enter_best terms.now.classes.now terms.now.closed.now terms.now.row.now (drop depth terms.now.classes.now.classes) (take depth self.old.counts.items) (pricing_of self.old))
             (take depth self.old.counts.items) self.old.nodes result self.new }
     {
         let classes = terms.classes;
@@ -404,8 +406,8 @@ impl BestSearch {
     }
 
     #[cycle(search)]
-    // Tries the children of the front, with counts of the next class from one number on and below another, the greatest first. Size,
-    // values and households are in reach with each of them.
+    // Tries the children of the front with counts of the next class in `low..end`, the greatest first. Size, values and households
+    // are within reach with each of them.
     fn children(
         &mut self,
         terms: &Terms<'_>,
@@ -421,7 +423,7 @@ impl BestSearch {
         requires live { LiveWithin terms.now.classes.now (take depth self.old.counts.items) low end }
         requires stands { StandsAt terms.now.classes.now terms.now.closed.now terms.now.row.now depth (drop (depth + 1) terms.now.classes.now.classes) self.old }
         ensures { Moves terms.now.classes.now terms.now.closed.now terms.now.row.now depth (drop (depth + 1) terms.now.classes.now.classes)
-            (children_best terms.now.classes.now terms.now.closed.now terms.now.row.now (drop (depth + 1) terms.now.classes.now.classes) (take depth self.old.counts.items) (counts_below low end) (told self.old))
+            (children_best terms.now.classes.now terms.now.closed.now terms.now.row.now (drop (depth + 1) terms.now.classes.now.classes) (take depth self.old.counts.items) (counts_below low end) (pricing_of self.old))
             (take depth self.old.counts.items) self.old.nodes result self.new }
     {
         if end <= low {
@@ -432,7 +434,7 @@ impl BestSearch {
     }
 
     #[cycle(search)]
-    // Enters the child with this count of the next class, where it is live. Its size, values and households are in reach.
+    // Enters the child with this count of the next class, if it is live. Its size, values and households are within reach.
     fn try_child(
         &mut self,
         terms: &Terms<'_>,
@@ -447,7 +449,7 @@ impl BestSearch {
         requires live { is_reachable terms.now.classes.now (take depth self.old.counts.items ++ count ∷ []) ≡ true }
         requires stands { StandsAt terms.now.classes.now terms.now.closed.now terms.now.row.now depth (drop (depth + 1) terms.now.classes.now.classes) self.old }
         ensures { Moves terms.now.classes.now terms.now.closed.now terms.now.row.now depth (drop (depth + 1) terms.now.classes.now.classes)
-            (child_best terms.now.classes.now terms.now.closed.now terms.now.row.now (drop (depth + 1) terms.now.classes.now.classes) (take depth self.old.counts.items ++ count ∷ []) (told self.old))
+            (child_best terms.now.classes.now terms.now.closed.now terms.now.row.now (drop (depth + 1) terms.now.classes.now.classes) (take depth self.old.counts.items ++ count ∷ []) (pricing_of self.old))
             (take depth self.old.counts.items) self.old.nodes result self.new }
     {
         let classes = terms.classes;

@@ -1,13 +1,13 @@
-//! The search for the first composition, front by front: classes in their order, of each the greatest count first.
+//! The search for the first composition, front by front: classes in their order, the greatest count first.
 
 ghost use Rattle.std.specs.Prelude.{◌≡◌, true, ◌≤◌, ◌<◌, ◌+◌, [], ◌∷◌, ◌++◌, length, take, drop, IfOk, OnOk, OnErr};
-ghost use Rattle.front_laws.specs.Answers.{AnswersWithin};
+ghost use Rattle.laws_of_fronts.specs.Answers.{AnswersWithin};
 ghost use Rattle.panel_search.specs.Answers.{Answers};
-ghost use Rattle.search_definitions.specs.Compositions.{first_composition};
+ghost use Rattle.define_searches.specs.Compositions.{first_composition};
 ghost use Rattle.panel_search.specs.Front.{Tracks};
 ghost use Rattle.panel_search.specs.Steps.{StandsAt, Steps, Finds, child_first, children_first, counts_below, LiveWithin};
-ghost use Rattle.search_definitions.specs.Fronts.{is_reachable};
-ghost use Rattle.search_definitions.specs.Visits.{enter_first, first_search};
+ghost use Rattle.define_searches.specs.Fronts.{is_reachable};
+ghost use Rattle.define_searches.specs.Visits.{enter_first, first_search};
 
 use crate::tally::Tally;
 use alike::{Classes, Composition};
@@ -25,8 +25,8 @@ pub enum SearchStop {
     OutOfMemory,
 }
 
-/// The first composition of the classes, in order of classes with the greater count first, or None where there is none, if the
-/// search needs at most `nodes` visits. Each front that is entered counts one visit, and the empty front counts one too.
+/// Returns the first composition of the classes, in order of classes with the greater count first, or None if there is none, if the
+/// search makes at most `nodes` visits. Each front that is entered counts one visit, also the empty front.
 pub fn first(
     alloc: Global,
     classes: &Classes,
@@ -66,8 +66,7 @@ impl From<BudgetSpent> for SearchStop {
 #[derive(Debug, Clone, Copy)]
 pub(crate) struct BudgetSpent;
 
-// Where a search stands: the counts of the front's classes, of which there is a place for each class; what the front takes; and how
-// many visits are left.
+// Where a search is: the counts of the front's classes, with a place for each class; what the front takes; and how many visits are left.
 #[derive(Debug, Drop)]
 struct Search {
     counts: Vec<usize>,
@@ -101,7 +100,7 @@ impl Search {
         }
     }
 
-    // Enters the empty front, where it is live.
+    // Enters the empty front, if it is live.
     fn from_the_empty_front(&mut self, classes: &Classes) -> Result<bool, BudgetSpent>
         requires places { length self.old.counts.items ≡ length classes.now.classes }
         requires tally { Tracks classes.now [] classes.now.classes self.old.tally }
@@ -130,7 +129,7 @@ impl Search {
     }
 
     #[cycle(search)]
-    // Enters a live front of the first `depth` classes: does it go on to a composition?
+    // Enters a live front of the first `depth` classes. True if it leads to a composition.
     fn enter(&mut self, classes: &Classes, depth: usize) -> Result<bool, BudgetSpent>
         requires { StandsAt classes.now depth (drop depth classes.now.classes) self.old }
         ensures { Steps classes.now depth (drop depth classes.now.classes)
@@ -155,7 +154,7 @@ impl Search {
     }
 
     #[cycle(search)]
-    // Tries the live children of the front, with counts of the next class from one number on and below another, the greatest first.
+    // Tries the live children of the front with counts of the next class in `low..end`, the greatest first.
     fn children(
         &mut self,
         classes: &Classes,

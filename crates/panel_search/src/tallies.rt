@@ -1,15 +1,15 @@
-//! Numbers for the values of the categories, 50 places for each category, and what they allow.
+//! Counters for values, 50 places for each category, and what they allow. A helper of `tally`.
 
 ghost use Rattle.std.specs.Prelude.{◌≡◌, ℕ, true, false, ◌≤◌, ◌<◌, ◌+◌, ◌^◌, [], length, slice_index_or};
-ghost use Rattle.front_laws.specs.Tallies.{HaveCells, CanGive, AreAtMost, HasMore, HaveBounds, AllReach, FitCells, HasBound, EachReaches, SomeFails, within_reach};
+ghost use Rattle.laws_of_fronts.specs.Tallies.{HaveCells, CanGive, AreAtMost, HasMore, HaveBounds, AllReach, FitCells, HasBound, EachReaches, SomeFails, within_reach};
 ghost use Rattle.panel_search.specs.Tallies.{AreSmallBounds};
 
 use alike::{Bounds, ValueBounds};
 
-// Each category has so many places.
+// How many places each category has.
 pub(crate) const PLACES: usize = 50;
 
-// Adds the count at each category's value. A search often tries the count 0, which changes nothing.
+// Adds the count for each category's value. A search often tries the count 0, which changes nothing.
 pub(crate) fn add_to(cells: &mut [usize], values: &[usize], count: usize)
     requires cells { HaveCells values.now cells.old }
     requires small { AreAtMost 1000000 (length values.now) cells.old }
@@ -24,7 +24,7 @@ pub(crate) fn add_to(cells: &mut [usize], values: &[usize], count: usize)
     }
 }
 
-// Takes the count away at each category's value.
+// Takes the count away for each category's value.
 pub(crate) fn take_from(cells: &mut [usize], values: &[usize], count: usize)
     requires cells { HaveCells values.now cells.old }
     requires enough { CanGive values.now cells.old count }
@@ -38,8 +38,8 @@ pub(crate) fn take_from(cells: &mut [usize], values: &[usize], count: usize)
     }
 }
 
-// Of the counts from one number on and below another, those with which each of these values has a number that is at most its upper bound and
-// can still reach its lower one.
+// Returns `(low, end)`: of the counts in `from..until`, exactly those in `low..end` keep each of these values at most its upper bound
+// and able to reach its lower one.
 pub(crate) fn values_range(
     bounds: &[ValueBounds],
     held: &[usize],
@@ -79,8 +79,8 @@ fn bound_at(bounds: &[ValueBounds], category: usize, value: usize) -> Bounds
     bounds[category].as_slice()[value]
 }
 
-// Of the counts from one number on and below another, those that a number can grow by so that it is at most the upper bound, and with so
-// many more at least the lower one.
+// Returns `(low, end)`: of the counts `c` in `from..until`, exactly those in `low..end` have `number + c ≤ upper` and
+// `lower ≤ number + c + more`.
 fn counts_within_reach(
     bound: Bounds,
     number: usize,
@@ -100,7 +100,7 @@ fn counts_within_reach(
     )
 }
 
-// Is each value's number at most its upper bound, and can it still reach its lower one?
+// True if each value's number is at most its upper bound and can still reach its lower one.
 pub(crate) fn all_within_reach(bounds: &[ValueBounds], held: &[usize], later: &[usize]) -> bool
     requires held { FitCells bounds.now held.now }
     requires later { FitCells bounds.now later.now }
@@ -120,7 +120,7 @@ pub(crate) fn all_within_reach(bounds: &[ValueBounds], held: &[usize], later: &[
     true
 }
 
-// Is a number at most the upper bound, and with so many more at least the lower one?
+// True if `number ≤ upper` and `lower ≤ number + more`.
 fn is_within_reach(bound: Bounds, number: usize, more: usize) -> bool
     requires { number + more < 2 ^ 64 }
     ensures { result ≡ within_reach bound number more }

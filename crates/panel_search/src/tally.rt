@@ -1,11 +1,12 @@
-//! What a front takes of everybody, of each value and of each household, and the most that the classes after it give.
+//! What a front takes, in all, of each value and of each household, and the most that the classes after it give. Both searches keep
+//! one.
 
 ghost use Rattle.std.specs.Prelude.{◌≡◌, ℕ, ◌+◌, ◌-◌, ◌*◌, ◌≤◌, ◌<◌, ◌++◌, ◌^◌, [], ◌∷◌, IfOk, true, nat_le, ◌&&◌, drop, length};
-ghost use Rattle.front_laws.specs.Front.{Gives, AreWithin};
+ghost use Rattle.laws_of_fronts.specs.Front.{Gives, AreWithin};
 ghost use Rattle.panel_search.specs.Front.{Tracks};
-ghost use Rattle.front_laws.specs.Tallies.{AreAtMost};
-ghost use Rattle.search_definitions.specs.Compositions.{takes_one_a_household};
-ghost use Rattle.search_definitions.specs.Fronts.{is_reachable, size_reachable, taken_by, values_reachable};
+ghost use Rattle.laws_of_fronts.specs.Tallies.{AreAtMost};
+ghost use Rattle.define_searches.specs.Compositions.{takes_one_a_household};
+ghost use Rattle.define_searches.specs.Fronts.{is_reachable, size_reachable, taken_by, values_reachable};
 
 use crate::homes;
 use crate::tallies::{PLACES, add_to, all_within_reach, take_from, values_range};
@@ -23,7 +24,7 @@ pub(crate) struct Tally {
 }
 
 impl Tally {
-    // Of the empty front: each class comes later.
+    // Of the empty front, after which each class comes.
     pub(crate) fn new(alloc: Global, classes: &Classes) -> Result<Tally, AllocError>
         ensures { IfOk result (λ tally. Tracks classes.now [] classes.now.classes tally) }
     {
@@ -42,7 +43,7 @@ impl Tally {
         })
     }
 
-    // Of a front: the classes after it come later.
+    // Of a front: the classes after it are still to come.
     pub(crate) fn at_front(
         alloc: Global,
         classes: &Classes,
@@ -62,7 +63,7 @@ impl Tally {
         Ok(tally)
     }
 
-    // The class after the front no longer comes later.
+    // Takes the class after the front from those that are still to come.
     pub(crate) fn begin_class(&mut self, classes: &Classes, front: &[usize])
         requires below { length front.now < length classes.now.classes }
         requires stands { Tracks classes.now front.now (drop (length front.now) classes.now.classes) self.old }
@@ -73,7 +74,7 @@ impl Tally {
         self.later_taken -= class.most();
     }
 
-    // It comes later again.
+    // Puts that class back.
     pub(crate) fn end_class(&mut self, classes: &Classes, front: &[usize])
         requires below { length front.now < length classes.now.classes }
         requires stands { Tracks classes.now front.now (drop (length front.now + 1) classes.now.classes) self.old }
@@ -84,7 +85,7 @@ impl Tally {
         self.later_taken += class.most();
     }
 
-    // The front goes on with so many of the next class.
+    // The front takes `count` of the next class.
     pub(crate) fn take(&mut self, classes: &Classes, front: &[usize], count: usize)
         requires below { length front.now < length classes.now.classes }
         requires small { taken_by classes.now front.now ≤ 1000 }
@@ -98,7 +99,7 @@ impl Tally {
         self.taken += count;
     }
 
-    // It no longer does.
+    // The front gives `count` of the next class back.
     pub(crate) fn give_back(&mut self, classes: &Classes, front: &[usize], count: usize)
         requires below { length front.now < length classes.now.classes }
         requires stands { Tracks classes.now (front.now ++ count ∷ []) (drop (length front.now + 1) classes.now.classes) self.old }
@@ -110,8 +111,7 @@ impl Tally {
         self.taken -= count;
     }
 
-    // Of the counts of the next class from one number on and below another, those with which the front is live: they are those from the
-    // first result on and below the second.
+    // Returns `(low, end)`: of the counts of the next class in `from..until`, exactly those in `low..end` keep the front live.
     pub(crate) fn range(
         &self,
         classes: &Classes,
@@ -140,7 +140,7 @@ impl Tally {
         )
     }
 
-    // Is the front live?
+    // True if the front is live.
     pub(crate) fn is_alive(&self, classes: &Classes, front: &[usize]) -> bool
         requires small { taken_by classes.now front.now ≤ 1000 }
         requires stands { Tracks classes.now front.now (drop (length front.now) classes.now.classes) self.now }
@@ -149,7 +149,7 @@ impl Tally {
         self.counts_alive(classes, front) && self.homes_alive(classes, front)
     }
 
-    // Can the size and each value's bounds still be met?
+    // True if the size and each value's bounds can still be met.
     fn counts_alive(&self, classes: &Classes, front: &[usize]) -> bool
         requires small { taken_by classes.now front.now ≤ 1000 }
         requires stands { Tracks classes.now front.now (drop (length front.now) classes.now.classes) self.now }
@@ -160,7 +160,7 @@ impl Tally {
             && all_within_reach(classes.bounds(), &self.held, &self.later)
     }
 
-    // Is at most one taken of each household?
+    // True if at most one is taken of each household.
     fn homes_alive(&self, classes: &Classes, front: &[usize]) -> bool
         requires small { taken_by classes.now front.now ≤ 1000 }
         requires stands { Tracks classes.now front.now (drop (length front.now) classes.now.classes) self.now }
@@ -175,7 +175,7 @@ impl Tally {
         true
     }
 
-    // How many the size lacks.
+    // How many members the front lacks of the size.
     pub(crate) fn lack_here(&self, classes: &Classes, front: &[usize]) -> usize
         requires live { is_reachable classes.now front.now ≡ true }
         requires stands { Tracks classes.now front.now (drop (length front.now) classes.now.classes) self.now }
@@ -185,7 +185,7 @@ impl Tally {
         classes.size() - self.taken
     }
 
-    // How many the size lacks where the front goes on with so many of the next class.
+    // How many members the front with `count` of the next class lacks of the size.
     pub(crate) fn lack(&self, classes: &Classes, front: &[usize], count: usize) -> usize
         requires below { length front.now < length classes.now.classes }
         requires live { is_reachable classes.now (front.now ++ count ∷ []) ≡ true }
@@ -196,7 +196,7 @@ impl Tally {
         classes.size() - (self.taken + count)
     }
 
-    // Is at most the size taken, and can it be reached?
+    // True if at most the size is taken, and the size can be reached.
     fn size_allows(&self, size: usize) -> bool
         requires { self.now.taken + self.now.later_taken < 2 ^ 64 }
         ensures { result ≡ (nat_le self.now.taken size && nat_le size (self.now.taken + self.now.later_taken)) }
@@ -205,7 +205,7 @@ impl Tally {
     }
 }
 
-// Adds to cells of zero what each class can give of each value: how much is it in all?
+// Adds to cells of zero what each class can give of each value. Returns how much all classes can give.
 fn add_all(later: &mut [usize], classes: &Classes) -> usize
     requires room { length later.old ≡ 50 * length classes.now.bounds }
     requires zero { AreAtMost 0 (length classes.now.bounds) later.old }

@@ -1,19 +1,19 @@
-//! What fronts weigh in rows.
+//! What fronts weigh in rows. A helper of the search for the best composition.
 
 ghost use Rattle.std.specs.Prelude.{◌≡◌, ◌+◌, ◌-◌, ◌*◌, ◌<◌, ◌≤◌, ◌^◌, ◌++◌, [], ◌∷◌, true, length, pos, ◌+ℤ◌, ◌*ℤ◌, unsigned_abs, int_le, IfOk};
 ghost use Rattle.std.specs.List.{list_all};
-ghost use Rattle.front_laws.specs.Weights.{AreNarrow, EachNarrow};
+ghost use Rattle.laws_of_fronts.specs.Weights.{AreNarrow, EachNarrow};
 ghost use Rattle.panel_search.specs.Weights.{IsSummed, SumEach, Weighs, WeighEach};
-ghost use Rattle.search_definitions.specs.Fronts.{optimistic, taken_by};
-ghost use Rattle.search_definitions.specs.Compositions.{weight_in};
-ghost use Rattle.front_laws.specs.Front.{AreWithin};
+ghost use Rattle.define_searches.specs.Fronts.{optimistic, taken_by};
+ghost use Rattle.define_searches.specs.Compositions.{weight_in};
+ghost use Rattle.laws_of_fronts.specs.Front.{AreWithin};
 
 use crate::greatest::Sums;
 use alike::Classes;
-use row_model::Row;
+use define_rows::Row;
 use std::alloc::{AllocError, Global};
 
-/// The weights of a front and of the fronts that it goes on from, by their lengths.
+/// The weights in a row of a front and of each front before it, by their lengths.
 #[derive(Debug, Drop)]
 pub(crate) struct Weights {
     by_length: Vec<i128>,
@@ -58,7 +58,7 @@ impl Weights {
         self.by_length[front.len()]
     }
 
-    // The optimistic weight of the front, where the size lacks so many.
+    // The optimistic weight of the front, which lacks `lack` members.
     pub(crate) fn optimistic(
         &self,
         sums: &Sums,
@@ -80,7 +80,7 @@ impl Weights {
         self.weight(classes, row, front) + rest
     }
 
-    // The front goes on with so many of the next class: what does it weigh then?
+    // Continues the front with `count` of the next class, and returns its weight then.
     fn go_on(&mut self, classes: &Classes, row: &Row, front: &[usize], count: usize) -> i128
         requires narrow { AreNarrow classes.now row.now.a }
         requires below { length front.now < length classes.now.classes }
@@ -100,7 +100,7 @@ impl Weights {
         weight
     }
 
-    // The optimistic weight of the front with so many of the next class, where the size lacks so many then.
+    // The optimistic weight of the front with `count` of the next class, which then lacks `lack` members.
     pub(crate) fn child(
         &mut self,
         sums: &Sums,
@@ -125,7 +125,7 @@ impl Weights {
     }
 }
 
-// Of a front, one for each closed row.
+// The weights of a front in each closed row.
 pub(crate) fn all_weights(
     alloc: Global,
     classes: &Classes,
@@ -144,7 +144,7 @@ pub(crate) fn all_weights(
     Ok(weights)
 }
 
-// A weight with so many of an entry.
+// A weight with `count` times an entry.
 fn with_count(weight: i128, count: usize, entry: i128) -> i128
     requires { unsigned_abs weight + count * unsigned_abs entry < 2 ^ 127 }
     ensures { result ≡ weight +ℤ pos count *ℤ entry }
@@ -152,7 +152,7 @@ fn with_count(weight: i128, count: usize, entry: i128) -> i128
     weight + count as i128 * entry
 }
 
-// Is the optimistic weight of the front with so many of the next class at least the right side of each closed row?
+// True if the optimistic weight of the front with `count` of the next class is at least the right side of each closed row.
 pub(crate) fn child_attains(
     weights: &mut [Weights],
     sums: &[Sums],
@@ -181,7 +181,7 @@ pub(crate) fn child_attains(
     true
 }
 
-// Is the optimistic weight of the front at least the right side of each closed row, where the size lacks so many?
+// True if the optimistic weight of the front, which lacks `lack` members, is at least the right side of each closed row.
 pub(crate) fn front_attains(
     weights: &[Weights],
     sums: &[Sums],

@@ -1,8 +1,8 @@
 -- The last category by its place, as code reaches it.
 use Rattle.std.proofs.Common.{◌≡◌, ℕ, zero, suc, ◌-◌, List, [], ◌∷◌, ◌++◌, length, get_or, set, Some, refl, ap, arith}
 use Rattle.std.specs.List.{slice_get}
-use Rattle.pool_definitions.specs.Pool.{BoundedValue, Category}
-use Rattle.pool_definitions.specs.Building.{last_values, with_value}
+use Rattle.define_pools.specs.Pool.{BoundedValue, Category}
+use Rattle.define_pools.specs.Building.{last_values, with_value}
 
 last_values_at : (n : ℕ) (categories : List Category) (category : Category) → length categories ≡ suc n → Some category ≡ slice_get categories n → last_values categories ≡ category.values
 last_values_at n [] category e h = absurd (omega arith)

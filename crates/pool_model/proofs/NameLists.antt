@@ -3,10 +3,10 @@ use Rattle.std.proofs.Common.{◌≡◌, ℕ, suc, ◌+◌, Bool, true, false, c
 use Rattle.std.specs.List.{list_all, list_any, zip, position_or_len}
 use Rattle.std.specs.Str.{bytes_eq}
 use Rattle.std.proofs.lemmas.Bool.{lt-ltb}
-use Rattle.basic_laws.proofs.Tests.{ltb-more}
-use Rattle.pool_definitions.specs.Lists.{includes_list}
-use Rattle.pool_definitions.specs.Pool.{BoundedValue, Category}
-use Rattle.pool_definitions.specs.Building.{value_names, place_of, places_of, are_known}
+use Rattle.laws_basic.proofs.Tests.{ltb-more}
+use Rattle.define_pools.specs.Lists.{includes_list}
+use Rattle.define_pools.specs.Pool.{BoundedValue, Category}
+use Rattle.define_pools.specs.Building.{value_names, place_of, places_of, are_known}
 
 pub list_any-map : {X Y : Type 0} (p : Y → Bool) (f : X → Y) (xs : List X) → list_any p (map f xs) ≡ list_any (λ x. p (f x)) xs
 list_any-map p f [] = refl

@@ -4,9 +4,9 @@ use Rattle.std.specs.Prelude.{sum_by, unsigned_abs}
 use Rattle.std.specs.List.{list_all}
 use Rattle.std.proofs.lemmas.Bool.{and_parts, ltb-true, leb-true, le-leb}
 use Rattle.std.proofs.lemmas.List.Sums.{sum_by-cons, sum_by-take-le}
-use Rattle.basic_laws.proofs.Integers.{abs-add}
-use Rattle.pool_definitions.specs.Lists.{is_increasing}
-use Rattle.pool_definitions.specs.Certificate.{Stage, weight_of, panel_weight}
+use Rattle.laws_basic.proofs.Integers.{abs-add}
+use Rattle.define_pools.specs.Lists.{is_increasing}
+use Rattle.define_pools.specs.Certificate.{Stage, weight_of, panel_weight}
 
 -- one weight, and those behind it, are within those from a number up to it on
 one_more : (ws : List ℤ) (from m : ℕ) → from ≤ m → unsigned_abs (get_or ws m (pos 0)) + sum_by unsigned_abs (drop (suc m) ws) ≤ sum_by unsigned_abs (drop from ws)

@@ -1,9 +1,10 @@
--- What a step of building a pool answers.
+-- What a step of building a pool answers. The builder's contracts cite it.
 use Rattle.std.specs.Prelude.{◌≡◌, ℕ, Option, Some, None, Result, Ok, Err}
 use Rattle.pool_model.specs.declared.building.BuildStop.{BuildStop}
 use Rattle.pool_model.specs.declared.building.BuildStop.TheVariants.{Kind, OutOfMemory}
 
--- done only where there is no kind of fault, a kind only where it is this one; and memory is wanted only where there is no kind
+-- the step is done only if no kind of fault applies, and stops with a kind only if this is the lowest; it wants memory only if no kind
+-- applies
 abbrev pub Answers : {T : Type 0} → Option ℕ → Result T BuildStop → Type 0
 Answers kind (Ok done) = kind ≡ None
 Answers kind (Err (Kind told)) = kind ≡ Some told

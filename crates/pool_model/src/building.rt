@@ -1,4 +1,4 @@
-//! Why a step of building a pool is refused.
+//! Why a step of building a pool is refused. The readers of texts stop with it too.
 
 use std::alloc::{AllocError, AllocFailed};
 use thiserror::Error;
@@ -6,7 +6,7 @@ use thiserror::Error;
 /// Why a step of building a pool is refused.
 #[derive(Debug, Drop, Error)]
 pub enum BuildStop {
-    /// The lowest kind of fault that holds, by the numbers that a faulty pool text has.
+    /// The lowest kind of fault that applies, by the numbers that a faulty pool text has.
     #[error("fault of kind {0}")]
     Kind(u8),
     /// No memory was left.

@@ -1,7 +1,8 @@
-//! Certificates: stages, which give each volunteer a weight and cap a panel's; and answers, which are lotteries with their certificates.
+//! Certificates: stages, which give each volunteer a weight and cap a panel's weight; and answers, which are lotteries with their
+//! certificates.
 
 ghost use Rattle.std.specs.Prelude.{◌≡◌, ◌≤◌, ◌+◌, ◌+ℤ◌, ◌-◌, ◌^◌, ◌++◌, ◌∷◌, [], sum_by, unsigned_abs, IfOk, OnOk, OnErr};
-ghost use Rattle.pool_definitions.specs.Certificate.{panel_weight as weight_of_panel, weight_of as weight_of_one};
+ghost use Rattle.define_pools.specs.Certificate.{panel_weight as weight_of_panel, weight_of as weight_of_one};
 
 use crate::lotteries::Lottery;
 use crate::panels::Panel;
@@ -16,7 +17,7 @@ pub struct Stage {
 }
 
 impl Model for Stage {
-    ghost use Rattle.pool_definitions.specs.Certificate.{Stage as Seen};
+    ghost use Rattle.define_pools.specs.Certificate.{Stage as Seen};
 
     ghost Value = { Seen };
 
@@ -24,14 +25,14 @@ impl Model for Stage {
 }
 
 impl Stage {
-    /// A stage of these weights, one for each volunteer, and this cap.
+    /// Returns a stage of these weights, one for each volunteer, and this cap.
     pub fn new(weights: Vec<i128>, cap: i128) -> Stage
         ensures { result ≡ record { weights = weights.items; cap = cap } }
     {
         Stage { weights, cap }
     }
 
-    /// Each volunteer's weight.
+    /// The weight of each volunteer.
     pub fn weights(&self) -> &[i128]
         ensures { result.now ≡ self.now.weights }
     {
@@ -45,7 +46,7 @@ impl Stage {
         self.cap
     }
 
-    /// An equal stage.
+    /// Returns an equal stage.
     pub fn copy(&self) -> Result<Stage, AllocError>
         ensures { IfOk result (λ copied. copied ≡ self.now) }
     {
@@ -64,7 +65,7 @@ pub struct Certificate {
 
 impl Model for Certificate {
     ghost use Rattle.std.specs.Prelude.{List};
-    ghost use Rattle.pool_definitions.specs.Certificate.{Stage as Seen};
+    ghost use Rattle.define_pools.specs.Certificate.{Stage as Seen};
 
     ghost Value = { List Seen };
 
@@ -72,14 +73,14 @@ impl Model for Certificate {
 }
 
 impl Certificate {
-    /// The certificate of these stages.
+    /// Returns the certificate of these stages.
     pub fn new(stages: Vec<Stage>) -> Certificate
         ensures { result ≡ stages.items }
     {
         Certificate { stages }
     }
 
-    /// Adds a stage behind the others.
+    /// Appends a stage.
     pub fn add_stage(&mut self, stage: Stage) -> Result<(), AllocError>
         ensures ok { OnOk result (self.new ≡ self.old ++ stage ∷ []) }
         ensures err { OnErr result (self.new ≡ self.old) }
@@ -95,7 +96,7 @@ impl Certificate {
         &self.stages
     }
 
-    /// An equal certificate.
+    /// Returns an equal certificate.
     pub fn copy(&self) -> Result<Certificate, AllocError>
         ensures { IfOk result (λ copied. copied ≡ self.now) }
     {
@@ -122,7 +123,7 @@ pub struct Answer {
 }
 
 impl Model for Answer {
-    ghost use Rattle.pool_definitions.specs.Certificate.{Answer as Seen};
+    ghost use Rattle.define_pools.specs.Certificate.{Answer as Seen};
 
     ghost Value = { Seen };
 
@@ -130,7 +131,7 @@ impl Model for Answer {
 }
 
 impl Answer {
-    /// A lottery with its certificate.
+    /// Returns a lottery with its certificate.
     pub fn new(lottery: Lottery, certificate: Certificate) -> Answer
         ensures { result ≡ record { lottery = lottery; stages = certificate } }
     {
@@ -154,7 +155,7 @@ impl Answer {
         &self.certificate
     }
 
-    /// An equal answer.
+    /// Returns an equal answer.
     pub fn copy(&self) -> Result<Answer, AllocError>
         ensures { IfOk result (λ copied. copied ≡ self.now) }
     {
@@ -165,8 +166,8 @@ impl Answer {
     }
 }
 
-/// The panel's weight in the stage: the sum of its members' weights. A number that the stage has no weight for counts 0. The stage's
-/// cap and its weights have absolute values that sum to at most 2^127 - 1, so no sum passes 128 bits.
+/// Returns the panel's weight in the stage: the sum of its members' weights. A number without a weight in the stage counts 0. The
+/// absolute values of the stage's cap and weights sum to at most 2^127 - 1, so every sum fits 128 bits.
 pub fn panel_weight(panel: &Panel, stage: &Stage) -> i128
     requires { unsigned_abs stage.now.cap + sum_by unsigned_abs stage.now.weights ≤ 2 ^ 127 - 1 }
     ensures { result ≡ weight_of_panel stage.now panel.now }
@@ -178,7 +179,7 @@ pub fn panel_weight(panel: &Panel, stage: &Stage) -> i128
     sum
 }
 
-/// A sum with one weight more, which 127 bits and a sign hold.
+/// Adds a weight to a sum; 127 bits and a sign hold the result.
 fn with_weight(sum: i128, weight: i128) -> i128
     requires { unsigned_abs (sum +ℤ weight) ≤ 2 ^ 127 - 1 }
     ensures { result ≡ sum +ℤ weight }
@@ -186,7 +187,7 @@ fn with_weight(sum: i128, weight: i128) -> i128
     sum + weight
 }
 
-/// A volunteer's weight, or 0 where the stage has none.
+/// A volunteer's weight, or 0 if the stage has none.
 fn weight_of(stage: &Stage, i: usize) -> i128
     ensures { result ≡ weight_of_one stage.now i }
 {

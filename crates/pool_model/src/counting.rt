@@ -1,15 +1,15 @@
-//! How much of a lottery's weight lies on panels that hold a volunteer.
+//! Counts how much of a lottery's weight is on panels with a volunteer. Summaries and the checks call it.
 
 ghost use Rattle.std.specs.Prelude.{◌≡◌, ◌<◌, ℕ, map, length, pos, ◌+ℤ◌, IfOk, IsTrue, FitsSigned, if◌then◌else◌, slice_index_or};
 ghost use Rattle.std.specs.Int.{w128};
-ghost use Rattle.pool_definitions.specs.Lists.{is_increasing, includes};
-ghost use Rattle.pool_definitions.specs.Lottery.{TotalAgrees, counts};
+ghost use Rattle.define_pools.specs.Lists.{is_increasing, includes};
+ghost use Rattle.define_pools.specs.Lottery.{TotalAgrees, counts};
 
 use crate::lotteries::Lottery;
 use crate::pools::Pool;
 use std::alloc::{AllocError, Global};
 
-/// Each volunteer's count: the sum of the weights of the panels that hold the volunteer. It is the volunteer's chance times the
+/// Returns each volunteer's count: the sum of the weights of the panels with this volunteer. It is the volunteer's chance times the
 /// total. The lottery's weights are at least 1 and sum to its total.
 pub fn chances(alloc: Global, pool: &Pool, lottery: &Lottery) -> Result<Vec<i128>, AllocError>
     requires { TotalAgrees lottery.now }

@@ -1,13 +1,13 @@
-//! Whether volunteers have households, and which of them are of one.
+//! Whether volunteers have households, and which volunteers are of one household. The texts' versions and the classes go by it.
 
 ghost use Rattle.std.specs.Prelude.{◌≡◌, is_some};
 ghost use Rattle.std.specs.List.{list_any};
-ghost use Rattle.pool_definitions.specs.Pool.{has_households as some_has, is_same_household as is_same, share_household as share};
+ghost use Rattle.define_pools.specs.Pool.{has_households as some_has, is_same_household as is_same, share_household as share};
 
 use crate::parts::Volunteer;
 use crate::pools::Pool;
 
-/// Does some volunteer have a household?
+/// True if some volunteer has a household.
 pub fn has_households(pool: &Pool) -> bool
     ensures { result ≡ some_has pool.now }
 {
@@ -22,8 +22,8 @@ fn are_housed(volunteers: &[Volunteer]) -> bool
         .any(|volunteer| volunteer.household().is_some())
 }
 
-/// Are the volunteers of two numbers of one household? A volunteer who has one is of one household with themself; who has none, or isn't
-/// there, is of one with nobody.
+/// True if the volunteers of these two numbers are of one household. A volunteer who has one is of one household with themself; a
+/// volunteer without one, or a number without a volunteer, is of one with nobody.
 pub fn share_household(volunteers: &[Volunteer], i: usize, j: usize) -> bool
     ensures { result ≡ share volunteers.now i j }
 {

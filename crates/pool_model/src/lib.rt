@@ -1,6 +1,10 @@
 //! Pools of volunteers with their quotas, panels, lotteries and certificates: values that contracts see as the records of
-//! `pool_definitions`, which stands below. A pool is built step by step and keeps its limits at each step. `fits` tests a panel
-//! against a pool.
+//! `define_pools`, on which this crate stands. Above: every crate that has a pool or a lottery in hand, among them `pool_text`,
+//! `bundle_text`, `alike`, `check_search`, `check_reasons`, `tickets` and the commands.
+//!
+//! Promises: a `Pool` is within its limits at every moment, and each step of building it adds its part or is refused by kind and
+//! changes nothing; `fits` is exactly 'is a quota panel', `chances` exactly each volunteer's count. The modules `names` and the
+//! functions without `pub` are helpers.
 #![tactic(auto)]
 
 mod building;
@@ -17,10 +21,10 @@ mod quotas;
 pub use building::BuildStop;
 pub use certificates::{Answer, Certificate, Stage, panel_weight};
 pub use counting::chances;
+pub use define_pools::Standing;
 pub use households::{has_households, share_household};
 pub use lotteries::{Lottery, LotteryRow};
 pub use panels::Panel;
 pub use parts::{Bound, BoundedValue, Category, Name, Volunteer};
-pub use pool_definitions::Standing;
 pub use pools::{Pool, household_kind};
 pub use quotas::fits;

@@ -15,7 +15,7 @@ pub struct LotteryRow {
 
 impl Model for LotteryRow {
     ghost use Rattle.std.specs.Prelude.{◌≤ℤ◌, pos, unsigned_abs};
-    ghost use Rattle.pool_definitions.specs.Lottery.{LotteryRow as Seen};
+    ghost use Rattle.define_pools.specs.Lottery.{LotteryRow as Seen};
 
     ghost Value = { Seen };
 
@@ -25,7 +25,7 @@ impl Model for LotteryRow {
 }
 
 impl LotteryRow {
-    /// A panel with this weight, which is at least 0.
+    /// Returns a panel with this weight, which is at least 0.
     pub fn new(panel: Panel, weight: i128) -> LotteryRow
         requires { pos 0 ≤ℤ weight }
         ensures { result ≡ record { panel = panel; weight = unsigned_abs weight } }
@@ -47,7 +47,7 @@ impl LotteryRow {
         self.weight
     }
 
-    /// An equal row.
+    /// Returns an equal row.
     pub fn copy(&self) -> Result<LotteryRow, AllocError>
         ensures { IfOk result (λ copied. copied ≡ self.now) }
     {
@@ -58,7 +58,7 @@ impl LotteryRow {
     }
 }
 
-/// Panels with their weights, in order, and a total of at least 0, which in a lottery over a pool is the weights' sum.
+/// Panels with their weights, in order, and a total of at least 0, which is the weights' sum in a lottery over a pool.
 #[derive(Debug, Drop)]
 pub struct Lottery {
     total: i128,
@@ -67,7 +67,7 @@ pub struct Lottery {
 
 impl Model for Lottery {
     ghost use Rattle.std.specs.Prelude.{◌≤ℤ◌, pos, unsigned_abs};
-    ghost use Rattle.pool_definitions.specs.Lottery.{Lottery as Seen};
+    ghost use Rattle.define_pools.specs.Lottery.{Lottery as Seen};
 
     ghost Value = { Seen };
 
@@ -77,7 +77,7 @@ impl Model for Lottery {
 }
 
 impl Lottery {
-    /// A lottery of these rows. Its total is at least 0.
+    /// Returns a lottery of these rows. Its total is at least 0.
     pub fn new(total: i128, rows: Vec<LotteryRow>) -> Lottery
         requires { pos 0 ≤ℤ total }
         ensures { result ≡ record { total = unsigned_abs total; rows = rows.items } }
@@ -85,7 +85,7 @@ impl Lottery {
         Lottery { total, rows }
     }
 
-    /// Adds a row behind the others.
+    /// Appends a row.
     pub fn add_row(&mut self, row: LotteryRow) -> Result<(), AllocError>
         ensures ok { OnOk result (self.new ≡ record { total = self.old.total; rows = self.old.rows ++ row ∷ [] }) }
         ensures err { OnErr result (self.new ≡ self.old) }
@@ -101,7 +101,7 @@ impl Lottery {
         self.total
     }
 
-    /// The panels with their weights. The total is one of 128 bits with a sign.
+    /// The panels with their weights.
     pub fn rows(&self) -> &[LotteryRow]
         ensures value { result.now ≡ self.now.rows }
         ensures total { self.now.total < 2 ^ 127 }
@@ -110,14 +110,14 @@ impl Lottery {
         &self.rows
     }
 
-    /// The weights sum to the total.
+    /// True if the weights sum to the total.
     pub fn weights_sum_to_total(&self) -> bool
         ensures { result ≡ (self.now.total == sum_by (λ row. row.weight) self.now.rows) }
     {
         weights_sum_to(self.total.unsigned_abs(), &self.rows)
     }
 
-    /// An equal lottery.
+    /// Returns an equal lottery.
     pub fn copy(&self) -> Result<Lottery, AllocError>
         ensures { IfOk result (λ copied. copied ≡ self.now) }
     {
@@ -129,7 +129,7 @@ impl Lottery {
     }
 }
 
-/// The weights of the rows sum to the total. Each is taken from the total in turn, so that no sum passes 128 bits.
+/// True if the weights of the rows sum to the total. Each is taken from the total in turn, so no sum passes 128 bits.
 fn weights_sum_to(total: u128, rows: &[LotteryRow]) -> bool
     ensures { result ≡ (total == sum_by (λ row. row.weight) rows.now) }
 {

@@ -1,16 +1,16 @@
-//! Tests of names and of what is given for a volunteer. They go through the lists from the front, which serves: a pool has at
-//! most 400 volunteers, 20 categories and 50 values a category. None but `bytes_of` and `places` takes memory.
+//! Tests of names, and of what is given for a volunteer; helpers of the builder. They go through the lists from the front, which is
+//! fast enough: a pool has at most 400 volunteers, 20 categories and 50 values a category. Only `bytes_of` and `places` take memory.
 
 ghost use Rattle.std.specs.Prelude.{◌≡◌, ◌==◌, nat_le, not, ◌&&◌, map, IfOk};
 ghost use Rattle.std.specs.List.{list_all};
-ghost use Rattle.pool_definitions.specs.Lists.{includes_list};
-ghost use Rattle.pool_definitions.specs.Pool.{keeps_name_limits as is_within_limits};
-ghost use Rattle.pool_definitions.specs.Building.{category_names, value_names, ids, place_of, places_of, are_known as each_is_known};
+ghost use Rattle.define_pools.specs.Lists.{includes_list};
+ghost use Rattle.define_pools.specs.Pool.{keeps_name_limits as is_within_limits};
+ghost use Rattle.define_pools.specs.Building.{category_names, value_names, ids, place_of, places_of, are_known as each_is_known};
 
 use crate::parts::{BoundedValue, Category, Name, Volunteer};
 use std::alloc::{AllocError, Global};
 
-/// The most bytes of a name or id.
+/// The most bytes that a name or id may have.
 const MAX_NAME_LEN: usize = 200;
 
 pub(crate) fn keeps_name_limits(name: &[u8]) -> bool
@@ -75,7 +75,7 @@ fn place(values: &[BoundedValue], name: &[u8]) -> Option<usize>
         .position(|value| name == value.name().as_bytes())
 }
 
-/// For each category the place of the value whose name is given for it, 0 where there is none.
+/// For each category the place of the value of the name that is given for it, or 0 if there is none.
 pub(crate) fn places(
     alloc: Global,
     categories: &[Category],

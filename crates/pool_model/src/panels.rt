@@ -1,7 +1,7 @@
 //! Panels: increasing lists of the numbers of volunteers.
 
 ghost use Rattle.std.specs.Prelude.{◌≡◌, IsTrue, Some, None, if◌then◌else◌, IfOk};
-ghost use Rattle.pool_definitions.specs.Lists.{is_increasing};
+ghost use Rattle.define_pools.specs.Lists.{is_increasing};
 
 use std::alloc::AllocError;
 use std::marker::Model;
@@ -14,7 +14,7 @@ pub struct Panel {
 
 impl Model for Panel {
     ghost use Rattle.std.specs.Prelude.{List, ℕ, IsTrue};
-    ghost use Rattle.pool_definitions.specs.Lists.{is_increasing};
+    ghost use Rattle.define_pools.specs.Lists.{is_increasing};
 
     ghost Value = { List ℕ };
 
@@ -24,7 +24,7 @@ impl Model for Panel {
 }
 
 impl Panel {
-    /// The panel of these members, exactly where they are increasing.
+    /// Returns the panel of these members, exactly if they are increasing.
     pub fn new(members: Vec<usize>) -> Option<Panel>
         ensures { result ≡ (if is_increasing members.items then Some members.items else None) }
     {
@@ -43,7 +43,7 @@ impl Panel {
         &self.members
     }
 
-    /// An equal panel.
+    /// Returns an equal panel.
     pub fn copy(&self) -> Result<Panel, AllocError>
         ensures { IfOk result (λ copied. copied ≡ self.now) }
     {

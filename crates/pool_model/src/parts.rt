@@ -1,9 +1,9 @@
 //! The parts of a pool: names, categories with bounded values, volunteers.
 
 ghost use Rattle.std.specs.Prelude.{◌≡◌, [], ◌∷◌, ◌++◌, IfOk, OnOk, OnErr, Some, None, option_map};
-ghost use Rattle.pool_definitions.specs.declared.Standing.TheVariants.{Open};
+ghost use Rattle.define_pools.specs.declared.Standing.TheVariants.{Open};
 
-use pool_definitions::Standing;
+use define_pools::Standing;
 use std::alloc::{AllocError, Global};
 use std::marker::Model;
 
@@ -14,7 +14,7 @@ pub struct Bound {
     pub upper: usize,
 }
 
-/// A text, seen as its bytes.
+/// A text, which contracts see as its bytes.
 #[derive(Debug, Drop)]
 pub struct Name {
     text: String,
@@ -29,7 +29,7 @@ impl Model for Name {
 }
 
 impl Name {
-    /// A copy of the text.
+    /// Returns a copy of the text.
     pub fn new(alloc: Global, text: &str) -> Result<Name, AllocError>
         ensures { IfOk result (λ name. name ≡ text.now) }
     {
@@ -51,7 +51,7 @@ impl Name {
         self.text.as_bytes()
     }
 
-    /// An equal name.
+    /// Returns an equal name.
     pub fn copy(&self) -> Result<Name, AllocError>
         ensures { IfOk result (λ copied. copied ≡ self.now) }
     {
@@ -69,7 +69,7 @@ pub struct BoundedValue {
 }
 
 impl Model for BoundedValue {
-    ghost use Rattle.pool_definitions.specs.Pool.{BoundedValue as Seen};
+    ghost use Rattle.define_pools.specs.Pool.{BoundedValue as Seen};
 
     ghost Value = { Seen };
 
@@ -112,7 +112,7 @@ impl BoundedValue {
         self.bound.upper
     }
 
-    /// An equal value.
+    /// Returns an equal value.
     pub fn copy(&self) -> Result<BoundedValue, AllocError>
         ensures { IfOk result (λ copied. copied ≡ self.now) }
     {
@@ -131,7 +131,7 @@ pub struct Category {
 }
 
 impl Model for Category {
-    ghost use Rattle.pool_definitions.specs.Pool.{Category as Seen};
+    ghost use Rattle.define_pools.specs.Pool.{Category as Seen};
 
     ghost Value = { Seen };
 
@@ -171,7 +171,7 @@ impl Category {
         &self.values
     }
 
-    /// An equal category.
+    /// Returns an equal category.
     pub fn copy(&self) -> Result<Category, AllocError>
         ensures { IfOk result (λ copied. copied ≡ self.now) }
     {
@@ -202,7 +202,7 @@ pub struct Volunteer {
 }
 
 impl Model for Volunteer {
-    ghost use Rattle.pool_definitions.specs.Pool.{Volunteer as Seen};
+    ghost use Rattle.define_pools.specs.Pool.{Volunteer as Seen};
 
     ghost Value = { Seen };
 
@@ -262,7 +262,7 @@ impl Volunteer {
         self.household = Some(name);
     }
 
-    /// An equal volunteer.
+    /// Returns an equal volunteer.
     pub fn copy(&self) -> Result<Volunteer, AllocError>
         ensures { IfOk result (λ copied. copied ≡ self.now) }
     {

@@ -1,9 +1,9 @@
-//! Pools: a size of panels, categories, and volunteers.
+//! Pools, and their builder. A text reader, a maker and an importer build a pool by these calls.
 
 ghost use Rattle.std.specs.Prelude.{◌≡◌, ◌≢◌, ◌<◌, ◌==◌, ◌||◌, nat_le, not, [], ◌∷◌, length, map, None, Err, OnOk, OnErr, IfOk, vec_len};
-ghost use Rattle.pool_definitions.specs.Lists.{includes_list};
-ghost use Rattle.pool_definitions.specs.Pool.{IsPool, keeps_name_limits as keeps_limits};
-ghost use Rattle.pool_definitions.specs.Building.{lowest_kind, ids, size_kind, category_kind, value_kind, volunteer_kind, empty_pool, category_added, value_added, volunteer_added, with_value, last_values as values_of_last, with_standing, standing_set, with_household, household_set, household_kind};
+ghost use Rattle.define_pools.specs.Lists.{includes_list};
+ghost use Rattle.define_pools.specs.Pool.{IsPool, keeps_name_limits as keeps_limits};
+ghost use Rattle.define_pools.specs.Building.{lowest_kind, ids, size_kind, category_kind, value_kind, volunteer_kind, empty_pool, category_added, value_added, volunteer_added, with_value, last_values as values_of_last, with_standing, standing_set, with_household, household_set, household_kind};
 ghost use Rattle.pool_model.specs.Answers.{Answers};
 ghost use Rattle.pool_model.specs.declared.building.BuildStop.TheVariants.{OutOfMemory};
 
@@ -12,7 +12,7 @@ use crate::names::{
     are_known, are_named, bytes_of, is_category, is_value, is_volunteer, keeps_name_limits, places,
 };
 use crate::parts::{Bound, BoundedValue, Category, Name, Volunteer};
-use pool_definitions::Standing;
+use define_pools::Standing;
 use std::alloc::{AllocError, Global};
 use std::marker::Model;
 
@@ -26,9 +26,9 @@ const MAX_BOUND: usize = 999;
 
 const MAX_VOLUNTEERS: usize = 400;
 
-/// A pool: the size of its panels, its categories and its volunteers, who are numbered from 0. It keeps the limits: a size from 1
-/// to 200; at most 20 categories, 50 values a category and 400 volunteers; bounds in order and at most 999; names and ids of 1 to
-/// 200 bytes of UTF-8, none below 32 and none 127, also those of households; different names and ids, though volunteers may share
+/// A pool: the size of its panels, its categories and its volunteers, who are numbered from 0. It is always within its limits: a size
+/// from 1 to 200; at most 20 categories, 50 values a category and 400 volunteers; bounds in order and at most 999; names and ids of 1
+/// to 200 bytes of UTF-8 without a byte below 32 or 127, also those of households; different names and ids, though volunteers may share
 /// a household; and one value per category for each volunteer.
 #[derive(Debug, Drop)]
 pub struct Pool {
@@ -38,7 +38,7 @@ pub struct Pool {
 }
 
 impl Model for Pool {
-    ghost use Rattle.pool_definitions.specs.Pool.{Pool as Seen, IsPool};
+    ghost use Rattle.define_pools.specs.Pool.{Pool as Seen, IsPool};
 
     ghost Value = { Seen };
 
@@ -62,21 +62,21 @@ impl Pool {
         &self.categories
     }
 
-    /// The volunteers by number.
+    /// The volunteers, by number.
     pub fn volunteers(&self) -> &[Volunteer]
         ensures { result.now ≡ self.now.volunteers }
     {
         &self.volunteers
     }
 
-    /// Does nothing; its contract tells what each pool keeps.
+    /// Does nothing; its contract says what holds of each pool.
     pub fn facts(&self)
         ensures { IsPool self.now }
     {
         let _ = &self.size;
     }
 
-    /// An equal pool.
+    /// Returns an equal pool.
     pub fn copy(&self) -> Result<Pool, AllocError>
         ensures { IfOk result (λ copied. copied ≡ self.now) }
     {
@@ -91,9 +91,9 @@ impl Pool {
 }
 
 impl Pool {
-    /// A pool with no category and no volunteer. Its panels have `size` members.
+    /// Returns a pool with no category and no volunteer, whose panels have `size` members.
     ///
-    /// Stops with kind 2 exactly where the size is not from 1 to 200, and never for want of memory.
+    /// Stops with kind 2 exactly if the size is not from 1 to 200, and never for want of memory.
     pub fn new(alloc: Global, size: usize) -> Result<Pool, BuildStop>
         ensures kind { Answers (size_kind size) result }
         ensures memory { result ≢ Err OutOfMemory }
@@ -109,8 +109,8 @@ impl Pool {
         })
     }
 
-    /// The kind of fault that a category of this name has here: 1 where volunteers are there, 3 where the name stood before, 10
-    /// where no such name may be or 20 categories are there; the lowest of these.
+    /// Returns the kind of fault of a category of this name: 1 if there are volunteers, 3 if an earlier category has this name, 10
+    /// if the name isn't allowed or there are 20 categories; the lowest that applies, or None.
     pub fn category_kind(&self, name: &[u8]) -> Option<u8>
         ensures { result ≡ category_kind self.now name.now }
     {
@@ -125,7 +125,7 @@ impl Pool {
         }
     }
 
-    /// Adds a category with no value. Stops with the kind that `category_kind` tells; the pool is then as before.
+    /// Appends a category with no value. Stops with the kind that `category_kind` returns; the pool is then unchanged.
     pub fn add_category(&mut self, name: &str) -> Result<(), BuildStop>
         ensures kind { Answers (category_kind self.old name.now) result }
         ensures ok { OnOk result (self.new ≡ category_added self.old name.now) }
@@ -138,7 +138,7 @@ impl Pool {
         Ok(())
     }
 
-    /// Adds a category for which `category_kind` tells no fault.
+    /// Appends a category for which `category_kind` returns None.
     pub fn add_right_category(&mut self, name: &str) -> Result<(), AllocError>
         requires { category_kind self.old name.now ≡ None }
         ensures ok { OnOk result (self.new ≡ category_added self.old name.now) }
@@ -149,9 +149,9 @@ impl Pool {
         Ok(())
     }
 
-    /// The kind of fault that a value of this name and these bounds has in the last category: 1 where no category is there or
-    /// volunteers are, 4 where the name stood before in it, 5 where the bounds are out of order or above 999, 10 where no such
-    /// name may be or 50 values are there; the lowest of these.
+    /// Returns the kind of fault of a value of this name and these bounds in the last category: 1 if there is no category or there
+    /// are volunteers, 4 if an earlier value of the category has this name, 5 if the bounds are out of order or above 999, 10 if
+    /// the name isn't allowed or there are 50 values; the lowest that applies, or None.
     pub fn value_kind(&self, name: &[u8], lower: usize, upper: usize) -> Option<u8>
         ensures { result ≡ value_kind self.now (record { name = name.now; lower = lower; upper = upper }) }
     {
@@ -169,8 +169,8 @@ impl Pool {
         }
     }
 
-    /// Adds a value to the last category: a panel may have from `lower` to `upper` members with it. Stops with the kind that
-    /// `value_kind` tells; the pool is then as before.
+    /// Appends a value to the last category: a panel has from `lower` to `upper` members with it. Stops with the kind that
+    /// `value_kind` returns; the pool is then unchanged.
     pub fn add_value(&mut self, name: &str, lower: usize, upper: usize) -> Result<(), BuildStop>
         ensures kind { Answers (value_kind self.old (record { name = name.now; lower = lower; upper = upper })) result }
         ensures ok { OnOk result (self.new ≡ value_added self.old (record { name = name.now; lower = lower; upper = upper })) }
@@ -183,7 +183,7 @@ impl Pool {
         Ok(())
     }
 
-    /// Adds a value for which `value_kind` tells no fault.
+    /// Appends a value for which `value_kind` returns None.
     pub fn add_right_value(
         &mut self,
         name: &str,
@@ -200,9 +200,9 @@ impl Pool {
         Ok(())
     }
 
-    /// The kind of fault that a volunteer of this id has here, with the value of each category by its name: 6 where a name given
-    /// for a category is none of its values, 7 where there is not one name per category, 8 where the id stood before, 10 where no
-    /// such id may be or 400 volunteers are there; the lowest of these.
+    /// Returns the kind of fault of a volunteer of this id, given the name of a value for each category: 6 if a name given for a
+    /// category is none of its values, 7 if there isn't one name per category, 8 if an earlier volunteer has this id, 10 if the id
+    /// isn't allowed or there are 400 volunteers; the lowest that applies, or None.
     pub fn volunteer_kind(&self, id: &[u8], values: &[&[u8]]) -> Option<u8>
         ensures { result ≡ volunteer_kind self.now id.now (map (λ name. name.now) values.now) }
     {
@@ -210,7 +210,7 @@ impl Pool {
         self.volunteer_fault(id, known, values.len())
     }
 
-    // The same, where it was tested whether each name given for a category is one of its values, and with the number of names.
+    // The same, given whether each name for a category is one of its values, and the number of names.
     fn volunteer_fault(&self, id: &[u8], known: bool, count: usize) -> Option<u8>
         ensures { result ≡ lowest_kind (
             (6, not known) ∷
@@ -231,8 +231,8 @@ impl Pool {
         }
     }
 
-    /// Adds a volunteer, who may be chosen, with the value of each category by its name. Stops with the kind that
-    /// `volunteer_kind` tells; the pool is then as before.
+    /// Appends a volunteer, who may be chosen, given the name of a value for each category. Stops with the kind that
+    /// `volunteer_kind` returns; the pool is then unchanged.
     pub fn add_volunteer(&mut self, id: &str, values: &[Name]) -> Result<(), BuildStop>
         ensures kind { Answers (volunteer_kind self.old id.now values.now) result }
         ensures ok { OnOk result (self.new ≡ volunteer_added self.old id.now values.now) }
@@ -247,7 +247,7 @@ impl Pool {
         Ok(())
     }
 
-    /// Adds a volunteer for whom `volunteer_kind` tells no fault.
+    /// Appends a volunteer for whom `volunteer_kind` returns None.
     pub fn add_right_volunteer(&mut self, id: &str, values: &[&[u8]]) -> Result<(), AllocError>
         requires { volunteer_kind self.old id.now (map (λ name. name.now) values.now) ≡ None }
         ensures ok { OnOk result (self.new ≡ volunteer_added self.old id.now (map (λ name. name.now) values.now)) }
@@ -260,7 +260,7 @@ impl Pool {
         Ok(())
     }
 
-    /// Sets how the volunteer of this number stands to a panel, and changes nothing else.
+    /// Sets the standing of the volunteer of this number, and changes nothing else.
     pub fn set_standing(&mut self, number: usize, standing: Standing)
         requires { number < length self.old.volunteers }
         ensures { self.new ≡ standing_set self.old number standing }
@@ -269,7 +269,7 @@ impl Pool {
     }
 
     /// Sets the name of the household of the volunteer of this number, in place of an earlier one, and changes nothing else. Stops
-    /// with kind 10 exactly where no such name may be; the pool is then as before.
+    /// with kind 10 exactly if the name isn't allowed; the pool is then unchanged.
     pub fn set_household(&mut self, number: usize, name: &str) -> Result<(), BuildStop>
         requires { number < length self.old.volunteers }
         ensures kind { Answers (household_kind name.now) result }
@@ -283,7 +283,7 @@ impl Pool {
         Ok(())
     }
 
-    /// Sets a household for whose name `household_kind` tells no fault.
+    /// Sets a household for whose name `household_kind` returns None.
     pub fn set_right_household(&mut self, number: usize, name: &str) -> Result<(), AllocError>
         requires number { number < length self.old.volunteers }
         requires name { household_kind name.now ≡ None }
@@ -296,7 +296,7 @@ impl Pool {
     }
 }
 
-/// The kind of fault of a household's name: 10 exactly where no such name may be.
+/// Returns the kind of fault of a household's name: 10 exactly if the name isn't allowed.
 pub fn household_kind(name: &[u8]) -> Option<u8>
     ensures { result ≡ household_kind name.now }
 {
@@ -307,7 +307,7 @@ pub fn household_kind(name: &[u8]) -> Option<u8>
     }
 }
 
-/// The kind of fault of a size: 2 exactly where it is not from 1 to 200.
+/// The kind of fault of a size: 2 exactly if it is not from 1 to 200.
 fn size_kind(size: usize) -> Option<u8>
     ensures { result ≡ size_kind size }
 {

@@ -1,18 +1,18 @@
-//! Whether a panel is a quota panel of a pool.
+//! Whether a panel is a quota panel of a pool. Tests call it; the checks have a faster one of their own.
 
 ghost use Rattle.std.specs.Prelude.{◌≡◌, IsTrue, nat_lt, count_by, length};
 ghost use Rattle.std.specs.List.{list_all, enumerate_from};
-ghost use Rattle.pool_definitions.specs.Lists.{includes};
-ghost use Rattle.pool_definitions.specs.Pool.{members_with, allows, is_within, meets_quotas, keeps_standings, keeps_households, share_household as share, is_quota_panel};
+ghost use Rattle.define_pools.specs.Lists.{includes};
+ghost use Rattle.define_pools.specs.Pool.{members_with, allows, is_within, meets_quotas, keeps_standings, keeps_households, share_household as share, is_quota_panel};
 
 use crate::households::share_household;
 use crate::panels::Panel;
 use crate::parts::{BoundedValue, Category, Volunteer};
 use crate::pools::Pool;
-use pool_definitions::Standing;
+use define_pools::Standing;
 
-/// Is the panel a quota panel of the pool: of the pool's size, with numbers of its volunteers, with every seated and no gone
-/// volunteer, with every bound met, and with no two members of one household?
+/// True if the panel is a quota panel of the pool: of the pool's size, with numbers of its volunteers, with every seated and no gone
+/// volunteer, with every bound met, and with no two members of one household.
 pub fn fits(pool: &Pool, panel: &Panel) -> bool
     ensures { result ≡ is_quota_panel pool.now panel.now }
 {
@@ -102,7 +102,7 @@ fn keep_households(volunteers: &[Volunteer], members: &[usize]) -> bool
         .all(|i| number_of_household(volunteers, members, *i) <= 1)
 }
 
-// How many members are of a volunteer's household?
+// How many members are of a volunteer's household.
 fn number_of_household(volunteers: &[Volunteer], members: &[usize], i: usize) -> usize
     ensures { result ≡ count_by (share volunteers.now i) members.now }
 {

@@ -1,14 +1,14 @@
 -- The pieces of a text, one line at a time.
 use Rattle.std.proofs.Common.{◌≡◌, ℕ, ◌+◌, ◌≤◌, arith, List, [], ◌∷◌, Result, Ok, Err, refl, sym, subst, Some, None}
-use Rattle.line_definitions.specs.Lines.{Fault, fields_of, pieces_of}
-use Rattle.line_definitions.specs.Reading.{fault_or, read_lines}
-use Rattle.line_definitions.proofs.LineByLine as reading
+use Rattle.define_lines.specs.Lines.{Fault, fields_of, pieces_of}
+use Rattle.define_lines.specs.Reading.{fault_or, read_lines}
+use Rattle.define_lines.proofs.LineByLine as reading
 use Rattle.pool_model.specs.declared.building.BuildStop.{BuildStop}
 use Rattle.pool_model.specs.declared.building.BuildStop.TheVariants.{Kind, OutOfMemory}
 use Rattle.pool_text.specs.Answers.{Reads, Tells, IsRightBefore, stopped}
-use Rattle.text_definitions.specs.declared.Passed.{Passed}
-use Rattle.text_definitions.specs.PoolReading.{Progress, Begun, Versioned, Inside, Ended, Entry, OfCategory, OfValue, OfVolunteer, OfHousehold, OfStanding, TheEnd, Unknown, entry_of, after_entry, line_kind, after_line, at_last, reader}
-use Rattle.pool_definitions.specs.Pool.{Pool}
+use Rattle.define_pool_texts.specs.declared.Passed.{Passed}
+use Rattle.define_pool_texts.specs.PoolReading.{Progress, Begun, Versioned, Inside, Ended, Entry, OfCategory, OfValue, OfVolunteer, OfHousehold, OfStanding, TheEnd, Unknown, entry_of, after_entry, line_kind, after_line, at_last, reader}
+use Rattle.define_pools.specs.Pool.{Pool}
 use Rattle.pool_text.specs.declared.faults.ReadPool.{ReadPool}
 use Rattle.pool_text.specs.declared.faults.ReadPool.TheVariants.{OutOfMemory as Unread}
 use Rattle.pool_text.specs.Progress.{line_due}

@@ -4,12 +4,12 @@ use Rattle.std.specs.Prelude.{bytes_eq, codes}
 use Rattle.std.specs.Fmt.{decimal}
 use Rattle.std.proofs.lemmas.List.{take-append-drop}
 use Rattle.std.proofs.lemmas.List.Splits.{slice_split_at}
-use Rattle.line_definitions.specs.Lines.{tab, line_of, fields_of}
-use Rattle.line_definitions.specs.Numbers.{number_up_to}
-use Rattle.line_definitions.proofs.LineLemmas.{fields_of-line_of, line_of-fields_of}
-use Rattle.line_definitions.proofs.FieldLemmas.{plain_field, decimal_field}
-use Rattle.line_definitions.proofs.NumberLemmas.{bytes_are, number_spelled}
-use Rattle.text_definitions.specs.PoolReading.{size_of}
+use Rattle.define_lines.specs.Lines.{tab, line_of, fields_of}
+use Rattle.define_lines.specs.Numbers.{number_up_to}
+use Rattle.define_lines.proofs.LineLemmas.{fields_of-line_of, line_of-fields_of}
+use Rattle.define_lines.proofs.FieldLemmas.{plain_field, decimal_field}
+use Rattle.define_lines.proofs.NumberLemmas.{bytes_are, number_spelled}
+use Rattle.define_pool_texts.specs.PoolReading.{size_of}
 
 -- a number has no TAB
 no_number : (field : List ℕ) (fields : List (List ℕ)) → fields_of field ≡ fields → (length fields ≡ 1 → ⊥) → number_up_to 200 field ≡ None

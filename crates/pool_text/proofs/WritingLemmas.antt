@@ -3,11 +3,11 @@ use Rattle.std.proofs.Common.{◌≡◌, ℕ, zero, suc, ◌+◌, ◌<◌, true,
 use Rattle.std.proofs.lemmas.Bool.{and_parts, false≢true, ltb-true}
 use Rattle.std.proofs.lemmas.List.{append-nil}
 use Rattle.std.specs.List.{flat_map}
-use Rattle.pool_definitions.specs.Pool.{Category, Pool, has_values, has_households}
-use Rattle.pool_definitions.specs.Building.{value_names}
-use Rattle.text_definitions.specs.PoolText.{version_line, size_line, category_lines, names_at, volunteer_line, household_lines, standing_lines, end_line, lines_before_end, spelling}
-use Rattle.line_definitions.specs.Lines.{tab, tabbed, text_of}
-use Rattle.line_definitions.proofs.LineLemmas.{text_of-append}
+use Rattle.define_pools.specs.Pool.{Category, Pool, has_values, has_households}
+use Rattle.define_pools.specs.Building.{value_names}
+use Rattle.define_pool_texts.specs.PoolText.{version_line, size_line, category_lines, names_at, volunteer_line, household_lines, standing_lines, end_line, lines_before_end, spelling}
+use Rattle.define_lines.specs.Lines.{tab, tabbed, text_of}
+use Rattle.define_lines.proofs.LineLemmas.{text_of-append}
 
 -- a place is that of a value of its category
 pub place_inside : (categories : List Category) (places : List ℕ) (i : ℕ) (d : Category) → has_values categories places ≡ true → i < length places → get_or places i 0 < length (get_or categories i d).values

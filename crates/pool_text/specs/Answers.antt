@@ -1,7 +1,7 @@
--- What reading a text answers.
+-- What reading a pool's text answers. The contracts of the readers cite it.
 use Rattle.std.specs.Prelude.{◌≡◌, ◌≤◌, ℕ, Option, Some, None, Result, Ok, Err, ⊤}
-use Rattle.pool_definitions.specs.Pool.{Pool}
-use Rattle.line_definitions.specs.Lines.{Fault}
+use Rattle.define_pools.specs.Pool.{Pool}
+use Rattle.define_lines.specs.Lines.{Fault}
 use Rattle.pool_model.specs.declared.building.BuildStop.{BuildStop}
 use Rattle.pool_model.specs.declared.building.BuildStop.TheVariants.{Kind, OutOfMemory as NoMemory}
 use Rattle.pool_text.specs.declared.faults.PoolFault.{PoolFault}
@@ -12,24 +12,24 @@ use Rattle.pool_text.specs.declared.faults.ReadPool.TheVariants.{Fault as fault,
 abbrev pub fault_of : PoolFault → Fault
 fault_of f = record { line = f.line; kind = f.kind }
 
--- a pool only where the bytes say this pool, a fault only where they say this fault; want of memory may come at any time
+-- a pool only if the bytes say this pool, a fault only if they say this fault; want of memory may come at any time
 abbrev pub Reads : Result Pool Fault → Result Pool ReadPool → Type 0
 Reads said (Ok pool) = said ≡ Ok pool
 Reads said (Err (fault f)) = said ≡ Err (fault_of f)
 Reads said (Err OutOfMemory) = ⊤
 
--- a right line only where there is no kind of fault, a kind only where it is this one; want of memory may come at any time
+-- a right line only if no kind of fault applies, a kind only if it is the lowest; want of memory may come at any time
 abbrev pub Tells : {T : Type 0} → Option ℕ → Result T BuildStop → Type 0
 Tells kind (Ok right) = kind ≡ None
 Tells kind (Err (Kind told)) = kind ≡ Some told
 Tells kind (Err NoMemory) = ⊤
 
--- no line before that of a number has a fault
+-- no line before the one of this number has a fault
 abbrev pub IsRightBefore : ℕ → Result Pool Fault → Type 0
 IsRightBefore number (Ok pool) = ⊤
 IsRightBefore number (Err f) = number ≤ f.line
 
--- what a stop of the builder at a line makes of the reading
+-- what a stop of the builder at this line makes the reader answer
 abbrev pub stopped : ℕ → BuildStop → ReadPool
 stopped line (Kind kind) = fault (record { line = line; kind = kind })
 stopped line NoMemory = OutOfMemory

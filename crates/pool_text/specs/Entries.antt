@@ -1,7 +1,7 @@
--- What a line says, without where it lies in memory.
+-- An entry of the code as one of the definitions.
 use Rattle.std.specs.Prelude.{map}
 use Rattle.std.specs.Str.{IsUtf8}
-use Rattle.text_definitions.specs.PoolReading as words
+use Rattle.define_pool_texts.specs.PoolReading as words
 use Rattle.pool_text.specs.declared.entries.Entry.{Entry}
 use Rattle.pool_text.specs.declared.entries.Entry.TheVariants.{Category, Value, Volunteer, Household, Standing, End, Unknown}
 

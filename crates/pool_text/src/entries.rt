@@ -1,29 +1,29 @@
-//! The lines between the size and the end: what one says, and what it adds to the pool.
+//! The lines between the size and the end: what one says, and how it is added to the pool.
 
 ghost use Rattle.std.specs.Prelude.{◌≡◌, ◌<◌, ◌+◌, length, map, IfOk, IfSome, IsSome, None, OnOk, Option, unwrap_or};
-ghost use Rattle.pool_definitions.specs.Building.{household_kind as name_kind, household_set, standing_set};
+ghost use Rattle.define_pools.specs.Building.{household_kind as name_kind, household_set, standing_set};
 ghost use Rattle.std.specs.Str.{IsUtf8, is_utf8};
 ghost use Rattle.pool_text.specs.Answers.{Tells};
-ghost use Rattle.text_definitions.specs.PoolReading.{Inside, line_kind, after_line, after_entry, ValueWord, StandingWord, entry_of_word, entry_of as entry_in, entry_kind as kind_in, number_of as number_in, bound_of as bound_in, awaits_household as awaits, is_ahead as is_number_ahead};
+ghost use Rattle.define_pool_texts.specs.PoolReading.{Inside, line_kind, after_line, after_entry, ValueWord, StandingWord, entry_of_word, entry_of as entry_in, entry_kind as kind_in, number_of as number_in, bound_of as bound_in, awaits_household as awaits, is_ahead as is_number_ahead};
 ghost use Rattle.pool_text.specs.Entries.{said, IsText};
 ghost use Rattle.pool_text.specs.Progress.{with_pool};
 
+use define_pool_texts::Passed;
 use pool_model::{BuildStop, Pool, Standing, Volunteer, household_kind};
 use std::alloc::{AllocError, Global};
 use std::str;
-use text_definitions::Passed;
 use text_lines::{fields, number_up_to};
 
 /// The greatest bound.
 const MAX_BOUND: usize = 999;
 
-/// What no bound may be.
+/// A number that is no bound.
 const NO_BOUND: usize = 1000;
 
-/// The kind of a line that is of no form that may stand there.
+/// The kind of a line that isn't allowed where it is.
 pub(crate) const FORM: u8 = 1;
 
-/// The kind of a household or standing line whose id isn't that of a volunteer after the one of such a line before.
+/// The kind of a household or standing line whose id isn't that of a volunteer after the one of the last such line.
 const NOT_AHEAD: u8 = 9;
 
 /// The kind of a line that isn't UTF-8.
@@ -43,7 +43,7 @@ const GONE: &[u8] = b"gone";
 
 const END: &[u8] = b"end";
 
-/// What a line says, by its first field and its number of fields.
+/// A line between the size and the end, by its first field and its number of fields.
 #[derive(Drop)]
 pub(crate) enum Entry<'a> {
     Category(&'a [u8]),
@@ -114,8 +114,8 @@ fn standing_entry<'a>(standing: Standing, rest: &'a [&'a [u8]]) -> Entry<'a>
     }
 }
 
-/// Adds to the pool what a line says, where the lines are so far. The answer is how far they are then, or None at the end. A line
-/// with a fault changes nothing.
+/// Adds to the pool what a line says, given how far the lines have come. Returns how far they are then, or None at the end. A line with
+/// a fault changes nothing.
 pub(crate) fn read_entry(
     alloc: Global,
     pool: &mut Pool,
@@ -142,7 +142,7 @@ fn is_text(line: &[u8]) -> bool
     str::from_utf8(line).is_ok()
 }
 
-/// The lowest kind of fault of an entry.
+/// The lowest kind of fault of an entry, or None.
 fn entry_kind(pool: &Pool, passed: Passed, entry: &Entry<'_>) -> Option<u8>
     ensures { result ≡ kind_in pool.now passed (said entry.now) }
 {
@@ -161,14 +161,14 @@ fn entry_kind(pool: &Pool, passed: Passed, entry: &Entry<'_>) -> Option<u8>
     }
 }
 
-/// The first household line is due.
+/// True if a household line is due.
 fn awaits_household(passed: Passed) -> bool
     ensures { result ≡ awaits passed }
 {
     passed.second && passed.households == 0
 }
 
-/// Whether this is the id of a volunteer whom lines that have passed so many have not passed.
+/// True if this is the id of a volunteer whom the lines haven't passed, which have passed `passed`.
 fn is_ahead(pool: &Pool, passed: usize, id: &[u8]) -> bool
     ensures { result ≡ is_number_ahead passed (number_in pool.now.volunteers id.now) }
 {
@@ -188,7 +188,7 @@ fn number_of(volunteers: &[Volunteer], id: &[u8]) -> Option<usize>
         .position(|volunteer| id == volunteer.id().as_bytes())
 }
 
-/// Adds a right entry, whose new name is text. The answer is that of `read_entry`.
+/// Adds a right entry, whose new name is text. Returns what `read_entry` returns.
 fn add_entry(
     pool: &mut Pool,
     passed: Passed,
@@ -222,7 +222,7 @@ fn add_entry(
     Ok(Some(passed))
 }
 
-/// Sets the standing of the volunteer of this id. The answer is how many volunteers standing lines have passed then.
+/// Sets the standing of the volunteer of this id. Returns how many volunteers standing lines have passed then.
 fn add_standing(pool: &mut Pool, standing: Standing, id: &[u8]) -> usize
     requires { IsSome (number_in pool.old.volunteers id.now) }
     ensures set { pool.new ≡ standing_set pool.old (unwrap_or (number_in pool.old.volunteers id.now) 0) standing }
@@ -237,7 +237,7 @@ fn add_standing(pool: &mut Pool, standing: Standing, id: &[u8]) -> usize
     }
 }
 
-/// Sets the household of the volunteer of this id. The answer is how many volunteers household lines have passed then.
+/// Sets the household of the volunteer of this id. Returns how many volunteers household lines have passed then.
 fn add_household(pool: &mut Pool, id: &[u8], name: &str) -> Result<usize, AllocError>
     requires found { IsSome (number_in pool.old.volunteers id.now) }
     requires right { name_kind name.now ≡ None }

@@ -1,23 +1,23 @@
-//! Faults of a pool text.
+//! Faults of a pool text, and why none was read.
 
 use thiserror::Error;
 
-/// Where a text first goes wrong.
+/// Where a pool text first goes wrong.
 #[derive(Clone, Copy, Debug, PartialEq, Eq)]
 pub struct PoolFault {
     /// The first faulty line, counted from 1.
     pub line: usize,
     /// The lowest kind of fault in it:
-    /// - 1 the line is of no form that may stand there: a household line in version 1, the end or a standing line in version 2 before
-    ///   any household line; or anything follows the end
+    /// - 1 the line isn't allowed there, as a household line in version 1, or the end or a standing line in version 2 before any household
+    ///   line; or anything follows the end
     /// - 2 the second line isn't a size from 1 to 200
-    /// - 3 the category's name stood before
-    /// - 4 the value's name stood before in its category
+    /// - 3 an earlier category has this name
+    /// - 4 an earlier value of the category has this name
     /// - 5 a bound isn't a number from 0 to 999, or the lower is above the upper
     /// - 6 a field at the place of a category is none of its values
     /// - 7 not one field for each category
-    /// - 8 the volunteer's id stood before
-    /// - 9 the id of a household or standing line isn't that of a volunteer after the one of such a line before
+    /// - 8 an earlier volunteer has this id
+    /// - 9 the id of a household or standing line isn't that of a volunteer after the one of the last such line
     /// - 10 a new name or a household's isn't 1 to 200 bytes or has a byte below 32 or 127, or there is one more than 20 categories, 50 values
     ///   of a category or 400 volunteers
     /// - 11 the line isn't UTF-8

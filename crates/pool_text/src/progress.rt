@@ -1,47 +1,47 @@
-//! What the lines that were read make of a text so far, and what one more makes of it.
+//! The progress of a pool's text, and how one more line moves it on.
 
 ghost use Rattle.std.specs.Prelude.{◌≡◌, ◌≤◌, Err, IfOk};
 ghost use Rattle.pool_model.specs.declared.building.BuildStop.TheVariants.{OutOfMemory};
 ghost use Rattle.pool_text.specs.Answers.{Tells};
-ghost use Rattle.line_definitions.specs.Lines.{fields_of as fields_in};
-ghost use Rattle.text_definitions.specs.PoolReading.{line_kind, after_line, size_of as size_in};
+ghost use Rattle.define_lines.specs.Lines.{fields_of as fields_in};
+ghost use Rattle.define_pool_texts.specs.PoolReading.{line_kind, after_line, size_of as size_in};
 ghost use Rattle.pool_text.specs.Progress.{seen, line_due};
 
 use crate::entries::{FORM, read_entry};
+use define_pool_texts::Passed;
 use pool_model::{BuildStop, Pool};
 use std::alloc::Global;
-use text_definitions::Passed;
 use text_lines::number_up_to;
 
 /// The greatest size of a panel.
 const MAX_SIZE: usize = 200;
 
-/// What no size may be.
+/// A number that is no size.
 const NO_SIZE: usize = 0;
 
 /// The first line, in version 1.
 const FIRST_VERSION: &[u8] = b"pool\t1";
 
-/// And in version 2.
+/// The first line, in version 2.
 const SECOND_VERSION: &[u8] = b"pool\t2";
 
 /// How the second line begins.
 const SIZE: &[u8] = b"size\t";
 
-/// What right lines make of a text so far.
+/// The progress of a pool's text after right lines.
 #[derive(Debug, Drop)]
 pub enum Progress {
-    /// No line stood.
+    /// Before the first line.
     Begun,
-    /// The first line stood: of version 2, or of version 1.
+    /// After the first line: of version 2 if true, else of version 1.
     Versioned(bool),
-    /// The size stood, the lines up to now make this pool, and are so far.
+    /// After the size: the lines up to now make this pool, and have come this far.
     Inside(Pool, Passed),
-    /// The end stood.
+    /// After the end.
     Ended(Pool),
 }
 
-/// What one more line makes of it. Stops with the lowest kind of fault that the line has.
+/// Returns the progress after one more line. Stops with the lowest kind of fault of the line.
 pub fn after(alloc: Global, progress: Progress, line: &[u8]) -> Result<Progress, BuildStop>
     ensures kind { Tells (line_kind (seen progress) line.now) result }
     ensures ok { IfOk result (λ next. seen next ≡ after_line (seen progress) line.now) }
@@ -75,7 +75,7 @@ pub fn after(alloc: Global, progress: Progress, line: &[u8]) -> Result<Progress,
     }
 }
 
-/// The size that the second line gives, or what no size may be.
+/// The size that the second line gives, or a number that is no size.
 fn size_of(line: &[u8]) -> usize
     ensures { result ≡ size_in (fields_in line.now) }
 {

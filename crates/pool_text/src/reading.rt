@@ -1,12 +1,12 @@
-//! Reading the text of a pool, line by line.
+//! Reads the text of a pool, line by line.
 
 ghost use Rattle.std.specs.Prelude.{◌≡◌, ◌≢◌, ◌<◌, length, Ok, Err, IfOk};
-ghost use Rattle.pool_definitions.specs.Pool.{Pool as Words, IsPool};
-ghost use Rattle.text_definitions.specs.PoolText.{spelling};
-ghost use Rattle.text_definitions.specs.PoolReading.{read, at_last};
+ghost use Rattle.define_pools.specs.Pool.{Pool as Words, IsPool};
+ghost use Rattle.define_pool_texts.specs.PoolText.{spelling};
+ghost use Rattle.define_pool_texts.specs.PoolReading.{read, at_last};
 ghost use Rattle.pool_text.specs.Answers.{Reads, IsRightBefore, stopped};
 ghost use Rattle.pool_text.specs.declared.faults.ReadPool.TheVariants.{OutOfMemory};
-ghost use Rattle.line_definitions.specs.Lines.{pieces_of};
+ghost use Rattle.define_lines.specs.Lines.{pieces_of};
 ghost use Rattle.pool_text.specs.Progress.{seen};
 
 use crate::entries::FORM;
@@ -19,16 +19,16 @@ use text_lines::next_line;
 /// The kind of a text whose lines run out before its end.
 const MISSING_END: u8 = 12;
 
-/// The pool that the bytes spell, all of them. A fault comes exactly where they are not the text of a pool: the first line that
-/// has a fault, and the lowest kind in it.
+/// Reads the bytes as the text of a pool. Fails exactly if they aren't the text of a pool, with the first faulty line and its lowest
+/// kind of fault, or if memory runs out.
 pub fn read_pool(alloc: Global, bytes: &[u8]) -> Result<Pool, ReadPool>
-    // What is read is spelled so, each byte of it.
+    // A pool that is read has this text, byte for byte.
     ensures spelled { IfOk result (λ pool. IsPool pool × (bytes.now ≡ spelling pool)) }
-    // What is spelled so is read, unless memory runs out.
+    // The text of each pool is read as this pool, unless memory runs out.
     ensures read { (pool : Words) → IsPool pool → bytes.now ≡ spelling pool → Reads (Ok pool) result }
     // Which fault it is.
     ensures exact { Reads (read bytes.now) result }
-    // Memory is wanted only where the first two lines are right and a third is finished.
+    // Memory is wanted only if the first two lines are right and a third one is finished.
     ensures memory { result ≡ Err OutOfMemory → IsRightBefore 3 (read bytes.now) × (3 < length (pieces_of bytes.now)) }
 {
     read_lines(alloc, bytes)
@@ -52,7 +52,7 @@ fn read_lines(alloc: Global, bytes: &[u8]) -> Result<Pool, ReadPool>
     last(progress, number, rest)
 }
 
-/// A stop of the builder at a line.
+/// Turns a stop of the builder at this line into one of the reader.
 fn stop_at(line: usize, stop: BuildStop) -> ReadPool
     ensures { result ≡ stopped line stop }
 {
@@ -62,7 +62,7 @@ fn stop_at(line: usize, stop: BuildStop) -> ReadPool
     }
 }
 
-/// What the text comes to, where `rest` stands behind its last LF.
+/// Returns the pool or the fault of the whole text, where `rest` is the bytes after its last LF.
 fn last(progress: Progress, line: usize, rest: &[u8]) -> Result<Pool, ReadPool>
     ensures exact { Reads (at_last line (seen progress) rest.now) result }
     ensures memory { result ≢ Err OutOfMemory }

@@ -1,19 +1,19 @@
-//! Writing the text of a pool, line by line into one growing buffer.
+//! Writes the text of a pool, line by line into one growing buffer.
 
 ghost use Rattle.std.specs.Prelude.{◌≡◌, ◌++◌, ◌∷◌, [], map, Ok, IfOk, OnOk, IsTrue, ◌<◌, length, slice_index_or};
-ghost use Rattle.pool_definitions.specs.Building.{value_names};
+ghost use Rattle.define_pools.specs.Building.{value_names};
 ghost use Rattle.std.specs.List.{flat_map, list_all};
-ghost use Rattle.pool_definitions.specs.Pool.{has_values};
-ghost use Rattle.line_definitions.specs.Lines.{tabbed, text_of};
-ghost use Rattle.text_definitions.specs.PoolText.{version as version_words, household_line, household_lines, size_line, category_lines, value_line, names_at, volunteer_line, standing_line, standing_lines, spelling};
-ghost use Rattle.text_definitions.specs.PoolReading.{read};
+ghost use Rattle.define_pools.specs.Pool.{has_values};
+ghost use Rattle.define_lines.specs.Lines.{tabbed, text_of};
+ghost use Rattle.define_pool_texts.specs.PoolText.{version as version_words, household_line, household_lines, size_line, category_lines, value_line, names_at, volunteer_line, standing_line, standing_lines, spelling};
+ghost use Rattle.define_pool_texts.specs.PoolReading.{read};
 
 use itoa::Buffer;
 use pool_model::{BoundedValue, Category, Pool, Standing, Volunteer, has_households};
 use std::alloc::{AllocError, Global};
 use text_lines::{end_line, push_field, push_line};
 
-/// The text of the pool, which is read again as this pool.
+/// Returns the text of the pool. It is read as this pool.
 pub fn write_pool(alloc: Global, pool: &Pool) -> Result<Vec<u8>, AllocError>
     ensures spelled { IfOk result (λ text. text.items ≡ spelling pool.now) }
     ensures read { IfOk result (λ text. read text.items ≡ Ok pool.now) }
@@ -24,7 +24,7 @@ pub fn write_pool(alloc: Global, pool: &Pool) -> Result<Vec<u8>, AllocError>
     Ok(text)
 }
 
-/// Adds the text of the pool to another.
+/// Appends the text of the pool.
 fn push_pool(text: &mut Vec<u8>, pool: &Pool) -> Result<(), AllocError>
     ensures { OnOk result (text.new.items ≡ text.old.items ++ spelling pool.now) }
 {
@@ -38,7 +38,7 @@ fn push_pool(text: &mut Vec<u8>, pool: &Pool) -> Result<(), AllocError>
     push_line(text, b"end", &[])
 }
 
-/// How the version is spelled: 2 in the second, and else 1.
+/// How the version is spelled: 2 if `second` is true, else 1.
 pub fn version(second: bool) -> &'static [u8]
     ensures { result.now ≡ version_words second }
 {
@@ -61,7 +61,7 @@ fn push_categories(text: &mut Vec<u8>, categories: &[Category]) -> Result<(), Al
     Ok(())
 }
 
-/// Adds a category's line, and those of its values.
+/// Appends a category's line, and those of its values.
 fn push_category(text: &mut Vec<u8>, category: &Category) -> Result<(), AllocError>
     ensures { OnOk result (text.new.items ≡ text.old.items ++ text_of (category_lines category.now)) }
 {
@@ -108,7 +108,7 @@ fn push_volunteers(
     Ok(())
 }
 
-/// Adds a volunteer's line: the id, and the name of the value of each category.
+/// Appends a volunteer's line: the id, and the name of the value of each category.
 fn push_volunteer(
     text: &mut Vec<u8>,
     categories: &[Category],
@@ -123,7 +123,7 @@ fn push_volunteer(
     end_line(text)
 }
 
-/// Adds for each category the name of the value at a place.
+/// Appends for each category the name of the value in this place.
 fn push_names(
     text: &mut Vec<u8>,
     categories: &[Category],
@@ -138,7 +138,7 @@ fn push_names(
     Ok(())
 }
 
-/// The name of the value at a place.
+/// The name of the value in this place.
 fn name_at(values: &[BoundedValue], place: usize) -> &[u8]
     requires { place < length values.now }
     ensures { result.now ≡ slice_index_or (value_names values.now) place [] }
@@ -155,7 +155,7 @@ fn push_households(text: &mut Vec<u8>, volunteers: &[Volunteer]) -> Result<(), A
     Ok(())
 }
 
-/// Adds the line of a volunteer who has a household.
+/// Appends the line of a volunteer who has a household.
 fn push_household(text: &mut Vec<u8>, volunteer: &Volunteer) -> Result<(), AllocError>
     ensures { OnOk result (text.new.items ≡ text.old.items ++ text_of (household_line volunteer.now.household volunteer.now.id)) }
 {
@@ -178,7 +178,7 @@ fn push_standings(text: &mut Vec<u8>, volunteers: &[Volunteer]) -> Result<(), Al
     Ok(())
 }
 
-/// Adds the line of a volunteer who isn't open.
+/// Appends the line of a volunteer who isn't open.
 fn push_standing(text: &mut Vec<u8>, volunteer: &Volunteer) -> Result<(), AllocError>
     ensures { OnOk result (text.new.items ≡ text.old.items ++ text_of (standing_line volunteer.now.standing volunteer.now.id)) }
 {

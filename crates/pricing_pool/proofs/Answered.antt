@@ -6,7 +6,7 @@ use Rattle.std.proofs.lemmas.List.{length-append}
 use Rattle.std.specs.declared.alloc.Global.{Global}
 use Rattle.std.proofs.Math.Nat.{mod-add-div', mod-lt}
 use Rattle.std.proofs.lemmas.Bool.{ltb-false}
-use Rattle.search_definitions.specs.Visits.{Pricing}
+use Rattle.define_searches.specs.Visits.{Pricing}
 use Rattle.panel_search.specs.Answers.{AnswersWeighed}
 use Rattle.pricing_pool.specs.Outcomes.{AreOf, AreOfAll, AreTogether, HasAnswer, IsAnswer, Outcome}
 

@@ -1,11 +1,11 @@
 -- The floor of a search is the weight of what it kept.
 use Rattle.std.proofs.Common.{◌≡◌, ℕ, ◌+◌, true, false, cond, List, [], ◌∷◌, ◌++◌, fold, ℤ, Some, None, ap}
-use Rattle.row_definitions.specs.Row.{Row}
-use Rattle.search_definitions.specs.Classes.{Class, Classes}
-use Rattle.search_definitions.specs.Compositions.{counts_of, weight_in}
-use Rattle.search_definitions.specs.Fronts.{is_live_above, later_than}
-use Rattle.search_definitions.specs.Visits.{Pricing, enter_best}
-use Rattle.wave_definitions.specs.Below.{search_from}
+use Rattle.define_rows.specs.Row.{Row}
+use Rattle.define_searches.specs.Classes.{Class, Classes}
+use Rattle.define_searches.specs.Compositions.{counts_of, weight_in}
+use Rattle.define_searches.specs.Fronts.{is_live_above, later_than}
+use Rattle.define_searches.specs.Visits.{Pricing, enter_best}
+use Rattle.define_waves.specs.Below.{search_from}
 
 -- what holds at first and is kept by each step holds at the end
 fold_keeps : {A X : Type 0} (P : A → Type 0) (f : A → X → A) → ((a : A) (x : X) → P a → P (f a x)) → (xs : List X) (a : A) → P a → P (fold f a xs)

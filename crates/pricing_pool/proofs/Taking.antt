@@ -1,12 +1,12 @@
 -- Outcomes that are taken are those of the pieces.
 use Rattle.std.proofs.Common.{◌≡◌, ℕ, ◌+◌, ◌-◌, ◌<◌, ◌≤◌, true, false, cond, List, [], ◌∷◌, ◌++◌, fold, ℤ, Option, Some, None, Ok, Err, refl, sym, ap, ◌∙◌, arith}
 use Rattle.std.specs.Prelude.{int_lt}
-use Rattle.row_definitions.specs.Row.{Row}
-use Rattle.search_definitions.specs.Classes.{Classes}
-use Rattle.search_definitions.specs.Compositions.{weight_in}
-use Rattle.search_definitions.specs.Visits.{Pricing}
-use Rattle.wave_definitions.specs.Below.{search_from}
-use Rattle.wave_definitions.specs.Waves.{keep_heavier, take_piece}
+use Rattle.define_rows.specs.Row.{Row}
+use Rattle.define_searches.specs.Classes.{Classes}
+use Rattle.define_searches.specs.Compositions.{weight_in}
+use Rattle.define_searches.specs.Visits.{Pricing}
+use Rattle.define_waves.specs.Below.{search_from}
+use Rattle.define_waves.specs.Waves.{keep_heavier, take_piece}
 use Rattle.panel_search.specs.Answers.{AnswersWeighed, IsKept}
 use Rattle.panel_search.specs.declared.searching.SearchStop.TheVariants.{Spent, OutOfMemory}
 use Rattle.pricing_pool.specs.Outcomes.{Outcome}

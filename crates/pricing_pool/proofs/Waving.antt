@@ -3,11 +3,11 @@ use Rattle.std.proofs.Common.{◌≡◌, ℕ, zero, suc, ◌+◌, ◌-◌, ◌*�
 use Rattle.std.specs.List.{range_with_len}
 use Rattle.std.proofs.lemmas.List.FromFn.{map-range_with_len_more}
 use Rattle.std.proofs.lemmas.List.Sums.{fold-append}
-use Rattle.row_definitions.specs.Row.{Row}
-use Rattle.search_definitions.specs.Classes.{Classes}
-use Rattle.search_definitions.specs.Visits.{Pricing}
-use Rattle.wave_definitions.specs.Below.{search_from}
-use Rattle.wave_definitions.specs.Waves.{wave}
+use Rattle.define_rows.specs.Row.{Row}
+use Rattle.define_searches.specs.Classes.{Classes}
+use Rattle.define_searches.specs.Visits.{Pricing}
+use Rattle.define_waves.specs.Below.{search_from}
+use Rattle.define_waves.specs.Waves.{wave}
 use Rattle.pricing_pool.proofs.Taking.{pieces_add}
 
 module _ (all : Classes) (closed : List Row) (row : Row) (fronts : List (List ℕ)) where

@@ -1,12 +1,12 @@
 -- A whole search in waves.
 use Rattle.std.proofs.Common.{◌≡◌, ℕ, ◌+◌, ◌/◌, ◌%◌, ◌<◌, ◌≤◌, List, [], ◌∷◌, fold, length, min, ℤ, None, Ok, Err, ap, ◌∙◌, arith}
-use Rattle.row_definitions.specs.Row.{Row}
-use Rattle.search_definitions.specs.Classes.{Classes, IsSearchable}
-use Rattle.search_definitions.specs.Compositions.{price}
-use Rattle.search_definitions.specs.Fronts.{HaveEntries}
-use Rattle.search_definitions.specs.Visits.{Pricing}
-use Rattle.wave_definitions.specs.Waves.{best_in_waves, pieces, wave, waves}
-use Rattle.wave_definitions.proofs.Waves.{waves_keep_price}
+use Rattle.define_rows.specs.Row.{Row}
+use Rattle.define_searches.specs.Classes.{Classes, IsSearchable}
+use Rattle.define_searches.specs.Compositions.{price}
+use Rattle.define_searches.specs.Fronts.{HaveEntries}
+use Rattle.define_searches.specs.Visits.{Pricing}
+use Rattle.define_waves.specs.Waves.{best_in_waves, pieces, wave, waves}
+use Rattle.define_waves.proofs.Waves.{waves_keep_price}
 use Rattle.panel_search.specs.Answers.{AnswersBest, AnswersPieces}
 use Rattle.panel_search.specs.declared.searching.SearchStop.{SearchStop}
 use Rattle.panel_search.specs.declared.searching.SearchStop.TheVariants.{Spent, OutOfMemory}

@@ -1,9 +1,9 @@
--- What the searches of a wave's pieces answer, worker by worker.
+-- What the searches of a wave's pieces answer, worker by worker. Over Waves of `define_waves`. For `workers` and `waves`.
 use Rattle.std.specs.Prelude.{◌≡◌, ℕ, ◌+◌, ◌*◌, ◌/◌, ◌%◌, ◌<◌, ◌≤◌, List, [], length, slice_get, slice_index_or, ◌++◌, Vec, vec_items, ℤ, Option, Some, Result, Ok, Err}
 use Rattle.std.specs.declared.alloc.Global.{Global}
 use Rattle.std.specs.declared.alloc.AllocError.{AllocError}
-use Rattle.search_definitions.specs.Visits.{Pricing}
-use Rattle.wave_definitions.specs.Below.{search_from}
+use Rattle.define_searches.specs.Visits.{Pricing}
+use Rattle.define_waves.specs.Below.{search_from}
 use Rattle.panel_search.specs.Answers.{AnswersWeighed}
 use Rattle.panel_search.specs.Pricers.{Priced}
 use Rattle.panel_search.specs.declared.searching.SearchStop.{SearchStop}
@@ -12,37 +12,38 @@ use Rattle.panel_search.specs.declared.searching.SearchStop.{SearchStop}
 abbrev pub Outcome : Type 0
 Outcome = Result (Option (List ℕ × ℤ) × ℕ) SearchStop
 
--- the search of the piece in a place of a wave
+-- the search of the piece in this place of a wave
 abbrev pub search_at : Priced → List (List ℕ) → ℤ → ℕ → Pricing
 search_at priced fronts floor place = search_from priced.classes priced.closed priced.row (slice_index_or fronts place []) floor
 
--- one worker's answers, of so many workers: those of the pieces in the places of one number modulo that of the workers, up to so many places
+-- the answers of one of `workers` workers: of the pieces in those of the first `places` places that are the worker's number modulo
+-- `workers`
 pub record AreOf (search : ℕ → Pricing) (nodes workers worker places : ℕ) (outcomes : List Outcome) : Type 0 where
   pub each : (i : ℕ) (outcome : Outcome) → slice_get outcomes i ≡ Some outcome → AnswersWeighed (search (worker + i * workers)) nodes outcome
   pub all : places ≤ worker + length outcomes * workers
 
--- the answers of each of so many workers, from one on
+-- the answers of `count` of the workers, from the worker `from` on
 pub record AreOfAll (search : ℕ → Pricing) (nodes workers from count places : ℕ) (all : List (Vec Outcome Global)) : Type 0 where
   pub one_each : length all ≡ count
   pub each : (j : ℕ) (outcomes : Vec Outcome Global) → slice_get all j ≡ Some outcomes → AreOf search nodes workers (from + j) places (vec_items outcomes)
 
--- the fronts of a wave, over a row that is priced; the floor, and how many visits each piece may make
+-- the fronts of a wave, over a row that is priced; the floor; and how many visits each piece may make
 pub record Wave : Type 0 where
   pub priced : Priced
   pub fronts : List (List ℕ)
   pub floor : ℤ
   pub nodes : ℕ
 
--- the piece in a place has an answer, of so many workers
+-- the piece in this place has an answer
 abbrev pub HasAnswer : List (Vec Outcome Global) → ℕ → ℕ → Type 0
 HasAnswer all workers place = (place % workers < length all)
     × ((outcomes : Vec Outcome Global) → slice_get all (place % workers) ≡ Some outcomes → place / workers < length (vec_items outcomes))
 
--- and this one is it
+-- this is the answer
 abbrev pub IsAnswer : List (Vec Outcome Global) → ℕ → ℕ → Outcome → Type 0
 IsAnswer all workers place outcome = (outcomes : Vec Outcome Global) × (slice_get all (place % workers) ≡ Some outcomes) × (slice_get (vec_items outcomes) (place / workers) ≡ Some outcome)
 
--- the one list of answers behind the other, where both are there
+-- one list of answers after the other, if both are there
 abbrev pub AreTogether : Result (Vec (Vec Outcome Global) Global) AllocError → Result (Vec (Vec Outcome Global) Global) AllocError → List (Vec Outcome Global) → Type 0
 AreTogether (Ok first) (Ok second) all = all ≡ vec_items first ++ vec_items second
 AreTogether (Ok first) (Err stop) all = ⊥

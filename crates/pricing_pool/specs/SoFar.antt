@@ -1,21 +1,21 @@
--- What waves come to, piece by piece.
+-- The outcome of waves, piece by piece. Over Waves of `define_waves`. For `waves`.
 use Rattle.std.specs.Prelude.{◌≡◌, ℕ, ◌+◌, ◌<◌, ◌≤◌, if◌then◌else◌, List, ℤ, int_lt, Option, Some, None, Result, Ok, Err}
-use Rattle.search_definitions.specs.Visits.{Pricing}
+use Rattle.define_searches.specs.Visits.{Pricing}
 use Rattle.panel_search.specs.declared.searching.SearchStop.{SearchStop}
 use Rattle.panel_search.specs.declared.searching.SearchStop.TheVariants.{Spent, OutOfMemory}
 use Rattle.pricing_pool.specs.Outcomes.{Outcome}
 use Rattle.pricing_pool.specs.declared.waves.SoFar.{SoFar}
 
 -- the visits, the greatest weight, and what was kept
-abbrev pub told : SoFar → Pricing
-told so_far = record { visits = so_far.visits; floor = so_far.floor; kept = so_far.kept }
+abbrev pub pricing_so_far : SoFar → Pricing
+pricing_so_far so_far = record { visits = so_far.visits; floor = so_far.floor; kept = so_far.kept }
 
--- a composition with its weight is kept where it weighs more than what was kept so far
+-- a composition with its weight is kept if it weighs more than what was kept so far
 abbrev pub heavier : Option (List ℕ × ℤ) → Pricing → Pricing
 heavier None now = now
 heavier (Some (counts, weight)) now = if int_lt now.floor weight then record now { floor = weight; kept = Some counts } else now
 
--- an outcome was taken, or the visits are more than they may be; want of memory may come at any time
+-- the outcome was added, or the visits are more than the budget; want of memory may come at any time
 abbrev pub CameTo : Outcome → ℕ → Result (Unit {0}) SearchStop → Pricing → Pricing → Type 0
 CameTo (Ok (found, visits)) nodes (Ok done) before after = (after ≡ heavier found (record before { visits = before.visits + visits })) × (after.visits ≤ nodes)
 CameTo (Ok (found, visits)) nodes (Err Spent) before after = nodes < before.visits + visits
@@ -26,7 +26,7 @@ CameTo (Err OutOfMemory) nodes (Ok done) before after = ⊥
 CameTo (Err OutOfMemory) nodes (Err Spent) before after = ⊥
 CameTo (Err OutOfMemory) nodes (Err OutOfMemory) before after = Unit {0}
 
--- the search comes to what is due, or its visits are more than they may be; want of memory may come at any time
+-- the search does what is due, or its visits are more than the budget; want of memory may come at any time
 abbrev pub GoesOn : Pricing → ℕ → Result (Unit {0}) SearchStop → Pricing → Type 0
 GoesOn due nodes (Ok done) after = (after ≡ due) × (due.visits ≤ nodes)
 GoesOn due nodes (Err Spent) after = nodes < due.visits

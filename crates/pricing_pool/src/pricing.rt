@@ -1,13 +1,13 @@
-//! A whole pricing.
+//! A whole pricing, wave after wave.
 
 ghost use Rattle.std.specs.Prelude.{◌≡◌, ◌≤◌, ◌<◌, ◌*◌, [], ◌∷◌, length, take, drop, fold, IfOk};
 ghost use Rattle.std.specs.List.{AllByRecursion};
 ghost use Rattle.panel_search.specs.Answers.{AnswersBest};
-ghost use Rattle.pricing_pool.specs.SoFar.{GoesOn, told};
-ghost use Rattle.search_definitions.specs.Compositions.{price};
-ghost use Rattle.search_definitions.specs.Fronts.{HaveEntries, HaveReach};
-ghost use Rattle.wave_definitions.specs.Below.{IsFront};
-ghost use Rattle.wave_definitions.specs.Waves.{best_in_waves, wave as wave_of, waves};
+ghost use Rattle.pricing_pool.specs.SoFar.{GoesOn, pricing_so_far};
+ghost use Rattle.define_searches.specs.Compositions.{price};
+ghost use Rattle.define_searches.specs.Fronts.{HaveEntries, HaveReach};
+ghost use Rattle.define_waves.specs.Below.{IsFront};
+ghost use Rattle.define_waves.specs.Waves.{best_in_waves, wave as wave_of, waves};
 
 use crate::wave::Wave;
 use crate::waves::SoFar;
@@ -17,16 +17,16 @@ use panel_search::{Front, PricedRow, Pricer, Row, SearchStop, pricer_of};
 use std::alloc::Global;
 use std::thread::Threads;
 
-/// How many pieces a wave has, but for the last one.
+/// How many pieces each wave has, but for the last one.
 const WAVE: usize = 16;
 
-/// Of the compositions whose weight in each closed row is at least its right side, and whose weight in the row is above its right side:
-/// the one of greatest weight in the row, of equals the first in order, or None where there is none; with the visits of the search in
-/// waves, if these are at most `nodes`. Its pieces are searched by so many workers, from 1 to 64, on threads, and the watch is told the
-/// number of each as it starts. Neither changes what is answered.
+/// Searches the compositions that weigh at least the right side in each closed row. Returns the one of greatest weight in the row,
+/// above the row's right side, the first of equals, or None if there is none; and the visits of the search in waves, if these are at
+/// most `nodes`. From 1 to 64 workers search its pieces on threads, and the watch is told the number of each piece as it starts.
+/// Neither changes the answer.
 ///
-/// Each of the rows has one entry per class and a reach below 2^127, which is its right side and each class's size times its entry, all
-/// without their signs. `Spent` comes exactly where the visits exceed `nodes`; want of memory may come at any time.
+/// Each of the rows has one entry per class and a reach below 2^127: the absolute value of its right side, and of each entry times its
+/// class's size. `Spent` comes exactly if the visits exceed `nodes`; want of memory may come at any time.
 pub fn best_by<R: Threads + Sync, W: Watch + Sync>(
     rt: &R,
     alloc: Global,
@@ -103,7 +103,7 @@ fn search_waves<R: Threads + Sync, W: Watch + Sync>(
     Ok((so_far.kept, so_far.visits))
 }
 
-/// The pieces of these fronts are searched, wave after wave.
+/// Searches the pieces of these fronts, wave after wave.
 fn take_waves<R: Threads + Sync, W: Watch + Sync>(
     rt: &R,
     alloc: Global,
@@ -118,7 +118,7 @@ fn take_waves<R: Threads + Sync, W: Watch + Sync>(
     requires few_workers { workers ≤ 64 }
     requires fronts { AllByRecursion (IsFront priced.now.classes) fronts.now }
     requires within { so_far.old.visits ≤ nodes }
-    ensures { GoesOn (fold (wave_of priced.now.classes priced.now.closed priced.now.row) (told so_far.old) (waves fronts.now)) nodes result (told so_far.new) }
+    ensures { GoesOn (fold (wave_of priced.now.classes priced.now.closed priced.now.row) (pricing_so_far so_far.old) (waves fronts.now)) nodes result (pricing_so_far so_far.new) }
 {
     for number in 0..fronts.len().div_ceil(WAVE) {
         take_wave_of(
@@ -128,7 +128,7 @@ fn take_waves<R: Threads + Sync, W: Watch + Sync>(
     Ok(())
 }
 
-/// The wave of a number is searched.
+/// Searches the wave of this number.
 fn take_wave_of<R: Threads + Sync, W: Watch + Sync>(
     rt: &R,
     alloc: Global,
@@ -145,7 +145,7 @@ fn take_wave_of<R: Threads + Sync, W: Watch + Sync>(
     requires there { 16 * number < length fronts.now }
     requires fronts { AllByRecursion (IsFront priced.now.classes) fronts.now }
     requires within { so_far.old.visits ≤ nodes }
-    ensures { GoesOn (wave_of priced.now.classes priced.now.closed priced.now.row (told so_far.old) (take 16 (drop (16 * number) fronts.now))) nodes result (told so_far.new) }
+    ensures { GoesOn (wave_of priced.now.classes priced.now.closed priced.now.row (pricing_so_far so_far.old) (take 16 (drop (16 * number) fronts.now))) nodes result (pricing_so_far so_far.new) }
 {
     let start = WAVE * number;
     let part = part_from(fronts, start);
@@ -154,7 +154,7 @@ fn take_wave_of<R: Threads + Sync, W: Watch + Sync>(
     so_far.take_wave(rt, alloc, watch, &wave, workers.min(part.len()), nodes)
 }
 
-/// The fronts of the wave that begins in a place.
+/// The fronts of the wave that begins in this place.
 fn part_from(fronts: &[Front], start: usize) -> &[Front]
     requires { start < length fronts.now }
     ensures part { result.now ≡ take 16 (drop start fronts.now) }

@@ -1,15 +1,15 @@
-//! One wave.
+//! One wave, as its workers see it.
 
 ghost use Rattle.std.specs.Prelude.{◌≡◌, ◌≤◌, length};
 ghost use Rattle.std.specs.List.{AllByRecursion};
-ghost use Rattle.wave_definitions.specs.Below.{IsFront};
+ghost use Rattle.define_waves.specs.Below.{IsFront};
 
 use crate::workers::{Outcome, Pieces};
 use panel_search::{Front, PricedRow};
 use std::alloc::Global;
 use std::marker::Model;
 
-/// A wave: the fronts of its pieces, with the number of the first; the floor, and how many visits each piece may make.
+/// A wave: the fronts of its pieces, with the number of the first; the floor; and how many visits each piece may make.
 #[derive(Debug, Drop)]
 pub(crate) struct Wave<'a> {
     priced: &'a PricedRow<'a>,
@@ -22,7 +22,7 @@ pub(crate) struct Wave<'a> {
 impl<'a> Model for Wave<'a> {
     ghost use Rattle.std.specs.Prelude.{◌≤◌, length};
     ghost use Rattle.std.specs.List.{AllByRecursion};
-    ghost use Rattle.wave_definitions.specs.Below.{IsFront};
+    ghost use Rattle.define_waves.specs.Below.{IsFront};
     ghost use Rattle.pricing_pool.specs.Outcomes.{Wave as Seen};
 
     ghost Value = { Seen };
@@ -33,7 +33,7 @@ impl<'a> Model for Wave<'a> {
 }
 
 impl<'a> Wave<'a> {
-    /// At most 16 pieces below these fronts, of which the first has a number; with a floor, and so many visits for each.
+    /// At most 16 pieces below these fronts, the first of which has the number `first`.
     pub(crate) fn new(
         priced: &'a PricedRow<'a>,
         fronts: &'a [Front],

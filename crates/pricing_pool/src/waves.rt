@@ -1,12 +1,12 @@
-//! What waves come to, one after the other.
+//! The outcome of the waves so far.
 
 ghost use Rattle.std.specs.Prelude.{◌≡◌, ◌≤◌, ◌-◌, length, Err, OnOk, OnErr};
 ghost use Rattle.std.specs.List.{AllByRecursion};
 ghost use Rattle.pricing_pool.specs.Outcomes.{AreOfAll, HasAnswer, IsAnswer, search_at};
-ghost use Rattle.pricing_pool.specs.SoFar.{CameTo, GoesOn, heavier, told};
+ghost use Rattle.pricing_pool.specs.SoFar.{CameTo, GoesOn, heavier, pricing_so_far};
 ghost use Rattle.panel_search.specs.declared.searching.SearchStop.TheVariants.{OutOfMemory};
-ghost use Rattle.wave_definitions.specs.Below.{IsFront};
-ghost use Rattle.wave_definitions.specs.Waves.{wave as wave_of};
+ghost use Rattle.define_waves.specs.Below.{IsFront};
+ghost use Rattle.define_waves.specs.Waves.{wave as wave_of};
 
 use crate::wave::Wave;
 use crate::workers::{Outcome, Pieces, work_side_by_side};
@@ -16,7 +16,7 @@ use panel_search::SearchStop;
 use std::alloc::Global;
 use std::thread::Threads;
 
-/// What the waves so far come to: the visits, and the greatest weight with the composition that was kept last, if there is one.
+/// The outcome of the waves so far: the visits, and the greatest weight with the composition that was kept last, if there is one.
 #[derive(Debug, Drop)]
 pub(crate) struct SoFar {
     pub(crate) visits: u64,
@@ -25,7 +25,8 @@ pub(crate) struct SoFar {
 }
 
 impl SoFar {
-    /// A wave is searched by so many workers, and what its pieces come to is taken in their order, where all visits are at most `nodes`.
+    /// Searches a wave with this number of workers, and adds the outcomes of its pieces in their order, if all visits are at most
+    /// `nodes`.
     pub(crate) fn take_wave<R: Threads + Sync, W: Watch + Sync>(
         &mut self,
         rt: &R,
@@ -40,13 +41,13 @@ impl SoFar {
         requires within { self.old.visits ≤ nodes }
         requires floor { wave.now.floor ≡ self.old.floor }
         requires budget { wave.now.nodes ≡ nodes - self.old.visits }
-        ensures { GoesOn (wave_of wave.now.priced.classes wave.now.priced.closed wave.now.priced.row (told self.old) wave.now.fronts) nodes result (told self.new) }
+        ensures { GoesOn (wave_of wave.now.priced.classes wave.now.priced.closed wave.now.priced.row (pricing_so_far self.old) wave.now.fronts) nodes result (pricing_so_far self.new) }
     {
         let outcomes = work_side_by_side(rt, alloc, watch, wave, workers, 0, workers)?;
         self.take_outcomes(&outcomes, wave, workers, nodes)
     }
 
-    /// The outcomes of a wave are taken, in the order of its pieces.
+    /// Adds the outcomes of a wave, in the order of its pieces.
     fn take_outcomes(
         &mut self,
         outcomes: &[Vec<Outcome>],
@@ -60,7 +61,7 @@ impl SoFar {
         requires floor { wave.now.floor ≡ self.old.floor }
         requires budget { wave.now.nodes ≡ nodes - self.old.visits }
         requires outcomes { AreOfAll (search_at wave.now.priced wave.now.fronts wave.now.floor) wave.now.nodes workers 0 workers (length wave.now.fronts) outcomes.now }
-        ensures { GoesOn (wave_of wave.now.priced.classes wave.now.priced.closed wave.now.priced.row (told self.old) wave.now.fronts) nodes result (told self.new) }
+        ensures { GoesOn (wave_of wave.now.priced.classes wave.now.priced.closed wave.now.priced.row (pricing_so_far self.old) wave.now.fronts) nodes result (pricing_so_far self.new) }
     {
         for place in 0..wave.count() {
             self.take(outcome_of(outcomes, workers, place), nodes)?;
@@ -68,10 +69,10 @@ impl SoFar {
         Ok(())
     }
 
-    /// What a piece comes to is taken.
+    /// Adds the outcome of a piece.
     fn take(&mut self, outcome: &Outcome, nodes: u64) -> Result<(), SearchStop>
         requires { self.old.visits ≤ nodes }
-        ensures { CameTo outcome.now nodes result (told self.old) (told self.new) }
+        ensures { CameTo outcome.now nodes result (pricing_so_far self.old) (pricing_so_far self.new) }
     {
         match outcome {
             Ok((found, visits)) => {
@@ -86,9 +87,9 @@ impl SoFar {
         }
     }
 
-    /// A composition that was found is kept, where it weighs more than what was kept so far.
+    /// Keeps a composition that was found, if it weighs more than what was kept so far.
     fn keep_heavier(&mut self, found: &Option<(Composition, i128)>) -> Result<(), SearchStop>
-        ensures ok { OnOk result (told self.new ≡ heavier found.now (told self.old)) }
+        ensures ok { OnOk result (pricing_so_far self.new ≡ heavier found.now (pricing_so_far self.old)) }
         ensures err { OnErr result (result ≡ Err OutOfMemory) }
     {
         if let Some((composition, weight)) = found
@@ -101,7 +102,7 @@ impl SoFar {
     }
 }
 
-/// The outcome of the piece in a place, of so many workers.
+/// The outcome of the piece in this place, among the outcomes of this number of workers.
 fn outcome_of<'o>(outcomes: &'o [Vec<Outcome>], workers: usize, place: usize) -> &'o Outcome
     requires some { 1 ≤ workers }
     requires all { HasAnswer outcomes.now workers place }

@@ -1,10 +1,11 @@
-//! The workers of a wave. Worker j of w searches the pieces whose place in the wave is j modulo w, one after the other.
+//! The workers of a wave. Worker j of w searches the pieces whose place in the wave is j modulo w, one after the other. Rattle drops a
+//! thread closure's `ensures` if the closure captures a type with a lifetime, so this module is generic over `Pieces`.
 
 ghost use Rattle.std.specs.Prelude.{ℕ, ◌≡◌, ◌≤◌, ◌<◌, ◌+◌, IfOk};
 ghost use Rattle.std.specs.Thread.{IsSync};
 ghost use Rattle.panel_search.specs.Answers.{AnswersWeighed};
 ghost use Rattle.pricing_pool.specs.Outcomes.{AreOf, AreOfAll, AreTogether};
-ghost use Rattle.search_definitions.specs.Visits.{Pricing};
+ghost use Rattle.define_searches.specs.Visits.{Pricing};
 
 use alike::Composition;
 use outside::Watch;
@@ -17,20 +18,20 @@ pub(crate) type Outcome = Result<(Option<(Composition, i128)>, u64), SearchStop>
 
 /// The pieces of a wave, which may be searched side by side.
 pub(crate) trait Pieces {
-    /// The search of the piece in a place.
+    /// The search of the piece in this place.
     ghost search: { Self → ℕ → Pricing };
 
-    /// How many visits each may make.
+    /// How many visits each piece may make.
     ghost budget: { Self → ℕ };
 
-    /// How many they are.
+    /// How many pieces there are.
     ghost places: { Self → ℕ };
 
     fn count(&self) -> usize
         ensures value { result ≡ places self.now }
         ensures few { result ≤ 16 };
 
-    /// The number of the piece in a place, among all of the pricing.
+    /// The number of the piece in this place, among all of the pricing.
     fn number(&self, place: usize) -> u64;
 
     fn searched(&self, alloc: Global, place: usize) -> Outcome
@@ -38,7 +39,7 @@ pub(crate) trait Pieces {
         ensures { AnswersWeighed (search self.now place) (budget self.now) result };
 }
 
-/// What the pieces of one worker come to, of so many workers.
+/// The outcomes of one worker's pieces, for this number of workers.
 fn work<P: Pieces, W: Watch>(
     alloc: Global,
     watch: &W,
@@ -62,7 +63,7 @@ fn work<P: Pieces, W: Watch>(
     Ok(outcomes)
 }
 
-/// What each of `count` workers from one on comes to, of so many workers, side by side on threads.
+/// The outcomes of `count` workers from one on, for this number of workers in all, side by side on threads.
 pub(crate) fn work_side_by_side<R: Threads + Sync, P: Pieces + Sync, W: Watch + Sync>(
     rt: &R,
     alloc: Global,
@@ -99,7 +100,7 @@ pub(crate) fn work_side_by_side<R: Threads + Sync, P: Pieces + Sync, W: Watch + 
     together(left, right)
 }
 
-/// The one list behind the other, where both are there.
+/// One list after the other, if both are there.
 fn together(
     left: Result<Vec<Vec<Outcome>>, AllocError>,
     right: Result<Vec<Vec<Outcome>>, AllocError>,

@@ -1,7 +1,7 @@
--- The budget of a run: how much it may spend, and what of that is left.
+-- The budget of a run: how much it may spend, and what of that is left. The contracts of every crate of the engine cite `SpendsOn`.
 use Rattle.std.specs.Prelude.{◌≡◌, ℕ, ◌≤◌}
 
--- how many pivots and how many nodes are left, and the most of the whole run
+-- how many pivots and nodes are left, and how many the whole run may spend
 pub record Left : Type 0 where
   pub pivots : ℕ
   pub nodes : ℕ
@@ -12,12 +12,12 @@ pub record Left : Type 0 where
 abbrev pub unspent : ℕ → ℕ → Left
 unspent pivots nodes = record { pivots = pivots; nodes = nodes; most_pivots = pivots; most_nodes = nodes }
 
--- no more is left than the most
+-- no more is left than the whole run may spend
 pub record IsWithinMost (left : Left) : Type 0 where
   pub pivots : left.pivots ≤ left.most_pivots
   pub nodes : left.nodes ≤ left.most_nodes
 
--- the budget is the same, and nothing that was spent of it was given back
+-- the whole run may spend the same, and nothing that was spent is given back
 pub record SpendsOn (old new : Left) : Type 0 where
   pub most_pivots : new.most_pivots ≡ old.most_pivots
   pub most_nodes : new.most_nodes ≡ old.most_nodes

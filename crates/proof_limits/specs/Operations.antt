@@ -3,7 +3,7 @@ use Rattle.std.specs.Prelude.{◌^◌, ◌≤◌, ◌<◌, ℤ, ◌+ℤ◌, ◌-
 use Rattle.proof_limits.specs.declared.passes.Op.{Op}
 use Rattle.proof_limits.specs.declared.passes.Op.TheVariants.{Mul, Add, Sub, Div}
 
--- a number is at most 2^62 by absolute value
+-- the absolute value of a number is at most 2^62
 abbrev pub IsNarrow : ℤ → Type 0
 IsNarrow z = unsigned_abs z ≤ 2 ^ 62
 
@@ -20,6 +20,6 @@ pub record Operation : Type 0 where
   pub x : ℤ
   pub y : ℤ
 
--- its exact result is above 2^62 by absolute value
+-- the absolute value of its exact result is above 2^62
 abbrev pub Passes : Operation → Type 0
 Passes o = 2 ^ 62 < unsigned_abs (outcome o.op o.x o.y)

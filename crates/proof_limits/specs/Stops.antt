@@ -1,11 +1,11 @@
--- Which stops the calls have that make new numbers.
-use Rattle.proof_limits.specs.declared.stops.Stop.{Stop}
-use Rattle.proof_limits.specs.declared.stops.Stop.TheVariants.{Wide, Limited, Spent, Lost, OutOfMemory}
+-- The stops of calls that only calculate.
+use Rattle.proof_limits.specs.declared.stops.ProveStop.{ProveStop}
+use Rattle.proof_limits.specs.declared.stops.ProveStop.TheVariants.{Wide, BeyondWidth, Spent, Lost, OutOfMemory}
 
--- an operation passes 2^62, or no memory is left
-abbrev pub IsWideOrMemory : Stop → Type 0
+-- an operation passes 2^62, or memory runs out
+abbrev pub IsWideOrMemory : ProveStop → Type 0
 IsWideOrMemory (Wide pass) = Unit {0}
-IsWideOrMemory Limited = ⊥
+IsWideOrMemory BeyondWidth = ⊥
 IsWideOrMemory (Spent limit) = ⊥
 IsWideOrMemory Lost = ⊥
 IsWideOrMemory OutOfMemory = Unit {0}

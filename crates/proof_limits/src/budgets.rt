@@ -1,12 +1,13 @@
-//! What a run may spend, and what of it is left.
+//! What a run may spend: pivots and nodes of search trees. Stands on `stops`. Every loop of the engine that may run long takes a pivot or
+//! a node in each round, and ends by the clauses of `take_pivot` and `take_node`.
 
 ghost use Rattle.std.specs.Prelude.{◌≡◌, ◌-◌, nat_lt, if◌then◌else◌, Ok, Err};
 ghost use Rattle.proof_limits.specs.Budgets.{unspent};
 
-use crate::stops::{Limit, Stop};
+use crate::stops::{Limit, ProveStop};
 use std::marker::Model;
 
-/// The pivots and the nodes of search trees that are left to a run, and the most of the whole run.
+/// The pivots and the nodes of search trees that are left to a run, and how many the whole run may spend.
 #[derive(Debug, Drop)]
 pub struct Budget {
     pivots: u64,
@@ -26,7 +27,7 @@ impl Model for Budget {
 }
 
 impl Budget {
-    /// A budget of which nothing is spent.
+    /// Returns an unspent budget.
     pub fn new(pivots: u64, nodes: u64) -> Budget
         ensures { result ≡ unspent pivots nodes }
     {
@@ -38,53 +39,53 @@ impl Budget {
         }
     }
 
-    /// How many pivots are left.
+    /// Returns how many pivots are left.
     pub fn pivots(&self) -> u64
         ensures { result ≡ self.now.pivots }
     {
         self.pivots
     }
 
-    /// How many nodes are left.
+    /// Returns how many nodes are left.
     pub fn nodes(&self) -> u64
         ensures { result ≡ self.now.nodes }
     {
         self.nodes
     }
 
-    /// The most pivots of the whole run.
+    /// Returns how many pivots the whole run may spend.
     pub fn most_pivots(&self) -> u64
         ensures { result ≡ self.now.most_pivots }
     {
         self.most_pivots
     }
 
-    /// The most nodes of the whole run.
+    /// Returns how many nodes the whole run may spend.
     pub fn most_nodes(&self) -> u64
         ensures { result ≡ self.now.most_nodes }
     {
         self.most_nodes
     }
 
-    /// Takes a pivot. It is refused exactly where none is left.
-    pub fn take_pivot(&mut self) -> Result<(), Stop>
-        ensures value { result ≡ (if nat_lt 0 self.old.pivots then Ok tt else Err (Stop.Spent Limit.Pivots)) }
+    /// Takes one pivot. Fails exactly if none is left.
+    pub fn take_pivot(&mut self) -> Result<(), ProveStop>
+        ensures value { result ≡ (if nat_lt 0 self.old.pivots then Ok tt else Err (ProveStop.Spent Limit.Pivots)) }
         ensures left { self.new ≡ record self.old { pivots = self.old.pivots - 1 } }
     {
         if self.pivots == 0 {
-            return Err(Stop::Spent(Limit::Pivots));
+            return Err(ProveStop::Spent(Limit::Pivots));
         }
         self.pivots -= 1;
         Ok(())
     }
 
-    /// Takes a node. It is refused exactly where none is left.
-    pub fn take_node(&mut self) -> Result<(), Stop>
-        ensures value { result ≡ (if nat_lt 0 self.old.nodes then Ok tt else Err (Stop.Spent Limit.Nodes)) }
+    /// Takes one node. Fails exactly if none is left.
+    pub fn take_node(&mut self) -> Result<(), ProveStop>
+        ensures value { result ≡ (if nat_lt 0 self.old.nodes then Ok tt else Err (ProveStop.Spent Limit.Nodes)) }
         ensures left { self.new ≡ record self.old { nodes = self.old.nodes - 1 } }
     {
         if self.nodes == 0 {
-            return Err(Stop::Spent(Limit::Nodes));
+            return Err(ProveStop::Spent(Limit::Nodes));
         }
         self.nodes -= 1;
         Ok(())

@@ -1,5 +1,7 @@
-//! Numbers of at most 2^62 by absolute value, the exact operations on them, spans, the budgets of a run, and why a run stops.
-//! Below stands `thiserror` alone.
+//! The numbers and limits of the run that makes proofs: whole numbers of at most 2^62 by absolute value with exact operations, spans,
+//! the budget of a run, and why a run stops. Stands on no crate of the project. Each crate of the engine of `prove` stands on it, from
+//! `proof_table` to `proof_run`; `proof_answers` and `prove_command` print its budgets and stops.
+//! Every public call is a promise: its contract says its result exactly.
 #![tactic(auto)]
 
 mod budgets;
@@ -16,4 +18,4 @@ pub use operations::{
 };
 pub use passes::{Op, Pass};
 pub use spans::Span;
-pub use stops::{Limit, Stop};
+pub use stops::{Limit, ProveStop};

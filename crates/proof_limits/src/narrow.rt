@@ -1,4 +1,5 @@
-//! Whole numbers of at most 2^62 by absolute value: the product of two needs no test in 128 bits, nor does a difference of products.
+//! Narrow numbers: whole numbers of at most 2^62 by absolute value. A product of two fits 128 bits, and so does a difference of two such
+//! products, so neither needs a test. Everything above stands on `Narrow`.
 
 ghost use Rattle.std.specs.Prelude.{◌≡◌, ◌≤◌, ◌↔◌, IsTrue, pos, neg_ℤ, unsigned_abs, SomeIff};
 ghost use Rattle.proof_limits.specs.Operations.{IsNarrow};
@@ -40,7 +41,7 @@ impl Narrow {
         value: 4611686018427387904,
     };
 
-    /// The number, or None exactly where it is above 2^62 by absolute value.
+    /// Returns the number, or None exactly if its absolute value is above 2^62.
     #[inline]
     pub fn new(value: i64) -> Option<Narrow>
         ensures { SomeIff result (IsNarrow value) value }
@@ -52,7 +53,7 @@ impl Narrow {
         }
     }
 
-    /// The number, or None exactly where it is above the most by absolute value.
+    /// Returns the number, or None exactly if its absolute value is above that of `most`.
     #[inline(always)]
     pub fn within(value: i64, most: Narrow) -> Option<Narrow>
         ensures { SomeIff result (unsigned_abs value ≤ unsigned_abs most) value }
@@ -64,7 +65,7 @@ impl Narrow {
         }
     }
 
-    /// The number.
+    /// Returns the number in 64 bits.
     #[inline(always)]
     pub fn get(self) -> i64
         ensures value { result ≡ self }
@@ -73,7 +74,7 @@ impl Narrow {
         self.value
     }
 
-    /// The number in 128 bits.
+    /// Returns the number in 128 bits.
     #[inline(always)]
     pub fn wide(self) -> i128
         ensures value { result ≡ self }
@@ -82,7 +83,7 @@ impl Narrow {
         self.value as i128
     }
 
-    /// Whether it is 0.
+    /// True if the number is 0.
     #[inline(always)]
     pub fn is_zero(self) -> bool
         ensures { IsTrue result ↔ (self ≡ pos 0) }
@@ -90,7 +91,7 @@ impl Narrow {
         self.value == 0
     }
 
-    /// Its absolute value.
+    /// Returns the absolute value.
     #[inline]
     pub fn abs(self) -> Narrow
         ensures { result ≡ pos (unsigned_abs self) }

@@ -1,4 +1,5 @@
-//! Exact operations on whole numbers, refused where their result passes a width.
+//! Exact operations on whole numbers that stop if the result is too wide. Stands on `narrow`, `passes` and `stops`; the crates above
+//! calculate with these calls alone.
 
 ghost use Rattle.std.specs.Prelude.{◌≡◌, ◌≤◌, ◌^◌, pos, ◌*ℤ◌, ◌≢◌, unsigned_abs, IfOk, IfErr, SomeIff, FitsSigned};
 ghost use Rattle.std.specs.Int.{w128};
@@ -8,9 +9,9 @@ ghost use Rattle.proof_limits.specs.Widths.{narrowed, IsWidened};
 
 use crate::narrow::Narrow;
 use crate::passes::{Op, Pass};
-use crate::stops::Stop;
+use crate::stops::ProveStop;
 
-/// The product of two narrow numbers, which is never refused.
+/// Returns the product of two narrow numbers. It always fits 128 bits.
 #[inline(always)]
 pub fn times(x: Narrow, y: Narrow) -> i128
     ensures value { result ≡ x *ℤ y }
@@ -19,9 +20,9 @@ pub fn times(x: Narrow, y: Narrow) -> i128
     x.wide() * y.wide()
 }
 
-// An operation's result as a narrow number, where None is one that does not fit 128 bits.
+// Returns `made`, the result of an operation, as a narrow number. None stands for a result that does not fit 128 bits.
 #[inline]
-fn narrowed(op: Op, x: i128, y: i128, made: Option<i128>) -> Result<Narrow, Stop>
+fn narrowed(op: Op, x: i128, y: i128, made: Option<i128>) -> Result<Narrow, ProveStop>
     requires { SomeIff made (FitsSigned w128 (outcome op x y)) (outcome op x y) }
     ensures value { result ≡ narrowed op x y }
     ensures narrow { IfOk result IsNarrow }
@@ -29,12 +30,12 @@ fn narrowed(op: Op, x: i128, y: i128, made: Option<i128>) -> Result<Narrow, Stop
 {
     match made.and_then(narrow_of) {
         Some(number) => Ok(number),
-        None => Err(Stop::Wide(Pass::new(op, x, y))),
+        None => Err(ProveStop::Wide(Pass::new(op, x, y))),
     }
 }
 
-/// The sum, refused exactly where it is above 2^62 by absolute value.
-pub fn narrow_add(x: i128, y: i128) -> Result<Narrow, Stop>
+/// Returns the sum. Stops exactly if its absolute value is above 2^62.
+pub fn narrow_add(x: i128, y: i128) -> Result<Narrow, ProveStop>
     ensures value { result ≡ narrowed Op.Add x y }
     ensures narrow { IfOk result IsNarrow }
     ensures stops { IfErr result IsWideOrMemory }
@@ -42,8 +43,8 @@ pub fn narrow_add(x: i128, y: i128) -> Result<Narrow, Stop>
     narrowed(Op::Add, x, y, x.checked_add(y))
 }
 
-/// The first less the second, refused exactly where that is above 2^62 by absolute value.
-pub fn narrow_sub(x: i128, y: i128) -> Result<Narrow, Stop>
+/// Returns `x - y`. Stops exactly if its absolute value is above 2^62.
+pub fn narrow_sub(x: i128, y: i128) -> Result<Narrow, ProveStop>
     ensures value { result ≡ narrowed Op.Sub x y }
     ensures narrow { IfOk result IsNarrow }
     ensures stops { IfErr result IsWideOrMemory }
@@ -51,8 +52,8 @@ pub fn narrow_sub(x: i128, y: i128) -> Result<Narrow, Stop>
     narrowed(Op::Sub, x, y, x.checked_sub(y))
 }
 
-/// The product, refused exactly where it is above 2^62 by absolute value.
-pub fn narrow_mul(x: i128, y: i128) -> Result<Narrow, Stop>
+/// Returns the product. Stops exactly if its absolute value is above 2^62.
+pub fn narrow_mul(x: i128, y: i128) -> Result<Narrow, ProveStop>
     ensures value { result ≡ narrowed Op.Mul x y }
     ensures narrow { IfOk result IsNarrow }
     ensures stops { IfErr result IsWideOrMemory }
@@ -60,8 +61,8 @@ pub fn narrow_mul(x: i128, y: i128) -> Result<Narrow, Stop>
     narrowed(Op::Mul, x, y, x.checked_mul(y))
 }
 
-/// The quotient by a number that isn't 0, rounded towards 0, refused exactly where it is above 2^62 by absolute value.
-pub fn narrow_div(x: i128, y: i128) -> Result<Narrow, Stop>
+/// Returns `x / y`, rounded towards 0. Stops exactly if its absolute value is above 2^62.
+pub fn narrow_div(x: i128, y: i128) -> Result<Narrow, ProveStop>
     requires { y ≢ pos 0 }
     ensures value { result ≡ narrowed Op.Div x y }
     ensures narrow { IfOk result IsNarrow }
@@ -70,44 +71,44 @@ pub fn narrow_div(x: i128, y: i128) -> Result<Narrow, Stop>
     narrowed(Op::Div, x, y, x.checked_div(y))
 }
 
-// An operation's result, where None is one that does not fit 128 bits.
+// Returns `made`, the result of an operation. None stands for a result that does not fit 128 bits, which stops.
 #[inline]
-fn widened(op: Op, x: i128, y: i128, made: Option<i128>) -> Result<i128, Stop>
+fn widened(op: Op, x: i128, y: i128, made: Option<i128>) -> Result<i128, ProveStop>
     requires { SomeIff made (FitsSigned w128 (outcome op x y)) (outcome op x y) }
     ensures value { IsWidened op x y result }
     ensures stops { IfErr result IsWideOrMemory }
 {
     match made {
         Some(number) => Ok(number),
-        None => Err(Stop::Wide(Pass::new(op, x, y))),
+        None => Err(ProveStop::Wide(Pass::new(op, x, y))),
     }
 }
 
-/// The sum, refused exactly where it does not fit 128 bits.
-pub fn wide_add(x: i128, y: i128) -> Result<i128, Stop>
+/// Returns the sum. Stops exactly if it does not fit 128 bits.
+pub fn wide_add(x: i128, y: i128) -> Result<i128, ProveStop>
     ensures value { IsWidened Op.Add x y result }
     ensures stops { IfErr result IsWideOrMemory }
 {
     widened(Op::Add, x, y, x.checked_add(y))
 }
 
-/// The first less the second, refused exactly where that does not fit 128 bits.
-pub fn wide_sub(x: i128, y: i128) -> Result<i128, Stop>
+/// Returns `x - y`. Stops exactly if it does not fit 128 bits.
+pub fn wide_sub(x: i128, y: i128) -> Result<i128, ProveStop>
     ensures value { IsWidened Op.Sub x y result }
     ensures stops { IfErr result IsWideOrMemory }
 {
     widened(Op::Sub, x, y, x.checked_sub(y))
 }
 
-/// The product, refused exactly where it does not fit 128 bits.
-pub fn wide_mul(x: i128, y: i128) -> Result<i128, Stop>
+/// Returns the product. Stops exactly if it does not fit 128 bits.
+pub fn wide_mul(x: i128, y: i128) -> Result<i128, ProveStop>
     ensures value { IsWidened Op.Mul x y result }
     ensures stops { IfErr result IsWideOrMemory }
 {
     widened(Op::Mul, x, y, x.checked_mul(y))
 }
 
-// The number as a narrow one.
+// Returns the number as a narrow one, or None if it is too wide.
 #[inline]
 fn narrow_of(number: i128) -> Option<Narrow>
     ensures { SomeIff result (unsigned_abs number ≤ 2 ^ 62) number }

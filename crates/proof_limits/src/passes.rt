@@ -1,4 +1,5 @@
-//! Operations on two whole numbers whose exact result is above 2^62 by absolute value.
+//! An operation that passes 2^62, as a stop names it: the operation and its two numbers. Stands on nothing; `stops` and `operations` use
+//! it, and `prove_command` prints it.
 
 ghost use Rattle.std.specs.Prelude.{◌≡◌};
 ghost use Rattle.proof_limits.specs.Operations.{Passes};
@@ -14,11 +15,11 @@ pub enum Op {
     Add,
     /// The first less the second.
     Sub,
-    /// The first divided by the second, which isn't 0, and rounded towards 0.
+    /// The first divided by the second, rounded towards 0. The second is not 0.
     Div,
 }
 
-/// An operation on two whole numbers whose exact result is above 2^62 by absolute value.
+/// An operation on two whole numbers whose exact result has an absolute value above 2^62.
 #[derive(Clone, Copy, Debug, PartialEq, Eq)]
 pub struct Pass {
     op: Op,
@@ -39,7 +40,7 @@ impl Model for Pass {
 }
 
 impl Pass {
-    // The operation on these numbers.
+    // Returns the operation on these numbers.
     pub(crate) fn new(op: Op, x: i128, y: i128) -> Pass
         requires { Passes (record { op = op; x = x; y = y }) }
         ensures { result ≡ record { op = op; x = x; y = y } }
@@ -47,7 +48,7 @@ impl Pass {
         Pass { op, x, y }
     }
 
-    /// The operation.
+    /// Returns the operation.
     pub fn op(self) -> Op
         ensures value { result ≡ self.op }
         ensures passes { Passes self }
@@ -55,7 +56,7 @@ impl Pass {
         self.op
     }
 
-    /// Its first number.
+    /// Returns the first number.
     pub fn x(self) -> i128
         ensures value { result ≡ self.x }
         ensures passes { Passes self }
@@ -63,7 +64,7 @@ impl Pass {
         self.x
     }
 
-    /// Its second number.
+    /// Returns the second number.
     pub fn y(self) -> i128
         ensures value { result ≡ self.y }
         ensures passes { Passes self }

@@ -1,4 +1,4 @@
-//! Spans of whole numbers.
+//! Spans of whole numbers, which are never empty. Stands on `narrow`; the columns and rows of every program above have a span.
 
 ghost use Rattle.std.specs.Prelude.{◌≡◌, ◌↔◌, IsTrue, ◌≤ℤ◌, ◌<ℤ◌, SomeIff};
 ghost use Rattle.std.specs.Int.{int_max};
@@ -6,7 +6,7 @@ ghost use Rattle.std.specs.Int.{int_max};
 use crate::narrow::Narrow;
 use std::marker::Model;
 
-/// The whole numbers from a least one to a greatest one. None is empty.
+/// The whole numbers from `least` to `greatest`, both included.
 #[derive(Clone, Copy, Debug, PartialEq, Eq)]
 pub struct Span {
     least: Narrow,
@@ -27,7 +27,7 @@ impl Model for Span {
 }
 
 impl Span {
-    /// From the least to the greatest, or None exactly where the least is above the greatest.
+    /// Returns `least..=greatest`, or None exactly if `least` is above `greatest`.
     pub fn new(least: Narrow, greatest: Narrow) -> Option<Span>
         ensures { SomeIff result (least ≤ℤ greatest) (record { least = least; greatest = greatest }) }
     {
@@ -38,7 +38,7 @@ impl Span {
         }
     }
 
-    /// The number alone.
+    /// Returns the span of one number.
     pub fn point(number: Narrow) -> Span
         ensures { result ≡ record { least = number; greatest = number } }
     {
@@ -48,7 +48,7 @@ impl Span {
         }
     }
 
-    /// From the least to the greatest, or the least alone where that is above the greatest.
+    /// Returns `least..=greatest`, or `least` alone if it is above `greatest`.
     pub fn reaching(least: Narrow, greatest: Narrow) -> Span
         ensures { result ≡ record { least = least; greatest = int_max least greatest } }
     {
@@ -59,7 +59,7 @@ impl Span {
         }
     }
 
-    /// The least number.
+    /// Returns the least number.
     #[inline(always)]
     pub fn least(self) -> Narrow
         ensures value { result ≡ self.least }
@@ -68,7 +68,7 @@ impl Span {
         self.least
     }
 
-    /// The greatest number.
+    /// Returns the greatest number.
     #[inline(always)]
     pub fn greatest(self) -> Narrow
         ensures value { result ≡ self.greatest }
@@ -77,7 +77,7 @@ impl Span {
         self.greatest
     }
 
-    /// Whether it has one number alone.
+    /// True if the span has one number.
     #[inline]
     pub fn is_point(self) -> bool
         ensures { IsTrue result ↔ (self.least ≡ self.greatest) }

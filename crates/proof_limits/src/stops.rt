@@ -1,4 +1,5 @@
-//! Why a run stops before its answer.
+//! Why a run that makes proofs stops before its answer. Stands on `passes`. Every call of the engine that may fail returns a `ProveStop`,
+//! and `prove_command` prints it.
 
 use crate::passes::Pass;
 use std::alloc::{AllocError, AllocFailed};
@@ -11,23 +12,23 @@ pub enum Limit {
     Pivots,
     /// The nodes of all search trees of the whole run.
     Nodes,
-    /// The tries to make the lottery of a point out of panels.
+    /// The turns in which the lottery of a point is sought.
     Lottery,
 }
 
-/// Why a run stops before its answer.
+/// Why a run that makes proofs stops before its answer.
 #[derive(Clone, Copy, Debug, Error)]
-pub enum Stop {
-    /// The exact result of this operation is above 2^62 by absolute value.
+pub enum ProveStop {
+    /// The exact result of this operation has an absolute value above 2^62.
     #[error("an operation passes 2^62")]
     Wide(Pass),
-    /// An entry of a table is within 2^62 and beyond the width that its table was given.
+    /// An entry of a table is within 2^62 but beyond the smaller width that its table was given.
     #[error("an entry passes the width of its table")]
-    Limited,
+    BeyondWidth,
     /// Nothing is left of this limit.
     #[error("a limit is spent")]
     Spent(Limit),
-    /// A state was met that exact arithmetic never leads to.
+    /// The run met a state that exact arithmetic never leads to.
     #[error("a step found nothing to go on with")]
     Lost,
     /// No memory was left.
@@ -35,24 +36,24 @@ pub enum Stop {
     OutOfMemory,
 }
 
-impl From<AllocError> for Stop {
+impl From<AllocError> for ProveStop {
     ghost use Rattle.std.specs.Prelude.{◌≡◌};
-    ghost use Rattle.proof_limits.specs.declared.stops.Stop.TheVariants.{OutOfMemory};
+    ghost use Rattle.proof_limits.specs.declared.stops.ProveStop.TheVariants.{OutOfMemory};
 
     ghost from_gives = { λ _ stop. stop ≡ OutOfMemory };
 
-    fn from(_error: AllocError) -> Stop {
-        Stop::OutOfMemory
+    fn from(_error: AllocError) -> ProveStop {
+        ProveStop::OutOfMemory
     }
 }
 
-impl<T: Drop> From<AllocFailed<T>> for Stop {
+impl<T: Drop> From<AllocFailed<T>> for ProveStop {
     ghost use Rattle.std.specs.Prelude.{◌≡◌};
-    ghost use Rattle.proof_limits.specs.declared.stops.Stop.TheVariants.{OutOfMemory};
+    ghost use Rattle.proof_limits.specs.declared.stops.ProveStop.TheVariants.{OutOfMemory};
 
     ghost from_gives = { λ _ stop. stop ≡ OutOfMemory };
 
-    fn from(_failed: AllocFailed<T>) -> Stop {
-        Stop::OutOfMemory
+    fn from(_failed: AllocFailed<T>) -> ProveStop {
+        ProveStop::OutOfMemory
     }
 }

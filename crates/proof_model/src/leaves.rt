@@ -1,10 +1,10 @@
-//! Leaves: a scale, and multipliers of constraints.
+//! Leaves: a scale, and multipliers of constraints. Contracts see the same record. `trees`, `ranges` and the crates above use this.
 
 ghost use Rattle.std.specs.Prelude.{◌≡◌};
 
 use std::marker::Model;
 
-/// What a constraint is multiplied by.
+/// A constraint, by its number, and what it is multiplied by.
 #[derive(Debug, Drop)]
 pub struct Multiplier {
     number: usize,
@@ -12,7 +12,7 @@ pub struct Multiplier {
 }
 
 impl Model for Multiplier {
-    ghost use Rattle.addition_definitions.specs.Leaves.{Multiplier as Seen};
+    ghost use Rattle.define_additions.specs.Leaves.{Multiplier as Seen};
 
     ghost Value = { Seen };
 
@@ -20,21 +20,21 @@ impl Model for Multiplier {
 }
 
 impl Multiplier {
-    /// This factor of the constraint of this number.
+    /// Returns a multiplier of the constraint of this number.
     pub fn new(number: usize, factor: i128) -> Multiplier
         ensures { result ≡ record { number = number; factor = factor } }
     {
         Multiplier { number, factor }
     }
 
-    /// The number of the constraint. They are counted from 0.
+    /// Returns the number of the constraint, counted from 0.
     pub fn number(&self) -> usize
         ensures { result ≡ self.now.number }
     {
         self.number
     }
 
-    /// What the constraint is multiplied by.
+    /// Returns what the constraint is multiplied by.
     pub fn factor(&self) -> i128
         ensures { result ≡ self.now.factor }
     {
@@ -42,7 +42,7 @@ impl Multiplier {
     }
 }
 
-/// Multipliers of constraints, and a scale, by which the stage's weights are multiplied.
+/// Multipliers of constraints, and the scale, by which the stage's weights are multiplied.
 #[derive(Debug, Drop)]
 pub struct Leaf {
     scale: u64,
@@ -50,7 +50,7 @@ pub struct Leaf {
 }
 
 impl Model for Leaf {
-    ghost use Rattle.addition_definitions.specs.Leaves.{Leaf as Seen};
+    ghost use Rattle.define_additions.specs.Leaves.{Leaf as Seen};
 
     ghost Value = { Seen };
 
@@ -58,21 +58,21 @@ impl Model for Leaf {
 }
 
 impl Leaf {
-    /// A leaf of this scale and these multipliers.
+    /// Returns a leaf.
     pub fn new(scale: u64, multipliers: Vec<Multiplier>) -> Leaf
         ensures { result ≡ record { scale = scale; multipliers = multipliers.items } }
     {
         Leaf { scale, multipliers }
     }
 
-    /// What the stage's weights are multiplied by.
+    /// Returns what the stage's weights are multiplied by.
     pub fn scale(&self) -> u64
         ensures { result ≡ self.now.scale }
     {
         self.scale
     }
 
-    /// What the constraints are multiplied by.
+    /// Returns the multipliers, in order.
     pub fn multipliers(&self) -> &[Multiplier]
         ensures { result.now ≡ self.now.multipliers }
     {

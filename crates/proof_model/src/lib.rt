@@ -1,5 +1,7 @@
-//! Proofs that a lottery is leximin greatest, or that a pool has no quota panel: values that contracts see as those of
-//! `addition_definitions`, which stands below. A proof keeps its ranges, as those of `proof_definitions` say, so it has a text.
+//! Proofs as values: of a lottery with its stages, or that a pool has no quota panel. Contracts see them as the proofs of
+//! `define_additions`. Stands on `bundle_text`, `pool_model` and `define_proof_texts`; `proof_text`, `proof_verify`, `proof_run` and the
+//! commands about proofs stand on it.
+//! Promises: each call returns exactly the value that its clause names, and a `Proof` keeps the ranges of numbers that a text can spell.
 #![tactic(auto)]
 
 mod leaves;

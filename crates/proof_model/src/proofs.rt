@@ -1,8 +1,9 @@
-//! Proofs: a bundle with a tree for each stage, or a pool with a tree that is to show that there is no quota panel.
+//! Proofs: a bundle with a tree for each stage, or a pool with a tree that is to show that there is no quota panel. Stands on `ranges` and
+//! `trees`; readers, writers, the verifier and the run take and return `Proof`.
 
 ghost use Rattle.std.specs.Prelude.{◌≡◌, ◌↔◌, IfSome, IsSome, IsTrue};
-ghost use Rattle.addition_definitions.specs.ProofVerdict.{OfLottery, OfNoPanel};
-ghost use Rattle.proof_definitions.specs.ProofText.{IsProof, IsLotteryProof, IsNoPanelProof};
+ghost use Rattle.define_additions.specs.ProofVerdict.{OfLottery, OfNoPanel};
+ghost use Rattle.define_proof_texts.specs.ProofText.{IsProof, IsLotteryProof, IsNoPanelProof};
 ghost use Rattle.proof_model.specs.Parts.{seen};
 
 use crate::ranges::{are_tree_lines, are_trees};
@@ -23,16 +24,16 @@ pub enum Parts {
     NoPanel(Pool, TreeLines),
 }
 
-/// A proof, which has a text: of a lottery, with one tree for each of at most 400 stages, or that there is no quota panel. The lines of
-/// the trees keep their ranges.
+/// A proof of a lottery, with one tree for each of at most 400 stages, or a proof that there is no quota panel. The lines of the trees
+/// keep their ranges, so each proof has a text. Whether it is valid is for `proof_verify` to say.
 #[derive(Debug, Drop)]
 pub struct Proof {
     parts: Parts,
 }
 
 impl Model for Proof {
-    ghost use Rattle.addition_definitions.specs.ProofVerdict.{Proof as Seen};
-    ghost use Rattle.proof_definitions.specs.ProofText.{IsProof};
+    ghost use Rattle.define_additions.specs.ProofVerdict.{Proof as Seen};
+    ghost use Rattle.define_proof_texts.specs.ProofText.{IsProof};
     ghost use Rattle.proof_model.specs.Parts.{seen};
 
     ghost Value = { Seen };
@@ -43,7 +44,8 @@ impl Model for Proof {
 }
 
 impl Proof {
-    /// The proof of a lottery by these trees, exactly where there is one for each of at most 400 stages and their lines keep their ranges.
+    /// Returns the proof of a lottery by these trees. Some exactly if there is one tree for each of at most 400 stages and all lines keep
+    /// their ranges.
     pub fn of_lottery(bundle: Bundle, trees: Vec<TreeLines>) -> Option<Proof>
         ensures value { IfSome result (λ proof. proof ≡ OfLottery bundle.pool bundle.answer trees.items) }
         ensures exact { IsSome result ↔ IsProof (OfLottery bundle.pool bundle.answer trees.items) }
@@ -57,7 +59,7 @@ impl Proof {
         }
     }
 
-    /// The proof that there is no quota panel by these lines, exactly where they keep their ranges.
+    /// Returns the proof that there is no quota panel, by these lines. Some exactly if they keep their ranges.
     pub fn of_no_panel(pool: Pool, lines: TreeLines) -> Option<Proof>
         ensures value { IfSome result (λ proof. proof ≡ OfNoPanel pool lines) }
         ensures exact { IsSome result ↔ IsProof (OfNoPanel pool lines) }
@@ -71,14 +73,14 @@ impl Proof {
         }
     }
 
-    /// The parts.
+    /// Returns the parts.
     pub fn parts(&self) -> &Parts
         ensures { seen result.now ≡ self.now }
     {
         &self.parts
     }
 
-    /// Does nothing; its contract tells what each proof keeps.
+    /// Does nothing. Its contract says what holds of every proof.
     pub fn facts(&self)
         ensures { IsProof self.now }
     {
@@ -86,6 +88,7 @@ impl Proof {
     }
 }
 
+/// True if these parts make a proof of a lottery.
 fn is_lottery_proof(bundle: &Bundle, trees: &[TreeLines]) -> bool
     ensures { IsTrue result ↔ IsLotteryProof bundle.now.pool bundle.now.answer trees.now }
 {
@@ -95,6 +98,7 @@ fn is_lottery_proof(bundle: &Bundle, trees: &[TreeLines]) -> bool
     trees.len() == stages.len() && trees.len() <= MOST_TREES && are_trees(volunteers, trees)
 }
 
+/// True if these parts make a proof that there is no quota panel.
 fn is_no_panel_proof(pool: &Pool, lines: &TreeLines) -> bool
     ensures { IsTrue result ↔ IsNoPanelProof pool.now lines.now }
 {

@@ -1,9 +1,9 @@
-//! The ranges that the numbers of a tree's lines have to keep.
+//! The ranges of the numbers in a tree's lines. Stands on `leaves` and `trees`; `proofs` and `proof_text` test lines here.
 
 ghost use Rattle.std.specs.Prelude.{◌≡◌, ◌<◌, length, map, slice_index};
 ghost use Rattle.std.specs.List.{list_all};
-ghost use Rattle.pool_definitions.specs.Lists.{is_increasing};
-ghost use Rattle.addition_definitions.specs.TreeRanges.{is_leaf as keeps_leaf, is_multiplier as keeps_multiplier, is_tree_line as keeps_line};
+ghost use Rattle.define_pools.specs.Lists.{is_increasing};
+ghost use Rattle.define_additions.specs.TreeRanges.{is_leaf as keeps_leaf, is_multiplier as keeps_multiplier, is_tree_line as keeps_line};
 
 use crate::leaves::{Leaf, Multiplier};
 use crate::trees::{Node, TreeLine, TreeLines};
@@ -11,12 +11,13 @@ use crate::trees::{Node, TreeLine, TreeLines};
 /// The greatest number of a constraint.
 const LAST_CONSTRAINT: usize = 1800;
 
-/// The greatest absolute value of a factor.
+/// The greatest absolute value of a factor: 2^56.
 const MAX_FACTOR: u128 = 72_057_594_037_927_936;
 
+/// The greatest scale: 2^56.
 const MAX_SCALE: u64 = 72_057_594_037_927_936;
 
-/// Whether the line is a split on one of so many volunteers, or a leaf in its ranges.
+/// True if the line is a split on one of `volunteers` volunteers, or a leaf in its ranges.
 pub fn is_tree_line(volunteers: usize, line: &TreeLine) -> bool
     ensures { result ≡ keeps_line volunteers line.now }
 {
@@ -26,7 +27,7 @@ pub fn is_tree_line(volunteers: usize, line: &TreeLine) -> bool
     }
 }
 
-/// Whether the scale is at most 2^56, and the multipliers keep their ranges and are of constraints in rising order.
+/// True if the scale is at most 2^56, and the multipliers are in their ranges and in rising order of their constraints.
 pub fn is_leaf(leaf: &Leaf) -> bool
     ensures { result ≡ keeps_leaf leaf.now }
 {
@@ -34,7 +35,7 @@ pub fn is_leaf(leaf: &Leaf) -> bool
     leaf.scale() <= MAX_SCALE && are_multipliers(multipliers) && are_in_order(multipliers)
 }
 
-/// Whether the number is at most 1800, and the factor isn't 0 and at most 2^56 without its sign.
+/// True if the number is at most 1800, and the factor is not 0 and at most 2^56 without its sign.
 pub fn is_multiplier(multiplier: &Multiplier) -> bool
     ensures { result ≡ keeps_multiplier multiplier.now }
 {
@@ -42,13 +43,14 @@ pub fn is_multiplier(multiplier: &Multiplier) -> bool
     multiplier.number() <= LAST_CONSTRAINT && 0 < size && size <= MAX_FACTOR
 }
 
+/// True if all multipliers are in their ranges.
 fn are_multipliers(multipliers: &[Multiplier]) -> bool
     ensures { result ≡ list_all keeps_multiplier multipliers.now }
 {
     multipliers.iter().all(is_multiplier)
 }
 
-/// The numbers are rising.
+/// True if the numbers rise.
 fn are_in_order(multipliers: &[Multiplier]) -> bool
     ensures { result ≡ is_increasing (map (λ multiplier. multiplier.number) multipliers.now) }
 {
@@ -60,7 +62,7 @@ fn are_in_order(multipliers: &[Multiplier]) -> bool
     true
 }
 
-/// The number of the constraint of a multiplier.
+/// Returns the number of the constraint of multiplier `i`.
 fn number_at(multipliers: &[Multiplier], i: usize) -> usize
     requires { i < length multipliers.now }
     ensures { result ≡ slice_index (map (λ multiplier. multiplier.number) multipliers.now) i }
@@ -68,14 +70,14 @@ fn number_at(multipliers: &[Multiplier], i: usize) -> usize
     multipliers[i].number()
 }
 
-/// All lines keep their ranges.
+/// True if all lines keep their ranges.
 pub(crate) fn are_tree_lines(volunteers: usize, lines: &[TreeLine]) -> bool
     ensures { result ≡ list_all (keeps_line volunteers) lines.now }
 {
     lines.iter().all(|line| is_tree_line(volunteers, line))
 }
 
-/// And those of all trees.
+/// True if all lines of all trees keep their ranges.
 pub(crate) fn are_trees(volunteers: usize, trees: &[TreeLines]) -> bool
     ensures { result ≡ list_all (λ lines. list_all (keeps_line volunteers) lines) trees.now }
 {

@@ -1,7 +1,7 @@
-//! Trees as lists of lines, one for each node.
+//! Trees as lists of lines, one for each node. Stands on `leaves`; readers, writers and the verifier go through the lines.
 
 ghost use Rattle.std.specs.Prelude.{◌≡◌, ◌++◌, ◌∷◌, [], OnOk, OnErr};
-ghost use Rattle.addition_definitions.specs.TreeLines.{OfLeaf, OfSplit};
+ghost use Rattle.define_additions.specs.TreeLines.{OfLeaf, OfSplit};
 ghost use Rattle.proof_model.specs.Parts.{seen_node};
 
 use crate::leaves::Leaf as OneLeaf;
@@ -11,20 +11,20 @@ use std::marker::Model;
 /// A node of a tree.
 #[derive(Debug, Drop)]
 pub enum Node {
-    /// A split on the volunteer of this number. The subtree without and then the one with this volunteer follow.
+    /// A split on the volunteer of this number. The lines of the subtree without this volunteer follow, and then those of the one with.
     Split(usize),
     /// A leaf.
     Leaf(OneLeaf),
 }
 
-/// A line of a tree, which has a node.
+/// A line of a tree.
 #[derive(Debug, Drop)]
 pub struct TreeLine {
     node: Node,
 }
 
 impl Model for TreeLine {
-    ghost use Rattle.addition_definitions.specs.TreeLines.{TreeLine as Seen};
+    ghost use Rattle.define_additions.specs.TreeLines.{TreeLine as Seen};
     ghost use Rattle.proof_model.specs.Parts.{seen_node};
 
     ghost Value = { Seen };
@@ -33,7 +33,7 @@ impl Model for TreeLine {
 }
 
 impl TreeLine {
-    /// The line of a split on the volunteer of this number.
+    /// Returns the line of a split on the volunteer of this number.
     pub fn split(i: usize) -> TreeLine
         ensures { result ≡ OfSplit i }
     {
@@ -42,7 +42,7 @@ impl TreeLine {
         }
     }
 
-    /// The line of a leaf.
+    /// Returns the line of a leaf.
     pub fn leaf(leaf: OneLeaf) -> TreeLine
         ensures { result ≡ OfLeaf leaf }
     {
@@ -51,7 +51,7 @@ impl TreeLine {
         }
     }
 
-    /// The line's node.
+    /// Returns the line's node.
     pub fn node(&self) -> &Node
         ensures { seen_node result.now ≡ self.now }
     {
@@ -59,7 +59,7 @@ impl TreeLine {
     }
 }
 
-/// The lines of a tree, in order, or of a list that may be none of a tree.
+/// Lines, in order. They may be those of a tree, or not.
 #[derive(Debug, Drop)]
 pub struct TreeLines {
     lines: Vec<TreeLine>,
@@ -67,7 +67,7 @@ pub struct TreeLines {
 
 impl Model for TreeLines {
     ghost use Rattle.std.specs.Prelude.{List};
-    ghost use Rattle.addition_definitions.specs.TreeLines.{TreeLine as Seen};
+    ghost use Rattle.define_additions.specs.TreeLines.{TreeLine as Seen};
 
     ghost Value = { List Seen };
 
@@ -75,14 +75,14 @@ impl Model for TreeLines {
 }
 
 impl TreeLines {
-    /// These lines.
+    /// Returns these lines.
     pub fn new(lines: Vec<TreeLine>) -> TreeLines
         ensures { result ≡ lines.items }
     {
         TreeLines { lines }
     }
 
-    /// Adds a line behind the others.
+    /// Adds a line after the others.
     pub fn add_line(&mut self, line: TreeLine) -> Result<(), AllocError>
         ensures ok { OnOk result (self.new ≡ self.old ++ line ∷ []) }
         ensures err { OnErr result (self.new ≡ self.old) }
@@ -91,7 +91,7 @@ impl TreeLines {
         Ok(())
     }
 
-    /// The lines, in order.
+    /// Returns the lines, in order.
     pub fn lines(&self) -> &[TreeLine]
         ensures { result.now ≡ self.now }
     {

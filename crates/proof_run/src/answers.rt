@@ -1,73 +1,71 @@
-//! The answer of a run: panels that stand more than once are put together, and the weights are made as small as they go.
+//! The answer of a run: panels that come more than once are put together, and the weights are divided by their common divisor. `runs` uses
+//! this.
 
 use frac128::gcd;
-use panel_peeling::{Part, weights_of};
 use pool_model::{Answer, Certificate, Lottery, LotteryRow, Panel, Stage};
-use proof_limits::{Stop, wide_add};
-use quota_program::Program;
-use relaxed_stages::KindStage;
+use proof_limits::{ProveStop, wide_add};
+use proof_peeling::{WeightedPanel, weights_of};
+use proof_program::Program;
+use proof_stages::ClassStage;
 use std::alloc::Global;
 
-/// The lottery of panels, with its stages.
+/// Returns the lottery of panels, with its stages.
 pub(crate) fn answer_of(
     alloc: Global,
-    kinds: &Program,
-    stages: &[KindStage],
-    parts: &[Part],
-) -> Result<Answer, Stop> {
+    classes: &Program,
+    stages: &[ClassStage],
+    panels: &[WeightedPanel],
+) -> Result<Answer, ProveStop> {
     let mut own = Vec::new(alloc);
     for stage in stages {
-        own.push(stage_of(alloc, kinds, stage)?)?;
+        own.push(stage_of(alloc, classes, stage)?)?;
     }
-    let lottery = lottery_of(alloc, parts)?;
+    let lottery = lottery_of(alloc, panels)?;
     Ok(Answer::new(lottery, Certificate::new(own)))
 }
 
-/// A stage with the weight of each volunteer.
-fn stage_of(alloc: Global, kinds: &Program, stage: &KindStage) -> Result<Stage, Stop> {
+/// Returns a stage with the weight of each volunteer.
+fn stage_of(alloc: Global, classes: &Program, stage: &ClassStage) -> Result<Stage, ProveStop> {
     let mut weights = Vec::new(alloc);
-    for weight in &weights_of(alloc, kinds, &stage.weights)? {
+    for weight in &weights_of(alloc, classes, &stage.weights)? {
         weights.push(weight.wide())?;
     }
     Ok(Stage::new(weights, stage.cap.wide()))
 }
 
-/// The lottery of panels, each once, whose weights have no common divisor.
-fn lottery_of(alloc: Global, parts: &[Part]) -> Result<Lottery, Stop> {
-    let merged = merged(alloc, parts)?;
+/// Returns the lottery of panels, each once, with weights in lowest terms.
+fn lottery_of(alloc: Global, panels: &[WeightedPanel]) -> Result<Lottery, ProveStop> {
+    let merged = merged(alloc, panels)?;
     let mut divisor = 0;
-    for part in &merged {
-        divisor = gcd(divisor, part.weight.max(0));
+    for own in &merged {
+        divisor = gcd(divisor, own.weight.max(0));
     }
     let mut total = 0;
     let mut rows = Vec::new(alloc);
-    for part in merged {
-        let weight = part.weight.checked_div(divisor).ok_or(Stop::Lost)?;
+    for own in merged {
+        let weight = own.weight.checked_div(divisor).ok_or(ProveStop::Lost)?;
         if weight < 0 {
-            return Err(Stop::Lost);
+            return Err(ProveStop::Lost);
         }
         total = wide_add(total, weight)?;
-        let panel = Panel::new(part.members).ok_or(Stop::Lost)?;
+        let panel = Panel::new(own.members).ok_or(ProveStop::Lost)?;
         rows.push(LotteryRow::new(panel, weight))?;
     }
     if total < 0 {
-        return Err(Stop::Lost);
+        return Err(ProveStop::Lost);
     }
     Ok(Lottery::new(total, rows))
 }
 
-/// The parts, those of one panel together.
-fn merged(alloc: Global, parts: &[Part]) -> Result<Vec<Part>, Stop> {
-    let mut merged: Vec<Part> = Vec::new(alloc);
-    for part in parts {
-        match merged
-            .iter_mut()
-            .find(|known| known.members == part.members)
-        {
-            Some(known) => known.weight = wide_add(known.weight, part.weight)?,
-            None => merged.push(Part {
-                weight: part.weight,
-                members: part.members.clone()?,
+/// Returns the panels, each once, with the sum of its weights.
+fn merged(alloc: Global, panels: &[WeightedPanel]) -> Result<Vec<WeightedPanel>, ProveStop> {
+    let mut merged: Vec<WeightedPanel> = Vec::new(alloc);
+    for own in panels {
+        match merged.iter_mut().find(|known| known.members == own.members) {
+            Some(known) => known.weight = wide_add(known.weight, own.weight)?,
+            None => merged.push(WeightedPanel {
+                weight: own.weight,
+                members: own.members.clone()?,
             })?,
         }
     }

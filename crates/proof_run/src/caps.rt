@@ -1,22 +1,22 @@
-//! The search for quota panels, and for those above the caps of stages.
+//! The searches of `proof_branching` that show that there is no quota panel, or none above the cap of a stage. `trees` and `runs` use this.
 
 ghost use Rattle.std.specs.Prelude.{◌≡◌, ◌<◌, ◌^◌, IfOk, OnOk, length};
 ghost use Rattle.proof_limits.specs.Budgets.{SpendsOn};
 ghost use Rattle.proof_run.specs.Shapes.{IsCapSearch};
 
-use box_table::Table;
-use branch_search::{Step, add_weights, prove_empty, reach_of};
-use proof_limits::{Budget, Narrow, Span, Stop, narrow_add};
-use quota_program::Program;
-use relaxed_stages::{row_spans, table_of};
+use proof_branching::{Step, add_weights, prove_empty, reach_of};
+use proof_limits::{Budget, Narrow, ProveStop, Span, narrow_add};
+use proof_program::Program;
+use proof_stages::{row_spans, table_of};
+use proof_table::Table;
 use std::alloc::Global;
 
-/// The steps of the search that shows that there is no quota panel.
+/// Returns the steps of the search that shows that there is no quota panel. Stops if there is one.
 pub(crate) fn tree_of_none(
     alloc: Global,
     program: &Program,
     budget: &mut Budget,
-) -> Result<Vec<Step>, Stop>
+) -> Result<Vec<Step>, ProveStop>
     ensures { SpendsOn budget.old budget.new }
 {
     let mut table = table_of(alloc, program)?;
@@ -32,11 +32,11 @@ pub(crate) fn tree_of_none(
         None,
         budget,
     )?;
-    steps.ok_or(Stop::Lost)
+    steps.ok_or(ProveStop::Lost)
 }
 
-/// The numbers of the rows' constraints behind so many earlier stages.
-fn numbers_after(alloc: Global, program: &Program, stages: usize) -> Result<Vec<usize>, Stop>
+/// Returns the numbers of the rows' constraints after `stages` earlier stages.
+fn numbers_after(alloc: Global, program: &Program, stages: usize) -> Result<Vec<usize>, ProveStop>
     requires { stages < 2 ^ 63 }
     ensures { IfOk result (λ numbers. length numbers.items ≡ length program.now.rows) }
 {
@@ -47,26 +47,26 @@ fn numbers_after(alloc: Global, program: &Program, stages: usize) -> Result<Vec<
     Ok(numbers)
 }
 
-/// The search for panels above the caps of stages, one after the other.
+/// The searches for panels above the caps of stages, one stage after the other.
 #[derive(Drop)]
 pub(crate) struct CapSearch<'a> {
     alloc: Global,
     program: &'a Program,
     table: Table,
     rows: Vec<Span>,
-    // the numbers of the constraints of the stages that were searched
+    // the numbers of the constraints of the stages so far
     stages: Vec<usize>,
-    // how many constraints stand before those of stages
+    // how many constraints come before those of stages
     quotas: usize,
 }
 
 impl<'a> CapSearch<'a> {
-    /// The search over the volunteers of a program, behind so many constraints.
+    /// Begins with no stage. `quotas` constraints come before those of stages.
     pub(crate) fn new(
         alloc: Global,
         program: &'a Program,
         quotas: usize,
-    ) -> Result<CapSearch<'a>, Stop>
+    ) -> Result<CapSearch<'a>, ProveStop>
         ensures { IfOk result IsCapSearch }
     {
         Ok(CapSearch {
@@ -79,13 +79,13 @@ impl<'a> CapSearch<'a> {
         })
     }
 
-    /// The steps that show the cap of the next stage, which panels attain from now on; None where a panel is above the cap.
+    /// Returns the steps that show the cap of the next stage, or None if a panel is above the cap. From now on panels attain the cap.
     pub(crate) fn tree(
         &mut self,
         weights: &[Narrow],
         cap: Narrow,
         budget: &mut Budget,
-    ) -> Result<Option<Vec<Step>>, Stop>
+    ) -> Result<Option<Vec<Step>>, ProveStop>
         requires { IsCapSearch self.old }
         ensures search { OnOk result (IsCapSearch self.new) }
         ensures spends { SpendsOn budget.old budget.new }
@@ -97,7 +97,7 @@ impl<'a> CapSearch<'a> {
         numbers.extend_from_slice(&self.stages)?;
         let weight_row = self.rows.len();
         if weights.len() != self.program.columns() || numbers.len() != weight_row + 1 {
-            return Err(Stop::Lost);
+            return Err(ProveStop::Lost);
         }
         add_weights(self.alloc, &mut self.table, weights)?;
         let reach = reach_of(weights)?;

@@ -1,10 +1,13 @@
-//! A run that makes a proof of a pool: its stages by the relaxation or by compositions, a lottery of their point, and a tree for each stage; or a
-//! tree that shows that there is no quota panel. What it makes is to be verified. Below stand `relaxed_stages`, `column_stages`, `panel_peeling`
-//! and `branch_search`, and the proofs of `proof_model`.
+//! A run that makes a proof of a pool: its stages, a lottery of their point, and a tree for each stage; or a tree that shows that there is
+//! no quota panel. Stands on the whole engine, `proof_stages`, `proof_peeling`, `proof_branching`, `proof_program`, `proof_table` and
+//! `proof_limits`, and on the proofs of `proof_model`. `prove_command` calls both of its functions, and verifies what they return.
+//! Promises: the proof is over this pool, or of this bundle; nothing of the budget is given back; and each stop is right. That the proof is
+//! valid is no promise.
 #![tactic(auto)]
 
 mod answers;
 mod caps;
+mod programs;
 mod runs;
 mod trees;
 

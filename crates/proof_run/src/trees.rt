@@ -1,32 +1,32 @@
-//! The trees of a proof.
+//! The trees of a proof: lines made of the steps of searches, or of a refutation. Stands on `caps`; `runs` uses this.
 
 ghost use Rattle.proof_limits.specs.Budgets.{SpendsOn};
 ghost use Rattle.proof_run.specs.Shapes.{IsCapSearch};
 
 use crate::caps::CapSearch;
-use crate::runs::Programs;
-use branch_search::{Refutation, Step};
-use panel_peeling::weights_of;
+use crate::programs::Programs;
 use pool_model::Stage;
-use proof_limits::{Budget, Narrow, Stop, narrow_add};
+use proof_branching::{Refutation, Step};
+use proof_limits::{Budget, Narrow, ProveStop, narrow_add};
 use proof_model::{Leaf, Multiplier, TreeLine, TreeLines};
-use relaxed_stages::KindStage;
+use proof_peeling::weights_of;
+use proof_stages::ClassStage;
 use std::alloc::{AllocError, Global};
 
-/// A tree for each stage: a leaf where a refutation shows its cap, and else the tree of a search for a panel above it.
+/// Returns a tree for each stage: one leaf if a refutation shows its cap, else the tree of a search for a panel above it.
 pub(crate) fn stage_trees(
     alloc: Global,
     programs: &Programs,
     quotas: usize,
-    stages: Vec<KindStage>,
+    stages: Vec<ClassStage>,
     budget: &mut Budget,
-) -> Result<Vec<TreeLines>, Stop>
+) -> Result<Vec<TreeLines>, ProveStop>
     ensures { SpendsOn budget.old budget.new }
 {
-    let mut search = CapSearch::new(alloc, &programs.single, quotas)?;
+    let mut search = CapSearch::new(alloc, &programs.by_volunteer, quotas)?;
     let mut trees = Vec::new(alloc);
     for stage in stages {
-        let KindStage {
+        let ClassStage {
             weights,
             cap,
             shown_by,
@@ -34,8 +34,8 @@ pub(crate) fn stage_trees(
         let tree = match shown_by {
             Some(refutation) => tree_of_refutation(alloc, refutation)?,
             None => {
-                let weights = weights_of(alloc, &programs.kinds, &weights)?;
-                let steps = search.tree(&weights, cap, budget)?.ok_or(Stop::Lost)?;
+                let weights = weights_of(alloc, &programs.by_class, &weights)?;
+                let steps = search.tree(&weights, cap, budget)?.ok_or(ProveStop::Lost)?;
                 tree_of_steps(alloc, steps)?
             }
         };
@@ -44,13 +44,14 @@ pub(crate) fn stage_trees(
     Ok(trees)
 }
 
+/// Returns the tree of one leaf.
 fn tree_of_refutation(alloc: Global, refutation: Refutation) -> Result<TreeLines, AllocError> {
     let mut lines = TreeLines::new(Vec::new(alloc));
     lines.add_line(leaf_line(alloc, refutation)?)?;
     Ok(lines)
 }
 
-/// The tree of a search. The rows' names are the numbers of constraints, and the columns are volunteers.
+/// Returns the tree of a search. The rows have the numbers of constraints, and the columns are volunteers.
 pub(crate) fn tree_of_steps(alloc: Global, steps: Vec<Step>) -> Result<TreeLines, AllocError> {
     let mut lines = TreeLines::new(Vec::new(alloc));
     for step in steps {
@@ -63,7 +64,7 @@ pub(crate) fn tree_of_steps(alloc: Global, steps: Vec<Step>) -> Result<TreeLines
     Ok(lines)
 }
 
-/// The line of a leaf with the multipliers of a refutation.
+/// Returns the line of a leaf with the multipliers of a refutation.
 fn leaf_line(alloc: Global, refutation: Refutation) -> Result<TreeLine, AllocError> {
     let mut multipliers = Vec::new(alloc);
     for (number, factor) in refutation.multipliers {
@@ -72,14 +73,14 @@ fn leaf_line(alloc: Global, refutation: Refutation) -> Result<TreeLine, AllocErr
     Ok(TreeLine::leaf(Leaf::new(refutation.scale, multipliers)))
 }
 
-/// A tree for each stage of a certificate, by a search for a panel above its cap. From the first stage on above whose cap some panel is, the
-/// trees have no lines.
+/// Returns a tree for each stage of a certificate, by a search for a panel above its cap. If some panel is above the cap of a stage, the
+/// trees of this and all later stages have no lines.
 pub(crate) fn searched_trees(
     alloc: Global,
     mut search: CapSearch<'_>,
     stages: &[Stage],
     budget: &mut Budget,
-) -> Result<Vec<TreeLines>, Stop>
+) -> Result<Vec<TreeLines>, ProveStop>
     requires { IsCapSearch search }
     ensures { SpendsOn budget.old budget.new }
 {
@@ -101,7 +102,8 @@ pub(crate) fn searched_trees(
     Ok(trees)
 }
 
-fn narrow_weights(alloc: Global, stage: &Stage) -> Result<Vec<Narrow>, Stop> {
+/// Returns the weights of a stage. Stops if one passes 2^62.
+fn narrow_weights(alloc: Global, stage: &Stage) -> Result<Vec<Narrow>, ProveStop> {
     let mut weights = Vec::new(alloc);
     for weight in stage.weights() {
         weights.push(narrow_add(*weight, 0)?)?;

@@ -1,21 +1,21 @@
 -- The pieces of a text, one line at a time.
 use Rattle.std.proofs.Common.{◌≡◌, ℕ, List, ◌∷◌, Result, Err, sym, subst}
-use Rattle.line_definitions.specs.Lines.{Fault, pieces_of}
-use Rattle.line_definitions.specs.Reading.{read_lines}
-use Rattle.line_definitions.proofs.LineByLine as reading
+use Rattle.define_lines.specs.Lines.{Fault, pieces_of}
+use Rattle.define_lines.specs.Reading.{read_lines}
+use Rattle.define_lines.proofs.LineByLine as reading
 use Rattle.pool_model.specs.declared.building.BuildStop.{BuildStop}
 use Rattle.pool_model.specs.declared.building.BuildStop.TheVariants.{Kind, OutOfMemory}
 use Rattle.pool_text.specs.Answers.{Tells}
-use Rattle.proof_definitions.specs.ProofReading.{Progress, Begun, Opened, InBundle, InPool, WithoutPanel, InTrees, InNoPanel, Closed, line_kind, reader}
-use Rattle.proof_definitions.proofs.Spelled.{IsRight}
-use Rattle.proof_text.specs.declared.faults.ReadProof.{ReadProof}
+use Rattle.define_proof_texts.specs.ProofReading.{Progress, Begun, Opened, InBundle, InPool, WithoutPanel, InTrees, InNoPanel, Closed, line_kind, reader}
+use Rattle.define_proof_texts.proofs.Spelled.{IsRight}
+use Rattle.text_lines.specs.declared.faults.TextStop.{TextStop}
 use Rattle.proof_text.specs.Answers.{Reads, stopped}
 use Rattle.proof_text.specs.Progress.{IsClosedRight}
-use Rattle.addition_definitions.specs.ProofVerdict.{Proof}
+use Rattle.define_additions.specs.ProofVerdict.{Proof}
 
 -- a stop at a line is what the reading comes to
 pub stops_at : (T : Type 0) (number : ℕ) (progress : Progress) (rest line later : List ℕ) → pieces_of rest ≡ line ∷ pieces_of later → (wanted : Result Proof Fault) →
-    read_lines reader number progress (pieces_of rest) ≡ wanted → (stop : BuildStop) → Tells {T = T} (line_kind progress line) (Err stop) → (told : ReadProof) → told ≡ stopped number stop → Reads wanted (Err told)
+    read_lines reader number progress (pieces_of rest) ≡ wanted → (stop : BuildStop) → Tells {T = T} (line_kind progress line) (Err stop) → (told : TextStop) → told ≡ stopped number stop → Reads wanted (Err told)
 stops_at T number progress rest line later parted wanted same stop tells told e = subst (λ said. Reads wanted (Err said)) (sym e) (by stop tells)
   where
     by : (stop : BuildStop) → Tells {T = T} (line_kind progress line) (Err stop) → Reads wanted (Err (stopped number stop))

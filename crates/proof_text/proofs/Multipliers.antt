@@ -1,11 +1,11 @@
 -- Multipliers that fields give two by two, one more at the end.
 use Rattle.std.proofs.Common.{◌≡◌, ℕ, ◌+◌, ◌*◌, ◌<◌, List, [], ◌∷◌, ◌++◌, map, length, get_or, drop, refl, sym, ◌∙◌, ap, arith, append_assoc, Option, Some, None, Bor, length-drop}
 use Rattle.std.proofs.lemmas.List.{drop_more}
-use Rattle.line_definitions.specs.Numbers.{number_up_to, signed_up_to}
-use Rattle.bundle_definitions.specs.BundleReading.{with_number}
-use Rattle.addition_definitions.specs.Leaves.{Multiplier}
-use Rattle.addition_definitions.specs.TreeRanges.{last_constraint, number_limit}
-use Rattle.proof_definitions.specs.ProofReading.{multiplier_of, multipliers_of}
+use Rattle.define_lines.specs.Numbers.{number_up_to, signed_up_to}
+use Rattle.define_bundles.specs.BundleReading.{with_number}
+use Rattle.define_additions.specs.Leaves.{Multiplier}
+use Rattle.define_additions.specs.TreeRanges.{last_constraint, number_limit}
+use Rattle.define_proof_texts.specs.ProofReading.{multiplier_of, multipliers_of}
 
 -- those behind others
 abbrev pub behind : List Multiplier → Option (List Multiplier) → Option (List Multiplier)

@@ -1,15 +1,15 @@
 -- Lines of a proof that are added to a text one after the other.
 use Rattle.std.proofs.Common.{◌≡◌, ℕ, ◌+◌, ◌<◌, List, [], ◌∷◌, ◌++◌, length, get_or, take, sym, ◌∙◌, ap, arith, append_assoc}
 use Rattle.std.proofs.lemmas.List.{length-take-le, take_more}
-use Rattle.line_definitions.specs.Lines.{text_of}
-use Rattle.pool_definitions.specs.Certificate.{Answer}
-use Rattle.pool_definitions.specs.Pool.{Pool}
-use Rattle.bundle_definitions.specs.BundleText.{pool_lines}
-use Rattle.addition_definitions.specs.ProofVerdict.{OfLottery, OfNoPanel}
-use Rattle.addition_definitions.specs.TreeLines.{TreeLine}
-use Rattle.proof_definitions.specs.ProofText.{bundle_lines, lines_before_close, none_line, proof_line, tree_lines, trees_from}
-use Rattle.proof_definitions.proofs.Spelled.{trees-push}
-use Rattle.line_definitions.proofs.LineLemmas.{text_of-append}
+use Rattle.define_lines.specs.Lines.{text_of}
+use Rattle.define_pools.specs.Certificate.{Answer}
+use Rattle.define_pools.specs.Pool.{Pool}
+use Rattle.define_bundles.specs.BundleText.{pool_lines}
+use Rattle.define_additions.specs.ProofVerdict.{OfLottery, OfNoPanel}
+use Rattle.define_additions.specs.TreeLines.{TreeLine}
+use Rattle.define_proof_texts.specs.ProofText.{bundle_lines, lines_before_close, none_line, proof_line, tree_lines, trees_from}
+use Rattle.define_proof_texts.proofs.Spelled.{trees-push}
+use Rattle.define_lines.proofs.LineLemmas.{text_of-append}
 
 pub one_tree_more : (text : List ℕ) (trees : List (List TreeLine)) (i : ℕ) (d : List TreeLine) → i < length trees →
     (text ++ text_of (trees_from 1 (take i trees))) ++ text_of (tree_lines (i + 1) (get_or trees i d)) ≡ text ++ text_of (trees_from 1 (take (i + 1) trees))

@@ -1,20 +1,22 @@
--- What the lines that were read make of a text, and what a line in a tree says, as the definitions have it.
-use Rattle.addition_definitions.specs.ProofVerdict.{OfLottery, OfNoPanel}
+-- How the progress of a reading and a line in a tree are seen, as the definitions have them.
+use Rattle.define_additions.specs.ProofVerdict.{OfLottery, OfNoPanel}
 use Rattle.bundle_text.specs.Progress as bundles
 use Rattle.pool_text.specs.Progress as pools
-use Rattle.proof_definitions.specs.ProofReading as words
-use Rattle.proof_definitions.specs.ProofText.{IsProof}
+use Rattle.define_proof_texts.specs.ProofReading as words
+use Rattle.define_proof_texts.specs.ProofText.{IsProof}
 use Rattle.proof_text.specs.declared.lines.LineInTree.{LineInTree}
 use Rattle.proof_text.specs.declared.lines.LineInTree.TheVariants.{Node, NextTree, Close, Unknown}
 use Rattle.proof_text.specs.declared.progress.Progress.{Progress}
 use Rattle.proof_text.specs.declared.progress.Progress.TheVariants.{Begun, Opened, InBundle, InPool, WithoutPanel, InTrees, InNoPanel, ClosedLottery, ClosedNoPanel}
 
+-- what a line says, as the definitions have it
 abbrev pub said : LineInTree → words.LineInTree
 said (Node node) = words.OfNode node
 said NextTree = words.NextTree
 said Close = words.TheClose
 said Unknown = words.Unknown
 
+-- what the lines so far make, as the definitions have it
 abbrev pub seen : Progress → words.Progress
 seen Begun = words.Begun
 seen Opened = words.Opened
@@ -26,7 +28,7 @@ seen (InNoPanel pool lines) = words.InNoPanel pool lines
 seen (ClosedLottery pool answer trees) = words.Closed (OfLottery pool answer trees.items)
 seen (ClosedNoPanel pool lines) = words.Closed (OfNoPanel pool lines)
 
--- where the last line stood there is a proof
+-- after the last line there is a proof
 abbrev pub IsClosedRight : words.Progress → Type 0
 IsClosedRight words.Begun = Unit {0}
 IsClosedRight words.Opened = Unit {0}

@@ -1,14 +1,14 @@
-//! The text of a proof that a lottery is leximin greatest, or that a pool has no quota panel. It is read into a proof or answered with
-//! its first fault, and a proof is written as its text. Below stand `bundle_text` and `pool_text`, which read and write what stands before
-//! the trees, `text_lines`, `proof_model` and the words of `proof_definitions`.
+//! The text of a proof. It is read into a proof or answered with its first fault, and a proof is written as its text. Stands on
+//! `bundle_text` and `pool_text`, which read and write what comes before the trees, on `text_lines`, and on the values of `proof_model`;
+//! what the text is stands in `define_proof_texts`. The commands about proofs stand on it.
+//! Promises: `read_proof` returns the proof that the bytes spell or their first fault, exactly, and `write_proof` the spelling. All other
+//! functions are helpers.
 #![tactic(auto)]
 
-mod faults;
 mod lines;
 mod progress;
 mod reading;
 mod writing;
 
-pub use faults::{ProofFault, ReadProof};
 pub use reading::read_proof;
 pub use writing::write_proof;

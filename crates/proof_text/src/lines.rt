@@ -1,11 +1,11 @@
-//! The lines of a tree: what one says.
+//! The lines of a tree, and what each says. Stands on `text_lines` and the ranges of `proof_model`; `progress` reads lines here.
 
 ghost use Rattle.std.specs.Prelude.{◌≡◌, ◌<◌, ◌^◌, ◌==◌, nat_lt, ◌&&◌, if◌then◌else◌, map, IfOk, bytes_eq, option_map};
-ghost use Rattle.line_definitions.specs.Numbers.{number_up_to as number_in, signed_up_to};
+ghost use Rattle.define_lines.specs.Numbers.{number_up_to as number_in, signed_up_to};
 ghost use Rattle.std.specs.Fmt.{decimal};
-ghost use Rattle.addition_definitions.specs.TreeRanges.{last_constraint, number_limit};
-ghost use Rattle.proof_definitions.specs.ProofText.{most_trees, tree_line};
-ghost use Rattle.proof_definitions.specs.ProofReading.{NextTree, TheClose, Unknown, leaf_said, line_in_tree as line_said, multiplier_of as multiplier_in, multipliers_of as multipliers_in, node_in_range, node_said, split_said};
+ghost use Rattle.define_additions.specs.TreeRanges.{last_constraint, number_limit};
+ghost use Rattle.define_proof_texts.specs.ProofText.{most_trees, tree_line};
+ghost use Rattle.define_proof_texts.specs.ProofReading.{NextTree, TheClose, Unknown, leaf_said, line_in_tree as line_said, multiplier_of as multiplier_in, multipliers_of as multipliers_in, node_in_range, node_said, split_said};
 ghost use Rattle.proof_text.specs.Progress.{said};
 
 use itoa::Buffer;
@@ -16,10 +16,10 @@ use text_lines::{fields, number_up_to, signed_number};
 /// The greatest number of a constraint.
 const LAST_CONSTRAINT: usize = 1800;
 
-/// The greatest scale.
+/// The greatest scale: 2^56.
 const MAX_SCALE: usize = 72_057_594_037_927_936;
 
-/// The greatest absolute value of a factor.
+/// The greatest absolute value of a factor: 2^56.
 const MAX_FACTOR: u128 = 72_057_594_037_927_936;
 
 /// The greatest number of trees.
@@ -34,7 +34,7 @@ const BOUND: &[u8] = b"bound";
 
 const CLOSE: &[u8] = b"close";
 
-/// What a line behind the first of a tree says.
+/// What a line in a tree says, after the one that begins the tree.
 #[derive(Debug, Drop)]
 pub(crate) enum LineInTree {
     /// A node in its ranges.
@@ -43,10 +43,11 @@ pub(crate) enum LineInTree {
     NextTree,
     /// The last line.
     Close,
+    /// Anything else.
     Unknown,
 }
 
-/// What a line says behind the first of the tree of a number, where the last tree has another or the same, and there are so many volunteers.
+/// Reads a line in tree `number` of `last` trees, for a pool of `volunteers` volunteers.
 pub(crate) fn line_in_tree(
     alloc: Global,
     volunteers: usize,
@@ -67,7 +68,7 @@ pub(crate) fn line_in_tree(
     }
 }
 
-/// The last line stands behind the last tree.
+/// Reads `close`, which is allowed after the last tree only.
 fn close_at(number: usize, last: usize) -> LineInTree
     ensures { said result ≡ (if number == last then TheClose else Unknown) }
 {
@@ -78,7 +79,7 @@ fn close_at(number: usize, last: usize) -> LineInTree
     }
 }
 
-/// Another tree begins behind each tree but the last.
+/// Reads the line that begins the next tree, which is allowed after each tree but the last.
 fn next_at(number: usize, last: usize) -> LineInTree
     ensures { said result ≡ (if nat_lt number last && nat_lt number most_trees then NextTree else Unknown) }
 {
@@ -89,7 +90,7 @@ fn next_at(number: usize, last: usize) -> LineInTree
     }
 }
 
-/// The line is the first of the tree of a number.
+/// True if the line begins tree `number`.
 pub(crate) fn begins_tree(number: usize, line: &[u8]) -> bool
     ensures { result ≡ bytes_eq line.now (tree_line number) }
 {
@@ -99,7 +100,7 @@ pub(crate) fn begins_tree(number: usize, line: &[u8]) -> bool
     }
 }
 
-/// The digits of the number are the field.
+/// True if the field has the digits of the number.
 fn is_spelled(number: usize, field: &[u8]) -> bool
     ensures { result ≡ bytes_eq (decimal number) field.now }
 {
@@ -107,24 +108,24 @@ fn is_spelled(number: usize, field: &[u8]) -> bool
     digits.format(number).as_bytes() == field
 }
 
-/// What the fields of a node's line say.
+/// Reads the fields of a node's line.
 fn node_of(alloc: Global, volunteers: usize, fields: &[&[u8]]) -> Result<LineInTree, AllocError>
     ensures { IfOk result (λ node. said node ≡ node_said volunteers (map (λ field. field.now) fields.now)) }
 {
-    let Some((first, rest)) = fields.split_first() else {
+    let Some((first, others)) = fields.split_first() else {
         return Ok(LineInTree::Unknown);
     };
     let first = *first;
     if first == SPLIT {
-        Ok(split_of(volunteers, rest))
+        Ok(split_of(volunteers, others))
     } else if first == BOUND {
-        leaf_of(alloc, volunteers, rest)
+        leaf_of(alloc, volunteers, others)
     } else {
         Ok(LineInTree::Unknown)
     }
 }
 
-/// What the fields behind `split` say.
+/// Reads the fields after `split`.
 fn split_of(volunteers: usize, fields: &[&[u8]]) -> LineInTree
     ensures { said result ≡ split_said volunteers (map (λ field. field.now) fields.now) }
 {
@@ -137,17 +138,17 @@ fn split_of(volunteers: usize, fields: &[&[u8]]) -> LineInTree
     }
 }
 
-/// What the fields behind `bound` say.
+/// Reads the fields after `bound`.
 fn leaf_of(alloc: Global, volunteers: usize, fields: &[&[u8]]) -> Result<LineInTree, AllocError>
     ensures { IfOk result (λ leaf. said leaf ≡ leaf_said volunteers (map (λ field. field.now) fields.now)) }
 {
-    let Some((scale, rest)) = fields.split_first() else {
+    let Some((scale, others)) = fields.split_first() else {
         return Ok(LineInTree::Unknown);
     };
     let Some(scale) = number_up_to(MAX_SCALE, scale) else {
         return Ok(LineInTree::Unknown);
     };
-    match multipliers_of(alloc, rest)? {
+    match multipliers_of(alloc, others)? {
         Some(multipliers) => Ok(in_range(
             volunteers,
             TreeLine::leaf(Leaf::new(scale as u64, multipliers)),
@@ -156,7 +157,7 @@ fn leaf_of(alloc: Global, volunteers: usize, fields: &[&[u8]]) -> Result<LineInT
     }
 }
 
-/// The node, if it keeps its ranges.
+/// Returns the node, if it keeps its ranges.
 fn in_range(volunteers: usize, node: TreeLine) -> LineInTree
     ensures { said result ≡ node_in_range volunteers node }
 {
@@ -167,7 +168,7 @@ fn in_range(volunteers: usize, node: TreeLine) -> LineInTree
     }
 }
 
-/// The multipliers that fields give two by two.
+/// Reads multipliers, two fields each.
 fn multipliers_of(alloc: Global, fields: &[&[u8]]) -> Result<Option<Vec<Multiplier>>, AllocError>
     ensures { IfOk result (λ multipliers. option_map (λ v. v.items) multipliers ≡ multipliers_in (map (λ field. field.now) fields.now)) }
 {
@@ -185,7 +186,7 @@ fn multipliers_of(alloc: Global, fields: &[&[u8]]) -> Result<Option<Vec<Multipli
     }
 }
 
-/// The multiplier of these fields, if both are numbers.
+/// Reads a multiplier, if both fields are numbers.
 fn multiplier_of(number: &[u8], factor: &[u8]) -> Option<Multiplier>
     ensures { result ≡ multiplier_in (number_in last_constraint number.now) (signed_up_to number_limit factor.now) }
 {
@@ -194,7 +195,7 @@ fn multiplier_of(number: &[u8], factor: &[u8]) -> Option<Multiplier>
     Some(Multiplier::new(number, factor))
 }
 
-/// The number from -2^56 to 2^56 that the field spells.
+/// Reads a number from -2^56 to 2^56.
 fn factor_of(field: &[u8]) -> Option<i128>
     ensures { result ≡ signed_up_to number_limit field.now }
 {

@@ -1,10 +1,11 @@
-//! What the lines that were read make of a proof's text so far, and what one more makes of it.
+//! How far the text of a proof has been read: what the lines so far make, and what one more line makes of it. Stands on `lines`, and on
+//! the same steps of `bundle_text` and `pool_text`; `reading` calls `after` for each line.
 
 ghost use Rattle.std.specs.Prelude.{◌≡◌, IfOk};
 ghost use Rattle.bundle_text.specs.Progress.{seen as bundle_seen};
 ghost use Rattle.pool_text.specs.Answers.{Tells};
 ghost use Rattle.pool_text.specs.Progress.{seen as pool_seen};
-ghost use Rattle.proof_definitions.specs.ProofReading.{line_kind, after_line, Begun, Opened, InBundle, InPool, WithoutPanel, InTrees, InNoPanel};
+ghost use Rattle.define_proof_texts.specs.ProofReading.{line_kind, after_line, Begun, Opened, InBundle, InPool, WithoutPanel, InTrees, InNoPanel};
 ghost use Rattle.proof_text.specs.Progress.{seen};
 
 use crate::lines::{LineInTree, begins_tree, line_in_tree};
@@ -21,36 +22,36 @@ const NONE: &[u8] = b"none";
 /// The kind of a first line that is no proof's.
 const VERSION: u8 = 21;
 
-/// The kind of a line behind it that may not stand there.
+/// The kind of a later line that is not allowed there.
 const FORM: u8 = 22;
 
-/// The kind of lines that run out outside the bundle's or the pool's, and of what follows the last line.
+/// The kind of a text that ends outside the bundle's or the pool's, and of what follows the last line.
 pub(crate) const ENDING: u8 = 23;
 
-/// What right lines make of a text so far.
+/// What the lines so far make.
 #[derive(Debug, Drop)]
 pub(crate) enum Progress {
-    /// No line stood.
+    /// No line yet.
     Begun,
-    /// The first line stood.
+    /// The first line.
     Opened,
-    /// And lines of a bundle, which come to this.
+    /// Lines of a bundle.
     InBundle(BundleProgress),
-    /// Or lines of a pool, which come to this.
+    /// Lines of a pool.
     InPool(PoolProgress),
-    /// Behind the pool's end the line stood that there is no quota panel.
+    /// A whole pool, and the line that there is no quota panel.
     WithoutPanel(Pool),
-    /// Behind the bundle these whole trees stood, and the first line of one more with these lines.
+    /// A whole bundle, these whole trees, and one more tree with these lines so far.
     InTrees(Pool, Answer, Vec<TreeLines>, TreeLines),
-    /// Behind the line that there is no quota panel the first line of its tree stood, with these lines.
+    /// A pool without quota panel, and its tree with these lines so far.
     InNoPanel(Pool, TreeLines),
-    /// The last line stood behind the trees of a bundle.
+    /// The last line, after the trees of a bundle.
     ClosedLottery(Pool, Answer, Vec<TreeLines>),
-    /// The last line stood behind the tree of no quota panel.
+    /// The last line, after the tree that there is no quota panel.
     ClosedNoPanel(Pool, TreeLines),
 }
 
-/// What one more line makes of it. Stops with the lowest kind of fault that the line has.
+/// Reads one more line. Stops with the lowest kind of fault that the line has.
 pub(crate) fn after(alloc: Global, progress: Progress, line: &[u8]) -> Result<Progress, BuildStop>
     ensures kind { Tells (line_kind (seen progress) line.now) result }
     ensures ok { IfOk result (λ next. seen next ≡ after_line (seen progress) line.now) }
@@ -71,6 +72,7 @@ pub(crate) fn after(alloc: Global, progress: Progress, line: &[u8]) -> Result<Pr
     }
 }
 
+/// Reads the first line.
 fn first_line(line: &[u8]) -> Result<Progress, BuildStop>
     ensures kind { Tells (line_kind Begun line.now) result }
     ensures ok { IfOk result (λ next. seen next ≡ after_line Begun line.now) }
@@ -82,7 +84,7 @@ fn first_line(line: &[u8]) -> Result<Progress, BuildStop>
     }
 }
 
-/// The line begins a bundle or a pool.
+/// Reads the second line, which begins a bundle or a pool.
 fn second_line(alloc: Global, line: &[u8]) -> Result<Progress, BuildStop>
     ensures kind { Tells (line_kind Opened line.now) result }
     ensures ok { IfOk result (λ next. seen next ≡ after_line Opened line.now) }
@@ -98,7 +100,7 @@ fn second_line(alloc: Global, line: &[u8]) -> Result<Progress, BuildStop>
     }
 }
 
-/// The line is one of the bundle, or behind its end the first of the first tree.
+/// Reads a line of the bundle, or after its end the line that begins the first tree.
 fn after_bundle(alloc: Global, progress: BundleProgress, line: &[u8]) -> Result<Progress, BuildStop>
     ensures kind { Tells (line_kind (InBundle (bundle_seen progress)) line.now) result }
     ensures ok { IfOk result (λ next. seen next ≡ after_line (InBundle (bundle_seen progress)) line.now) }
@@ -120,7 +122,7 @@ fn after_bundle(alloc: Global, progress: BundleProgress, line: &[u8]) -> Result<
     }
 }
 
-/// The line is one of the pool, or behind its end that there is no quota panel.
+/// Reads a line of the pool, or after its end the line that there is no quota panel.
 fn after_pool(alloc: Global, progress: PoolProgress, line: &[u8]) -> Result<Progress, BuildStop>
     ensures kind { Tells (line_kind (InPool (pool_seen progress)) line.now) result }
     ensures ok { IfOk result (λ next. seen next ≡ after_line (InPool (pool_seen progress)) line.now) }
@@ -137,7 +139,7 @@ fn after_pool(alloc: Global, progress: PoolProgress, line: &[u8]) -> Result<Prog
     }
 }
 
-/// The line stands behind the one that there is no quota panel.
+/// Reads the line that begins the tree of a pool without quota panel.
 fn after_none(alloc: Global, pool: Pool, line: &[u8]) -> Result<Progress, BuildStop>
     ensures kind { Tells (line_kind (WithoutPanel pool) line.now) result }
     ensures ok { IfOk result (λ next. seen next ≡ after_line (WithoutPanel pool) line.now) }
@@ -149,7 +151,7 @@ fn after_none(alloc: Global, pool: Pool, line: &[u8]) -> Result<Progress, BuildS
     }
 }
 
-/// The line stands in a tree of a bundle.
+/// Reads a line in a tree of a bundle.
 fn after_tree(
     alloc: Global,
     pool: Pool,
@@ -181,7 +183,7 @@ fn after_tree(
     }
 }
 
-/// The line stands in the tree of no quota panel.
+/// Reads a line in the tree of a pool without quota panel.
 fn after_no_panel(
     alloc: Global,
     pool: Pool,

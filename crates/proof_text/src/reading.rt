@@ -1,30 +1,35 @@
-//! Reading the text of a proof, line by line.
+//! Reading the text of a proof, line by line. Stands on `progress`. `read_proof` is the promise; the other functions are helpers.
 
 ghost use Rattle.std.specs.Prelude.{◌≡◌, Ok, IfOk};
-ghost use Rattle.addition_definitions.specs.ProofVerdict.{Proof as Words, OfLottery, OfNoPanel};
-ghost use Rattle.proof_definitions.specs.ProofText.{IsProof, proof_spelling};
-ghost use Rattle.proof_definitions.specs.ProofReading.{read_proof as read, at_last, missing_kind};
+ghost use Rattle.define_additions.specs.ProofVerdict.{Proof as Words, OfLottery, OfNoPanel};
+ghost use Rattle.define_proof_texts.specs.ProofText.{IsProof, proof_spelling};
+ghost use Rattle.define_proof_texts.specs.ProofReading.{read_proof as read, at_last, missing_kind};
 ghost use Rattle.proof_text.specs.Answers.{Reads, stopped};
 ghost use Rattle.proof_text.specs.Progress.{seen, IsClosedRight};
 
-use crate::faults::{ProofFault, ReadProof};
 use crate::progress::{ENDING, Progress, after};
 use bundle_text::{Bundle, Progress as BundleProgress};
 use pool_model::{Answer, BuildStop, Pool};
 use pool_text::Progress as PoolProgress;
 use proof_model::{Proof, TreeLines};
 use std::alloc::Global;
-use text_lines::next_line;
+use text_lines::{TextFault, TextStop, next_line};
 
-/// The kind of a text whose lines run out within the pool's.
+/// The kind of a text that ends in the pool's lines.
 const MISSING_END: u8 = 12;
 
-/// And of one whose lines run out within the bundle's, behind the pool's end.
+/// The kind of a text that ends in the bundle's lines after the pool's end.
 const MISSING_DONE: u8 = 17;
 
-/// The proof that the bytes spell, all of them. A fault comes exactly where they are not the text of a proof: the first line that has a
-/// fault, and the lowest kind in it.
-pub fn read_proof(alloc: Global, bytes: &[u8]) -> Result<Proof, ReadProof>
+/// Returns the proof that the bytes spell, all of them, or a fault exactly if they are not the text of a proof: the first line that has a
+/// fault, and the lowest kind in it:
+/// - 1 to 17 in the text of the bundle or of the pool, as there
+/// - 21 the first line is not that of a proof
+/// - 22 the line is not allowed there: after the first line, it begins neither a bundle nor a pool; after a bundle, it is not `tree` and
+///   1; after a pool, it is not `none`, and after `none` it is not `tree` and 0; in a tree, it is neither a split or bound in its ranges,
+///   nor the line that begins the next tree, nor, in the last tree, `close`
+/// - 23 the lines end outside the bundle's or the pool's text, or something follows `close`
+pub fn read_proof(alloc: Global, bytes: &[u8]) -> Result<Proof, TextStop>
     // What is read is spelled so, each byte of it.
     ensures spelled { IfOk result (λ proof. IsProof proof × (bytes.now ≡ proof_spelling proof)) }
     // What is spelled so is read, unless memory runs out.
@@ -35,41 +40,42 @@ pub fn read_proof(alloc: Global, bytes: &[u8]) -> Result<Proof, ReadProof>
     read_lines(alloc, bytes)
 }
 
-fn read_lines(alloc: Global, bytes: &[u8]) -> Result<Proof, ReadProof>
+/// Reads line after line.
+fn read_lines(alloc: Global, bytes: &[u8]) -> Result<Proof, TextStop>
     ensures { Reads (read bytes.now) result }
 {
     let mut progress = Progress::Begun;
     let mut number = 1;
-    let mut rest = bytes;
-    while let Some((line, later)) = next_line(rest) {
+    let mut unread = bytes;
+    while let Some((line, later)) = next_line(unread) {
         progress = match after(alloc, progress, line) {
             Ok(next) => next,
             Err(stop) => return Err(stop_at(number, stop)),
         };
         number += 1;
-        rest = later;
+        unread = later;
     }
-    last(progress, number, rest)
+    last(progress, number, unread)
 }
 
-/// A stop at a line.
-fn stop_at(line: usize, stop: BuildStop) -> ReadProof
+/// Returns the stop at a line.
+fn stop_at(line: usize, stop: BuildStop) -> TextStop
     ensures { result ≡ stopped line stop }
 {
     match stop {
-        BuildStop::Kind(kind) => ReadProof::Fault(ProofFault { line, kind }),
-        BuildStop::OutOfMemory => ReadProof::OutOfMemory,
+        BuildStop::Kind(kind) => TextStop::Fault(TextFault { line, kind }),
+        BuildStop::OutOfMemory => TextStop::OutOfMemory,
     }
 }
 
-/// What the text comes to, where `rest` stands behind its last LF.
-fn last(progress: Progress, line: usize, rest: &[u8]) -> Result<Proof, ReadProof>
+/// Ends the reading: `unread` is what follows the last LF, and has to be empty.
+fn last(progress: Progress, line: usize, unread: &[u8]) -> Result<Proof, TextStop>
     requires { IsClosedRight (seen progress) }
-    ensures { Reads (at_last line (seen progress) rest.now) result }
+    ensures { Reads (at_last line (seen progress) unread.now) result }
 {
     let kind = missing_kind(&progress);
-    let missing = ReadProof::Fault(ProofFault { line, kind });
-    if !rest.is_empty() {
+    let missing = TextStop::Fault(TextFault { line, kind });
+    if !unread.is_empty() {
         return Err(missing);
     }
     match progress {
@@ -85,7 +91,7 @@ fn last(progress: Progress, line: usize, rest: &[u8]) -> Result<Proof, ReadProof
     }
 }
 
-/// The proof of this bundle by these trees.
+/// Returns the proof of this bundle by these trees.
 fn lottery_proof(pool: Pool, answer: Answer, trees: Vec<TreeLines>) -> Proof
     requires { IsProof (OfLottery pool answer trees.items) }
     ensures { result ≡ OfLottery pool answer trees.items }
@@ -99,7 +105,7 @@ fn lottery_proof(pool: Pool, answer: Answer, trees: Vec<TreeLines>) -> Proof
     }
 }
 
-/// The proof that this pool has no quota panel.
+/// Returns the proof that this pool has no quota panel.
 fn no_panel_proof(pool: Pool, lines: TreeLines) -> Proof
     requires { IsProof (OfNoPanel pool lines) }
     ensures { result ≡ OfNoPanel pool lines }
@@ -110,7 +116,7 @@ fn no_panel_proof(pool: Pool, lines: TreeLines) -> Proof
     }
 }
 
-/// The kind of lines that run out: of the pool's, of the bundle's behind it, or behind these.
+/// Returns the kind of a text that ends here: in the pool's lines, in the bundle's after them, or elsewhere.
 fn missing_kind(progress: &Progress) -> u8
     ensures { result ≡ missing_kind (seen progress.now) }
 {

@@ -1,13 +1,14 @@
-//! Writing the text of a proof, line by line into one growing buffer.
+//! Writing the text of a proof, line by line into one growing buffer. Stands on `text_lines`, and on the writers of pools and bundles.
+//! `write_proof` is the promise; the other functions are helpers.
 
 ghost use Rattle.std.specs.Prelude.{◌≡◌, ◌++◌, ◌∷◌, [], map, Ok, IfOk, OnOk};
 ghost use Rattle.std.specs.Fmt.{decimal};
 ghost use Rattle.std.specs.List.{flat_map};
-ghost use Rattle.line_definitions.specs.Lines.{line_of, tabbed, text_of};
-ghost use Rattle.addition_definitions.specs.ProofVerdict.{OfLottery, OfNoPanel};
-ghost use Rattle.bundle_definitions.specs.BundleText.{pool_lines};
-ghost use Rattle.proof_definitions.specs.ProofText.{bundle_lines, leaf_line, lines_before_close, multiplier_fields, node_line, proof_spelling, tree_lines, trees_from};
-ghost use Rattle.proof_definitions.specs.ProofReading.{read_proof};
+ghost use Rattle.define_lines.specs.Lines.{line_of, tabbed, text_of};
+ghost use Rattle.define_additions.specs.ProofVerdict.{OfLottery, OfNoPanel};
+ghost use Rattle.define_bundles.specs.BundleText.{pool_lines};
+ghost use Rattle.define_proof_texts.specs.ProofText.{bundle_lines, leaf_line, lines_before_close, multiplier_fields, node_line, proof_spelling, tree_lines, trees_from};
+ghost use Rattle.define_proof_texts.specs.ProofReading.{read_proof};
 ghost use Rattle.proof_model.specs.Parts.{seen};
 
 use bundle_text::{Bundle, write_bundle};
@@ -18,7 +19,7 @@ use proof_model::{Leaf, Multiplier, Node, Parts, Proof, TreeLine, TreeLines};
 use std::alloc::{AllocError, Global};
 use text_lines::{end_line, push_line, push_number, push_signed};
 
-/// The text of the proof, which is read again as this proof.
+/// Returns the text of the proof. Reading it returns the same proof.
 pub fn write_proof(alloc: Global, proof: &Proof) -> Result<Vec<u8>, AllocError>
     ensures spelled { IfOk result (λ bytes. bytes.items ≡ proof_spelling proof.now) }
     ensures read { IfOk result (λ bytes. read_proof bytes.items ≡ Ok proof.now) }
@@ -40,6 +41,7 @@ fn push_parts(alloc: Global, text: &mut Vec<u8>, parts: &Parts) -> Result<(), Al
     }
 }
 
+/// Adds the lines of a proof of a lottery.
 fn push_lottery(
     alloc: Global,
     text: &mut Vec<u8>,
@@ -53,6 +55,7 @@ fn push_lottery(
     push_trees(text, trees)
 }
 
+/// Adds the lines of a proof that there is no quota panel.
 fn push_no_panel(
     alloc: Global,
     text: &mut Vec<u8>,
@@ -67,6 +70,7 @@ fn push_no_panel(
     push_tree(text, 0, lines)
 }
 
+/// Adds the lines of a pool.
 fn push_pool(alloc: Global, text: &mut Vec<u8>, pool: &Pool) -> Result<(), AllocError>
     ensures { OnOk result (text.new.items ≡ text.old.items ++ text_of (pool_lines pool.now)) }
 {
@@ -74,6 +78,7 @@ fn push_pool(alloc: Global, text: &mut Vec<u8>, pool: &Pool) -> Result<(), Alloc
     text.extend_from_slice(&bytes)
 }
 
+/// Adds the lines of a bundle.
 fn push_bundle(alloc: Global, text: &mut Vec<u8>, bundle: &Bundle) -> Result<(), AllocError>
     ensures { OnOk result (text.new.items ≡ text.old.items ++ text_of (bundle_lines bundle.now.pool bundle.now.answer)) }
 {
@@ -91,7 +96,7 @@ fn push_trees(text: &mut Vec<u8>, trees: &[TreeLines]) -> Result<(), AllocError>
     Ok(())
 }
 
-/// Adds the tree of a number.
+/// Adds tree `number`.
 fn push_tree(text: &mut Vec<u8>, number: usize, lines: &TreeLines) -> Result<(), AllocError>
     ensures { OnOk result (text.new.items ≡ text.old.items ++ text_of (tree_lines number lines.now)) }
 {
@@ -107,6 +112,7 @@ fn push_number_line(text: &mut Vec<u8>, word: &[u8], number: usize) -> Result<()
     push_line(text, word, &[digits.format(number).as_bytes()])
 }
 
+/// Adds the lines of nodes.
 fn push_nodes(text: &mut Vec<u8>, lines: &[TreeLine]) -> Result<(), AllocError>
     ensures { OnOk result (text.new.items ≡ text.old.items ++ text_of (map node_line lines.now)) }
 {
@@ -116,6 +122,7 @@ fn push_nodes(text: &mut Vec<u8>, lines: &[TreeLine]) -> Result<(), AllocError>
     Ok(())
 }
 
+/// Adds the line of a node.
 fn push_node(text: &mut Vec<u8>, line: &TreeLine) -> Result<(), AllocError>
     ensures { OnOk result (text.new.items ≡ text.old.items ++ text_of (node_line line.now ∷ [])) }
 {
@@ -125,7 +132,7 @@ fn push_node(text: &mut Vec<u8>, line: &TreeLine) -> Result<(), AllocError>
     }
 }
 
-/// Adds a leaf's line: its scale, and the number and the factor of each multiplier.
+/// Adds a leaf's line: its scale, and the number and factor of each multiplier.
 fn push_leaf(text: &mut Vec<u8>, leaf: &Leaf) -> Result<(), AllocError>
     ensures { OnOk result (text.new.items ≡ text.old.items ++ text_of (leaf_line leaf.now ∷ [])) }
 {
@@ -135,6 +142,7 @@ fn push_leaf(text: &mut Vec<u8>, leaf: &Leaf) -> Result<(), AllocError>
     end_line(text)
 }
 
+/// Adds the fields of multipliers.
 fn push_multipliers(text: &mut Vec<u8>, multipliers: &[Multiplier]) -> Result<(), AllocError>
     ensures { OnOk result (text.new.items ≡ text.old.items ++ tabbed (flat_map multiplier_fields multipliers.now)) }
 {
@@ -144,6 +152,7 @@ fn push_multipliers(text: &mut Vec<u8>, multipliers: &[Multiplier]) -> Result<()
     Ok(())
 }
 
+/// Adds the two fields of a multiplier.
 fn push_multiplier(text: &mut Vec<u8>, multiplier: &Multiplier) -> Result<(), AllocError>
     ensures { OnOk result (text.new.items ≡ text.old.items ++ tabbed (multiplier_fields multiplier.now)) }
 {

@@ -2,10 +2,10 @@
 use Rattle.std.proofs.Common.{◌≡◌, ◌^◌, ℕ, List, Ok, Err, true, leb, unsigned_abs}
 use Rattle.std.specs.Prelude.{Result, IfOk}
 use Rattle.std.proofs.lemmas.Bool.{and_parts, leb-true}
-use Rattle.pool_definitions.specs.Lottery.{Lottery, TotalAgrees}
-use Rattle.bundle_definitions.specs.Ranges.{is_weight}
-use Rattle.draw_definitions.specs.Draw.{Drawn}
-use Rattle.draw_definitions.proofs.DrawLemmas.{draw-row}
+use Rattle.define_pools.specs.Lottery.{Lottery, TotalAgrees}
+use Rattle.define_bundles.specs.Ranges.{is_weight}
+use Rattle.define_draws.specs.Draw.{Drawn}
+use Rattle.define_draws.proofs.DrawLemmas.{draw-row}
 use Rattle.sealed_draw.specs.Answers.{DrawSays, IsOfRow}
 use Rattle.sealed_draw.specs.declared.drawn.Draw.{Draw}
 use Rattle.sealed_draw.specs.declared.drawn.DrawStop.{DrawStop}

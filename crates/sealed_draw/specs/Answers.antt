@@ -1,9 +1,9 @@
--- What a draw answers.
+-- What a draw answers. Over Draw of `define_draws`. The promise of `draw` cites it.
 use Rattle.std.specs.Prelude.{◌≡◌, ◌≤ℤ◌, ℕ, pos, List, Result, Ok, Err, string_bytes, unsigned_abs, ⊤}
-use Rattle.pool_definitions.specs.Lottery.{Lottery}
-use Rattle.draw_definitions.specs.declared.DiceStop.TheVariants as dice
-use Rattle.draw_definitions.specs.Draw.{Refused, draw, panel_at}
-use Rattle.draw_definitions.specs.Tickets.{HoldsTicket, weights_of}
+use Rattle.define_pools.specs.Lottery.{Lottery}
+use Rattle.define_draws.specs.declared.DiceStop.TheVariants as dice
+use Rattle.define_draws.specs.Draw.{Refused, draw, panel_at}
+use Rattle.define_draws.specs.Tickets.{HoldsTicket, weights_of}
 use Rattle.sealed_draw.specs.declared.drawn.Draw.{Draw}
 use Rattle.sealed_draw.specs.declared.drawn.DrawStop.{DrawStop}
 use Rattle.sealed_draw.specs.declared.drawn.DrawStop.TheVariants.{SealDiffers, BadDigit, MoreDigits, OutOfMemory}
@@ -18,7 +18,7 @@ DrawSays lottery kept given digits (Err (BadDigit place)) = draw lottery kept gi
 DrawSays lottery kept given digits (Err (MoreDigits read)) = draw lottery kept given digits ≡ Err (Refused.NoTicket (dice.MoreDigits read))
 DrawSays lottery kept given digits (Err OutOfMemory) = ⊤
 
--- the panel of a row in whose range the ticket is
+-- the panel is that of the row whose range has the ticket
 pub record IsOfRow (lottery : Lottery) (ticket : ℕ) (panel : List ℕ) : Type 0 where
   pub row : ℕ
   pub holds : HoldsTicket (weights_of lottery) row ticket

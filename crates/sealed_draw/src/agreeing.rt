@@ -1,11 +1,11 @@
-//! Whether a bundle's weights sum to its total.
+//! Tests whether a bundle's weights sum to its total.
 
 ghost use Rattle.std.specs.Prelude.{◌↔◌, IsTrue};
-ghost use Rattle.pool_definitions.specs.Lottery.{TotalAgrees};
+ghost use Rattle.define_pools.specs.Lottery.{TotalAgrees};
 
 use bundle_text::Bundle;
 
-/// The weights of the bundle's lottery sum to its total.
+/// True if the weights of the bundle's lottery sum to its total.
 pub fn total_agrees(bundle: &Bundle) -> bool
     ensures { IsTrue result ↔ TotalAgrees bundle.now.answer.lottery }
 {

@@ -1,10 +1,10 @@
 //! The draw: the panel of the ticket that the digits name, under the seal that is kept.
 
 ghost use Rattle.std.specs.Prelude.{◌≡◌, ◌<◌, ◌≤ℤ◌, pos, sum, unsigned_abs, IfOk, IsTrue};
-ghost use Rattle.pool_definitions.specs.Lottery.{TotalAgrees};
-ghost use Rattle.bundle_definitions.specs.Ranges.{is_weight};
-ghost use Rattle.draw_definitions.specs.Draw.{panel_at};
-ghost use Rattle.draw_definitions.specs.Tickets.{row_of, weights_of};
+ghost use Rattle.define_pools.specs.Lottery.{TotalAgrees};
+ghost use Rattle.define_bundles.specs.Ranges.{is_weight};
+ghost use Rattle.define_draws.specs.Draw.{panel_at};
+ghost use Rattle.define_draws.specs.Tickets.{row_of, weights_of};
 ghost use Rattle.sealed_draw.specs.Answers.{DrawSays, IsOfRow};
 
 use crate::drawn::{Draw, DrawStop};
@@ -14,9 +14,9 @@ use pool_model::{Lottery, Panel};
 use std::alloc::{AllocError, Global};
 use tickets::{DiceStop, Named, name_ticket, pick, table};
 
-/// What is drawn from the lottery of a bundle whose weights sum to its total: the panel in whose range the ticket is that the digits
-/// name, where the seal that was given is the one that is kept, capitals aside. `SealDiffers` where it is another one, and else
-/// `BadDigit` or `MoreDigits` where the digits name no ticket.
+/// Draws from the lottery of a bundle whose weights sum to its total. Returns the panel whose range has the ticket that the digits
+/// name, if the seal that was given is the one that is kept, capitals aside. Fails with `SealDiffers` if it is another one, else with
+/// `BadDigit` or `MoreDigits` if the digits name no ticket.
 pub fn draw(
     alloc: Global,
     bundle: &Bundle,
@@ -31,7 +31,7 @@ pub fn draw(
     draw_from(alloc, bundle.answer().lottery(), kept, given, digits)
 }
 
-/// The same of a lottery.
+/// The same for a lottery.
 fn draw_from(
     alloc: Global,
     lottery: &Lottery,
@@ -60,7 +60,7 @@ fn draw_from(
     }
 }
 
-/// The panel in whose range the ticket is.
+/// The panel whose range has the ticket.
 fn panel_of(alloc: Global, lottery: &Lottery, ticket: i128) -> Result<Panel, AllocError>
     requires agrees { TotalAgrees lottery.now }
     requires from { pos 0 ≤ℤ ticket }

@@ -11,7 +11,7 @@ pub struct Draw {
     pub ticket: i128,
     /// How many digits were read.
     pub used: usize,
-    /// The panel in whose range the ticket is.
+    /// The panel whose range has the ticket.
     pub panel: Panel,
 }
 
@@ -32,7 +32,7 @@ pub enum DrawStop {
         /// The place of the first such byte, from 1.
         place: usize,
     },
-    /// The digits name no ticket: more have to be thrown.
+    /// The digits name no ticket: more dice must be thrown.
     #[error("the {read} digits name no ticket")]
     MoreDigits {
         /// How many digits were given.

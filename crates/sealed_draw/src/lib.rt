@@ -1,6 +1,8 @@
 //! A public draw from a bundle: the seal of its text, and the panel of the ticket that the digits of dice name, drawn only under the
-//! seal that is kept. Below stand the words of `draw_definitions`,
-//! `tickets`, and the bundles of `bundle_text`.
+//! seal that is kept. Stands on `define_draws`, `tickets`, and the bundles of `bundle_text`. Above: the commands `draw` and `seal`,
+//! and `office_reports`, whose summary has a seal.
+//!
+//! Promises: `seal`, `draw` and `total_agrees`.
 #![tactic(auto)]
 
 mod agreeing;

@@ -1,12 +1,12 @@
-//! Seals.
+//! Makes and compares seals.
 
 ghost use Rattle.std.specs.Prelude.{◌≡◌, IfOk, length, string_bytes};
-ghost use Rattle.draw_definitions.specs.Seal.{is_seal as words_of_is_seal, seal_of};
+ghost use Rattle.define_draws.specs.Seal.{is_seal as words_of_is_seal, seal_of};
 
 use sha2::{Digest, Sha256};
 use std::alloc::{AllocError, Global};
 
-/// The seal of some bytes: their SHA-256 digest in 64 lower case hexadecimal digits.
+/// Returns the seal of some bytes: their SHA-256 digest in 64 lower case hexadecimal digits.
 pub fn seal(alloc: Global, bytes: &[u8]) -> Result<String, AllocError>
     ensures text { IfOk result (λ text. string_bytes text ≡ seal_of bytes.now) }
     ensures digits { IfOk result (λ text. length (string_bytes text) ≡ 64) }
@@ -15,7 +15,7 @@ pub fn seal(alloc: Global, bytes: &[u8]) -> Result<String, AllocError>
     hex::encode(alloc, digest)
 }
 
-/// The seal that was given, its capitals made small, is the one that is kept.
+/// True if the seal that was given, with its capitals made small, is the one that is kept.
 pub(crate) fn is_seal(alloc: Global, kept: &str, given: &str) -> Result<bool, AllocError>
     ensures { IfOk result (λ same. same ≡ words_of_is_seal kept.now given.now) }
 {

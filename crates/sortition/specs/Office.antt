@@ -1,51 +1,62 @@
--- What a call of the program may tell, for its words.
-use Rattle.std.specs.Prelude.{◌≡◌, ◌≢◌, ℕ, List, [], ◌∷◌, codes, Option, Some, None}
+-- What a call of the program may tell, for its words. From a line of `AnswersRightly` to the field of a status in the command's meaning
+-- (`command_meanings/specs`) it is one step. What every command tells alike stands in the shell: faults of the outside, want of memory and a text that is
+-- too long (`Outcomes`), a text outside its format (`Subjects`).
+-- Stands on the words, on the outcomes of the shell, and on the meanings of commands. It is the contract of `office`.
+use Rattle.std.specs.Prelude.{◌≡◌, ℕ, List, [], ◌∷◌, codes, Option, Some, None}
+use Rattle.command_shell.specs.Answers.{IsTheAnswer, Meaning}
 use Rattle.command_shell.specs.Lines.{line, want_of_memory_line}
-use Rattle.command_shell.specs.Told.{Told, GainsLine, IsUntouched}
-use Rattle.command_shell.specs.Calls.{CallIsRight, ReadsNothing, TellsByStatus}
-use Rattle.command_words.specs.Words.{Order, asked}
-use Rattle.bundle_answers.specs.OfBundle.{OfBundle}
-use Rattle.bundle_answers.specs.Seal.{SealMeans}
-use Rattle.bundle_answers.specs.Draw.{DrawMeans}
-use Rattle.bundle_answers.specs.Check.{CheckMeans}
-use Rattle.pool_answers.specs.Lottery.{LotteryIsRight}
-use Rattle.pool_answers.specs.Make.{MakeMeans}
-use Rattle.pool_answers.specs.Panel.{PanelIsRight}
-use Rattle.proof_answers.specs.ItsBundle.{BundleMeans}
-use Rattle.proof_answers.specs.OfProof.{OfProof}
-use Rattle.proof_answers.specs.Prove.{ProveWithin}
-use Rattle.proof_answers.specs.Verify.{VerifyMeans}
+use Rattle.command_shell.specs.Outcomes.{IsStopped, SilentOutcome, TextOutcome}
+use Rattle.command_shell.specs.Subjects.{About, Format}
+use Rattle.command_shell.specs.Told.{Told, IsUntouched}
+use Rattle.command_meanings.specs.Check.{CheckMeans}
+use Rattle.command_meanings.specs.Draw.{DrawMeans}
+use Rattle.command_shell.specs.Formats.{bundle_format, pool_format, pool_or_bundle_format, proof_format}
+use Rattle.command_meanings.specs.ItsBundle.{BundleMeans}
+use Rattle.command_meanings.specs.Lottery.{LotteryMeans}
+use Rattle.command_meanings.specs.Make.{MakeMeans}
+use Rattle.command_meanings.specs.Panel.{PanelMeans}
+use Rattle.command_meanings.specs.Prove.{ProvesWithin}
+use Rattle.command_meanings.specs.Seal.{SealMeans}
+use Rattle.command_meanings.specs.Verify.{VerifyMeans}
+use Rattle.sortition.specs.Asked.{asked}
+use Rattle.sortition.specs.declared.asked.Asked.{Asked}
+use Rattle.sortition.specs.declared.asked.Asked.TheVariants as asks
 
--- words that are not of the forms, or ask for help
-pub record UsageIsRight (told : Told) : Type 0 where
-  -- 2: errs got a text of `clap`
-  pub usage : told.status ≡ 2 → (text : List ℕ) × GainsLine told.errs text
-  -- 12: want of memory, which may come at any time
-  pub want_of_memory : told.status ≡ 12 → GainsLine told.errs want_of_memory_line
-  -- no other status
-  pub no_other : told.status ≢ 2 → told.status ≡ 12
-  -- nothing else was touched
+-- the one answer that is right about what the source held was told, or the source, out or memory failed
+abbrev pub Answers : {Value : Type 0} → Format Value → (Value → Meaning) → Told → Type 0
+Answers format Means told = TextOutcome (About format (λ value. IsTheAnswer (Means value))) told
+
+-- words that are not of the forms, or that ask for help
+pub record IsUsage (told : Told) : Type 0 where
   pub source : IsUntouched told.source
-  pub out : IsUntouched told.out
+  -- 2: errs got a text, which is that of `clap` (by tests)
+  pub text : List ℕ
+  pub stopped : IsStopped 2 text told
 
--- a call that asks for this command, or for nothing, is right
-abbrev pub AnswersRightly : Option Order → Told → Type 0
-AnswersRightly None told = UsageIsRight told
-AnswersRightly (Some (Order.Panel nodes)) told = PanelIsRight nodes told
+-- what a call tells that asks for this command, or for nothing
+abbrev pub AnswersRightly : Option Asked → Told → Type 0
+AnswersRightly None told = IsUsage told
+-- the run that makes a proof is no definition, so which of 0, 1, 4, 5 and 11 comes is not said
+AnswersRightly (Some (asks.Prove it)) told = TextOutcome (About pool_or_bundle_format (ProvesWithin it.pivots it.nodes)) told
+AnswersRightly (Some (asks.Verify it)) told = Answers proof_format VerifyMeans told
+AnswersRightly (Some (asks.Bundle it)) told = Answers proof_format BundleMeans told
+AnswersRightly (Some (asks.Seal it)) told = Answers bundle_format SealMeans told
+AnswersRightly (Some (asks.Draw seal digits)) told = Answers bundle_format (DrawMeans seal digits) told
+AnswersRightly (Some (asks.Panel it)) told = Answers pool_format (PanelMeans it.nodes) told
 -- the number of workers changes nothing that is told
-AnswersRightly (Some (Order.Lottery limits workers)) told = LotteryIsRight limits told
-AnswersRightly (Some (Order.Make made limits workers)) told = ReadsNothing (MakeMeans made.seed made.volunteers limits) told
-AnswersRightly (Some Order.Seal) told = CallIsRight (OfBundle SealMeans) told
-AnswersRightly (Some (Order.Draw seal digits)) told = CallIsRight (OfBundle (DrawMeans seal digits)) told
-AnswersRightly (Some (Order.Check nodes)) told = CallIsRight (OfBundle (CheckMeans nodes)) told
--- the run that makes a proof is no definition, so which of 0, 1, 4 and 5 comes is not said
-AnswersRightly (Some (Order.Prove pivots nodes)) told = TellsByStatus (ProveWithin pivots nodes) told
-AnswersRightly (Some Order.Verify) told = CallIsRight (OfProof VerifyMeans) told
-AnswersRightly (Some Order.Bundle) told = CallIsRight (OfProof BundleMeans) told
+AnswersRightly (Some (asks.Lottery it)) told = Answers pool_format (LotteryMeans it.limits) told
+AnswersRightly (Some (asks.Check it)) told = Answers bundle_format (CheckMeans it.nodes) told
+AnswersRightly (Some (asks.Make it)) told = SilentOutcome (IsTheAnswer (MakeMeans it.seed it.volunteers it.limits)) told
 
--- a call is right
-abbrev pub OfficeIsRight : List (List ℕ) → Told → Type 0
-OfficeIsRight words told = AnswersRightly (asked words) told
+-- memory was wanting before the words asked for anything
+pub record WantsMemory (told : Told) : Type 0 where
+  pub source : IsUntouched told.source
+  pub stopped : IsStopped 12 want_of_memory_line told
+
+-- a call with these words is right
+pub data OfficeIsRight (words : List (List ℕ)) (told : Told) : Type 0 where
+  Asks : AnswersRightly (asked words) told → OfficeIsRight words told
+  NoMemory : WantsMemory told → OfficeIsRight words told
 
 -- what is told where a word isn't UTF-8, which no list of words for a call has
 abbrev pub words_not_utf8_line : List ℕ

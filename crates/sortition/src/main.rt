@@ -3,7 +3,9 @@
 //! and the commands.
 #![tactic(auto)]
 
+mod asked;
 mod given;
+mod headline;
 mod office;
 #[cfg(test)]
 mod tests;

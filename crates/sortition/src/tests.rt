@@ -312,7 +312,7 @@ const USAGE_ROWS: &[(&[&str], &[u8], u8, &[u8], &[u8])] = &[
         FOUR,
         2,
         b"",
-        b"error: 'sortition' requires a subcommand but one was not provided\n  [subcommands: panel, lottery, make, seal, draw, check, prove, verify, bundle, help]\n\nUsage: sortition <COMMAND>\n\nFor more information, try '--help'.\n",
+        b"error: 'sortition' requires a subcommand but one was not provided\n  [subcommands: prove, verify, bundle, seal, draw, panel, lottery, check, make, help]\n\nUsage: sortition <COMMAND>\n\nFor more information, try '--help'.\n",
     ),
     (
         &["panel", "--nodes", "x"],
@@ -326,14 +326,14 @@ const USAGE_ROWS: &[(&[&str], &[u8], u8, &[u8], &[u8])] = &[
         FOUR,
         2,
         b"",
-        b"Prints the first quota panel of the pool on standard input\n\nUsage: sortition panel [OPTIONS]\n\nOptions:\n      --nodes <nodes>  The most visits that a search may make [default: 50000000]\n  -h, --help           Print help\n",
+        b"Prints the first quota panel of the pool on standard input\n\nUsage: sortition panel [OPTIONS]\n\nOptions:\n      --nodes <nodes>  The most visits that a search may make, up to 1000000000000 [default: 50000000]\n  -h, --help           Print help\n\nExample: sortition panel < city.pool\n",
     ),
     (
         &["lottery", "--help"],
         FOUR,
         2,
         b"",
-        b"Prints the lottery over the quota panels of the pool on standard input, with its certificate\n\nUsage: sortition lottery [OPTIONS]\n\nOptions:\n      --bits <bits>        The width in bits of the run's numbers [default: 127]\n      --pivots <pivots>    The most pivots that the run may make [default: 100000]\n      --nodes <nodes>      The most visits that a search may make [default: 50000000]\n      --workers <workers>  How many workers price, on threads [default: 1]\n  -h, --help               Print help\n",
+        b"Prints the lottery over the quota panels of the pool on standard input, with its certificate\n\nUsage: sortition lottery [OPTIONS]\n\nOptions:\n      --bits <bits>        The width in bits of the run's numbers, 1 to 127 [default: 127]\n      --pivots <pivots>    The most pivots that the run may make, up to 1000000000 [default: 100000]\n      --nodes <nodes>      The most visits that a search may make, up to 1000000000000 [default: 50000000]\n      --workers <workers>  How many workers price, on threads, 1 to 64 [default: 1]\n  -h, --help               Print help\n\nExample: sortition lottery < city.pool > city.bundle\n",
     ),
 ];
 

@@ -6,7 +6,7 @@ use Rattle.std.proofs.lemmas.List.{length-drop, take_all}
 use Rattle.std.proofs.lemmas.List.Sums.{fails_before_first}
 use Rattle.std.specs.List.{position_or_len}
 use Rattle.std.proofs.lemmas.List.Splits.{slice_split_first, slice_split_none}
-use Rattle.line_definitions.specs.Lines.{pieces_of}
+use Rattle.define_lines.specs.Lines.{pieces_of}
 
 -- a text is cut at its first LF
 pub cut_at : (bytes : List ℕ) (end : ℕ) → position (λ byte. eqb byte 10) bytes ≡ Some end →

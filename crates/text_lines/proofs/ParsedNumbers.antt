@@ -8,8 +8,8 @@ use Rattle.std.specs.Str.Parse.{ParsesUnsigned, ParsesSigned}
 use Rattle.std.proofs.lemmas.Fmt.{IsAscii-decimal_wide, parse-decimal_wide}
 use Rattle.std.proofs.lemmas.Bool.{false≢true}
 use Rattle.std.proofs.lemmas.Str.{IsUtf8-from_ascii}
-use Rattle.line_definitions.specs.Numbers.{number_up_to, signed_up_to}
-use Rattle.line_definitions.proofs.NumberLemmas.{bytes_are, bytes_same, number_again, no_number, no_signed, signed_value, signed_numeral}
+use Rattle.define_lines.specs.Numbers.{number_up_to, signed_up_to}
+use Rattle.define_lines.proofs.NumberLemmas.{bytes_are, bytes_same, number_again, no_number, no_signed, signed_value, signed_numeral}
 
 -- the number whose digits are the field is read
 pub found : (limit n : ℕ) (field : List ℕ) → n < 10 ^ 64 → n ≤ limit → bytes_eq (decimal n) field ≡ true → Some n ≡ number_up_to limit field

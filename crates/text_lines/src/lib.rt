@@ -1,11 +1,17 @@
-//! Texts that are made of lines: a text is taken apart into lines, a line into fields, and a field is read as a number in its one
-//! spelling; and lines are added to a growing text, field by field. Below stand the words of `line_definitions`.
+//! Lines of a text in memory: takes a text apart into lines and a line into fields, reads a field as a number in its one spelling, and
+//! appends lines to a growing text, field by field. Stands on `define_lines` and the kit's `itoa`. Above: `pool_text`,
+//! `bundle_text`, the text of proofs, and the commands, whose lines it writes.
+//!
+//! Promises: each public call does exactly what the definitions say of lines, fields and numbers. `TextFault` and `TextStop` are for
+//! readers that have no types of their own for a fault.
 #![tactic(auto)]
 
+mod faults;
 mod numbers;
 mod splitting;
 mod writing;
 
+pub use faults::{TextFault, TextStop};
 pub use numbers::{number_up_to, signed_number};
 pub use splitting::{fields, next_line};
 pub use writing::{

@@ -1,13 +1,13 @@
-//! Numbers in their one spelling: digits with no sign and no leading zero, and `-` before those of a number below 0.
+//! Reads fields as numbers in their one spelling: digits without a leading zero, with `-` before them if the number is below 0.
 
 ghost use Rattle.std.specs.Prelude.{◌≡◌, ◌-◌, ◌^◌, bytes_eq};
 ghost use Rattle.std.specs.Fmt.{decimal, signed_decimal};
-ghost use Rattle.line_definitions.specs.Numbers.{number_up_to, signed_up_to};
+ghost use Rattle.define_lines.specs.Numbers.{number_up_to, signed_up_to};
 
 use itoa::Buffer;
 use std::str;
 
-/// The number up to `limit` that the field spells.
+/// Returns the number up to `limit` that the field spells, or None if it spells none.
 pub fn number_up_to(limit: usize, field: &[u8]) -> Option<usize>
     ensures { result ≡ number_up_to limit field.now }
 {
@@ -24,7 +24,7 @@ pub fn number_up_to(limit: usize, field: &[u8]) -> Option<usize>
     }
 }
 
-/// The digits of the number are the field.
+/// True if the field is the number's digits.
 fn is_spelled(number: usize, field: &[u8]) -> bool
     ensures { result ≡ bytes_eq (decimal number) field.now }
 {
@@ -32,7 +32,7 @@ fn is_spelled(number: usize, field: &[u8]) -> bool
     digits.format(number).as_bytes() == field
 }
 
-/// The whole number that the field spells, from -(2^127 - 1) to 2^127 - 1.
+/// Returns the whole number that the field spells, from -(2^127 - 1) to 2^127 - 1, or None if it spells none.
 pub fn signed_number(field: &[u8]) -> Option<i128>
     ensures { result ≡ signed_up_to (2 ^ 127 - 1) field.now }
 {
@@ -49,7 +49,7 @@ pub fn signed_number(field: &[u8]) -> Option<i128>
     }
 }
 
-/// The digits of the number, with its sign, are the field.
+/// True if the field is the number's digits with its sign.
 fn is_spelled_signed(number: i128, field: &[u8]) -> bool
     ensures { result ≡ bytes_eq (signed_decimal number) field.now }
 {

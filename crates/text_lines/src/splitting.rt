@@ -1,7 +1,7 @@
-//! Taking a text apart into lines, and a line into fields.
+//! Takes a text apart into lines, and a line into fields. The readers of texts call it.
 
 ghost use Rattle.std.specs.Prelude.{◌≡◌, ◌<◌, [], ◌∷◌, ◌==◌, length, map, position, IfOk, IfSome, IfNone};
-ghost use Rattle.line_definitions.specs.Lines.{fields_of, pieces_of};
+ghost use Rattle.define_lines.specs.Lines.{fields_of, pieces_of};
 
 use std::alloc::{AllocError, Global};
 
@@ -9,7 +9,7 @@ const TAB: u8 = 9;
 
 const LINE_FEED: u8 = 10;
 
-/// The next line and what stands behind its LF, or nothing where there is no LF.
+/// Returns the next line and the bytes after its LF, or None if there is no LF.
 pub fn next_line(bytes: &[u8]) -> Option<(&[u8], &[u8])>
     ensures some { IfSome result (λ (line, later). pieces_of bytes.now ≡ line.now ∷ pieces_of later.now) }
     ensures shorter { IfSome result (λ (line, later). length later.now < length bytes.now) }
@@ -28,7 +28,7 @@ fn line_end(bytes: &[u8]) -> Option<usize>
     bytes.iter().position(|byte| *byte == LINE_FEED)
 }
 
-/// The fields of a line, parted by TAB.
+/// Returns the fields of a line, parted by TAB.
 pub fn fields(alloc: Global, line: &[u8]) -> Result<Vec<&[u8]>, AllocError>
     ensures { IfOk result (λ v. map (λ field. field.now) v.items ≡ fields_of line.now) }
 {

@@ -4,8 +4,8 @@ use Rattle.std.specs.Prelude.{sum}
 use Rattle.std.specs.List.Sorted.{IsPartitionPoint, IsPartitionedBy}
 use Rattle.std.proofs.lemmas.List.{take_more}
 use Rattle.std.proofs.lemmas.Bool.{leb-true, leb-false, le-leb}
-use Rattle.draw_definitions.specs.Tickets.{HoldsTicket}
-use Rattle.draw_definitions.proofs.TicketLemmas.{holds_behind, sum-cons}
+use Rattle.define_draws.specs.Tickets.{HoldsTicket}
+use Rattle.define_draws.proofs.TicketLemmas.{holds_behind, sum-cons}
 use Rattle.tickets.specs.Ends.{Rise, gaps}
 
 -- where the ranges of these weights end, of which the first begins at a number

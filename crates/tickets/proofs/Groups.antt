@@ -1,19 +1,19 @@
 -- Groups of digits: their size, their numbers, and which is the first that is accepted.
 use Rattle.std.proofs.Common.{◌≡◌, ℕ, suc, ◌+◌, ◌-◌, ◌*◌, ◌/◌, ◌^◌, ◌<◌, ◌≤◌, Bool, true, false, not, List, length, get_or, take, pos, sym, ap, ap₂, ◌∙◌, arith, Some, None, ⊎_elim}
 use Rattle.std.specs.Prelude.{position, Ok, Err}
-use Rattle.basic_laws.proofs.Found.{position-None, find_range-first, find_range-none}
-use Rattle.draw_definitions.specs.declared.Named.{Named}
-use Rattle.draw_definitions.specs.declared.DiceStop.TheVariants.{MoreDigits}
+use Rattle.laws_basic.proofs.Found.{position-None, find_range-first, find_range-none}
+use Rattle.define_draws.specs.declared.Named.{Named}
+use Rattle.define_draws.specs.declared.DiceStop.TheVariants.{MoreDigits}
 use Rattle.std.specs.Char.{digit_value, is_ascii_digit}
 use Rattle.std.specs.Str.Parse.{digits_value}
 use Rattle.std.proofs.lemmas.Int.Digits.{digits_value_more}
 use Rattle.std.proofs.lemmas.Bool.{cases_lt, lt-ltb, not-false}
 use Rattle.std.proofs.lemmas.Bool.Decides.{nat_tests}
 use Rattle.std.proofs.Math.Nat.{le_antisymm, pow-le-pow_right, pow-suc}
-use Rattle.draw_definitions.specs.Dice.{first_accepted, group_at, group_size, is_accepted, named_at, share}
+use Rattle.define_draws.specs.Dice.{first_accepted, group_at, group_size, is_accepted, named_at, groups_per_ticket}
 use Rattle.tickets.specs.declared.dice.Groups.{Groups}
 use Rattle.tickets.specs.Reading.{AreDigits, AreGroupsOf}
-use Rattle.draw_definitions.proofs.DiceLemmas.{share-within, size-enough, size-least, size-some, ticket-below}
+use Rattle.define_draws.proofs.DiceLemmas.{groups_per_ticket-within, size-enough, size-least, size-some, ticket-below}
 
 -- ---- sizes
 
@@ -31,11 +31,11 @@ exponent-below size h =
     ⊎_elim (λ (less : size < 38). less) (λ (more : 38 ≤ size). let l = pow-le-pow_right {n = 10} (omega arith) more in absurd (omega arith)) (cases_lt size 38)
 
 -- there are at most 10^38 groups
-pub most_groups : (total : ℕ) (groups : Groups) → AreGroupsOf total groups → total * groups.share ≤ 10 ^ 38
+pub most_groups : (total : ℕ) (groups : Groups) → AreGroupsOf total groups → total * groups.groups_per_ticket ≤ 10 ^ 38
 most_groups total groups are =
     let few : group_size total ≤ 38 = omega (arith, are.size, are.few) in
     let power = pow-le-pow_right {n = 10} (omega arith) {i = group_size total} {j = 38} few in
-    omega (arith, share-within total, power, ap (λ n. total * n) are.share)
+    omega (arith, groups_per_ticket-within total, power, ap (λ n. total * n) are.groups_per_ticket)
 
 pub some_digits : (total : ℕ) (groups : Groups) → AreGroupsOf total groups → 1 ≤ groups.size
 some_digits total groups are = omega (arith, are.size, size-some total)
@@ -69,16 +69,16 @@ module _ (total : ℕ) (groups : Groups) (digits : List ℕ) (are : AreGroupsOf 
   is_accepted_at place = is_accepted total (group_at (group_size total) digits place)
 
   -- the first accepted group names its ticket
-  pub names : (place group : ℕ) → place < length digits / groups.size → group ≡ group_at groups.size digits place → group < total * groups.share →
+  pub names : (place group : ℕ) → place < length digits / groups.size → group ≡ group_at groups.size digits place → group < total * groups.groups_per_ticket →
       ((before : ℕ) → before < place → is_accepted_at before ≡ false) →
-      Ok (record { ticket = pos (group / groups.share); used = (place + 1) * groups.size }) ≡ named_at total digits (first_accepted total digits)
+      Ok (record { ticket = pos (group / groups.groups_per_ticket); used = (place + 1) * groups.size }) ≡ named_at total digits (first_accepted total digits)
   names place group l is less before =
       let here : group ≡ group_at (group_size total) digits place = is ∙ ap (λ size. group_at size digits place) are.size in
-      let shares : total * groups.share ≡ total * share total = ap (λ n. total * n) are.share in
-      let accepted : is_accepted_at place ≡ true = lt-ltb (group_at (group_size total) digits place) (total * share total) (omega (arith, here)) in
+      let shares : total * groups.groups_per_ticket ≡ total * groups_per_ticket total = ap (λ n. total * n) are.groups_per_ticket in
+      let accepted : is_accepted_at place ≡ true = lt-ltb (group_at (group_size total) digits place) (total * groups_per_ticket total) (omega (arith, here)) in
       let sized : length digits / groups.size ≡ length digits / group_size total = ap (λ size. length digits / size) are.size in
       let found : first_accepted total digits ≡ Some place = find_range-first is_accepted_at 0 (length digits / group_size total) place (omega arith) (omega arith) accepted (λ k l m. before k m) in
-      let ticket : group / groups.share ≡ group_at (group_size total) digits place / share total = ap₂ (λ g n. g / n) here are.share in
+      let ticket : group / groups.groups_per_ticket ≡ group_at (group_size total) digits place / groups_per_ticket total = ap₂ (λ g n. g / n) here are.groups_per_ticket in
       let used : (place + 1) * groups.size ≡ (place + 1) * group_size total = ap (λ size. (place + 1) * size) are.size in
       ap₂ (λ (t u : ℕ). let named : Named = record { ticket = pos t; used = u } in Ok named) ticket used ∙ sym (ap (named_at total digits) found)
 
@@ -91,8 +91,8 @@ module _ (total : ℕ) (groups : Groups) (digits : List ℕ) (are : AreGroupsOf 
       sym (ap (named_at total digits) nothing)
 
 -- what is named is a ticket of the total
-pub named_below : (total group : ℕ) (groups : Groups) → AreGroupsOf total groups → 1 ≤ total → group < total * groups.share → group / groups.share < total
+pub named_below : (total group : ℕ) (groups : Groups) → AreGroupsOf total groups → 1 ≤ total → group < total * groups.groups_per_ticket → group / groups.groups_per_ticket < total
 named_below total group groups are some less =
-    let shares : total * groups.share ≡ total * share total = ap (λ n. total * n) are.share in
+    let shares : total * groups.groups_per_ticket ≡ total * groups_per_ticket total = ap (λ n. total * n) are.groups_per_ticket in
     let ticket = ticket-below total group total some (omega arith) in
-    rw are.share ticket
+    rw are.groups_per_ticket ticket

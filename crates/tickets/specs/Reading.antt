@@ -1,7 +1,7 @@
--- How digits are read in groups.
+-- How digits are read in groups. For `dice`.
 use Rattle.std.specs.Prelude.{◌≡◌, ℕ, ◌<◌, ◌≤◌, true, List, length, slice_index}
 use Rattle.std.specs.Char.{is_ascii_digit}
-use Rattle.draw_definitions.specs.Dice.{group_size, share}
+use Rattle.define_draws.specs.Dice.{group_size, groups_per_ticket}
 use Rattle.tickets.specs.declared.dice.Groups.{Groups}
 
 -- '0' to '9' alone
@@ -11,4 +11,4 @@ pub record AreDigits (digits : List ℕ) : Type 0 where
 pub record AreGroupsOf (total : ℕ) (groups : Groups) : Type 0 where
   pub size : groups.size ≡ group_size total
   pub few : groups.size ≤ 38
-  pub share : groups.share ≡ share total
+  pub groups_per_ticket : groups.groups_per_ticket ≡ groups_per_ticket total

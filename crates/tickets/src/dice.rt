@@ -3,15 +3,15 @@
 ghost use Rattle.std.specs.Prelude.{◌≡◌, ◌<◌, ◌≤◌, ◌+◌, ◌*◌, ◌^◌, ◌≤ℤ◌, not, pos, length, position, unsigned_abs, IfOk};
 ghost use Rattle.std.specs.Char.{is_ascii_digit};
 ghost use Rattle.std.specs.Str.Parse.{digits_value};
-ghost use Rattle.draw_definitions.specs.Dice.{first_accepted, group_at as words_of_group_at, name_ticket as words_of_name_ticket, named_at};
+ghost use Rattle.define_draws.specs.Dice.{first_accepted, group_at as words_of_group_at, name_ticket as words_of_name_ticket, named_at};
 ghost use Rattle.tickets.specs.Reading.{AreDigits, AreGroupsOf};
 
-use draw_definitions::{DiceStop, Named};
+use define_draws::{DiceStop, Named};
 
-/// The ticket that the digits name, of `total` tickets, of which there are from 1 to 10^38. The digits are read in groups, each of the
-/// least number of digits for which there are as many groups as tickets, or more. Each ticket has the same number of groups; the groups
-/// that are left over are refused, and the first group that isn't refused names the ticket. An unfinished last group isn't read.
-/// `BadDigit` where a byte is none of `0` to `9`, and else `MoreDigits` where no group names a ticket.
+/// Returns which of `total` tickets the digits name; there are from 1 to 10^38. The digits are read in groups of the least number of
+/// digits for which there are at least as many groups as tickets. Each ticket has the same number of groups; the groups that are left
+/// over are refused, and the first group that isn't refused names the ticket. An unfinished last group isn't read. Fails with
+/// `BadDigit` if a byte is none of `0` to `9`, else with `MoreDigits` if no group names a ticket.
 pub fn name_ticket(total: i128, digits: &[u8]) -> Result<Named, DiceStop>
     requires some { pos 1 ≤ℤ total }
     requires most { total ≤ℤ pos (10 ^ 38) }
@@ -41,7 +41,7 @@ struct Groups {
     /// How many digits a group has.
     size: usize,
     /// How many groups name one ticket.
-    share: u128,
+    groups_per_ticket: u128,
 }
 
 /// The groups for a total from 1 to 10^38.
@@ -58,11 +58,11 @@ fn groups_of(total: u128) -> Groups
     }
     Groups {
         size,
-        share: count / total,
+        groups_per_ticket: count / total,
     }
 }
 
-/// What the first accepted group names, of digits alone.
+/// What the first accepted group names, given digits alone.
 fn first_named(total: u128, groups: Groups, digits: &[u8]) -> Result<Named, DiceStop>
     requires some { 1 ≤ total }
     requires most { total ≤ 10 ^ 38 }
@@ -71,12 +71,12 @@ fn first_named(total: u128, groups: Groups, digits: &[u8]) -> Result<Named, Dice
     ensures named { result ≡ named_at total digits.now (first_accepted total digits.now) }
     ensures below { IfOk result (λ named. (pos 0 ≤ℤ named.ticket) × (unsigned_abs named.ticket < total)) }
 {
-    let accepted = total * groups.share;
+    let accepted = total * groups.groups_per_ticket;
     for place in 0..digits.len() / groups.size {
         let group = group_at(groups.size, digits, place);
         if group < accepted {
             return Ok(Named {
-                ticket: (group / groups.share) as i128,
+                ticket: (group / groups.groups_per_ticket) as i128,
                 used: (place + 1) * groups.size,
             });
         }
@@ -84,7 +84,7 @@ fn first_named(total: u128, groups: Groups, digits: &[u8]) -> Result<Named, Dice
     Err(DiceStop::MoreDigits { read: digits.len() })
 }
 
-/// The group of this place, counted from 0.
+/// The group in this place, counted from 0.
 fn group_at(size: usize, digits: &[u8], place: usize) -> u128
     requires few { size ≤ 38 }
     requires digits { AreDigits digits.now }
@@ -95,7 +95,7 @@ fn group_at(size: usize, digits: &[u8], place: usize) -> u128
     value_of(&digits[first..first + size])
 }
 
-/// The number that at most 38 digits write.
+/// The number of these digits, of which there are at most 38.
 fn value_of(digits: &[u8]) -> u128
     requires few { length digits.now ≤ 38 }
     requires digits { AreDigits digits.now }

@@ -1,10 +1,12 @@
-//! Tickets of a lottery: a table that finds the row of a ticket by halving, and which ticket the digits of dice name. Below stand the
-//! words of `draw_definitions` and the lotteries of `pool_model`.
+//! The tickets of a lottery: a table that finds the row of a ticket by halving, and which ticket the digits of dice name. Stands on
+//! `define_draws`, and on the lotteries of `pool_model`. Above: `sealed_draw`.
+//!
+//! Promises: `table` and `pick`, and `name_ticket`, each exactly the definition's.
 #![tactic(auto)]
 
 mod dice;
 mod ranges;
 
+pub use define_draws::{DiceStop, Named};
 pub use dice::name_ticket;
-pub use draw_definitions::{DiceStop, Named};
 pub use ranges::{TicketTable, pick, table};

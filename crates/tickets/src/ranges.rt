@@ -1,17 +1,17 @@
 //! The table of a lottery's tickets.
 
 ghost use Rattle.std.specs.Prelude.{◌≡◌, ◌<◌, ◌≤ℤ◌, pos, sum, unsigned_abs, IfOk};
-ghost use Rattle.pool_definitions.specs.Lottery.{TotalAgrees};
-ghost use Rattle.draw_definitions.specs.Tickets.{HoldsTicket, row_of, weights_of};
+ghost use Rattle.define_pools.specs.Lottery.{TotalAgrees};
+ghost use Rattle.define_draws.specs.Tickets.{HoldsTicket, row_of, weights_of};
 
 use pool_model::Lottery;
 use std::alloc::{AllocError, Global};
 use std::marker::Model;
 
-/// The rows of a lottery with their ranges of tickets. Its value is the list of the rows' weights.
+/// The rows of a lottery with their ranges of tickets. Contracts see it as the list of the rows' weights.
 #[derive(Debug, Drop)]
 pub struct TicketTable {
-    /// Where each row's range ends: the first ticket behind it.
+    /// The end of each row's range: the first ticket after it.
     ends: Vec<u128>,
 }
 
@@ -26,7 +26,7 @@ impl Model for TicketTable {
     ghost invariant = { λ t. Rise 0 t.ends.items };
 }
 
-/// The table of a lottery whose weights are at least 1 and sum to its total.
+/// Returns the table of a lottery whose weights are at least 1 and sum to its total.
 pub fn table(alloc: Global, lottery: &Lottery) -> Result<TicketTable, AllocError>
     requires { TotalAgrees lottery.now }
     ensures { IfOk result (λ table. table ≡ weights_of lottery.now) }
@@ -40,7 +40,7 @@ pub fn table(alloc: Global, lottery: &Lottery) -> Result<TicketTable, AllocError
     Ok(TicketTable { ends })
 }
 
-/// The number of the row in whose range a ticket is. The ticket is from 0 to the sum of the weights less 1.
+/// Returns the number of the row whose range has a ticket. The ticket is from 0 to the sum of the weights less 1.
 pub fn pick(table: &TicketTable, ticket: i128) -> usize
     requires from { pos 0 ≤ℤ ticket }
     requires below { unsigned_abs ticket < sum table.now }

@@ -1,5 +1,5 @@
 use Rattle.std.proofs.Common.{take}
-use Rattle.pool_definitions.specs.Lists.{includes}
+use Rattle.define_pools.specs.Lists.{includes}
 use Rattle.alike.specs.Steps.{AreMarked}
 use Rattle.alike.proofs.arcs.mark.Given as goal
 

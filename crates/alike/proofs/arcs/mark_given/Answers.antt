@@ -4,10 +4,10 @@ use Rattle.std.specs.List.{AllByRecursion}
 use Rattle.std.proofs.lemmas.Bool.{cases_lt}
 use Rattle.std.proofs.lemmas.List.Elements.{All-from_recursion}
 use Rattle.std.proofs.lemmas.Slice.Zip.{zip_turn, zip_end}
-use Rattle.basic_laws.proofs.Each.{each_at}
-use Rattle.pool_definitions.specs.Lists.{includes}
-use Rattle.search_definitions.specs.Classes.{Class, volunteer_count}
-use Rattle.spread_definitions.specs.Spreading.{turned}
+use Rattle.laws_basic.proofs.Each.{each_at}
+use Rattle.define_pools.specs.Lists.{includes}
+use Rattle.define_searches.specs.Classes.{Class, volunteer_count}
+use Rattle.define_spreads.specs.Spreading.{turned}
 use Rattle.alike.specs.Steps.{AreMarked}
 use Rattle.alike.proofs.Starts.{given_all, given_more, size_divides}
 use Rattle.alike.proofs.arcs.mark_given.Goals as goal

@@ -1,7 +1,7 @@
 use Rattle.std.proofs.Common.{arith, rules, tests}
 use Rattle.std.proofs.lemmas.Iterator.{YieldsList-from_range, items_from_collect}
 use Rattle.std.proofs.lemmas.Iterator.Consumers.{YieldsList-from_filter}
-use Rattle.search_definitions.specs.Compositions.{is_taken}
+use Rattle.define_searches.specs.Compositions.{is_taken}
 use Rattle.alike.proofs.composing.first_members.Goals as goal
 
 pub returns : goal.returns

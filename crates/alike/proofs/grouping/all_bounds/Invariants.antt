@@ -1,5 +1,5 @@
 use Rattle.std.proofs.Common.{◌≡◌, take}
-use Rattle.search_definitions.specs.Classes.{bounds_of}
+use Rattle.define_searches.specs.Classes.{bounds_of}
 use Rattle.alike.proofs.grouping.all_bounds.Given as goal
 
 abbrev pub invariant-loop-category : goal.invariant-loop-category

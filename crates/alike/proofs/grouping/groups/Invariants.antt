@@ -1,6 +1,6 @@
 use Rattle.std.proofs.Common.{◌≡◌, map, not}
 use Rattle.std.specs.List.{filter, list_any, range_with_len}
-use Rattle.search_definitions.specs.Classes.{are_alike as alike, class_by}
+use Rattle.define_searches.specs.Classes.{are_alike as alike, class_by}
 use Rattle.alike.proofs.grouping.groups.Given as goal
 
 abbrev pub invariant-loop-i : goal.invariant-loop-i

@@ -1,6 +1,6 @@
 use Rattle.std.proofs.Common.{◌≡◌, false}
 use Rattle.std.specs.List.{list_any, range_with_len}
-use Rattle.search_definitions.specs.Classes.{are_alike as alike}
+use Rattle.define_searches.specs.Classes.{are_alike as alike}
 use Rattle.alike.proofs.grouping.leads.Given as goal
 
 abbrev pub invariant-loop-j : goal.invariant-loop-j

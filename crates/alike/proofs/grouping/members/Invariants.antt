@@ -1,6 +1,6 @@
 use Rattle.std.proofs.Common.{◌≡◌}
 use Rattle.std.specs.List.{filter, range_with_len}
-use Rattle.search_definitions.specs.Classes.{are_alike as alike}
+use Rattle.define_searches.specs.Classes.{are_alike as alike}
 use Rattle.alike.proofs.grouping.members.Given as goal
 
 abbrev pub invariant-loop-i : goal.invariant-loop-i

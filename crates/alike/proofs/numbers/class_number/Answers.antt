@@ -5,8 +5,8 @@ use Rattle.std.proofs.lemmas.Bool.{ltb-false}
 use Rattle.std.proofs.lemmas.Iterator.{YieldsList-from_slice}
 use Rattle.std.proofs.lemmas.Iterator.Search.{position_from_yields_List}
 use Rattle.std.proofs.lemmas.List.Sums.{prefix_len-le-length}
-use Rattle.pool_definitions.specs.Lists.{includes}
-use Rattle.search_definitions.specs.Classes.{Class}
+use Rattle.define_pools.specs.Lists.{includes}
+use Rattle.define_searches.specs.Classes.{Class}
 use Rattle.alike.proofs.numbers.class_number.Goals as goal
 
 -- where none passes, the place is the length

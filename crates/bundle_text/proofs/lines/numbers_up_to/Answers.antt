@@ -1,5 +1,5 @@
 use Rattle.std.proofs.Common.{◌≡◌, sym, ◌∙◌, ap, Some}
-use Rattle.bundle_definitions.specs.BundleReading.{numbers_up_to}
+use Rattle.define_bundles.specs.BundleReading.{numbers_up_to}
 use Rattle.bundle_text.proofs.NumberLists.{numbers_more, numbers_fail}
 use Rattle.bundle_text.proofs.lines.numbers_up_to.Goals as goal
 

@@ -1,5 +1,5 @@
 use Rattle.std.proofs.Common.{◌≡◌, map, take, Some}
-use Rattle.bundle_definitions.specs.BundleReading.{numbers_up_to as numbers_in}
+use Rattle.define_bundles.specs.BundleReading.{numbers_up_to as numbers_in}
 use Rattle.bundle_text.proofs.lines.numbers_up_to.Given as goal
 
 -- the numbers of the fields so far

@@ -1,5 +1,5 @@
 use Rattle.std.proofs.Common.{◌≡◌, map, take, Some}
-use Rattle.bundle_definitions.specs.BundleReading.{signed_of}
+use Rattle.define_bundles.specs.BundleReading.{signed_of}
 use Rattle.bundle_text.proofs.lines.signed_numbers.Given as goal
 
 -- the numbers of the fields so far

@@ -1,9 +1,9 @@
 use Rattle.std.proofs.Common.{◌≡◌, ℕ, List, ◌∙◌, subst, ap}
 use Rattle.std.specs.Prelude.{Result, Ok, Err, IfOk}
-use Rattle.bundle_definitions.specs.BundleText.{Bundle, IsBundle, bundle_spelling}
-use Rattle.bundle_definitions.specs.BundleReading.{read_bundle}
-use Rattle.bundle_definitions.proofs.ReadAgain.{spelled_is_read}
-use Rattle.bundle_definitions.proofs.Spelled.{read_is_spelled}
+use Rattle.define_bundles.specs.BundleText.{Bundle, IsBundle, bundle_spelling}
+use Rattle.define_bundles.specs.BundleReading.{read_bundle}
+use Rattle.define_bundles.proofs.ReadAgain.{spelled_is_read}
+use Rattle.define_bundles.proofs.Spelled.{read_is_spelled}
 use Rattle.bundle_text.specs.declared.faults.ReadBundle.{ReadBundle}
 use Rattle.bundle_text.specs.Answers.{Reads}
 use Rattle.bundle_text.proofs.reading.read_bundle.Goals as goal

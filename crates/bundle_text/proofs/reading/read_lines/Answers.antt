@@ -1,7 +1,7 @@
 use Rattle.std.proofs.Common.{arith, sym, subst}
-use Rattle.line_definitions.proofs.LineByLine.{leads_on}
-use Rattle.bundle_definitions.specs.BundleReading.{read_bundle, reader}
-use Rattle.bundle_definitions.proofs.Spelled.{IsRight, line_adds}
+use Rattle.define_lines.proofs.LineByLine.{leads_on}
+use Rattle.define_bundles.specs.BundleReading.{read_bundle, reader}
+use Rattle.define_bundles.proofs.Spelled.{IsRight, line_adds}
 use Rattle.bundle_text.specs.declared.progress.Progress.{Progress}
 use Rattle.bundle_text.specs.Progress.{seen}
 use Rattle.bundle_text.proofs.LineByLine.{stops_at, done_right}

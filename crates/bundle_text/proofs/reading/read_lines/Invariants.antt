@@ -1,8 +1,8 @@
 use Rattle.std.proofs.Common.{◌≡◌, ◌+◌, ◌≤◌, length}
-use Rattle.line_definitions.specs.Lines.{pieces_of}
-use Rattle.line_definitions.specs.Reading.{read_lines}
-use Rattle.bundle_definitions.specs.BundleReading.{read_bundle, reader}
-use Rattle.bundle_definitions.proofs.Spelled.{IsRight}
+use Rattle.define_lines.specs.Lines.{pieces_of}
+use Rattle.define_lines.specs.Reading.{read_lines}
+use Rattle.define_bundles.specs.BundleReading.{read_bundle, reader}
+use Rattle.define_bundles.proofs.Spelled.{IsRight}
 use Rattle.bundle_text.specs.Progress.{seen}
 use Rattle.bundle_text.proofs.reading.read_lines.Given as goal
 

@@ -1,6 +1,6 @@
 use Rattle.std.proofs.Common.{◌≡◌, ◌++◌, map, take}
-use Rattle.line_definitions.specs.Lines.{text_of}
-use Rattle.bundle_definitions.specs.BundleText.{panel_line}
+use Rattle.define_lines.specs.Lines.{text_of}
+use Rattle.define_bundles.specs.BundleText.{panel_line}
 use Rattle.bundle_text.proofs.writing.push_rows.Given as goal
 
 abbrev pub invariant-loop-row : goal.invariant-loop-row

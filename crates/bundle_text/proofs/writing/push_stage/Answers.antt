@@ -3,8 +3,8 @@ use Rattle.std.specs.Prelude.{codes}
 use Rattle.std.specs.Fmt.{signed_decimal}
 use Rattle.std.proofs.lemmas.Grind.{common_steps}
 use Rattle.std.proofs.lemmas.Result.{on_ok_weaker}
-use Rattle.line_definitions.specs.Lines.{tabbed}
-use Rattle.line_definitions.proofs.LineLemmas.{line_added}
+use Rattle.define_lines.specs.Lines.{tabbed}
+use Rattle.define_lines.proofs.LineLemmas.{line_added}
 use Rattle.bundle_text.proofs.writing.push_stage.Goals as goal
 
 pub returns : goal.returns

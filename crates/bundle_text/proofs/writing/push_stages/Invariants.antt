@@ -1,6 +1,6 @@
 use Rattle.std.proofs.Common.{◌≡◌, ◌++◌, map, take}
-use Rattle.line_definitions.specs.Lines.{text_of}
-use Rattle.bundle_definitions.specs.BundleText.{stage_line}
+use Rattle.define_lines.specs.Lines.{text_of}
+use Rattle.define_bundles.specs.BundleText.{stage_line}
 use Rattle.bundle_text.proofs.writing.push_stages.Given as goal
 
 abbrev pub invariant-loop-stage : goal.invariant-loop-stage

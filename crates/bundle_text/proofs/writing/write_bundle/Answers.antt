@@ -1,8 +1,8 @@
 use Rattle.std.proofs.Common.{◌≡◌, ap, ◌∙◌, arith}
 use Rattle.std.proofs.lemmas.Grind.{common_steps}
-use Rattle.bundle_definitions.specs.BundleText.{bundle_text}
-use Rattle.bundle_definitions.specs.BundleReading.{read_bundle}
-use Rattle.bundle_definitions.proofs.ReadAgain.{spelled_is_read}
+use Rattle.define_bundles.specs.BundleText.{bundle_text}
+use Rattle.define_bundles.specs.BundleReading.{read_bundle}
+use Rattle.define_bundles.proofs.ReadAgain.{spelled_is_read}
 use Rattle.bundle_text.proofs.writing.write_bundle.Goals as goal
 
 pub returns-clause-read : goal.returns-clause-read

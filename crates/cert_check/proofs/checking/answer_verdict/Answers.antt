@@ -1,5 +1,5 @@
 use Rattle.std.proofs.Common.{sym, ◌∙◌}
-use Rattle.check_definitions.proofs.ReasonsStand.{total_agrees}
+use Rattle.define_checks.proofs.ReasonsStand.{total_agrees}
 use Rattle.cert_check.proofs.Stages.{is_valid}
 use Rattle.cert_check.proofs.checking.answer_verdict.Goals as goal
 

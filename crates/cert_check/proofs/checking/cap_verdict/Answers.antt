@@ -1,7 +1,7 @@
 use Rattle.std.proofs.Common.{length, sym, ap, ◌∙◌}
 use Rattle.std.specs.List.{list_all}
-use Rattle.bundle_definitions.specs.Ranges.{is_stage}
-use Rattle.pool_definitions.specs.Pool.{Pool}
+use Rattle.define_bundles.specs.Ranges.{is_stage}
+use Rattle.define_pools.specs.Pool.{Pool}
 use Rattle.cert_check.proofs.Stages.{list_all-reverse}
 use Rattle.cert_check.proofs.checking.cap_verdict.Goals as goal
 

@@ -1,17 +1,17 @@
 use Rattle.std.proofs.Common.{◌≡◌, ◌↔◌, ℕ, [], Some, Result, Ok, Err, sym, ◌∙◌, subst}
 use Rattle.std.specs.Prelude.{IsFalse, MatchResult}
 use Rattle.std.specs.Result.{IfOk}
-use Rattle.bundle_definitions.specs.Ranges.{IsInRanges}
+use Rattle.define_bundles.specs.Ranges.{IsInRanges}
 use Rattle.cert_check.specs.Answers.{Answers}
 use Rattle.cert_check.specs.declared.stops.CheckStop.{CheckStop}
-use Rattle.check_definitions.specs.Reasons.{Refusal, Refused, Valid, Verdict, verdict}
-use Rattle.check_definitions.specs.Visits.{check_answer, first_spent, is_ahead}
-use Rattle.check_definitions.proofs.Budget.{answer_cases}
-use Rattle.check_definitions.proofs.ReasonsStand.{certified_where_valid, valid_where_certified}
-use Rattle.pool_definitions.specs.Certificate.{Answer, Certifies}
-use Rattle.pool_definitions.specs.Lottery.{LeximinGreatest}
-use Rattle.pool_definitions.specs.Pool.{Pool}
-use Rattle.pool_definitions.proofs.Greatest.{greatest_from_Certifies}
+use Rattle.define_checks.specs.Reasons.{Refusal, Refused, Valid, Verdict, verdict}
+use Rattle.define_checks.specs.Visits.{check_answer, first_spent, is_ahead}
+use Rattle.define_checks.proofs.Budget.{answer_cases}
+use Rattle.define_checks.proofs.ReasonsStand.{certified_where_valid, valid_where_certified}
+use Rattle.define_pools.specs.Certificate.{Answer, Certifies}
+use Rattle.define_pools.specs.Lottery.{LeximinGreatest}
+use Rattle.define_pools.specs.Pool.{Pool}
+use Rattle.define_pools.proofs.Greatest.{greatest_from_Certifies}
 use Rattle.cert_check.proofs.Stages.{same_answers}
 use Rattle.cert_check.proofs.checking.check.Goals as goal
 

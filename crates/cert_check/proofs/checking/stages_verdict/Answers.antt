@@ -1,6 +1,6 @@
 use Rattle.std.proofs.Common.{◌∙◌, sym, length}
 use Rattle.std.proofs.lemmas.Result.{err_from_is_err_and}
-use Rattle.bundle_definitions.specs.Ranges.{is_stage}
+use Rattle.define_bundles.specs.Ranges.{is_stage}
 use Rattle.cert_check.proofs.Stages.{new_answer, new_earlier, new_later, refusing, same_lottery, same_pool, stopping}
 use Rattle.cert_check.proofs.checking.stages_verdict.Goals as goal
 

@@ -1,7 +1,7 @@
 use Rattle.std.proofs.Common.{◌≡◌, true, [], length, drop}
 use Rattle.std.specs.List.{list_all}
-use Rattle.bundle_definitions.specs.Ranges.{is_stage}
-use Rattle.check_definitions.specs.Steps.{answer_from}
+use Rattle.define_bundles.specs.Ranges.{is_stage}
+use Rattle.define_checks.specs.Steps.{answer_from}
 use Rattle.cert_check.proofs.checking.stages_verdict.Given as goal
 
 -- what is to be said of the stages that come is to be said of all

@@ -1,7 +1,10 @@
-use Rattle.std.proofs.Common.{◌∙◌}
+use Rattle.std.proofs.Common.{◌∙◌, Some, ap}
 use Rattle.clap.specs.Words.{found_of}
 use Rattle.clap.proofs.WalkLemmas.{first_value-rows}
 use Rattle.command_words.proofs.values.text_at.Goals as goal
 
-pub returns : goal.returns
-returns c = c.get_str.ensures ∙ first_value-rows (found_of c.args.matches.now) c.args.name.now
+pub returns-in-Some : goal.returns-in-Some
+returns-in-Some c = ap Some c.new.ensures ∙ c.in-Some.ensures ∙ first_value-rows (found_of c.args.matches.now) c.args.name.now
+
+pub returns-in-None : goal.returns-in-None
+returns-in-None c = c.in-None.ensures ∙ first_value-rows (found_of c.args.matches.now) c.args.name.now

@@ -1,7 +1,7 @@
 use Rattle.std.proofs.Common.{sym, ap, ◌∙◌}
 use Rattle.std.specs.Option.{option_map, option_and_then}
-use Rattle.row_definitions.specs.Choice.{leaving, choice}
-use Rattle.row_definitions.proofs.Entered.{entered-known}
+use Rattle.define_rows.specs.Choice.{leaving, choice}
+use Rattle.define_rows.proofs.Entered.{entered-known}
 use Rattle.exact_table.specs.Parts.{with_rows}
 use Rattle.exact_table.proofs.PartLaws.{IsKnown-with_rows}
 use Rattle.exact_table.proofs.choosing.choose.Goals as goal

@@ -2,7 +2,7 @@ use Rattle.std.proofs.Common.{◌≡◌, [], pos, sym, ap, ◌∙◌, rules, Fit
 use Rattle.std.specs.Int.{w128}
 use Rattle.std.proofs.lemmas.Int.{to_z-of_z}
 use Rattle.std.proofs.lemmas.List.{get_or_read}
-use Rattle.row_definitions.specs.Table.{coefficient, coefficient_at, row_at}
+use Rattle.define_rows.specs.Table.{coefficient, coefficient_at, row_at}
 use Rattle.exact_table.specs.Parts.{with_rows}
 use Rattle.exact_table.proofs.PartLaws.{coefficient-with_rows}
 use Rattle.exact_table.proofs.choosing.coefficient_in.Goals as goal

@@ -1,7 +1,7 @@
 use Rattle.std.proofs.Common.{◌≡◌, ◌-◌, [], length, Some, None, sym, ap, ◌∙◌}
-use Rattle.row_definitions.specs.declared.Var.TheVariants.{Stage}
-use Rattle.row_definitions.specs.Table.{variables}
-use Rattle.row_definitions.specs.Choice.{basic_row, entering_from, entering}
+use Rattle.define_rows.specs.declared.Var.TheVariants.{Stage}
+use Rattle.define_rows.specs.Table.{variables}
+use Rattle.define_rows.specs.Choice.{basic_row, entering_from, entering}
 use Rattle.exact_table.specs.Parts.{with_rows}
 use Rattle.exact_table.proofs.PartLaws.{find_may_enter-with_rows}
 use Rattle.exact_table.proofs.choosing.entering.Goals as goal

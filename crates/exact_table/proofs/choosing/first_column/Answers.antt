@@ -1,6 +1,6 @@
 -- The variables are looked at in turn.
 use Rattle.std.proofs.Common.{◌≡◌, [], length, sym, ap, ◌∙◌, arith}
-use Rattle.row_definitions.specs.declared.Var.TheVariants.{Column}
+use Rattle.define_rows.specs.declared.Var.TheVariants.{Column}
 use Rattle.exact_table.specs.Parts.{with_rows}
 use Rattle.exact_table.specs.Best.{may_enter}
 use Rattle.exact_table.proofs.BestLaws.{find_from-more}

@@ -1,6 +1,6 @@
 use Rattle.std.proofs.Common.{◌≡◌, ◌-◌, [], map, length}
 use Rattle.std.specs.List.{find, range_with_len}
-use Rattle.row_definitions.specs.declared.Var.TheVariants.{Slack}
+use Rattle.define_rows.specs.declared.Var.TheVariants.{Slack}
 use Rattle.exact_table.specs.Parts.{with_rows}
 use Rattle.exact_table.specs.Best.{may_enter}
 use Rattle.exact_table.proofs.choosing.first_slack.Given as goal

@@ -1,8 +1,8 @@
 use Rattle.std.proofs.Common.{◌≡◌, pos, drop, []}
 use Rattle.std.specs.Ordering.{int_eq}
 use Rattle.std.specs.List.{list_all}
-use Rattle.row_definitions.specs.Table.{coefficient_at}
-use Rattle.row_definitions.specs.Choice.{is_eligible}
+use Rattle.define_rows.specs.Table.{coefficient_at}
+use Rattle.define_rows.specs.Choice.{is_eligible}
 use Rattle.exact_table.specs.Parts.{with_rows}
 use Rattle.exact_table.proofs.choosing.is_eligible.Given as goal
 

@@ -3,8 +3,8 @@ use Rattle.std.specs.Prelude.{unsigned_abs}
 use Rattle.std.specs.Int.{w128}
 use Rattle.std.proofs.lemmas.Int.{to_z-of_z}
 use Rattle.std.proofs.lemmas.List.{get_or_read}
-use Rattle.row_definitions.specs.Width.{reach_operations}
-use Rattle.row_definitions.proofs.InTurnLaws.{IsMadeUpTo, IsMadeUpTo-more, IsMadeUpTo-pass, IsMadeUpTo-all}
+use Rattle.define_rows.specs.Width.{reach_operations}
+use Rattle.define_rows.proofs.InTurnLaws.{IsMadeUpTo, IsMadeUpTo-more, IsMadeUpTo-pass, IsMadeUpTo-all}
 use Rattle.exact_table.proofs.starting.check_reaches.Goals as goal
 
 pub returns-in-Err : goal.returns-in-Err

@@ -1,6 +1,6 @@
 use Rattle.std.specs.Prelude.{unsigned_abs}
-use Rattle.row_definitions.specs.Width.{reach_operations}
-use Rattle.row_definitions.proofs.InTurnLaws.{IsMadeUpTo}
+use Rattle.define_rows.specs.Width.{reach_operations}
+use Rattle.define_rows.proofs.InTurnLaws.{IsMadeUpTo}
 use Rattle.exact_table.proofs.starting.check_reaches.Given as goal
 
 abbrev pub invariant-loop-place : goal.invariant-loop-place

@@ -1,7 +1,7 @@
 use Rattle.std.proofs.Common.{◌≡◌, ℕ, ◌+◌, ◌∷◌, ◌++◌, [], map, ap, ◌∙◌, sym, arith}
 use Rattle.std.specs.List.{range_with_len}
 use Rattle.std.proofs.lemmas.List.FromFn.{map-range_with_len_more}
-use Rattle.row_definitions.specs.declared.Var.TheVariants.{Slack, Column}
+use Rattle.define_rows.specs.declared.Var.TheVariants.{Slack, Column}
 use Rattle.exact_table.proofs.starting.first_basic.Goals as goal
 
 more : (t : ℕ) → (Column 0 ∷ map Slack (range_with_len 0 t)) ++ Slack t ∷ [] ≡ Column 0 ∷ map Slack (range_with_len 0 (t + 1))

@@ -1,6 +1,6 @@
 use Rattle.std.proofs.Common.{◌≡◌, ◌∷◌, map}
 use Rattle.std.specs.List.{range_with_len}
-use Rattle.row_definitions.specs.declared.Var.TheVariants.{Slack, Column}
+use Rattle.define_rows.specs.declared.Var.TheVariants.{Slack, Column}
 use Rattle.exact_table.proofs.starting.first_basic.Given as goal
 
 abbrev pub invariant-loop-class : goal.invariant-loop-class

@@ -2,8 +2,8 @@ use Rattle.std.proofs.Common.{◌≡◌, ℕ, ◌+◌, ◌<◌, List, [], ◌∷
 use Rattle.std.specs.List.{range_with_len, enumerate_from}
 use Rattle.std.proofs.lemmas.List.{length-map, get_or-map, ext_get_or}
 use Rattle.std.proofs.lemmas.List.FromFn.{map-range_with_len_more, length-map-range_with_len, get_or-map-range_with_len, length-enumerate_from, get_or-enumerate_from}
-use Rattle.row_definitions.specs.Row.{Row}
-use Rattle.row_definitions.specs.Pivot.{total_row, class_row}
+use Rattle.define_rows.specs.Row.{Row}
+use Rattle.define_rows.specs.Pivot.{total_row, class_row}
 use Rattle.exact_table.proofs.starting.first_rows.Goals as goal
 
 row_of : List ℕ → ℕ → Row

@@ -1,6 +1,6 @@
 use Rattle.std.proofs.Common.{◌≡◌, ◌∷◌, map, length, get_or}
 use Rattle.std.specs.List.{range_with_len}
-use Rattle.row_definitions.specs.Pivot.{total_row, class_row}
+use Rattle.define_rows.specs.Pivot.{total_row, class_row}
 use Rattle.exact_table.proofs.starting.first_rows.Given as goal
 
 abbrev pub invariant-loop-class : goal.invariant-loop-class

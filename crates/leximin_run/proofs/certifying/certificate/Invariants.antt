@@ -1,5 +1,5 @@
 use Rattle.std.proofs.Common.{◌≡◌, map, take}
-use Rattle.run_definitions.specs.Run.{stage_of}
+use Rattle.define_runs.specs.Run.{stage_of}
 use Rattle.leximin_run.proofs.certifying.certificate.Given as goal
 
 -- the rows so far have their stages

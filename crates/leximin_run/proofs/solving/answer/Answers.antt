@@ -1,7 +1,7 @@
 use Rattle.std.proofs.Common.{Err, map, rules, refl, sym, ap, ◌∙◌, subst}
-use Rattle.run_definitions.specs.Run.{Ends, Found, run_limits, stage_of}
-use Rattle.run_definitions.proofs.Parts.{parts_are}
-use Rattle.spread_definitions.specs.Spreading.{AreParts, spread}
+use Rattle.define_runs.specs.Run.{Ends, Found, run_limits, stage_of}
+use Rattle.define_runs.proofs.Parts.{parts_are}
+use Rattle.define_spreads.specs.Spreading.{AreParts, spread}
 use Rattle.alike.specs.Spreads.{IsSpread}
 use Rattle.leximin_run.proofs.Ending.{found_at_end, passed_at_end}
 use Rattle.leximin_run.proofs.solving.answer.Goals as goal

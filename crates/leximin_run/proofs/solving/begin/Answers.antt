@@ -1,8 +1,8 @@
 use Rattle.std.proofs.Common.{◌≤◌, length, None, Err, sym, ap, ◌∙◌, subst}
 use Rattle.std.specs.Prelude.{slice_index}
 use Rattle.std.specs.List.{All}
-use Rattle.row_definitions.specs.Pivot.{start}
-use Rattle.run_definitions.specs.Run.{Ends, TooWide, run_limits}
+use Rattle.define_rows.specs.Pivot.{start}
+use Rattle.define_runs.specs.Run.{Ends, TooWide, run_limits}
 use Rattle.exact_table.specs.Starting.{IsStarted}
 use Rattle.leximin_run.specs.Advancing.{Reaches}
 use Rattle.leximin_run.proofs.Beginning.{begun, may_start, wide_at_once}

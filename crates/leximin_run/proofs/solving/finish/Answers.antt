@@ -1,7 +1,7 @@
 use Rattle.std.proofs.Common.{◌<◌, Ok, Err, sym, ◌∙◌, subst}
-use Rattle.run_definitions.specs.Run.{run_limits}
-use Rattle.run_definitions.specs.Work.{work_left}
-use Rattle.run_definitions.proofs.Work.{step_lessens}
+use Rattle.define_runs.specs.Run.{run_limits}
+use Rattle.define_runs.specs.Work.{work_left}
+use Rattle.define_runs.proofs.Work.{step_lessens}
 use Rattle.leximin_run.specs.Advancing.{Advances, Reaches, Stands}
 use Rattle.leximin_run.specs.Answers.{TellsEnding, TellsSized, stop_of}
 use Rattle.leximin_run.proofs.Ending.{reaches_on, refused_at}

@@ -1,7 +1,7 @@
 use Rattle.std.proofs.Common.{◌≡◌}
 use Rattle.leximin_run.specs.Advancing.{Reaches}
-use Rattle.run_definitions.specs.Run.{run_limits}
-use Rattle.run_definitions.specs.Work.{work_left}
+use Rattle.define_runs.specs.Run.{run_limits}
+use Rattle.define_runs.specs.Work.{work_left}
 use Rattle.leximin_run.proofs.solving.finish.Given as goal
 
 -- the run comes to its table, over the same classes under the same limits

@@ -1,7 +1,7 @@
 use Rattle.std.proofs.Common.{◌<◌, None, Err, sym, ◌∙◌, subst, arith}
-use Rattle.search_definitions.specs.Visits.{first_search}
+use Rattle.define_searches.specs.Visits.{first_search}
 use Rattle.panel_search.specs.Answers.{Answers}
-use Rattle.run_definitions.specs.Run.{Ends, NodesSpent, NoPanel, run_limits}
+use Rattle.define_runs.specs.Run.{Ends, NodesSpent, NoPanel, run_limits}
 use Rattle.leximin_run.proofs.Beginning.{no_panel_at_once, spent_at_once}
 use Rattle.leximin_run.proofs.solving.run.Goals as goal
 

@@ -1,7 +1,7 @@
 use Rattle.leximin_run.specs.Answers.{unsized}
 use Rattle.leximin_run.proofs.Certified.{certified, keeps_ranges, tells_unsized}
-use Rattle.search_definitions.specs.Classes.{classes_of}
-use Rattle.run_definitions.specs.Run.{run_limits}
+use Rattle.define_searches.specs.Classes.{classes_of}
+use Rattle.define_runs.specs.Run.{run_limits}
 use Rattle.leximin_run.proofs.solving.solve_sized.Goals as goal
 
 pub returns-clause-certified : goal.returns-clause-certified

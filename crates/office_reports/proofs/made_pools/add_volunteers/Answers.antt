@@ -1,10 +1,10 @@
 use Rattle.std.proofs.Common.{length, refl, ◌∙◌, ap, arith}
-use Rattle.pool_definitions.specs.Building.{ids}
-use Rattle.pool_definitions.specs.Lists.{includes_list}
-use Rattle.pool_definitions.specs.Pool.{Pool}
-use Rattle.make_definitions.specs.Generator.{state}
-use Rattle.make_definitions.specs.MadePools.{made_id}
-use Rattle.make_definitions.proofs.Volunteers.{next_id_is_new}
+use Rattle.define_pools.specs.Building.{ids}
+use Rattle.define_pools.specs.Lists.{includes_list}
+use Rattle.define_pools.specs.Pool.{Pool}
+use Rattle.define_made_pools.specs.Generator.{state}
+use Rattle.define_made_pools.specs.MadePools.{made_id}
+use Rattle.define_made_pools.proofs.Volunteers.{next_id_is_new}
 use Rattle.office_reports.proofs.Making.{length-made_volunteers, next_numbers, next_volunteer}
 use Rattle.office_reports.proofs.made_pools.add_volunteers.Goals as goal
 

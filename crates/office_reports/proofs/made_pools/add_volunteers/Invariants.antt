@@ -1,6 +1,6 @@
 use Rattle.std.proofs.Common.{◌≡◌, ◌*◌}
-use Rattle.make_definitions.specs.Generator.{state}
-use Rattle.make_definitions.specs.MadePools.{made_volunteers}
+use Rattle.define_made_pools.specs.Generator.{state}
+use Rattle.define_made_pools.specs.MadePools.{made_volunteers}
 use Rattle.office_reports.proofs.made_pools.add_volunteers.Given as goal
 
 abbrev pub invariant-loop-number : goal.invariant-loop-number

@@ -1,7 +1,7 @@
 use Rattle.std.proofs.Common.{◌≡◌, map, refl, ◌∙◌, ap, arith}
 use Rattle.std.specs.List.{range_with_len}
-use Rattle.make_definitions.specs.Generator.{state}
-use Rattle.make_definitions.specs.MadePools.{made_values}
+use Rattle.define_made_pools.specs.Generator.{state}
+use Rattle.define_made_pools.specs.MadePools.{made_values}
 use Rattle.office_reports.proofs.Making.{next_list, next_numbers}
 use Rattle.office_reports.proofs.made_pools.first_values.Goals as goal
 

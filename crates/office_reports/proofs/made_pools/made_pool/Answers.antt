@@ -1,6 +1,6 @@
 use Rattle.std.proofs.Common.{length, ◌∙◌, ap, arith}
 use Rattle.std.proofs.lemmas.List.FromFn.{length-map-range_with_len}
-use Rattle.make_definitions.specs.MadePools.{made_values}
+use Rattle.define_made_pools.specs.MadePools.{made_values}
 use Rattle.office_reports.proofs.Making.{pool_is_made}
 use Rattle.office_reports.proofs.made_pools.made_pool.Goals as goal
 

@@ -1,7 +1,7 @@
 use Rattle.std.proofs.Common.{codes, length, string_bytes, take, refl, sym, ◌∙◌, ap}
 use Rattle.std.proofs.lemmas.List.{append-nil}
-use Rattle.pool_definitions.specs.Lottery.{Lottery}
-use Rattle.make_definitions.specs.Summary.{Sizes, size_lines}
+use Rattle.define_pools.specs.Lottery.{Lottery}
+use Rattle.define_made_pools.specs.Summary.{Sizes, size_lines}
 use Rattle.office_reports.proofs.SummaryTexts.{last_number, number_is_added}
 use Rattle.office_reports.proofs.summaries.push_sizes.Goals as goal
 

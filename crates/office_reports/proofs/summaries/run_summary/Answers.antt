@@ -1,9 +1,9 @@
 use Rattle.std.proofs.Common.{◌∙◌, ap, map, pos, string_bytes, FitsSigned, to_z, of_z, rules}
 use Rattle.std.specs.Int.{w128}
 use Rattle.std.proofs.lemmas.Int.{to_z-of_z}
-use Rattle.pool_definitions.specs.Lottery.{Lottery, counts}
-use Rattle.draw_definitions.specs.Seal.{seal_of}
-use Rattle.make_definitions.specs.Summary.{Sizes}
+use Rattle.define_pools.specs.Lottery.{Lottery, counts}
+use Rattle.define_draws.specs.Seal.{seal_of}
+use Rattle.define_made_pools.specs.Summary.{Sizes}
 use Rattle.office_reports.proofs.SummaryTexts.{naturals_again, summary_is}
 use Rattle.office_reports.proofs.summaries.run_summary.Goals as goal
 

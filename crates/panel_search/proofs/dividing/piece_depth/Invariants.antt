@@ -1,5 +1,5 @@
 use Rattle.std.proofs.Common.{◌≡◌, ◌≤◌, ◌<◌, ℕ, take}
-use Rattle.wave_definitions.specs.Waves.{lists_of}
+use Rattle.define_waves.specs.Waves.{lists_of}
 use Rattle.panel_search.proofs.dividing.piece_depth.Given as goal
 
 -- each number of classes so far has fewer lists than 64

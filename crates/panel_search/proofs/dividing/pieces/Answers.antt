@@ -1,10 +1,10 @@
 use Rattle.std.proofs.Common.{sym, ap, ◌∙◌, arith}
 use Rattle.std.specs.List.{flat_map}
-use Rattle.wave_definitions.specs.Waves.{pieces}
-use Rattle.wave_definitions.proofs.Pieces.{depth_within}
+use Rattle.define_waves.specs.Waves.{pieces}
+use Rattle.define_waves.proofs.Pieces.{depth_within}
 use Rattle.panel_search.specs.Pieces.{live_children}
 use Rattle.panel_search.proofs.Division.{goes_last, goes_next, goes_too_far, pieces_spent}
-use Rattle.front_laws.proofs.WeightLaws.{element_at}
+use Rattle.laws_of_fronts.proofs.WeightLaws.{element_at}
 use Rattle.panel_search.proofs.dividing.pieces.Goals as goal
 
 pub returns-in_err-visits : goal.returns-in_err-visits

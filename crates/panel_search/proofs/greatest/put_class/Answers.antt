@@ -2,11 +2,11 @@ use Rattle.std.proofs.Common.{rules, ◌≡◌, ◌+◌, ◌++◌, replicate, su
 use Rattle.std.specs.Int.{w128}
 use Rattle.std.specs.Prelude.{unsigned_abs}
 use Rattle.std.proofs.lemmas.Int.{to_z-of_z}
-use Rattle.front_laws.specs.Weights.{at, CanAdd, HasUnit, AreGreatest, units_from}
-use Rattle.front_laws.proofs.Tracking.{most_of_class}
-use Rattle.front_laws.proofs.UnitSums.{unit_fits, units_more, units_few, units_next, greatest_more}
+use Rattle.laws_of_fronts.specs.Weights.{at, CanAdd, HasUnit, AreGreatest, units_from}
+use Rattle.laws_of_fronts.proofs.Tracking.{most_of_class}
+use Rattle.laws_of_fronts.proofs.UnitSums.{unit_fits, units_more, units_few, units_next, greatest_more}
 use Rattle.panel_search.proofs.greatest.put_class.Goals as goal
-use Rattle.search_definitions.proofs.GreatestSum.{length-replicate}
+use Rattle.define_searches.proofs.GreatestSum.{length-replicate}
 
 pub overflow_add-units : goal.overflow_add-units
 overflow_add-units c =

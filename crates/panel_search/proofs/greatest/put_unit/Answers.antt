@@ -2,9 +2,9 @@ use Rattle.std.proofs.Common.{rules, ◌≡◌, ◌+◌, ◌-◌, ◌<◌, ◌^�
 use Rattle.std.specs.Prelude.{unsigned_abs}
 use Rattle.std.specs.Int.{w128}
 use Rattle.std.proofs.lemmas.Int.{to_z-of_z, fits_signed_from_abs}
-use Rattle.row_definitions.proofs.SumLaws.{abs_sum_le}
-use Rattle.front_laws.specs.Weights.{at, IsGreater}
-use Rattle.front_laws.proofs.UnitSums.{PutFrom, put_next, put_all}
+use Rattle.define_rows.proofs.SumLaws.{abs_sum_le}
+use Rattle.laws_of_fronts.specs.Weights.{at, IsGreater}
+use Rattle.laws_of_fronts.proofs.UnitSums.{PutFrom, put_next, put_all}
 use Rattle.panel_search.proofs.greatest.put_unit.Goals as goal
 
 pub loop-done-preserved : goal.loop-done-preserved

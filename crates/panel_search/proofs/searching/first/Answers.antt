@@ -1,5 +1,5 @@
 use Rattle.std.proofs.Common.{◌∙◌}
-use Rattle.search_definitions.proofs.FirstSearch.{search_finds_first}
+use Rattle.define_searches.proofs.FirstSearch.{search_finds_first}
 use Rattle.panel_search.proofs.searching.first.Goals as goal
 
 pub returns-clause-first : goal.returns-clause-first

@@ -1,7 +1,7 @@
 use Rattle.std.proofs.Common.{◌≡◌, ℕ, ◌<◌, true, Some}
 use Rattle.std.specs.Prelude.{slice_get, int_le}
-use Rattle.row_definitions.specs.Row.{Row}
-use Rattle.search_definitions.specs.Fronts.{optimistic}
+use Rattle.define_rows.specs.Row.{Row}
+use Rattle.define_searches.specs.Fronts.{optimistic}
 use Rattle.panel_search.proofs.weighing.front_attains.Given as goal
 
 abbrev pub invariant-loop-r : goal.invariant-loop-r

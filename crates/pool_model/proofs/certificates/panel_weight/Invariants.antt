@@ -1,5 +1,5 @@
 use Rattle.std.proofs.Common.{◌≡◌, take}
-use Rattle.pool_definitions.specs.Certificate.{panel_weight as weight_of_panel}
+use Rattle.define_pools.specs.Certificate.{panel_weight as weight_of_panel}
 use Rattle.pool_model.proofs.certificates.panel_weight.Given as goal
 
 -- the weight of the members so far

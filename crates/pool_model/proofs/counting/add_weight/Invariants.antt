@@ -1,5 +1,5 @@
 use Rattle.std.proofs.Common.{◌≡◌, ℕ, ◌<◌, ◌+ℤ◌, pos, length, get_or, take, cond}
-use Rattle.pool_definitions.specs.Lists.{includes}
+use Rattle.define_pools.specs.Lists.{includes}
 use Rattle.pool_model.proofs.counting.add_weight.Given as goal
 
 -- the weight stands with the members up to now

@@ -6,12 +6,12 @@ use Rattle.std.proofs.lemmas.List.{take_all}
 use Rattle.std.proofs.lemmas.Simd.{map-map}
 use mir.Val.{SFits, to_z, of_z}
 use mir.Syntax.{w128}
-use Rattle.pool_definitions.specs.Lists.{includes}
-use Rattle.pool_definitions.specs.Pool.{everybody}
-use Rattle.pool_definitions.specs.Lottery.{LotteryRow, count}
-use Rattle.basic_laws.proofs.Sums.{total, sum_by-is-total}
-use Rattle.pool_definitions.proofs.Weights.{counted}
-use Rattle.pool_definitions.proofs.Greatest.{count-is}
+use Rattle.define_pools.specs.Lists.{includes}
+use Rattle.define_pools.specs.Pool.{everybody}
+use Rattle.define_pools.specs.Lottery.{LotteryRow, count}
+use Rattle.laws_basic.proofs.Sums.{total, sum_by-is-total}
+use Rattle.define_pools.proofs.Weights.{counted}
+use Rattle.define_pools.proofs.Greatest.{count-is}
 use Rattle.pool_model.proofs.counting.chances.Goals as goal
 
 -- one more row

@@ -1,5 +1,5 @@
 use Rattle.std.proofs.Common.{◌≡◌, ℕ, ◌<◌, pos, length, get_or, take}
-use Rattle.pool_definitions.proofs.Weights.{counted}
+use Rattle.define_pools.proofs.Weights.{counted}
 use Rattle.pool_model.proofs.counting.chances.Given as goal
 
 -- the counts over the rows up to now

@@ -2,7 +2,7 @@ use Rattle.std.proofs.Common.{sym, ◌∙◌, rules, tests}
 use Rattle.std.specs.Str.{bytes_eq}
 use Rattle.std.proofs.lemmas.Iterator.{YieldsList-from_slice}
 use Rattle.std.proofs.lemmas.Iterator.Search.{any_from_yields_List}
-use Rattle.pool_definitions.specs.Pool.{Volunteer}
+use Rattle.define_pools.specs.Pool.{Volunteer}
 use Rattle.pool_model.proofs.NameLists.{list_any-map}
 use Rattle.pool_model.proofs.names.is_volunteer.Goals as goal
 

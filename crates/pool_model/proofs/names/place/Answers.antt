@@ -2,7 +2,7 @@ use Rattle.std.proofs.Common.{sym, ◌∙◌, rules, tests}
 use Rattle.std.specs.Str.{bytes_eq}
 use Rattle.std.proofs.lemmas.Iterator.{YieldsList-from_slice}
 use Rattle.std.proofs.lemmas.Iterator.Search.{position_from_yields_List}
-use Rattle.pool_definitions.specs.Pool.{BoundedValue}
+use Rattle.define_pools.specs.Pool.{BoundedValue}
 use Rattle.pool_model.proofs.NameLists.{place_of-is_position}
 use Rattle.pool_model.proofs.names.place.Goals as goal
 

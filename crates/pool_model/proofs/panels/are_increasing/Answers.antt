@@ -1,7 +1,7 @@
 use Rattle.std.proofs.Common.{◌≡◌, ◌+◌, ◌-◌, ◌<◌, get_or, arith, sym}
 use Rattle.std.proofs.lemmas.Bool.{false_from_ne_true}
-use Rattle.pool_definitions.specs.Lists.{is_increasing}
-use Rattle.pool_definitions.proofs.Increasing.{is_increasing-from_neighbours, neighbours-from_is_increasing}
+use Rattle.define_pools.specs.Lists.{is_increasing}
+use Rattle.define_pools.proofs.Increasing.{is_increasing-from_neighbours, neighbours-from_is_increasing}
 use Rattle.pool_model.proofs.panels.are_increasing.Goals as goal
 
 pub returns-then-members-i : goal.returns-then-members-i

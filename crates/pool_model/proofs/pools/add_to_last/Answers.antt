@@ -1,7 +1,7 @@
 use Rattle.std.proofs.Common.{◌≡◌, ◌-◌, ◌++◌, [], ◌∷◌, suc, length, set, get_or, ap, ◌∙◌, arith}
 use Rattle.std.proofs.lemmas.Result.{on_ok_weaker}
-use Rattle.pool_definitions.specs.Pool.{Category}
-use Rattle.pool_definitions.specs.Building.{with_value}
+use Rattle.define_pools.specs.Pool.{Category}
+use Rattle.define_pools.specs.Building.{with_value}
 use Rattle.pool_model.proofs.LastCategory.{with_value_at}
 use Rattle.pool_model.proofs.pools.add_to_last.Goals as goal
 

@@ -1,6 +1,6 @@
 use Rattle.std.proofs.Common.{◌≡◌, ℕ, zero, suc, ◌<◌, List, [], ◌∷◌, length, set, get_or, Some, refl, ap, ◌∙◌, arith}
-use Rattle.pool_definitions.specs.Pool.{Volunteer}
-use Rattle.pool_definitions.specs.Building.{with_household}
+use Rattle.define_pools.specs.Pool.{Volunteer}
+use Rattle.define_pools.specs.Building.{with_household}
 use Rattle.pool_model.proofs.pools.set_household_of.Goals as goal
 
 -- the household is written at its place

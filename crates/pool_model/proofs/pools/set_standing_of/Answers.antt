@@ -1,7 +1,7 @@
 use Rattle.std.proofs.Common.{◌≡◌, ℕ, zero, suc, ◌<◌, List, [], ◌∷◌, length, set, get_or, refl, ap, ◌∙◌, arith}
-use Rattle.pool_definitions.specs.declared.Standing.{Standing}
-use Rattle.pool_definitions.specs.Pool.{Volunteer}
-use Rattle.pool_definitions.specs.Building.{with_standing}
+use Rattle.define_pools.specs.declared.Standing.{Standing}
+use Rattle.define_pools.specs.Pool.{Volunteer}
+use Rattle.define_pools.specs.Building.{with_standing}
 use Rattle.pool_model.proofs.pools.set_standing_of.Goals as goal
 
 -- the standing is written at its place

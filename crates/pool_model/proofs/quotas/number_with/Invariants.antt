@@ -1,5 +1,5 @@
 use Rattle.std.proofs.Common.{◌≡◌, ◌≤◌, take}
-use Rattle.pool_definitions.specs.Pool.{members_with}
+use Rattle.define_pools.specs.Pool.{members_with}
 use Rattle.pool_model.proofs.quotas.number_with.Given as goal
 
 abbrev pub invariant-loop-i : goal.invariant-loop-i

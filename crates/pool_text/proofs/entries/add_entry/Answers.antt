@@ -1,4 +1,4 @@
-use Rattle.pool_definitions.proofs.BuildingLemmas.{no_kind}
+use Rattle.define_pools.proofs.BuildingLemmas.{no_kind}
 use Rattle.pool_text.proofs.entries.add_entry.Goals as goal
 
 pub add_right_volunteer-requires : goal.add_right_volunteer-requires

@@ -1,12 +1,12 @@
 use Rattle.std.specs.Prelude.{Result, Err}
-use Rattle.pool_definitions.specs.Pool.{Pool}
+use Rattle.define_pools.specs.Pool.{Pool}
 use Rattle.pool_text.specs.declared.faults.ReadPool.{ReadPool}
-use Rattle.line_definitions.specs.Lines.{pieces_of}
-use Rattle.line_definitions.proofs.LineLemmas.{some_piece}
+use Rattle.define_lines.specs.Lines.{pieces_of}
+use Rattle.define_lines.proofs.LineLemmas.{some_piece}
 use Rattle.std.proofs.Common.{◌≡◌, ◌≤◌, ◌+◌, ℕ, suc, List, length, refl, arith, sym, subst, ap, ◌∙◌}
-use Rattle.line_definitions.proofs.LineByLine.{leads_on}
-use Rattle.line_definitions.specs.Reading.{read_lines}
-use Rattle.text_definitions.specs.PoolReading.{read, reader}
+use Rattle.define_lines.proofs.LineByLine.{leads_on}
+use Rattle.define_lines.specs.Reading.{read_lines}
+use Rattle.define_pool_texts.specs.PoolReading.{read, reader}
 use Rattle.pool_text.specs.Answers.{IsRightBefore}
 use Rattle.pool_text.specs.declared.progress.Progress.{Progress}
 use Rattle.pool_text.specs.Progress.{seen, line_due}

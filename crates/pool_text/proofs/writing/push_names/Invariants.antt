@@ -1,6 +1,6 @@
 use Rattle.std.proofs.Common.{◌≡◌, ◌++◌, length, take}
-use Rattle.text_definitions.specs.PoolText.{names_at}
-use Rattle.line_definitions.specs.Lines.{tabbed}
+use Rattle.define_pool_texts.specs.PoolText.{names_at}
+use Rattle.define_lines.specs.Lines.{tabbed}
 use Rattle.pool_text.proofs.writing.push_names.Given as goal
 
 -- the names of the categories so far

@@ -2,9 +2,9 @@ use Rattle.std.proofs.Common.{◌≡◌, [], ◌∷◌, ◌++◌, map, ap, ◌�
 use Rattle.std.specs.Prelude.{codes}
 use Rattle.std.specs.List.{flat_map}
 use Rattle.std.proofs.lemmas.Result.{on_ok_weaker}
-use Rattle.pool_definitions.specs.Pool.{has_households}
-use Rattle.line_definitions.specs.Lines.{line_of, text_of}
-use Rattle.text_definitions.specs.PoolText.{version_line, size_line, category_lines, volunteer_line, household_lines, standing_lines, end_line}
+use Rattle.define_pools.specs.Pool.{has_households}
+use Rattle.define_lines.specs.Lines.{line_of, text_of}
+use Rattle.define_pool_texts.specs.PoolText.{version_line, size_line, category_lines, volunteer_line, household_lines, standing_lines, end_line}
 use Rattle.pool_text.proofs.WritingLemmas.{pool_written}
 use Rattle.pool_text.proofs.writing.push_pool.Goals as goal
 

@@ -1,9 +1,9 @@
 use Rattle.std.proofs.Common.{◌≡◌, [], ◌∷◌, ◌++◌, ap, ◌∙◌}
 use Rattle.std.specs.Prelude.{codes}
 use Rattle.std.proofs.lemmas.Result.{on_ok_weaker}
-use Rattle.text_definitions.specs.PoolText.{names_at}
-use Rattle.line_definitions.specs.Lines.{tabbed}
-use Rattle.line_definitions.proofs.LineLemmas.{line_added}
+use Rattle.define_pool_texts.specs.PoolText.{names_at}
+use Rattle.define_lines.specs.Lines.{tabbed}
+use Rattle.define_lines.proofs.LineLemmas.{line_added}
 use Rattle.pool_text.proofs.writing.push_volunteer.Goals as goal
 
 pub returns : goal.returns

@@ -1,11 +1,11 @@
 use Rattle.std.proofs.Common.{◌≡◌, ◌≤◌}
-use Rattle.pricing_pool.specs.SoFar.{told}
+use Rattle.pricing_pool.specs.SoFar.{pricing_so_far}
 use Rattle.pricing_pool.proofs.Waving.{up_to}
 use Rattle.pricing_pool.proofs.pricing.take_waves.Given as goal
 
 -- so many waves were taken
 abbrev pub invariant-loop-number : goal.invariant-loop-number
 invariant-loop-number g l = record {
-  taken : told l.so_far ≡ up_to l.priced.classes l.priced.closed l.priced.row l.fronts (told l.fn.so_far) l.number;
+  taken : pricing_so_far l.so_far ≡ up_to l.priced.classes l.priced.closed l.priced.row l.fronts (pricing_so_far l.fn.so_far) l.number;
   within : l.so_far.visits ≤ l.nodes;
 }

@@ -1,9 +1,9 @@
 use Rattle.std.proofs.Common.{◌≡◌, ℕ, List, ◌+◌, ◌-◌, ◌<◌, get_or, map, length, arith, sym}
 use Rattle.std.proofs.lemmas.Bool.{false_from_ne_true}
 use Rattle.std.proofs.lemmas.List.{length-map}
-use Rattle.pool_definitions.specs.Lists.{is_increasing}
-use Rattle.pool_definitions.proofs.Increasing.{is_increasing-from_neighbours, neighbours-from_is_increasing}
-use Rattle.addition_definitions.specs.Leaves.{Multiplier}
+use Rattle.define_pools.specs.Lists.{is_increasing}
+use Rattle.define_pools.proofs.Increasing.{is_increasing-from_neighbours, neighbours-from_is_increasing}
+use Rattle.define_additions.specs.Leaves.{Multiplier}
 use Rattle.proof_model.proofs.ranges.are_in_order.Goals as goal
 
 pub returns-then-number_at : goal.returns-then-number_at

@@ -1,15 +1,15 @@
 use Rattle.std.proofs.Common.{◌≡◌, ℕ, List, ◌∙◌, subst, ap}
 use Rattle.std.specs.Prelude.{Result, Ok, Err, IfOk}
-use Rattle.addition_definitions.specs.ProofVerdict.{Proof}
-use Rattle.proof_definitions.specs.ProofText.{IsProof, proof_spelling}
-use Rattle.proof_definitions.specs.ProofReading.{read_proof}
-use Rattle.proof_definitions.proofs.ReadAgain.{spelled_is_read}
-use Rattle.proof_definitions.proofs.Spelled.{read_is_spelled}
-use Rattle.proof_text.specs.declared.faults.ReadProof.{ReadProof}
+use Rattle.define_additions.specs.ProofVerdict.{Proof}
+use Rattle.define_proof_texts.specs.ProofText.{IsProof, proof_spelling}
+use Rattle.define_proof_texts.specs.ProofReading.{read_proof}
+use Rattle.define_proof_texts.proofs.ReadAgain.{spelled_is_read}
+use Rattle.define_proof_texts.proofs.Spelled.{read_is_spelled}
+use Rattle.text_lines.specs.declared.faults.TextStop.{TextStop}
 use Rattle.proof_text.specs.Answers.{Reads}
 use Rattle.proof_text.proofs.reading.read_proof.Goals as goal
 
-spelled : (bytes : List ℕ) (r : Result Proof ReadProof) → Reads (read_proof bytes) r → IfOk r (λ proof. IsProof proof × (bytes ≡ proof_spelling proof))
+spelled : (bytes : List ℕ) (r : Result Proof TextStop) → Reads (read_proof bytes) r → IfOk r (λ proof. IsProof proof × (bytes ≡ proof_spelling proof))
 spelled bytes (Ok proof) h = read_is_spelled bytes proof h
 spelled bytes (Err stop) h = tt
 

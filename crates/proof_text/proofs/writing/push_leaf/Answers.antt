@@ -4,9 +4,9 @@ use Rattle.std.specs.Fmt.{decimal}
 use Rattle.std.specs.List.{flat_map}
 use Rattle.std.proofs.lemmas.Grind.{common_steps}
 use Rattle.std.proofs.lemmas.Result.{on_ok_weaker}
-use Rattle.line_definitions.specs.Lines.{tabbed}
-use Rattle.line_definitions.proofs.LineLemmas.{line_added}
-use Rattle.proof_definitions.specs.ProofText.{multiplier_fields}
+use Rattle.define_lines.specs.Lines.{tabbed}
+use Rattle.define_lines.proofs.LineLemmas.{line_added}
+use Rattle.define_proof_texts.specs.ProofText.{multiplier_fields}
 use Rattle.proof_text.proofs.writing.push_leaf.Goals as goal
 
 pub returns : goal.returns

@@ -1,11 +1,11 @@
 use Rattle.std.proofs.Common.{◌≡◌, [], ◌∷◌, ◌++◌, ap, ◌∙◌}
-use Rattle.line_definitions.specs.Lines.{text_of}
-use Rattle.proof_definitions.specs.ProofReading.{read_proof}
-use Rattle.proof_definitions.specs.ProofText.{close_line, lines_before_close, proof_spelling}
-use Rattle.proof_definitions.proofs.ReadAgain.{spelled_is_read}
+use Rattle.define_lines.specs.Lines.{text_of}
+use Rattle.define_proof_texts.specs.ProofReading.{read_proof}
+use Rattle.define_proof_texts.specs.ProofText.{close_line, lines_before_close, proof_spelling}
+use Rattle.define_proof_texts.proofs.ReadAgain.{spelled_is_read}
 use Rattle.proof_model.specs.Parts.{seen}
 use Rattle.proof_text.proofs.writing.write_proof.Goals as goal
-use Rattle.line_definitions.proofs.LineLemmas.{text_of-append}
+use Rattle.define_lines.proofs.LineLemmas.{text_of-append}
 
 pub returns-clause-read : goal.returns-clause-read
 returns-clause-read c =

@@ -1,5 +1,5 @@
 use Rattle.std.proofs.Common.{◌≡◌, ◌∙◌, ap}
-use Rattle.pool_definitions.specs.Certificate.{Answer}
+use Rattle.define_pools.specs.Certificate.{Answer}
 use Rattle.sealed_draw.proofs.Totals.{agrees_exactly}
 use Rattle.sealed_draw.proofs.agreeing.total_agrees.Goals as goal
 

@@ -1,6 +1,6 @@
 use Rattle.std.proofs.Common.{◌≡◌, ◌∙◌, ap, subst}
-use Rattle.pool_definitions.specs.Certificate.{Answer}
-use Rattle.pool_definitions.specs.Lottery.{Lottery}
+use Rattle.define_pools.specs.Certificate.{Answer}
+use Rattle.define_pools.specs.Lottery.{Lottery}
 use Rattle.sealed_draw.specs.Answers.{DrawSays}
 use Rattle.sealed_draw.proofs.DrawnRow.{drawn_row}
 use Rattle.sealed_draw.proofs.drawing.draw.Goals as goal

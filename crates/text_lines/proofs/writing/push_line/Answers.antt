@@ -1,8 +1,8 @@
 use Rattle.std.proofs.Common.{◌≡◌, [], ◌∷◌, ◌++◌, map, take, ap, ◌∙◌, append_assoc, arith}
 use Rattle.std.proofs.lemmas.List.{take_all}
 use Rattle.std.proofs.lemmas.Result.{on_err_weaker, on_ok_weaker}
-use Rattle.line_definitions.specs.Lines.{tabbed}
-use Rattle.line_definitions.proofs.LineLemmas.{line_written}
+use Rattle.define_lines.specs.Lines.{tabbed}
+use Rattle.define_lines.proofs.LineLemmas.{line_written}
 use Rattle.text_lines.proofs.KeptText.{kept_at_err, kept_before}
 use Rattle.text_lines.proofs.writing.push_line.Goals as goal
 

@@ -1,5 +1,5 @@
 use Rattle.std.proofs.Common.{◌≡◌, ◌++◌, map, take}
-use Rattle.line_definitions.specs.Lines.{tabbed}
+use Rattle.define_lines.specs.Lines.{tabbed}
 use Rattle.text_lines.proofs.writing.push_line.Given as goal
 
 -- the word and the fields so far

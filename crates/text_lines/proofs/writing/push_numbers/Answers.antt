@@ -1,6 +1,6 @@
 use Rattle.std.proofs.Common.{map, take}
 use Rattle.std.specs.Fmt.{decimal}
-use Rattle.line_definitions.specs.Lines.{tabbed}
+use Rattle.define_lines.specs.Lines.{tabbed}
 use Rattle.text_lines.proofs.KeptText.{kept_at_err}
 use Rattle.text_lines.proofs.writing.push_numbers.Goals as goal
 

@@ -1,6 +1,6 @@
 use Rattle.std.proofs.Common.{◌≡◌, ◌++◌, map, take}
 use Rattle.std.specs.Fmt.{signed_decimal}
-use Rattle.line_definitions.specs.Lines.{tabbed}
+use Rattle.define_lines.specs.Lines.{tabbed}
 use Rattle.text_lines.proofs.writing.push_signed_numbers.Given as goal
 
 abbrev pub invariant-loop-number : goal.invariant-loop-number

@@ -1,5 +1,5 @@
 use Rattle.std.proofs.Common.{◌≡◌, ℕ, ◌<◌, false}
-use Rattle.draw_definitions.specs.Dice.{group_at, group_size, is_accepted}
+use Rattle.define_draws.specs.Dice.{group_at, group_size, is_accepted}
 use Rattle.tickets.proofs.dice.first_named.Given as goal
 
 -- no group so far is accepted

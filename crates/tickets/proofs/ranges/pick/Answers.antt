@@ -2,8 +2,8 @@ use Rattle.std.proofs.Common.{◌≡◌, ◌<◌, leb, ap, sym, ◌∙◌, subst
 use Rattle.std.specs.Prelude.{sum}
 use Rattle.std.proofs.lemmas.Int.{to_z-of_z}
 use Rattle.std.proofs.lemmas.List.Sorted.{IsPartitionPoint-from_clause}
-use Rattle.draw_definitions.specs.Tickets.{HoldsTicket}
-use Rattle.draw_definitions.proofs.TicketLemmas.{only_row}
+use Rattle.define_draws.specs.Tickets.{HoldsTicket}
+use Rattle.define_draws.proofs.TicketLemmas.{only_row}
 use Rattle.tickets.specs.Ends.{gaps}
 use Rattle.tickets.proofs.Ends.{held_at, parted}
 use Rattle.tickets.proofs.ranges.pick.Goals as goal

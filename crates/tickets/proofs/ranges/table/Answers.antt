@@ -3,10 +3,10 @@ use Rattle.std.specs.Prelude.{FitsSigned}
 use Rattle.std.specs.Int.{w128}
 use Rattle.std.proofs.lemmas.Int.{to_z-of_z}
 use Rattle.std.proofs.lemmas.List.{length-map, take_all}
-use Rattle.pool_definitions.specs.Lottery.{LotteryRow}
-use Rattle.draw_definitions.specs.Tickets.{weights_of}
+use Rattle.define_pools.specs.Lottery.{LotteryRow}
+use Rattle.define_draws.specs.Tickets.{weights_of}
 use Rattle.tickets.specs.Ends.{Rise, gaps}
-use Rattle.draw_definitions.proofs.TicketLemmas.{sum_pushed, weight_at}
+use Rattle.define_draws.proofs.TicketLemmas.{sum_pushed, weight_at}
 use Rattle.tickets.proofs.Ends.{end_pushed, ends-rise, ends_of, gaps-ends}
 use Rattle.tickets.proofs.ranges.table.Goals as goal
 

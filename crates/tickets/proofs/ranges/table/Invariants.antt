@@ -1,6 +1,6 @@
 use Rattle.std.proofs.Common.{◌≡◌, take}
 use Rattle.std.specs.Prelude.{sum}
-use Rattle.draw_definitions.specs.Tickets.{weights_of}
+use Rattle.define_draws.specs.Tickets.{weights_of}
 use Rattle.tickets.proofs.Ends.{ends_of}
 use Rattle.tickets.proofs.ranges.table.Given as goal
 

@@ -1,6 +1,6 @@
 use Rattle.std.proofs.Common.{[], ◌∷◌, ◌++◌, ap, ◌∙◌}
-use Rattle.row_definitions.specs.Table.{Table}
-use Rattle.row_definitions.specs.Steps.{add_column}
+use Rattle.define_rows.specs.Table.{Table}
+use Rattle.define_rows.specs.Steps.{add_column}
 use Rattle.exact_table.specs.Parts.{frame_of}
 use Rattle.exact_table.proofs.frame.Frame.add.Goals as goal
 

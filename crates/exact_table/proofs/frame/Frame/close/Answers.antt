@@ -1,7 +1,7 @@
 use Rattle.std.proofs.Common.{◌≡◌, ℕ, ◌-◌, ◌<◌, ◌≤◌, Bool, true, false, List, length, set, take, ℤ, sym, ap, ◌∙◌, subst, arith, rules, length-set}
 use Rattle.std.specs.Vec.{with_items}
 use Rattle.std.proofs.lemmas.List.{with_items_is, length-take}
-use Rattle.row_definitions.specs.Steps.{closed_by}
+use Rattle.define_rows.specs.Steps.{closed_by}
 use Rattle.exact_table.specs.Marks.{settled_marks}
 use Rattle.exact_table.specs.Parts.{closed_count, frame_of, IsFrame}
 use Rattle.exact_table.proofs.MarkLaws.{AreMarks-settled_marks, length-settled_marks}

@@ -1,5 +1,5 @@
 use Rattle.std.proofs.Common.{◌≡◌, false, ap, ◌∙◌}
-use Rattle.row_definitions.specs.Steps.{enter_stage}
+use Rattle.define_rows.specs.Steps.{enter_stage}
 use Rattle.exact_table.proofs.FrameLaws.{frame_entered}
 use Rattle.exact_table.proofs.frame.Frame.enter.Goals as goal
 

@@ -3,7 +3,7 @@ use Rattle.std.proofs.Math.Nat.{pow-le-pow_right}
 use Rattle.std.specs.Int.{w128}
 use Rattle.std.proofs.lemmas.Int.{ints, to_z_pos}
 use Rattle.std.proofs.lemmas.Nat.{one_shl, pow_below, pow_pos}
-use Rattle.row_definitions.specs.Width.{width_limit}
+use Rattle.define_rows.specs.Width.{width_limit}
 use Rattle.exact_table.proofs.frame.Frame.most.Goals as goal
 
 power_small : (bits : ℕ) → bits ≤ 127 → 2 ^ bits < 2 ^ 128

@@ -1,5 +1,5 @@
 use Rattle.std.proofs.Common.{◌≡◌, sym, ◌∙◌, subst}
-use Rattle.run_definitions.specs.Run.{GoOn, run_limits, step}
+use Rattle.define_runs.specs.Run.{GoOn, run_limits, step}
 use Rattle.leximin_run.specs.Advancing.{Stands}
 use Rattle.leximin_run.proofs.Turns.{enter_due, entered_stands}
 use Rattle.leximin_run.proofs.running.Run.advance.Goals as goal

@@ -1,5 +1,5 @@
 use Rattle.std.proofs.Common.{◌∙◌}
-use Rattle.run_definitions.specs.Run.{run_limits}
+use Rattle.define_runs.specs.Run.{run_limits}
 use Rattle.leximin_run.proofs.Turns.{have_entries, have_reach}
 use Rattle.leximin_run.proofs.running.Run.close.Goals as goal
 

@@ -1,12 +1,12 @@
 use Rattle.std.proofs.Common.{◌≡◌, ℕ, ◌+◌, ◌-◌, ◌^◌, ◌<◌, ◌≤◌, ltb, Ok, true, false, refl, sym, ap, ◌∙◌, arith}
 use Rattle.std.proofs.lemmas.Bool.{le-leb, lt-leb, lt-ltb}
 use Rattle.std.proofs.lemmas.Result.{err_from_is_err_and}
-use Rattle.row_definitions.specs.declared.Var.{Var}
-use Rattle.row_definitions.specs.Table.{Table}
-use Rattle.row_definitions.specs.Pivot.{pivot}
+use Rattle.define_rows.specs.declared.Var.{Var}
+use Rattle.define_rows.specs.Table.{Table}
+use Rattle.define_rows.specs.Pivot.{pivot}
 use Rattle.exact_table.specs.Parts.{counted_on}
-use Rattle.run_definitions.specs.Run.{pivoted, run_limits}
-use Rattle.run_definitions.proofs.Kept.{closed_rows_stay}
+use Rattle.define_runs.specs.Run.{pivoted, run_limits}
+use Rattle.define_runs.proofs.Kept.{closed_rows_stay}
 use Rattle.leximin_run.proofs.Turns.{pivot_due, stands_on}
 use Rattle.leximin_run.proofs.running.Run.pivot.Goals as goal
 

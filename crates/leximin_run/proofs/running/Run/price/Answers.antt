@@ -1,8 +1,8 @@
 use Rattle.std.proofs.Common.{◌≡◌, ◌≤◌, ◌∷◌, [], ◌++◌, refl, sym, ap, ◌∙◌, subst, arith}
 use Rattle.std.proofs.lemmas.Result.{err_from_is_err_and}
-use Rattle.row_definitions.specs.Steps.{add_column, close_stage}
-use Rattle.row_definitions.specs.Table.{row_at}
-use Rattle.run_definitions.specs.Run.{GoOn, pricing_visits, run_limits, step}
+use Rattle.define_rows.specs.Steps.{add_column, close_stage}
+use Rattle.define_rows.specs.Table.{row_at}
+use Rattle.define_runs.specs.Run.{GoOn, pricing_visits, run_limits, step}
 use Rattle.leximin_run.proofs.Turns.{IsAsked, asked_so, close_made, close_stands, column_made, column_may, column_stands, have_entries, have_reach, refused_so, visits_are}
 use Rattle.leximin_run.specs.Advancing.{Stands}
 use Rattle.leximin_run.proofs.running.Run.price.Given.{Over}

@@ -1,5 +1,5 @@
 use Rattle.std.proofs.Common.{ap, subst}
-use Rattle.search_definitions.specs.Classes.{KeepsLimits}
+use Rattle.define_searches.specs.Classes.{KeepsLimits}
 use Rattle.panel_search.proofs.Kept.{fronts_kept}
 use Rattle.panel_search.proofs.priced.PricedRow.pieces.Goals as goal
 

@@ -1,5 +1,5 @@
 use Rattle.std.proofs.Common.{◌∷◌, [], sym, ap, subst}
-use Rattle.search_definitions.specs.Fronts.{HaveEntries, HaveReach}
+use Rattle.define_searches.specs.Fronts.{HaveEntries, HaveReach}
 use Rattle.panel_search.proofs.Kept.{closed_more}
 use Rattle.panel_search.proofs.pricer.Pricer.add_row.Goals as goal
 

@@ -1,7 +1,7 @@
 use Rattle.std.proofs.Common.{◌≡◌, length, sym, ap, ◌∙◌, subst}
-use Rattle.search_definitions.specs.Compositions.{price}
-use Rattle.search_definitions.specs.Visits.{best_search}
-use Rattle.search_definitions.proofs.BestSearch.{search_keeps_price}
+use Rattle.define_searches.specs.Compositions.{price}
+use Rattle.define_searches.specs.Visits.{best_search}
+use Rattle.define_searches.proofs.BestSearch.{search_keeps_price}
 use Rattle.panel_search.proofs.Kept.{answers_kept}
 use Rattle.panel_search.proofs.pricer.Pricer.best.Goals as goal
 

@@ -1,12 +1,12 @@
 use Rattle.std.proofs.Common.{rules, ◌≡◌, ℕ, ◌+◌, ◌-◌, ◌<◌, ◌≤◌, [], ◌∷◌, ◌++◌, length, take, drop, set, refl, sym, ap, ◌∙◌, arith, subst}
-use Rattle.search_definitions.specs.Fronts.{is_reachable}
-use Rattle.search_definitions.specs.Visits.{enter_best}
+use Rattle.define_searches.specs.Fronts.{is_reachable}
+use Rattle.define_searches.specs.Visits.{enter_best}
 use Rattle.panel_search.specs.Front.{Tracks}
-use Rattle.panel_search.specs.Pricing.{told, CanTakeWithin}
+use Rattle.panel_search.specs.Pricing.{pricing_of, CanTakeWithin}
 use Rattle.panel_search.specs.Steps.{LiveWithin}
-use Rattle.front_laws.specs.Front.{Stands}
-use Rattle.front_laws.proofs.Tracking.{stands_there}
-use Rattle.front_laws.proofs.Fronts.{front_length, from_front, from_front_more, placed, front_of, at_child, same_class, class_limits, child_tracks}
+use Rattle.laws_of_fronts.specs.Front.{Stands}
+use Rattle.laws_of_fronts.proofs.Tracking.{stands_there}
+use Rattle.laws_of_fronts.proofs.Fronts.{front_length, from_front, from_front_more, placed, front_of, at_child, same_class, class_limits, child_tracks}
 use Rattle.panel_search.proofs.Ranges.{between}
 use Rattle.panel_search.proofs.BestStepping.{moves_err, moves_same, children_within, child_within, children_none, children_next, enter_more, enter_children, stands_with, child_stands, parent_stands, child_due}
 use Rattle.panel_search.proofs.pricing.BestSearch.+search.Goals as goal
@@ -15,29 +15,29 @@ use Rattle.panel_search.proofs.pricing.BestSearch.+search.Goals.{enter-After-chi
 pub children-returns-then-end-low : goal.children-returns-then-end-low
 children-returns-then-end-low t c =
     let all = c.args.terms.now.classes.now in let self = c.args.self.now in let depth = c.args.depth in
-    let due = children_none all c.args.terms.now.closed.now c.args.terms.now.row.now depth (take depth self.counts.items) c.args.low c.args.end (told self) (omega (arith, c.if-end-low.true)) in
+    let due = children_none all c.args.terms.now.closed.now c.args.terms.now.row.now depth (take depth self.counts.items) c.args.low c.args.end (pricing_of self) (omega (arith, c.if-end-low.true)) in
     (sym due, refl, refl, omega (arith, ap (λ now. now.visits) due, c.requires.few), c.requires.stands)
 
 pub children-returns-in_err-try_child : goal.children-returns-in_err-try_child
 children-returns-in_err-try_child t c =
     let all = c.args.terms.now.classes.now in let self = c.args.self.now in let depth = c.args.depth in
     moves_err all c.args.terms.now.closed.now c.args.terms.now.row.now depth _ _ _ self.nodes _ c.try_child.new.self c.from_residual.ensures.0
-    (omega (arith, c.in_err-try_child.ensures, child_within all c.args.terms.now.closed.now c.args.terms.now.row.now depth (take depth self.counts.items) c.args.low c.args.end (told self) (omega (arith, c.if-end-low.false))))
+    (omega (arith, c.in_err-try_child.ensures, child_within all c.args.terms.now.closed.now c.args.terms.now.row.now depth (take depth self.counts.items) c.args.low c.args.end (pricing_of self) (omega (arith, c.if-end-low.false))))
 
 pub children-returns : goal.children-returns
 children-returns t c =
     let all = c.args.terms.now.classes.now in let self = c.args.self.now in let depth = c.args.depth in let closed = c.args.terms.now.closed.now in let row = c.args.terms.now.row.now in let low = c.args.low in
-    let next = children_next all closed row depth (take depth self.counts.items) low c.args.end (told self) (omega (arith, c.if-end-low.false)) in
+    let next = children_next all closed row depth (take depth self.counts.items) low c.args.end (pricing_of self) (omega (arith, c.if-end-low.false)) in
     let steps = c.in_ok-try_child.ensures in
     moves_same all closed row depth _ _ _ _ _ _ _ c.children.result c.children.new.self
-    (ap (λ front. children_within all closed row depth front low (c.args.end - 1) (told c.try_child.new.self)) steps.1 ∙ ap (children_within all closed row depth (take depth self.counts.items) low (c.args.end - 1)) steps.0 ∙ sym next)
+    (ap (λ front. children_within all closed row depth front low (c.args.end - 1) (pricing_of c.try_child.new.self)) steps.1 ∙ ap (children_within all closed row depth (take depth self.counts.items) low (c.args.end - 1)) steps.0 ∙ sym next)
     steps.1 steps.2 c.children.ensures
 
 pub enter-returns-in_err-spend : goal.enter-returns-in_err-spend
 enter-returns-in_err-spend t c =
     let all = c.args.terms.now.classes.now in let self = c.args.self.now in let depth = c.args.depth in
     moves_err all c.args.terms.now.closed.now c.args.terms.now.row.now depth _ _ _ self.nodes _ c.spend.new.self c.from_residual.ensures.0
-    (omega (arith, c.in_err-spend.ensures.err, enter_more all c.args.terms.now.closed.now c.args.terms.now.row.now (drop depth all.classes) (take depth self.counts.items) (told self)))
+    (omega (arith, c.in_err-spend.ensures.err, enter_more all c.args.terms.now.closed.now c.args.terms.now.row.now (drop depth all.classes) (take depth self.counts.items) (pricing_of self)))
 
 -- the next class of the front that is entered
 module _ (t : ℕ) (c : enter-After-most t) where
@@ -56,14 +56,14 @@ module _ (t : ℕ) (c : enter-After-children t) where
   counts = ap (λ search. take c.args.depth search.counts.items) c.in_ok-spend.ensures.visits
 
   entered : Stands c.args.terms.now.classes.now c.args.depth c.index-classes-depth.result → c.index-classes-depth.result.least ≤ c.index-classes-depth.result.most →
-      children_within c.args.terms.now.classes.now c.args.terms.now.closed.now c.args.terms.now.row.now c.args.depth (take c.args.depth c.spend.new.self.counts.items) c.range-low.result.0 c.range-low.result.1 (told c.spend.new.self)
-      ≡ enter_best c.args.terms.now.classes.now c.args.terms.now.closed.now c.args.terms.now.row.now (drop c.args.depth c.args.terms.now.classes.now.classes) (take c.args.depth c.args.self.now.counts.items) (told c.args.self.now)
+      children_within c.args.terms.now.classes.now c.args.terms.now.closed.now c.args.terms.now.row.now c.args.depth (take c.args.depth c.spend.new.self.counts.items) c.range-low.result.0 c.range-low.result.1 (pricing_of c.spend.new.self)
+      ≡ enter_best c.args.terms.now.classes.now c.args.terms.now.closed.now c.args.terms.now.row.now (drop c.args.depth c.args.terms.now.classes.now.classes) (take c.args.depth c.args.self.now.counts.items) (pricing_of c.args.self.now)
   entered next ordered =
       let all = c.args.terms.now.classes.now in let closed = c.args.terms.now.closed.now in let row = c.args.terms.now.row.now in let depth = c.args.depth in
       let class = c.index-classes-depth.result in let low = c.range-low.result.0 in let end = c.range-low.result.1 in let front = take depth c.args.self.now.counts.items in
       let live = between all front (take depth c.deref-2.result.now) class c.least.result c.most.result low end (ap (take depth) c.deref-2.ensures.value ∙ counts) c.least.ensures c.most.ensures c.range-low.ensures.inside c.range-low.ensures.outside in
-      let due = enter_children all closed row depth class front low end (told c.args.self.now) next ordered live in
-      ap (λ front. children_within all closed row depth front low end (told c.spend.new.self)) counts ∙ ap (λ search. children_within all closed row depth front low end (told search)) c.in_ok-spend.ensures.visits ∙ sym due
+      let due = enter_children all closed row depth class front low end (pricing_of c.args.self.now) next ordered live in
+      ap (λ front. children_within all closed row depth front low end (pricing_of c.spend.new.self)) counts ∙ ap (λ search. children_within all closed row depth front low end (pricing_of search)) c.in_ok-spend.ensures.visits ∙ sym due
 
 pub enter-children-requires : goal.enter-children-requires
 enter-children-requires t c =
@@ -129,7 +129,7 @@ try_child-enter-requires t c =
       (
         c.requires.terms,
         (
-          omega (arith, c.requires.few, ap (λ now. now.visits) c.weights_allow.ensures.told, c.weights_allow.ensures.nodes),
+          omega (arith, c.requires.few, ap (λ now. now.visits) c.weights_allow.ensures.pricing, c.weights_allow.ensures.nodes),
           child_stands all c.args.terms.now.closed.now c.args.terms.now.row.now depth count _ self _ c.requires.stands c.requires.below c.requires.can_take c.requires.live (ap (λ xs. set xs depth count) items) c.weights_allow.ensures.stands.kept_places
               (child_tracks all depth count _ self.counts.items _ (c.deref.ensures.value ∙ items) c.requires.stands.places c.requires.stands.within c.take.ensures)
               (c.weights_allow.ensures.priced c.if-not-weights_allow.false) (c.weights_allow.ensures.closed c.if-not-weights_allow.false),
@@ -165,8 +165,8 @@ try_child-returns t c =
     let front = take depth self.counts.items in let later = drop (depth + 1) all.classes in
     let context = (goal.at.try_child-returns t c).After-deref-2 in
     let steps = c.in_ok-enter.ensures in
-    let due = child_due all closed row later (front ++ count ∷ []) (told self) c.requires.live (sym c.weights_allow.ensures.value ∙ c.if-not-weights_allow.false) in
-    let here = ap (λ f. enter_best all closed row later f (told c.weights_allow.new.self)) (child t context) ∙ ap (enter_best all closed row later (front ++ count ∷ [])) c.weights_allow.ensures.told ∙ sym due in (
+    let due = child_due all closed row later (front ++ count ∷ []) (pricing_of self) c.requires.live (sym c.weights_allow.ensures.value ∙ c.if-not-weights_allow.false) in
+    let here = ap (λ f. enter_best all closed row later f (pricing_of c.weights_allow.new.self)) (child t context) ∙ ap (enter_best all closed row later (front ++ count ∷ [])) c.weights_allow.ensures.pricing ∙ sym due in (
       steps.0 ∙ here,
       same t context,
       steps.2 ∙ c.weights_allow.ensures.nodes,

@@ -1,12 +1,12 @@
 use Rattle.std.proofs.Common.{rules, ◌≡◌, ℕ, ◌+◌, ◌<◌, ◌≤◌, [], ◌∷◌, ◌++◌, length, take, drop, set, None, sym, ap, ◌∙◌, arith, subst}
-use Rattle.search_definitions.specs.Fronts.{is_reachable}
-use Rattle.search_definitions.specs.Visits.{enter_first}
+use Rattle.define_searches.specs.Fronts.{is_reachable}
+use Rattle.define_searches.specs.Visits.{enter_first}
 use Rattle.panel_search.specs.Front.{Tracks}
 use Rattle.panel_search.specs.Steps.{LiveWithin, StandsAt}
-use Rattle.front_laws.specs.Front.{Stands}
-use Rattle.front_laws.proofs.Fronts.{class_limits, at_front, from_front, from_front_more, front_length, placed, front_of, at_child}
+use Rattle.laws_of_fronts.specs.Front.{Stands}
+use Rattle.laws_of_fronts.proofs.Fronts.{class_limits, at_front, from_front, from_front_more, front_length, placed, front_of, at_child}
 use Rattle.panel_search.proofs.Ranges.{between}
-use Rattle.front_laws.proofs.Tracking.{stands_there}
+use Rattle.laws_of_fronts.proofs.Tracking.{stands_there}
 use Rattle.panel_search.proofs.Stepping.{steps_err, steps_true, steps_false, first_spent, first_found, next_steps, children_within, enter_visits, enter_due, child_due}
 use Rattle.panel_search.proofs.searching.Search.+search.Goals as goal
 use Rattle.panel_search.proofs.searching.Search.+search.Goals.{enter-After-children, enter-After-most, try_child-After-deref-2}

@@ -1,7 +1,7 @@
 use Rattle.std.proofs.Common.{◌≡◌, ℕ, ◌<◌, true, Some}
 use Rattle.std.specs.Prelude.{slice_get}
-use Rattle.search_definitions.specs.Classes.{Class}
-use Rattle.search_definitions.specs.Compositions.{takes_one_of}
+use Rattle.define_searches.specs.Classes.{Class}
+use Rattle.define_searches.specs.Compositions.{takes_one_of}
 use Rattle.panel_search.proofs.tally.Tally.homes_alive.Given as goal
 
 abbrev pub invariant-loop-class : goal.invariant-loop-class

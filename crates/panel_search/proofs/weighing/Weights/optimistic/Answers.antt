@@ -2,9 +2,9 @@ use Rattle.std.proofs.Common.{rules, ◌≡◌, length, drop, ap, ◌∙◌, ◌
 use Rattle.std.specs.Int.{w128}
 use Rattle.std.specs.Prelude.{unsigned_abs}
 use Rattle.std.proofs.lemmas.Int.{to_z-of_z, fits_signed_from_abs}
-use Rattle.search_definitions.specs.Compositions.{weight_in}
-use Rattle.search_definitions.specs.Fronts.{greatest_sum, optimistic}
-use Rattle.front_laws.proofs.WeightLaws.{front_narrow}
+use Rattle.define_searches.specs.Compositions.{weight_in}
+use Rattle.define_searches.specs.Fronts.{greatest_sum, optimistic}
+use Rattle.laws_of_fronts.proofs.WeightLaws.{front_narrow}
 use Rattle.panel_search.proofs.weighing.Weights.optimistic.Goals as goal
 
 -- the front's weight and the greatest of the rest together

@@ -1,8 +1,8 @@
 use Rattle.std.proofs.Common.{◌≡◌, None, ap, ◌∙◌}
 use Rattle.std.proofs.lemmas.Str.{is_utf8-from_IsUtf8}
-use Rattle.pool_definitions.specs.Pool.{Pool}
-use Rattle.pool_definitions.specs.Building.{category_kind}
-use Rattle.pool_definitions.proofs.BuildingLemmas.{IsPool-category_added}
+use Rattle.define_pools.specs.Pool.{Pool}
+use Rattle.define_pools.specs.Building.{category_kind}
+use Rattle.define_pools.proofs.BuildingLemmas.{IsPool-category_added}
 use Rattle.pool_model.proofs.pools.Pool.add_right_category.Goals as goal
 
 pub invariant_of-self-2 : goal.invariant_of-self-2

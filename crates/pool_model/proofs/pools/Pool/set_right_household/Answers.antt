@@ -1,6 +1,6 @@
 use Rattle.std.proofs.lemmas.Str.{is_utf8-from_IsUtf8}
-use Rattle.pool_definitions.specs.Pool.{Pool}
-use Rattle.pool_definitions.proofs.BuildingLemmas.{IsPool-household_set}
+use Rattle.define_pools.specs.Pool.{Pool}
+use Rattle.define_pools.proofs.BuildingLemmas.{IsPool-household_set}
 use Rattle.pool_model.proofs.pools.Pool.set_right_household.Goals as goal
 
 pub invariant_of-self : goal.invariant_of-self

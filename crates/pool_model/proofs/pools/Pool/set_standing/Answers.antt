@@ -1,5 +1,5 @@
-use Rattle.pool_definitions.specs.Pool.{Pool}
-use Rattle.pool_definitions.proofs.BuildingLemmas.{IsPool-standing_set}
+use Rattle.define_pools.specs.Pool.{Pool}
+use Rattle.define_pools.proofs.BuildingLemmas.{IsPool-standing_set}
 use Rattle.pool_model.proofs.pools.Pool.set_standing.Goals as goal
 
 pub invariant_of-self : goal.invariant_of-self

@@ -1,4 +1,0 @@
-pub mod OfBundle
-pub mod Seal
-pub mod Draw
-pub mod Check

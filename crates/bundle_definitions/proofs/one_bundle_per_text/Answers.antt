@@ -1,8 +1,0 @@
-use Rattle.std.proofs.Common.{ap}
-use Rattle.bundle_definitions.specs.BundleReading.{read_bundle}
-use Rattle.bundle_definitions.proofs.ReadAgain.{spelled_is_read}
-use Rattle.bundle_definitions.proofs.one_bundle_per_text.Goals as goal
-
-pub returns : goal.returns
-returns c first second h k same =
-    let one = spelled_is_read first h in let two = spelled_is_read second k in let both = ap read_bundle same in cc

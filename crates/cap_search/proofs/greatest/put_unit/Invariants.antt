@@ -1,5 +1,0 @@
-use Rattle.front_laws.proofs.UnitSums.{PutFrom}
-use Rattle.cap_search.proofs.greatest.put_unit.Given as goal
-
-abbrev pub invariant-loop-done : goal.invariant-loop-done
-invariant-loop-done l = PutFrom l.units l.weight l.fn.sums l.done l.sums

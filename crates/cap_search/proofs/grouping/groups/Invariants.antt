@@ -1,7 +1,0 @@
-use Rattle.std.proofs.Common.{◌≡◌, map, take}
-use Rattle.cap_search.specs.Likeness.{is_alike}
-use Rattle.search_definitions.specs.Classes.{class_by}
-use Rattle.cap_search.proofs.grouping.groups.Given as goal
-
-abbrev pub invariant-loop-leader : goal.invariant-loop-leader
-invariant-loop-leader l = l.found.items ≡ map (class_by (is_alike l.likeness) l.likeness.pool.now) (take l.leader-index l.leaders)

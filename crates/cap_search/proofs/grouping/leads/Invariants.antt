@@ -1,7 +1,0 @@
-use Rattle.std.proofs.Common.{◌≡◌, false}
-use Rattle.std.specs.List.{list_any, range_with_len}
-use Rattle.cap_search.specs.Likeness.{is_alike as alike}
-use Rattle.cap_search.proofs.grouping.leads.Given as goal
-
-abbrev pub invariant-loop-j : goal.invariant-loop-j
-invariant-loop-j l = list_any (λ j. alike l.likeness j l.i) (range_with_len 0 l.j) ≡ false

@@ -1,5 +1,0 @@
-use Rattle.front_laws.proofs.Adding.{SharesUpTo}
-use Rattle.cap_search.proofs.tallies.take_from.Given as goal
-
-abbrev pub invariant-loop-category : goal.invariant-loop-category
-invariant-loop-category l = SharesUpTo l.category l.fn.values l.fn.count l.cells l.fn.cells

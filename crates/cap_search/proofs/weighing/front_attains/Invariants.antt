@@ -1,8 +1,0 @@
-use Rattle.std.proofs.Common.{◌≡◌, ℕ, ◌<◌, true, Some}
-use Rattle.std.specs.Prelude.{slice_get, int_le}
-use Rattle.row_definitions.specs.Row.{Row}
-use Rattle.search_definitions.specs.Fronts.{optimistic}
-use Rattle.cap_search.proofs.weighing.front_attains.Given as goal
-
-abbrev pub invariant-loop-r : goal.invariant-loop-r
-invariant-loop-r l = (i : ℕ) (row : Row) → i < l.r → slice_get l.closed i ≡ Some row → int_le row.b (optimistic l.classes row l.front) ≡ true

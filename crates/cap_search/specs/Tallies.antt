@@ -1,9 +1,0 @@
--- Numbers for the values of the categories that bar a count.
-use Rattle.std.specs.Prelude.{◌≡◌, ℕ, ◌<◌, false, List, length, slice_index}
-use Rattle.search_definitions.specs.declared.Bounds.{Bounds}
-use Rattle.front_laws.specs.Tallies.{HasBound, reaches}
-
--- with so many more of each of the values, the number of one of them isn't within reach
-abbrev pub OneFails : List (List Bounds) → List ℕ → List ℕ → List ℕ → ℕ → Type 0
-OneFails bounds held later values count =
-    (c : ℕ) × (bound : Bounds) × (c < length values) × HasBound bounds c (slice_index values c) bound × (reaches bound held later count c (slice_index values c) ≡ false)

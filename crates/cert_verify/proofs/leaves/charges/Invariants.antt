@@ -1,7 +1,0 @@
-use Rattle.std.proofs.Common.{◌≡◌}
-use Rattle.addition_definitions.specs.LeafSums.{first_charges}
-use Rattle.cert_verify.proofs.leaves.charges.Given as goal
-
--- the charges of the multipliers so far
-abbrev pub invariant-loop-multiplier : goal.invariant-loop-multiplier
-invariant-loop-multiplier l = l.charges ≡ first_charges l.problem l.multiplier-index l.leaf

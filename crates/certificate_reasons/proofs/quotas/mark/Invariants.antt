@@ -1,7 +1,0 @@
-use Rattle.std.proofs.Common.{◌≡◌, ℕ, ◌<◌, ◌||◌, false, length, get_or, take}
-use Rattle.pool_definitions.specs.Lists.{includes}
-use Rattle.certificate_reasons.proofs.quotas.mark.Given as goal
-
--- the members up to now are marked
-abbrev pub invariant-loop-i : goal.invariant-loop-i
-invariant-loop-i l = (k : ℕ) → k < length l.marks → get_or l.marks k false ≡ (get_or l.initial.marks k false || includes (take l.i-index l.members) k)

@@ -1,5 +1,0 @@
-use Rattle.check_definitions.proofs.ReasonsStand.{certified_where_valid, valid_where_certified}
-use Rattle.check_definitions.proofs.valid_where_certified.Goals as goal
-
-pub returns : goal.returns
-returns c pool answer ranges = (certified_where_valid pool answer ranges, valid_where_certified pool answer)

@@ -1,0 +1,51 @@
+-- A check on its way through the stages of a certificate. Over Reasons of `define_checks`. The contracts of `Course` cite it.
+use Rattle.std.specs.Prelude.{◌≡◌, ℕ, ◌+◌, nat_lt, not, ℤ, int_lt, Bool, List, [], ◌∷◌, filter, length, map, pos, slice_index_or, Option}
+use Rattle.std.specs.List.{find}
+use Rattle.std.specs.Ordering.{int_eq}
+use Rattle.define_pools.specs.Certificate.{Stage, is_positive, is_settled, panel_weight, weight_of}
+use Rattle.define_pools.specs.Lottery.{Lottery, counts}
+use Rattle.define_pools.specs.Pool.{Pool, everybody}
+use Rattle.define_checks.specs.Reasons.{Refusal, listed, nobody_unless, one, reason}
+
+-- the lottery that is checked over a pool, the stages that the check passed, the latest first, and those to come
+pub record Course : Type 0 where
+  pub pool : Pool
+  pub lottery : Lottery
+  pub earlier : List Stage
+  pub later : List Stage
+
+-- the course after the first of the stages to come was passed
+abbrev pub passed : Course → List Stage → Course
+passed course [] = course
+passed course (stage ∷ later) = record course { earlier = stage ∷ course.earlier; later = later }
+
+-- each volunteer's count, and who is settled
+pub record Keeps (course : Course) (counted : List ℤ) (marks : List Bool) : Type 0 where
+  pub chances : counted ≡ map pos (counts course.pool course.lottery)
+  pub settled : marks ≡ map (is_settled course.earlier) (everybody course.pool)
+
+-- a count that is kept
+abbrev pub count_at : List ℤ → ℕ → ℤ
+count_at counted i = slice_index_or counted i (pos 0)
+
+-- the kept count of the first of some volunteers, 0 if there are none
+abbrev pub first_count : List ℤ → List ℕ → ℤ
+first_count counted [] = pos 0
+first_count counted (i ∷ rest) = count_at counted i
+
+-- the reasons of a stage that are about counts, given what is kept: the counts, who is unsettled, and whom the stage settles
+abbrev pub count_reasons : List ℤ → List ℕ → List ℕ → ℕ → List (Option Refusal)
+count_reasons counted unsettled settling number =
+    reason number 6 (one (find (λ i. not (int_eq (count_at counted i) (first_count counted settling))) settling)) ∷
+    reason number 7 (one (find (λ i. int_lt (count_at counted i) (first_count counted settling)) unsettled)) ∷ []
+
+-- the reasons that are tried before its cap
+abbrev pub kept_reasons : List ℤ → List ℕ → ℕ → Stage → List (Option Refusal)
+kept_reasons counted unsettled number stage =
+    let settling = filter (is_positive stage) unsettled in
+    reason number 4 (one (find (λ i. int_lt (weight_of stage i) (pos 0)) unsettled)) ∷
+    reason number 5 (nobody_unless (nat_lt 0 (length settling))) ∷ count_reasons counted unsettled settling number
+
+-- 9: a listed panel doesn't weigh the cap of a stage
+abbrev pub off_cap : Course → Stage → Option Refusal
+off_cap course stage = reason (length course.earlier + 1) 9 (find (λ panel. not (int_eq (panel_weight stage panel) stage.cap)) (listed course.lottery))

@@ -1,0 +1,99 @@
+//! Verdicts as values: a certificate is valid, or refused for a reason.
+
+ghost use Rattle.std.specs.Prelude.{◌≡◌, option_map, IfOk};
+ghost use Rattle.define_checks.specs.Reasons.{Refused, Valid};
+ghost use Rattle.check_reasons.specs.Sayings.{holds, verdict_of};
+
+use std::alloc::{AllocError, Global};
+use std::marker::Model;
+
+/// Why a certificate is refused.
+#[derive(Debug, Drop)]
+pub struct Refusal {
+    stage: usize,
+    reason: u8,
+    who: Vec<usize>,
+}
+
+impl Model for Refusal {
+    ghost use Rattle.define_checks.specs.Reasons.{Refusal as Seen};
+
+    ghost Value = { Seen };
+
+    ghost view = { λ r. record { stage = r.stage; reason = r.reason; who = r.who.items } };
+}
+
+impl Refusal {
+    /// The number of the stage, from 1, or 0 for the lottery itself.
+    pub fn stage(&self) -> usize
+        ensures { result ≡ self.now.stage }
+    {
+        self.stage
+    }
+
+    /// The number of the reason: of a certificate from 1 to 10, of a proof from 1 to 7 or from 9 to 13.
+    pub fn reason(&self) -> u8
+        ensures { result ≡ self.now.reason }
+    {
+        self.reason
+    }
+
+    /// The numbers of the volunteers who show it.
+    pub fn who(&self) -> &[usize]
+        ensures { result.now ≡ self.now.who }
+    {
+        &self.who
+    }
+}
+
+/// What a check says of a certificate: valid, or why it is refused.
+#[derive(Debug, Drop)]
+pub struct Verdict {
+    refusal: Option<Refusal>,
+}
+
+impl Model for Verdict {
+    ghost use Rattle.define_checks.specs.Reasons.{Verdict as Seen};
+    ghost use Rattle.check_reasons.specs.Sayings.{verdict_of};
+
+    ghost Value = { Seen };
+
+    ghost view = { λ v. verdict_of v.refusal };
+}
+
+impl Verdict {
+    /// The verdict that the certificate is valid.
+    pub fn valid() -> Verdict
+        ensures { result ≡ Valid }
+    {
+        Verdict { refusal: None }
+    }
+
+    /// The verdict that the certificate is refused at a stage, 0 for the lottery itself, for a reason that these volunteers show.
+    pub fn refused(
+        alloc: Global,
+        stage: usize,
+        reason: u8,
+        who: &[usize],
+    ) -> Result<Verdict, AllocError>
+        ensures { IfOk result (λ verdict. verdict ≡ Refused (record { stage = stage; reason = reason; who = who.now })) }
+    {
+        let who = Vec::from_slice(alloc, who)?;
+        let refusal = Some(Refusal { stage, reason, who });
+        Ok(Verdict { refusal })
+    }
+
+    /// True if the certificate is valid.
+    pub fn is_valid(&self) -> bool
+        ensures { result ≡ holds self.now }
+    {
+        self.refusal.is_none()
+    }
+
+    /// Why the certificate is refused, or None if it is valid.
+    pub fn refusal(&self) -> Option<&Refusal>
+        ensures { self.now ≡ verdict_of (option_map (λ refusal. refusal.now) result) }
+    {
+        self.refusal.as_ref()
+    }
+}

@@ -1,0 +1,6 @@
+use Rattle.laws_of_fronts.proofs.ClosedRows.{WeighedTo}
+use Rattle.check_search.specs.Weights.{weights_of}
+use Rattle.check_search.proofs.weighing.child_attains.Given as goal
+
+abbrev pub invariant-loop-r : goal.invariant-loop-r
+invariant-loop-r l = WeighedTo weights_of l.classes l.closed l.front l.count l.r l.weights

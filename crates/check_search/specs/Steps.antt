@@ -1,0 +1,65 @@
+-- One step of the search. For `searching`.
+use Rattle.std.specs.Prelude.{◌≡◌, ◌≤◌, ◌<◌, ◌+◌, ℕ, if◌then◌else◌, Bool, true, false, List, [], ◌∷◌, ◌++◌, length, take, drop, filter, map, Result, Ok, Err, Some, None}
+use Rattle.define_checks.specs.Visits.{enter_above}
+use Rattle.define_rows.specs.Row.{Row}
+use Rattle.define_searches.specs.Classes.{Class, Classes}
+use Rattle.define_searches.specs.Compositions.{counts_of}
+use Rattle.define_searches.specs.Fronts.{is_live_above, is_reachable}
+use Rattle.define_searches.specs.Visits.{Search as Due, one_by_one}
+use Rattle.laws_of_fronts.specs.Front.{AreWithin}
+use Rattle.check_search.specs.Front.{Tracks}
+use Rattle.check_search.specs.Weights.{Weighs, WeighEach}
+use Rattle.check_search.specs.declared.searching.BudgetSpent.{BudgetSpent}
+use Rattle.check_search.specs.declared.searching.Search.{Search}
+
+-- a search is at a front of the first classes that is within reach, and these classes come after it
+pub record StandsAt (all : Classes) (closed : List Row) (row : Row) (depth : ℕ) (later : List Class) (search : Search) : Type 0 where
+  pub places : length search.counts.items ≡ length all.classes
+  pub within : depth ≤ length all.classes
+  pub live : is_reachable all (take depth search.counts.items) ≡ true
+  pub counts : AreWithin all (take depth search.counts.items)
+  pub tally : Tracks all (take depth search.counts.items) later search.tally
+  pub weights : Weighs all row (take depth search.counts.items) search.weights
+  pub closed_rows : WeighEach all closed (take depth search.counts.items) search.closed.items
+
+-- a search is about to enter the empty front, live or not
+pub record Begins (all : Classes) (closed : List Row) (row : Row) (search : Search) : Type 0 where
+  pub places : length search.counts.items ≡ length all.classes
+  pub tally : Tracks all [] all.classes search.tally
+  pub weights : Weighs all row [] search.weights
+  pub closed_rows : WeighEach all closed [] search.closed.items
+
+-- the search of a child if it is live, else no visit
+abbrev pub child_above : Classes → List Row → Row → List Class → List ℕ → Due
+child_above all closed row later child = if is_live_above all closed row row.b child then enter_above all closed row later child else record { visits = 0; found = None }
+
+-- the children of a front, with these counts of the next class, one after the other
+abbrev pub children_above : Classes → List Row → Row → List Class → List ℕ → List ℕ → Due
+children_above all closed row later front counts =
+    one_by_one (map (λ child. enter_above all closed row later child) (filter (is_live_above all closed row row.b) (map (λ c. front ++ c ∷ []) counts)))
+
+-- the counts of the first of some classes
+abbrev pub counts_of_first : List Class → List ℕ
+counts_of_first [] = []
+counts_of_first (class ∷ later) = counts_of class
+
+-- the counts that the class in this place may have
+abbrev pub counts_at : Classes → ℕ → List ℕ
+counts_at all depth = counts_of_first (drop depth all.classes)
+
+-- a step from a front with `left` visits left: it finds what is due and makes the visits that are due, or these are more than are left;
+-- if it finds nothing it returns to the front
+abbrev pub StepsFrom : Classes → List Row → Row → ℕ → List Class → Due → ℕ → List ℕ → Result Bool BudgetSpent → Search → Type 0
+StepsFrom all closed row depth later due left front (Ok true) after = (left ≡ after.left + due.visits) × (due.found ≡ Some after.counts.items)
+StepsFrom all closed row depth later due left front (Ok false) after =
+    (left ≡ after.left + due.visits) × (due.found ≡ None) × (take depth after.counts.items ≡ front) × StandsAt all closed row depth later after
+StepsFrom all closed row depth later due left front (Err spent) after = left < due.visits
+
+abbrev pub Steps : Classes → List Row → Row → ℕ → List Class → Due → Search → Result Bool BudgetSpent → Search → Type 0
+Steps all closed row depth later due before result after = StepsFrom all closed row depth later due before.left (take depth before.counts.items) result after
+
+-- what a whole search finds with `left` visits left
+abbrev pub Finds : Due → ℕ → Result Bool BudgetSpent → Search → Type 0
+Finds due left (Ok true) after = (left ≡ after.left + due.visits) × (due.found ≡ Some after.counts.items)
+Finds due left (Ok false) after = (left ≡ after.left + due.visits) × (due.found ≡ None)
+Finds due left (Err spent) after = left < due.visits

@@ -1,0 +1,50 @@
+//! The search for a quota panel above the cap of a stage, from a pool and stages to a panel.
+
+ghost use Rattle.std.specs.Prelude.{◌≡◌, ◌∷◌, IfOk, IsTrue, length, reverse};
+ghost use Rattle.std.specs.List.{list_all};
+ghost use Rattle.define_bundles.specs.Ranges.{is_stage};
+ghost use Rattle.check_search.specs.Answers.{AnswersAt};
+
+use crate::composing::first_panel;
+use crate::searching::{CapStop, first_above};
+use crate::terms::Terms;
+use pool_model::{Panel, Pool, Stage};
+use std::alloc::{AllocError, Global};
+
+/// Returns the first quota panel, in the order of compositions, that attains the caps of the earlier stages and weighs more than the
+/// cap of the stage, or None if there is none, if the search makes at most `nodes` visits. The earlier stages are in their order, the
+/// first one first, and each stage is in the ranges of a bundle for the pool. Fails with `Spent` if the search makes more visits, and
+/// with `OutOfMemory` if memory runs out.
+///
+/// Volunteers of equal values, equal standing and equal weights in the stages are of one class; someone who shares a household is in a
+/// class alone. The panel has the first members of each class. All memory that the search needs is taken before the first visit.
+pub fn panel_above_cap(
+    alloc: Global,
+    pool: &Pool,
+    earlier: &[Stage],
+    stage: &Stage,
+    nodes: u64,
+) -> Result<Option<Panel>, CapStop>
+    requires earlier { IsTrue (list_all (is_stage (length pool.now.volunteers)) earlier.now) }
+    requires stage { IsTrue (is_stage (length pool.now.volunteers) stage.now) }
+    ensures answers { AnswersAt pool.now (reverse earlier.now) stage.now nodes result }
+{
+    let latest_first = reversed(alloc, earlier)?;
+    let terms = Terms::new(alloc, pool, &latest_first, stage)?;
+    match first_above(alloc, &terms, nodes)? {
+        Some(composition) => Ok(Some(first_panel(alloc, &terms.classes, &composition)?)),
+        None => Ok(None),
+    }
+}
+
+// Copies of the stages, the last one first.
+fn reversed(alloc: Global, stages: &[Stage]) -> Result<Vec<Stage>, AllocError>
+    ensures { IfOk result (λ copies. copies.items ≡ reverse stages.now) }
+{
+    let mut copies = Vec::with_capacity(alloc, stages.len())?;
+    for stage in stages {
+        copies.push(stage.copy()?)?;
+    }
+    copies.reverse();
+    Ok(copies)
+}

@@ -1,0 +1,225 @@
+//! Classes as values, with the size of a panel and the bounds of the values: what a search for panels goes through.
+
+ghost use Rattle.std.specs.Prelude.{◌≡◌, ◌<◌, length, take};
+ghost use Rattle.define_searches.specs.Classes.{HasPlaces, KeepsLimits, least_taken, most_taken, volunteer_count};
+ghost use Rattle.laws_of_fronts.specs.Front.{Stands};
+
+use define_pools::Standing;
+use define_searches::Bounds;
+use std::marker::Model;
+
+/// Volunteers with the same values and standing, of whom a panel takes a number. Someone who shares a household with another volunteer
+/// is in a class alone.
+#[derive(Debug, Drop)]
+pub(crate) struct Class {
+    members: Vec<usize>,
+    values: Vec<usize>,
+    standing: Standing,
+    household: Option<usize>,
+}
+
+impl Model for Class {
+    ghost use Rattle.std.specs.Prelude.{◌≡◌, length};
+    ghost use Rattle.define_searches.specs.Classes.{Class as Seen, least_taken, most_taken};
+
+    ghost Value = { Seen };
+
+    ghost view = { λ c. record {
+      members = c.members.items;
+      values = c.values.items;
+      least = least_taken c.standing (length c.members.items);
+      most = most_taken c.standing (length c.members.items);
+      household = c.household;
+    } };
+}
+
+impl Class {
+    // The class of these members.
+    pub(crate) fn new(
+        members: Vec<usize>,
+        values: Vec<usize>,
+        standing: Standing,
+        household: Option<usize>,
+    ) -> Class
+        ensures { result ≡ record {
+          members = members.items;
+          values = values.items;
+          least = least_taken standing (length members.items);
+          most = most_taken standing (length members.items);
+          household = household;
+        } }
+    {
+        Class {
+            members,
+            values,
+            standing,
+            household,
+        }
+    }
+
+    // The numbers of the members, rising.
+    pub(crate) fn members(&self) -> &[usize]
+        ensures { result.now ≡ self.now.members }
+    {
+        &self.members
+    }
+
+    // How many members the class has.
+    pub(crate) fn size(&self) -> usize
+        ensures { result ≡ length self.now.members }
+    {
+        self.members().len()
+    }
+
+    // The `count` members of the lowest numbers, or all if there are fewer.
+    pub(crate) fn first_members(&self, count: usize) -> &[usize]
+        ensures { result.now ≡ take count self.now.members }
+    {
+        let members = self.members();
+        &members[..count.min(members.len())]
+    }
+
+    // For each category the place of the members' value among the category's values, counted from 0.
+    pub(crate) fn values(&self) -> &[usize]
+        ensures { result.now ≡ self.now.values }
+    {
+        &self.values
+    }
+
+    // The number of the household that the one member shares with a volunteer of another class, if there is one: that of the
+    // household's first member.
+    pub(crate) fn household(&self) -> Option<usize>
+        ensures { result ≡ self.now.household }
+    {
+        self.household
+    }
+
+    // The least number of members that a panel can have: all of a seated class, else none.
+    pub(crate) fn least(&self) -> usize
+        ensures { result ≡ self.now.least }
+    {
+        match self.standing {
+            Standing::Seated => self.members.len(),
+            Standing::Gone | Standing::Open => 0,
+        }
+    }
+
+    // The greatest number of members that a panel can have: none of a class that is gone, else all.
+    pub(crate) fn most(&self) -> usize
+        ensures { result ≡ self.now.most }
+    {
+        match self.standing {
+            Standing::Seated | Standing::Open => self.members.len(),
+            Standing::Gone => 0,
+        }
+    }
+}
+
+/// The bounds of a category's values.
+#[derive(Debug, Drop)]
+pub(crate) struct ValueBounds {
+    bounds: Vec<Bounds>,
+}
+
+impl Model for ValueBounds {
+    ghost use Rattle.std.specs.Prelude.{List};
+    ghost use Rattle.define_searches.specs.declared.Bounds.{Bounds};
+
+    ghost Value = { List Bounds };
+
+    ghost view = { λ v. v.bounds.items };
+}
+
+impl ValueBounds {
+    pub(crate) fn new(bounds: Vec<Bounds>) -> ValueBounds
+        ensures { result ≡ bounds.items }
+    {
+        ValueBounds { bounds }
+    }
+
+    // The bounds, by the values' places.
+    pub(crate) fn as_slice(&self) -> &[Bounds]
+        ensures { result.now ≡ self.now }
+    {
+        &self.bounds
+    }
+}
+
+/// The classes of a pool, in the order of their first members, with the size of a panel and the bounds of each category's values. They
+/// are within the limits of a pool: a size from 1 to 200; at most 20 categories of at most 50 values, with bounds in order and at most
+/// 999; at most 400 classes with at most 400 members in all, each class with a member and with a value of each category.
+#[derive(Debug, Drop)]
+pub(crate) struct Classes {
+    size: usize,
+    bounds: Vec<ValueBounds>,
+    classes: Vec<Class>,
+}
+
+impl Model for Classes {
+    ghost use Rattle.define_searches.specs.Classes.{Classes as Seen, KeepsLimits};
+
+    ghost Value = { Seen };
+
+    ghost view = { λ c. record { size = c.size; bounds = c.bounds.items; classes = c.classes.items } };
+
+    ghost invariant = { λ c. KeepsLimits (record { size = c.size; bounds = c.bounds.items; classes = c.classes.items }) };
+}
+
+impl Classes {
+    pub(crate) fn new(size: usize, bounds: Vec<ValueBounds>, classes: Vec<Class>) -> Classes
+        requires { KeepsLimits (record { size = size; bounds = bounds.items; classes = classes.items }) }
+        ensures { result ≡ record { size = size; bounds = bounds.items; classes = classes.items } }
+    {
+        Classes {
+            size,
+            bounds,
+            classes,
+        }
+    }
+
+    // How many members a panel has.
+    pub(crate) fn size(&self) -> usize
+        ensures { result ≡ self.now.size }
+    {
+        self.size
+    }
+
+    // For each category the bounds of its values.
+    pub(crate) fn bounds(&self) -> &[ValueBounds]
+        ensures { result.now ≡ self.now.bounds }
+    {
+        &self.bounds
+    }
+
+    // The classes, in order.
+    pub(crate) fn classes(&self) -> &[Class]
+        ensures { result.now ≡ self.now.classes }
+    {
+        &self.classes
+    }
+
+    // How many volunteers the classes hold in all.
+    pub(crate) fn volunteers(&self) -> usize
+        ensures { result ≡ volunteer_count self.now }
+    {
+        self.classes.iter().map(|class| class.size()).sum()
+    }
+
+    // The class in this place, with what holds of it.
+    pub(crate) fn class_at(&self, place: usize) -> &Class
+        requires { place < length self.now.classes }
+        ensures limits { KeepsLimits self.now }
+        ensures stands { Stands self.now place result.now }
+        ensures places { HasPlaces self.now.bounds result.now }
+    {
+        self.facts();
+        &self.classes()[place]
+    }
+
+    // Does nothing; its contract says what holds of each `Classes`.
+    pub(crate) fn facts(&self)
+        ensures { KeepsLimits self.now }
+    {
+        let _ = &self.size;
+    }
+}

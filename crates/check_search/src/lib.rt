@@ -1,0 +1,23 @@
+//! The search of a check for a quota panel above the cap of a stage, under a budget of visits. It shares no code with the solver: it
+//! makes classes of its own, also by the weights of the stages, and goes through their compositions. Stands on `define_checks`,
+//! which says what it finds and what a visit is, `laws_of_fronts`, and `pool_model`. Above: `cert_check`.
+//!
+//! Promise: `panel_above_cap`. All else is a helper.
+#![tactic(auto)]
+
+mod above_cap;
+mod composing;
+mod greatest;
+mod grouping;
+mod groups;
+mod homes;
+mod likeness;
+mod rows;
+mod searching;
+mod tallies;
+mod tally;
+mod terms;
+mod weighing;
+
+pub use above_cap::panel_above_cap;
+pub use searching::CapStop;

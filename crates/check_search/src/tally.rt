@@ -1,0 +1,201 @@
+//! What a front takes, in all, of each value and of each household, and the most that the classes after it give.
+
+ghost use Rattle.std.specs.Prelude.{◌≡◌, ℕ, false, ◌+◌, ◌-◌, ◌*◌, ◌≤◌, ◌<◌, ◌++◌, ◌^◌, [], ◌∷◌, IfOk, true, nat_le, ◌&&◌, drop, length};
+ghost use Rattle.laws_of_fronts.specs.Front.{Gives};
+ghost use Rattle.check_search.specs.Front.{Tracks};
+ghost use Rattle.laws_of_fronts.specs.Tallies.{AreAtMost};
+ghost use Rattle.define_searches.specs.Fronts.{is_reachable, size_reachable, taken_by, values_reachable};
+
+use crate::groups::Classes;
+use crate::homes;
+use crate::tallies::{
+    PLACES, add_to, all_within_reach, number_needed, room_left, take_from, values_allow,
+};
+use std::alloc::{AllocError, Global};
+
+// How many a front takes, and the most that later classes give: in all, and of each value; and how many it takes of each household.
+#[derive(Debug, Drop)]
+pub(crate) struct Tally {
+    taken: usize,
+    held: Vec<usize>,
+    later_taken: usize,
+    later: Vec<usize>,
+    homes: Vec<usize>,
+}
+
+impl Tally {
+    // Of the empty front, after which each class comes.
+    pub(crate) fn new(alloc: Global, classes: &Classes) -> Result<Tally, AllocError>
+        ensures { IfOk result (λ tally. Tracks classes.now [] classes.now.classes tally) }
+    {
+        classes.facts();
+        let cells = PLACES * classes.bounds().len();
+        let held = vec![in alloc; 0; cells]?;
+        let mut later = vec![in alloc; 0; cells]?;
+        let later_taken = add_all(&mut later, classes);
+        let homes = vec![in alloc; 0; classes.volunteers()]?;
+        Ok(Tally {
+            taken: 0,
+            held,
+            later_taken,
+            later,
+            homes,
+        })
+    }
+
+    // Takes the class after the front from those that are still to come.
+    pub(crate) fn begin_class(&mut self, classes: &Classes, front: &[usize])
+        requires below { length front.now < length classes.now.classes }
+        requires stands { Tracks classes.now front.now (drop (length front.now) classes.now.classes) self.old }
+        ensures { Tracks classes.now front.now (drop (length front.now + 1) classes.now.classes) self.new }
+    {
+        let class = classes.class_at(front.len());
+        take_from(&mut self.later, class.values(), class.most());
+        self.later_taken -= class.most();
+    }
+
+    // Puts that class back.
+    pub(crate) fn end_class(&mut self, classes: &Classes, front: &[usize])
+        requires below { length front.now < length classes.now.classes }
+        requires stands { Tracks classes.now front.now (drop (length front.now + 1) classes.now.classes) self.old }
+        ensures { Tracks classes.now front.now (drop (length front.now) classes.now.classes) self.new }
+    {
+        let class = classes.class_at(front.len());
+        add_to(&mut self.later, class.values(), class.most());
+        self.later_taken += class.most();
+    }
+
+    // The front takes `count` of the next class.
+    pub(crate) fn take(&mut self, classes: &Classes, front: &[usize], count: usize)
+        requires below { length front.now < length classes.now.classes }
+        requires small { taken_by classes.now front.now ≤ 1000 }
+        requires few { count ≤ 1000 }
+        requires stands { Tracks classes.now front.now (drop (length front.now + 1) classes.now.classes) self.old }
+        ensures { Tracks classes.now (front.now ++ count ∷ []) (drop (length front.now + 1) classes.now.classes) self.new }
+    {
+        let class = classes.class_at(front.len());
+        add_to(&mut self.held, class.values(), count);
+        homes::add_at(&mut self.homes, class.household(), count);
+        self.taken += count;
+    }
+
+    // The front gives `count` of the next class back.
+    pub(crate) fn give_back(&mut self, classes: &Classes, front: &[usize], count: usize)
+        requires below { length front.now < length classes.now.classes }
+        requires stands { Tracks classes.now (front.now ++ count ∷ []) (drop (length front.now + 1) classes.now.classes) self.old }
+        ensures { Tracks classes.now front.now (drop (length front.now + 1) classes.now.classes) self.new }
+    {
+        let class = classes.class_at(front.len());
+        take_from(&mut self.held, class.values(), count);
+        homes::take_at(&mut self.homes, class.household(), count);
+        self.taken -= count;
+    }
+
+    // True if the front is live with `count` of the next class.
+    pub(crate) fn allows(&self, classes: &Classes, front: &[usize], count: usize) -> bool
+        requires below { length front.now < length classes.now.classes }
+        requires live { is_reachable classes.now front.now ≡ true }
+        requires few { count ≤ 1000 }
+        requires stands { Tracks classes.now front.now (drop (length front.now + 1) classes.now.classes) self.now }
+        ensures { result ≡ is_reachable classes.now (front.now ++ count ∷ []) }
+    {
+        let class = classes.class_at(front.len());
+        self.counts_allow(classes, front, count)
+            && homes::has_room(&self.homes, class.household(), count)
+    }
+
+    // True if the size and each value's bounds can still be met with `count` of the next class.
+    fn counts_allow(&self, classes: &Classes, front: &[usize], count: usize) -> bool
+        requires below { length front.now < length classes.now.classes }
+        requires live { is_reachable classes.now front.now ≡ true }
+        requires few { count ≤ 1000 }
+        requires stands { Tracks classes.now front.now (drop (length front.now + 1) classes.now.classes) self.now }
+        ensures { result ≡ (size_reachable classes.now (front.now ++ count ∷ []) && values_reachable classes.now (front.now ++ count ∷ [])) }
+    {
+        let class = classes.class_at(front.len());
+        self.size_allows(classes.size(), count)
+            && values_allow(
+                classes.bounds(),
+                &self.held,
+                &self.later,
+                class.values(),
+                count,
+            )
+    }
+
+    // The greatest count of the next class, up to `most`, that the size and the upper bounds allow: with more the front isn't live.
+    pub(crate) fn greatest_count(&self, classes: &Classes, front: &[usize], most: usize) -> usize
+        requires below { length front.now < length classes.now.classes }
+        requires stands { Tracks classes.now front.now (drop (length front.now + 1) classes.now.classes) self.now }
+        ensures within { result ≤ most }
+        ensures passed { (count : ℕ) → result < count → count ≤ most → is_reachable classes.now (front.now ++ count ∷ []) ≡ false }
+    {
+        let class = classes.class_at(front.len());
+        let lack = classes.size().saturating_sub(self.taken);
+        room_left(classes.bounds(), &self.held, class.values(), most.min(lack))
+    }
+
+    // The least count of the next class, from `least` on, that the size and the lower bounds need: with fewer the front isn't live.
+    pub(crate) fn least_count(&self, classes: &Classes, front: &[usize], least: usize) -> usize
+        requires below { length front.now < length classes.now.classes }
+        requires live { is_reachable classes.now front.now ≡ true }
+        requires stands { Tracks classes.now front.now (drop (length front.now + 1) classes.now.classes) self.now }
+        ensures within { least ≤ result }
+        ensures lacking { (count : ℕ) → count < result → least ≤ count → is_reachable classes.now (front.now ++ count ∷ []) ≡ false }
+    {
+        let class = classes.class_at(front.len());
+        let lack = classes.size().saturating_sub(self.taken + self.later_taken);
+        number_needed(
+            classes.bounds(),
+            &self.held,
+            &self.later,
+            class.values(),
+            least.max(lack),
+        )
+    }
+
+    // True if the empty front is live.
+    pub(crate) fn begins_alive(&self, classes: &Classes) -> bool
+        requires { Tracks classes.now [] classes.now.classes self.now }
+        ensures { result ≡ is_reachable classes.now [] }
+    {
+        classes.facts();
+        self.size_allows(classes.size(), 0)
+            && all_within_reach(classes.bounds(), &self.held, &self.later)
+    }
+
+    // How many members the front with `count` of the next class lacks of the size.
+    pub(crate) fn lack(&self, classes: &Classes, front: &[usize], count: usize) -> usize
+        requires below { length front.now < length classes.now.classes }
+        requires live { is_reachable classes.now (front.now ++ count ∷ []) ≡ true }
+        requires stands { Tracks classes.now front.now (drop (length front.now + 1) classes.now.classes) self.now }
+        ensures { result ≡ classes.now.size - taken_by classes.now (front.now ++ count ∷ []) }
+    {
+        classes.facts();
+        classes.size() - (self.taken + count)
+    }
+
+    // True if with `count` more at most the size is taken, and the size can be reached.
+    fn size_allows(&self, size: usize, count: usize) -> bool
+        requires { self.now.taken + count + self.now.later_taken < 2 ^ 64 }
+        ensures { result ≡ (nat_le (self.now.taken + count) size && nat_le size (self.now.taken + count + self.now.later_taken)) }
+    {
+        let taken = self.taken + count;
+        taken <= size && size <= taken + self.later_taken
+    }
+}
+
+// Adds to cells of zero what each class can give of each value. Returns how much all classes can give.
+fn add_all(later: &mut [usize], classes: &Classes) -> usize
+    requires room { length later.old ≡ 50 * length classes.now.bounds }
+    requires zero { AreAtMost 0 (length classes.now.bounds) later.old }
+    ensures { Gives classes.now classes.now.classes result later.new }
+{
+    classes.facts();
+    let mut later_taken = 0;
+    for class in classes.classes() {
+        add_to(later, class.values(), class.most());
+        later_taken += class.most();
+    }
+    later_taken
+}

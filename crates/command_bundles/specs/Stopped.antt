@@ -1,0 +1,16 @@
+-- What is answered where nothing is drawn.
+use Rattle.std.specs.Prelude.{◌≡◌, [], string_bytes}
+use Rattle.define_draws.specs.declared.DiceStop.TheVariants as dice
+use Rattle.define_draws.specs.Draw.{Refused}
+use Rattle.sealed_draw.specs.declared.drawn.DrawStop.{DrawStop}
+use Rattle.sealed_draw.specs.declared.drawn.DrawStop.TheVariants.{SealDiffers, BadDigit, MoreDigits, OutOfMemory}
+use Rattle.command_shell.specs.declared.status.Cause.TheVariants.{Rule}
+use Rattle.command_shell.specs.Answers.{Saying, Stops}
+use Rattle.command_meanings.specs.Draw.{refused_draw_line}
+
+-- want of memory is never answered so
+abbrev pub TellsStop : DrawStop → Saying → Type 0
+TellsStop (SealDiffers given kept) answer = answer ≡ Stops Rule (refused_draw_line (string_bytes given) (string_bytes kept) Refused.SealDiffers)
+TellsStop (BadDigit place) answer = answer ≡ Stops Rule (refused_draw_line [] [] (Refused.NoTicket (dice.BadDigit place)))
+TellsStop (MoreDigits read) answer = answer ≡ Stops Rule (refused_draw_line [] [] (Refused.NoTicket (dice.MoreDigits read)))
+TellsStop OutOfMemory answer = ⊥

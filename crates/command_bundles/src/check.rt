@@ -1,0 +1,75 @@
+//! The command `check`: whether the certificate of a bundle holds, and why it is refused where it doesn't.
+
+ghost use Rattle.std.specs.Prelude.{IfOk};
+ghost use Rattle.command_shell.specs.Answers.{IsRight, saying};
+ghost use Rattle.command_meanings.specs.Check.{CheckMeans};
+ghost use Rattle.command_bundles.specs.Checked.{TellsStop, TellsVerdict};
+
+use crate::lines::{nodes_spent_line, refused_line, valid_line};
+use bundle_text::Bundle;
+use cert_check::{CheckStop, Verdict, check};
+use command_meanings::check_has_one_answer;
+use command_shell::{Answer, Cause, Command, Meaning, Printed};
+use std::alloc::{AllocError, Global};
+
+/// `check`: the verdict on the certificate of a bundle.
+#[derive(Clone, Copy, Debug)]
+pub struct Check {
+    /// How many visits the search at each stage may make, from 0 to 1,000,000,000,000.
+    pub nodes: u64,
+}
+
+impl Meaning for Check {
+    type About = Bundle;
+
+    ghost use Rattle.command_shell.specs.Answers.{IsTheAnswer};
+    ghost use Rattle.command_meanings.specs.Check.{CheckMeans};
+
+    ghost means = { λ command bundle. IsTheAnswer (CheckMeans command.nodes bundle) };
+}
+
+impl Command for Check {
+    fn answer(&self, alloc: Global, bundle: &Bundle, _text: &[u8]) -> Result<Answer, AllocError> {
+        check_has_one_answer();
+        checked(alloc, self.nodes, bundle)
+    }
+}
+
+/// What `check` answers about a bundle.
+fn checked(alloc: Global, nodes: u64, bundle: &Bundle) -> Result<Answer, AllocError>
+    ensures { IfOk result (λ answer. IsRight (CheckMeans nodes bundle.now) (saying answer)) }
+{
+    match check(alloc, bundle, nodes) {
+        Ok(verdict) => told(alloc, &verdict),
+        Err(stop) => stopped(alloc, nodes, &stop),
+    }
+}
+
+/// What is answered where the check comes to a verdict.
+fn told(alloc: Global, verdict: &Verdict) -> Result<Answer, AllocError>
+    ensures { IfOk result (λ answer. TellsVerdict verdict.now (saying answer)) }
+{
+    match verdict.refusal() {
+        None => Ok(Answer::Prints {
+            printed: Printed::Done,
+            text: valid_line(alloc)?,
+        }),
+        Some(refusal) => Ok(Answer::Prints {
+            printed: Printed::Refused,
+            text: refused_line(alloc, refusal)?,
+        }),
+    }
+}
+
+/// What is answered where it comes to none.
+fn stopped(alloc: Global, nodes: u64, stop: &CheckStop) -> Result<Answer, AllocError>
+    ensures { IfOk result (λ answer. TellsStop nodes stop.now (saying answer)) }
+{
+    match stop {
+        CheckStop::NodesSpent { stage } => Ok(Answer::Stops {
+            cause: Cause::Spent,
+            line: nodes_spent_line(alloc, nodes, *stage)?,
+        }),
+        CheckStop::OutOfMemory => Err(AllocError),
+    }
+}

@@ -1,0 +1,3 @@
+pub mod RunEndings
+pub mod OneAnswer
+pub mod PanelLines

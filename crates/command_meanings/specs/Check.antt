@@ -1,0 +1,55 @@
+-- What `check` answers: the verdict on the certificate of a bundle, by searches of at most `nodes` visits at each stage.
+use Rattle.std.specs.Prelude.{◌≡◌, ℕ, List, [], ◌∷◌, map, codes, Ok, Err}
+use Rattle.std.specs.Fmt.{decimal}
+use Rattle.define_pools.specs.Certificate.{Certifies}
+use Rattle.define_pools.specs.Lottery.{LeximinGreatest}
+use Rattle.define_bundles.specs.BundleText.{Bundle}
+use Rattle.define_checks.specs.Reasons.{Refusal, Refused, Valid}
+use Rattle.define_checks.specs.Visits.{check_answer}
+use Rattle.command_shell.specs.Answers.{Meaning, no_answer}
+use Rattle.command_shell.specs.Lines.{line}
+
+abbrev pub valid_line : List ℕ
+valid_line = line (codes "valid" ∷ [])
+
+-- the stage and the reason for which the certificate is refused, and the numbers of who shows it
+abbrev pub refused_line : Refusal → List ℕ
+refused_line refusal = line (codes "refused" ∷ decimal refusal.stage ∷ decimal refusal.reason ∷ map decimal refusal.who)
+
+-- the budget of visits, and the stage whose search takes more. A check has no columns and makes no pivots
+abbrev pub visits_spent_line : ℕ → ℕ → List ℕ
+visits_spent_line nodes stage = line (codes "spent" ∷ codes "nodes" ∷ decimal nodes ∷ decimal stage ∷ codes "0" ∷ codes "0" ∷ [])
+
+-- the certificate holds, so no lottery over the pool's quota panels is above the bundle's
+pub record IsGreatest (bundle : Bundle) : Type 0 where
+  pub certified : Certifies bundle.pool bundle.answer.lottery bundle.answer.stages
+  pub greatest : LeximinGreatest bundle.pool bundle.answer.lottery
+
+-- the certificate holds
+pub record PrintsValid (nodes : ℕ) (bundle : Bundle) (text : List ℕ) : Type 0 where
+  pub verdict : check_answer bundle.pool bundle.answer nodes ≡ Ok Valid
+  pub greatest : IsGreatest bundle
+  pub line : text ≡ valid_line
+
+-- the search at a stage takes more visits than it may
+pub record SpendsStage (nodes : ℕ) (bundle : Bundle) (text : List ℕ) : Type 0 where
+  pub stage : ℕ
+  pub verdict : check_answer bundle.pool bundle.answer nodes ≡ Err stage
+  pub line : text ≡ visits_spent_line nodes stage
+
+-- the certificate doesn't hold, for the first reason that stands
+pub record PrintsRefusal (nodes : ℕ) (bundle : Bundle) (text : List ℕ) : Type 0 where
+  pub refusal : Refusal
+  pub verdict : check_answer bundle.pool bundle.answer nodes ≡ Ok (Refused refusal)
+  pub fails : Certifies bundle.pool bundle.answer.lottery bundle.answer.stages → ⊥
+  pub line : text ≡ refused_line refusal
+
+abbrev pub CheckMeans : ℕ → Bundle → Meaning
+CheckMeans nodes bundle = record no_answer {
+  -- 0
+  done = PrintsValid nodes bundle;
+  -- 5
+  spent = SpendsStage nodes bundle;
+  -- 11
+  refused = PrintsRefusal nodes bundle;
+}

@@ -1,0 +1,10 @@
+pub mod Lines
+pub mod Panel
+pub mod Lottery
+pub mod Make
+pub mod Seal
+pub mod Draw
+pub mod Check
+pub mod Verify
+pub mod ItsBundle
+pub mod Prove

@@ -1,0 +1,43 @@
+-- The lines of `panel` and `lottery`. Stands on the shell's lines and on the tables of a run; cited by the meanings of both.
+use Rattle.std.specs.Prelude.{ℕ, List, [], ◌∷◌, ◌++◌, length, map, codes, Option, Some, None}
+use Rattle.std.specs.Fmt.{decimal, signed_decimal}
+use Rattle.define_pools.specs.Pool.{Pool, volunteer}
+use Rattle.define_rows.specs.declared.Op.{Op}
+use Rattle.define_rows.specs.declared.Op.TheVariants.{Mul, Sub, Add}
+use Rattle.define_rows.specs.declared.Pass.{Pass}
+use Rattle.define_rows.specs.Table.{Table}
+use Rattle.define_spreads.specs.Spreading.{TotalPass}
+use Rattle.command_shell.specs.Lines.{line}
+
+-- the ids of a panel's members
+abbrev pub panel_line : Pool → List ℕ → List ℕ
+panel_line pool panel = line (codes "panel" ∷ map (λ i. (volunteer pool.volunteers i).id) panel)
+
+-- where a run stood: the stages entered, the columns and the pivots of its table, or 0 before there is one
+abbrev pub place : Option Table → List (List ℕ)
+place None = codes "0" ∷ codes "0" ∷ codes "0" ∷ []
+place (Some table) = decimal (length table.stages) ∷ decimal (length table.columns) ∷ decimal table.pivots ∷ []
+
+abbrev pub operation : Op → List ℕ
+operation Mul = codes "mul"
+operation Sub = codes "sub"
+operation Add = codes "add"
+
+-- an operation passes the width: where the run stood, the row, the operation and its two numbers
+abbrev pub wide_line : Option Table → Pass → List ℕ
+wide_line stood pass =
+    line (codes "wide" ∷ (place stood ++ decimal pass.row ∷ operation pass.op ∷ signed_decimal pass.x ∷ signed_decimal pass.y ∷ []))
+
+-- the lottery's total passes: at which composition, the total of those before it, and the denominator of its fraction
+abbrev pub total_line : TotalPass → List ℕ
+total_line pass = line (codes "wide" ∷ codes "total" ∷ decimal pass.place ∷ decimal pass.total ∷ decimal pass.den ∷ [])
+
+-- a budget of so many is spent, and where the run stood
+abbrev pub spent_line : List ℕ → ℕ → Option Table → List ℕ
+spent_line budget limit stood = line (codes "spent" ∷ budget ∷ decimal limit ∷ place stood)
+
+abbrev pub pivots_spent_line : ℕ → Option Table → List ℕ
+pivots_spent_line pivots stood = spent_line (codes "pivots") pivots stood
+
+abbrev pub nodes_spent_line : ℕ → Option Table → List ℕ
+nodes_spent_line nodes stood = spent_line (codes "nodes") nodes stood

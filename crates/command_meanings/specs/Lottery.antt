@@ -1,0 +1,72 @@
+-- What `lottery` answers: the bundle of a pool, by the run under these limits.
+use Rattle.std.specs.Prelude.{◌≡◌, ◌≤◌, ℕ, List, [], Some, ⊤}
+use Rattle.define_pools.specs.Certificate.{Answer, Certifies}
+use Rattle.define_pools.specs.Lottery.{LeximinGreatest}
+use Rattle.define_pools.specs.Pool.{Pool, panels}
+use Rattle.define_bundles.specs.BundleText.{bundle_text}
+use Rattle.define_rows.specs.Table.{Table}
+use Rattle.define_searches.specs.Classes.{classes_of}
+use Rattle.define_searches.specs.Visits.{first_search}
+use Rattle.define_runs.specs.Run.{Ending, Limits, RunEnds, RunFinds}
+use Rattle.command_shell.specs.Answers.{Meaning, no_answer}
+use Rattle.command_shell.specs.Lines.{no_panel_line}
+use Rattle.command_meanings.specs.Lines.{nodes_spent_line, pivots_spent_line, total_line, wide_line}
+
+-- the run finds this answer, whose lottery is certified by its stages: no lottery over the pool's quota panels is above it
+pub record FindsGreatest (limits : Limits) (pool : Pool) (answer : Answer) : Type 0 where
+  pub ends : RunFinds pool limits answer
+  pub certified : Certifies pool answer.lottery answer.stages
+  pub greatest : LeximinGreatest pool answer.lottery
+
+-- the run finds that there is no quota panel, and its opening search took no more visits than it may
+pub record FindsNone (limits : Limits) (pool : Pool) : Type 0 where
+  pub ends : RunEnds pool limits Ending.NoPanel
+  pub none : panels pool ≡ []
+  pub within : (first_search (classes_of pool)).visits ≤ limits.nodes
+
+-- the text is the bundle of the answer that the run finds
+pub record PrintsBundle (limits : Limits) (pool : Pool) (text : List ℕ) : Type 0 where
+  pub answer : Answer
+  pub finds : FindsGreatest limits pool answer
+  pub bundle : text ≡ bundle_text pool answer
+
+-- the run finds that there is no quota panel
+pub record PrintsNone (limits : Limits) (pool : Pool) (text : List ℕ) : Type 0 where
+  pub finds : FindsNone limits pool
+  pub line : text ≡ no_panel_line
+
+-- the line tells an end of the run at which a number passes its width
+abbrev pub TellsWidth : Ending → List ℕ → Type 0
+TellsWidth (Ending.TooWide stood pass) line = line ≡ wide_line stood pass
+TellsWidth (Ending.TotalPasses stood pass) line = line ≡ total_line pass
+TellsWidth other line = ⊥
+
+-- an operation passes the width, or the lottery's total passes 10 ^ 38
+pub record PassesWidth (limits : Limits) (pool : Pool) (line : List ℕ) : Type 0 where
+  pub ending : Ending
+  pub ends : RunEnds pool limits ending
+  pub tells : TellsWidth ending line
+
+-- the line tells an end of the run at which a budget is spent
+abbrev pub TellsBudget : Limits → Ending → List ℕ → Type 0
+TellsBudget limits (Ending.PivotsSpent stood) line = line ≡ pivots_spent_line limits.pivots (Some stood)
+TellsBudget limits (Ending.NodesSpent stood) line = line ≡ nodes_spent_line limits.nodes stood
+TellsBudget limits other line = ⊥
+
+-- a pivot is due and as many were made as may be, or a search takes more visits than it may
+pub record SpendsBudget (limits : Limits) (pool : Pool) (line : List ℕ) : Type 0 where
+  pub ending : Ending
+  pub ends : RunEnds pool limits ending
+  pub tells : TellsBudget limits ending line
+
+abbrev pub LotteryMeans : Limits → Pool → Meaning
+LotteryMeans limits pool = record no_answer {
+  -- 0
+  done = PrintsBundle limits pool;
+  -- 1
+  no_panel = PrintsNone limits pool;
+  -- 4
+  wide = PassesWidth limits pool;
+  -- 5
+  spent = SpendsBudget limits pool;
+}

@@ -1,0 +1,30 @@
+-- What `make` answers: the summary of the run under these limits over the pool that is made from a number. It reads nothing.
+use Rattle.std.specs.Prelude.{◌≡◌, ℕ, List, length}
+use Rattle.define_made_pools.specs.MadePools.{made_pool}
+use Rattle.define_made_pools.specs.Summary.{Sizes, summary_text}
+use Rattle.define_pools.specs.Certificate.{Answer, Certifies}
+use Rattle.define_pools.specs.Lottery.{LeximinGreatest}
+use Rattle.define_pools.specs.Pool.{Pool}
+use Rattle.define_rows.specs.Table.{Table}
+use Rattle.define_runs.specs.Run.{Ending, Limits, RunEnds}
+use Rattle.command_shell.specs.Answers.{Meaning}
+use Rattle.command_meanings.specs.Lottery.{FindsGreatest, LotteryMeans}
+
+-- the sizes of a run's last table
+abbrev pub sizes_of : Table → Sizes
+sizes_of table = record { classes = length table.sizes; columns = length table.columns; pivots = table.pivots }
+
+-- the text is the summary of the answer that the run finds, and of its last table: no lottery over the pool's quota panels is above it
+pub record PrintsSummary (limits : Limits) (pool : Pool) (text : List ℕ) : Type 0 where
+  pub answer : Answer
+  pub last : Table
+  pub ends : RunEnds pool limits (Ending.Found last answer)
+  pub finds : FindsGreatest limits pool answer
+  pub summary : text ≡ summary_text pool answer (sizes_of last)
+
+-- the summary in the place of a bundle, and else what `lottery` answers about the made pool
+abbrev pub MakeMeans : ℕ → ℕ → Limits → Meaning
+MakeMeans seed volunteers limits = record (LotteryMeans limits (made_pool seed volunteers)) {
+  -- 0
+  done = PrintsSummary limits (made_pool seed volunteers);
+}

@@ -1,0 +1,120 @@
+-- What `prove` answers: a proof over the pool of the input that is valid, or why there is none. The run that makes the proof is no
+-- definition: where it makes none, only the reason is said.
+use Rattle.std.specs.Prelude.{◌≡◌, ℕ, List, [], ◌∷◌, codes, Option, None, Some, ⊤}
+use Rattle.std.specs.Fmt.{decimal, signed_decimal}
+use Rattle.define_additions.specs.ProofVerdict.{OfLottery, OfNoPanel, verdict}
+use Rattle.define_additions.specs.Refusals.{RefusalMeans}
+use Rattle.define_additions.specs.TreeLines.{TreeLine}
+use Rattle.define_checks.specs.Reasons.{Refusal, Refused, Valid}
+use Rattle.define_pools.specs.Certificate.{Answer}
+use Rattle.define_pools.specs.Pool.{Pool, panels}
+use Rattle.define_proof_texts.specs.ProofText.{proof_spelling}
+use Rattle.proof_limits.specs.Budgets.{Left, SpendsOn, unspent}
+use Rattle.proof_limits.specs.declared.passes.Op.{Op}
+use Rattle.proof_limits.specs.declared.passes.Op.TheVariants.{Mul, Add, Sub, Div}
+use Rattle.proof_limits.specs.Operations.{Operation, Passes}
+use Rattle.command_shell.specs.Answers.{Meaning, Saying, IsRight, no_answer}
+use Rattle.command_shell.specs.Lines.{line}
+use Rattle.command_shell.specs.declared.formats.PoolOrBundle.{PoolOrBundle}
+use Rattle.command_shell.specs.declared.formats.PoolOrBundle.TheVariants as either
+use Rattle.command_meanings.specs.Check.{IsGreatest, refused_line}
+
+-- ---- what is read: a pool, and the answer that a proof is asked for, where the input is a bundle
+
+abbrev pub pool_in : PoolOrBundle → Pool
+pool_in (either.Pool pool) = pool
+pool_in (either.Bundle bundle) = bundle.pool
+
+abbrev pub given_in : PoolOrBundle → Option Answer
+given_in (either.Pool pool) = None
+given_in (either.Bundle bundle) = Some bundle.answer
+
+-- ---- lines
+
+abbrev pub proof_operation : Op → List ℕ
+proof_operation Mul = codes "mul"
+proof_operation Add = codes "add"
+proof_operation Sub = codes "sub"
+proof_operation Div = codes "div"
+
+-- an operation and its two numbers
+abbrev pub proof_wide_line : Operation → List ℕ
+proof_wide_line passed = line (codes "wide" ∷ proof_operation passed.op ∷ signed_decimal passed.x ∷ signed_decimal passed.y ∷ [])
+
+-- what is spent, and how much of it there was
+abbrev pub proof_spent_line : List ℕ → ℕ → List ℕ
+proof_spent_line what most = line (codes "spent" ∷ what ∷ decimal most ∷ [])
+
+-- how many turns of tries there are to make the lottery of a point out of panels
+abbrev pub lottery_tries : ℕ
+lottery_tries = 168
+
+-- ---- answers
+
+-- an answer that was given is the one
+abbrev pub IsGiven : Option Answer → Answer → Type 0
+IsGiven None its = ⊤
+IsGiven (Some given) its = its ≡ given
+
+-- the text of a proof that is valid, so no lottery over the pool's quota panels is above its lottery, which is the given one where one is given
+pub record PrintsProof (about : PoolOrBundle) (text : List ℕ) : Type 0 where
+  pub its : Answer
+  pub is_given : IsGiven (given_in about) its
+  pub trees : List (List TreeLine)
+  pub valid : verdict (OfLottery (pool_in about) its trees) ≡ Valid
+  pub greatest : IsGreatest (record { pool = pool_in about; answer = its })
+  pub proof : text ≡ proof_spelling (OfLottery (pool_in about) its trees)
+
+-- the text of a proof that there is no quota panel, which is valid, so there is none
+pub record PrintsProofOfNone (about : PoolOrBundle) (text : List ℕ) : Type 0 where
+  pub lines : List TreeLine
+  pub valid : verdict (OfNoPanel (pool_in about) lines) ≡ Valid
+  pub none : panels (pool_in about) ≡ []
+  pub proof : text ≡ proof_spelling (OfNoPanel (pool_in about) lines)
+
+-- the exact result of an operation of the run is above 2^62 by absolute value
+pub record PassesProofWidth (text : List ℕ) : Type 0 where
+  pub passed : Operation
+  pub passes : Passes passed
+  pub line : text ≡ proof_wide_line passed
+
+-- what is spent, where this is left of the budget
+pub data SpendsProofBudget (left : Left) (text : List ℕ) : Type 0 where
+  -- all pivots of the run, all its nodes, or the tries to make a lottery
+  PivotsSpent : left.pivots ≡ 0 → text ≡ proof_spent_line (codes "pivots") left.most_pivots → SpendsProofBudget left text
+  NodesSpent : left.nodes ≡ 0 → text ≡ proof_spent_line (codes "nodes") left.most_nodes → SpendsProofBudget left text
+  LotterySpent : text ≡ proof_spent_line (codes "lottery") lottery_tries → SpendsProofBudget left text
+  -- nothing: a step of the run led to a state that exact arithmetic never leads to, or its proof was refused
+  StepLost : text ≡ proof_spent_line (codes "lost") 0 → SpendsProofBudget left text
+
+-- The given lottery with its stages and with the trees that were found is refused as a proof. Its certificate doesn't hold, unless the reason
+-- is one of the trees
+pub record PrintsGivenRefusal (about : PoolOrBundle) (text : List ℕ) : Type 0 where
+  pub its : Answer
+  pub is_given : given_in about ≡ Some its
+  pub trees : List (List TreeLine)
+  pub refusal : Refusal
+  pub refuses : verdict (OfLottery (pool_in about) its trees) ≡ Refused refusal
+  pub means : RefusalMeans (OfLottery (pool_in about) its trees) refusal
+  pub line : text ≡ refused_line refusal
+
+-- what is right to answer, where the run leaves this of its budget
+abbrev pub ProveMeans : Left → PoolOrBundle → Meaning
+ProveMeans left about = record no_answer {
+  -- 0
+  done = PrintsProof about;
+  -- 1
+  no_panel = PrintsProofOfNone about;
+  -- 4
+  wide = PassesProofWidth;
+  -- 5
+  spent = SpendsProofBudget left;
+  -- 11
+  refused = PrintsGivenRefusal about;
+}
+
+-- what is right to answer by a run of at most `pivots` pivots and `nodes` nodes. It begins with a budget of these numbers, of which nothing is spent
+pub record ProvesWithin (pivots nodes : ℕ) (about : PoolOrBundle) (answer : Saying) : Type 0 where
+  pub left : Left
+  pub spends : SpendsOn (unspent pivots nodes) left
+  pub right : IsRight (ProveMeans left about) answer

@@ -1,0 +1,56 @@
+//! Laws of what commands mean: at most one answer is right. They are functions without a body, whose contracts are the laws.
+
+ghost use Rattle.std.specs.Prelude.{ℕ, List};
+ghost use Rattle.define_additions.specs.ProofVerdict.{Proof};
+ghost use Rattle.define_bundles.specs.BundleText.{Bundle};
+ghost use Rattle.command_shell.specs.Answers.{HasOneAnswer};
+ghost use Rattle.command_meanings.specs.Check.{CheckMeans};
+ghost use Rattle.command_meanings.specs.Draw.{DrawMeans};
+ghost use Rattle.command_meanings.specs.ItsBundle.{BundleMeans};
+ghost use Rattle.command_meanings.specs.Lottery.{LotteryMeans};
+ghost use Rattle.command_meanings.specs.Make.{MakeMeans};
+ghost use Rattle.command_meanings.specs.Panel.{PanelMeans};
+ghost use Rattle.command_meanings.specs.Seal.{SealMeans};
+ghost use Rattle.command_meanings.specs.Verify.{VerifyMeans};
+ghost use Rattle.define_pools.specs.Pool.{Pool};
+ghost use Rattle.define_runs.specs.Run.{Limits};
+
+/// `panel` has one answer about a pool.
+pub fn panel_has_one_answer()
+    ensures { (nodes : ℕ) (pool : Pool) → HasOneAnswer (PanelMeans nodes pool) }
+{}
+
+/// `lottery` has one answer about a pool.
+pub fn lottery_has_one_answer()
+    ensures { (limits : Limits) (pool : Pool) → HasOneAnswer (LotteryMeans limits pool) }
+{}
+
+/// `make` has one answer, for a seed and a number of volunteers.
+pub fn make_has_one_answer()
+    ensures { (seed volunteers : ℕ) (limits : Limits) → HasOneAnswer (MakeMeans seed volunteers limits) }
+{}
+
+/// `seal` has one answer about a bundle.
+pub fn seal_has_one_answer()
+    ensures { (bundle : Bundle) → HasOneAnswer (SealMeans bundle) }
+{}
+
+/// `draw` has one answer about a bundle, for a seal that is given and digits.
+pub fn draw_has_one_answer()
+    ensures { (given digits : List ℕ) (bundle : Bundle) → HasOneAnswer (DrawMeans given digits bundle) }
+{}
+
+/// `check` has one answer about a bundle, for searches of at most `nodes` visits.
+pub fn check_has_one_answer()
+    ensures { (nodes : ℕ) (bundle : Bundle) → HasOneAnswer (CheckMeans nodes bundle) }
+{}
+
+/// `verify` has one answer about a proof.
+pub fn verify_has_one_answer()
+    ensures { (proof : Proof) → HasOneAnswer (VerifyMeans proof) }
+{}
+
+/// `bundle` has one answer about a proof.
+pub fn bundle_has_one_answer()
+    ensures { (proof : Proof) → HasOneAnswer (BundleMeans proof) }
+{}

@@ -1,0 +1,35 @@
+use Rattle.std.proofs.lemmas.Result.{IfOk-weaker}
+use Rattle.define_runs.specs.Run.{run_limits}
+use Rattle.define_searches.specs.Classes.{are_alike}
+use Rattle.define_searches.proofs.AlikeClasses.{alike_makes}
+use Rattle.std.proofs.Common.{refl, sym, subst}
+use Rattle.command_shell.specs.Answers.{IsRight, saying}
+use Rattle.command_meanings.specs.Lottery.{FindsNone, LotteryMeans}
+use Rattle.command_pools.proofs.RunAnswers.{stop_is_right}
+use Rattle.command_pools.proofs.lottery.solved.Goals as goal
+
+pub returns-in_ok-write_bundle-in-Ok-Found : goal.returns-in_ok-write_bundle-in-Ok-Found
+returns-in_ok-write_bundle-in-Ok-Found g c =
+    let ends = rw c.in-Ok-Found.field-0-is at c.in-Ok-Found.ensures.run in
+    let certified = rw c.in-Ok-Found.field-0-is at c.in-Ok-Found.ensures.certified in
+    record {
+      answer = c.in-Ok-Found.answer;
+      finds = record { ends = ends; certified = certified.0; greatest = certified.1 };
+      bundle = rw c.in-Ok-Found.field-0-is at c.in_ok-write_bundle-in-Ok-Found.ensures.spelled;
+    }
+
+pub returns-in-Ok-NoPanel : goal.returns-in-Ok-NoPanel
+returns-in-Ok-NoPanel g c =
+    let ends = rw c.in-Ok-NoPanel.field-0-is at c.in-Ok-NoPanel.ensures.run in
+    let finds : FindsNone c.args.limits c.args.pool.now = record {
+      ends = ends;
+      none = rw c.in-Ok-NoPanel.field-0-is at c.in-Ok-NoPanel.ensures.certified;
+      within = c.no_panel_where_none.ensures.within c.args.pool.now (are_alike c.args.pool.now) (alike_makes c.args.pool.now) (run_limits c.args.limits) ends;
+    } in
+    IfOk-weaker c.no_panel.result _ _
+    (λ answer is. subst (IsRight (LotteryMeans c.args.limits c.args.pool.now)) (sym is) (record { finds = finds; line = refl })) c.no_panel.ensures
+
+pub returns-in-Err : goal.returns-in-Err
+returns-in-Err g c =
+    IfOk-weaker c.stopped.result _ _
+    (λ answer tells. stop_is_right c.args.limits c.args.pool.now c.in-Err.stop c.in-Err.ensures.run (saying answer) tells) c.stopped.ensures

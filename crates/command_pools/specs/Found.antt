@@ -1,0 +1,29 @@
+-- What the search and the run say of a pool, and how a stop of the run is answered.
+use Rattle.std.specs.Prelude.{◌≡◌, ◌<◌, ◌≤◌, ℕ, List, [], Option, Some, None, Result, Ok, Err, ⊤}
+use Rattle.define_pools.specs.Pool.{Pool, panels}
+use Rattle.define_spreads.specs.Spreading.{TotalPass}
+use Rattle.define_runs.specs.Run.{Limits}
+use Rattle.panel_search.specs.declared.searching.SearchStop.{SearchStop}
+use Rattle.panel_search.specs.declared.searching.SearchStop.TheVariants as search
+use Rattle.leximin_run.specs.Answers.{IsTotalPass, stood}
+use Rattle.leximin_run.specs.declared.stops.Stop.{Stop}
+use Rattle.leximin_run.specs.declared.stops.Stop.TheVariants.{TooWide, TotalPasses, PivotsSpent, NodesSpent, OutOfMemory}
+use Rattle.command_shell.specs.declared.status.Cause.TheVariants.{Wide, Spent}
+use Rattle.command_shell.specs.Answers.{Saying, Stops}
+use Rattle.command_meanings.specs.Lines.{nodes_spent_line, pivots_spent_line, total_line, wide_line}
+use Rattle.command_meanings.specs.Panel.{IsFirstPanel, visits_of}
+
+-- what the search for a first panel says of a pool
+abbrev pub FirstSays : ℕ → Pool → Result (Option (List ℕ)) SearchStop → Type 0
+FirstSays nodes pool (Ok (Some panel)) = (visits_of pool ≤ nodes) × IsFirstPanel pool panel
+FirstSays nodes pool (Ok None) = (visits_of pool ≤ nodes) × (panels pool ≡ [])
+FirstSays nodes pool (Err search.Spent) = nodes < visits_of pool
+FirstSays nodes pool (Err search.OutOfMemory) = ⊤
+
+-- the answer that tells a stop; there is none for want of memory
+abbrev pub TellsStop : Limits → Stop → Saying → Type 0
+TellsStop limits (TooWide at pass) answer = answer ≡ Stops Wide (wide_line (stood at) pass)
+TellsStop limits (TotalPasses at place total den) answer = (pass : TotalPass) → IsTotalPass pass place total den → answer ≡ Stops Wide (total_line pass)
+TellsStop limits (PivotsSpent at) answer = answer ≡ Stops Spent (pivots_spent_line limits.pivots (stood at))
+TellsStop limits (NodesSpent at) answer = answer ≡ Stops Spent (nodes_spent_line limits.nodes (stood at))
+TellsStop limits OutOfMemory answer = ⊥

@@ -1,0 +1,129 @@
+//! The command `lottery`: the bundle of a pool.
+
+ghost use Rattle.std.specs.Prelude.{IfOk};
+ghost use Rattle.std.specs.Thread.{IsSync};
+ghost use Rattle.command_shell.specs.Answers.{IsRight, IsTheAnswer, number_of, saying};
+ghost use Rattle.command_shell.specs.Formats.{pool_format};
+ghost use Rattle.command_shell.specs.Outcomes.{TextOutcome};
+ghost use Rattle.command_shell.specs.Subjects.{About};
+ghost use Rattle.command_shell.specs.Told.{object, told};
+ghost use Rattle.command_meanings.specs.Lottery.{LotteryMeans};
+ghost use Rattle.command_pools.specs.Found.{TellsStop};
+
+use crate::lines::{nodes_spent_line, pivots_spent_line, total_line, wide_line};
+use bundle_text::write_bundle;
+use command_meanings::lottery_has_one_answer;
+use command_shell::{
+    Answer, Cause, Meaning, Printed, Resources, Status, call_answered_by, no_panel,
+};
+use define_runs::Workers;
+use laws_of_runs::no_panel_where_none;
+use leximin_run::{Limits, Solved, Stop, solve};
+use outside::{Sink, Source, Watch};
+use pool_model::Pool;
+use std::alloc::{AllocError, Global};
+use std::thread::Threads;
+
+/// `lottery`: the lottery over the quota panels of a pool with its certificate, by the run.
+#[derive(Clone, Copy, Debug)]
+pub struct Lottery {
+    /// How wide the run's numbers may be, and how many pivots and visits it may make.
+    pub limits: Limits,
+    /// By how many workers it prices, on threads. Nothing that is answered depends on that.
+    pub workers: Workers,
+}
+
+impl Meaning for Lottery {
+    type About = Pool;
+
+    ghost use Rattle.command_shell.specs.Answers.{IsTheAnswer};
+    ghost use Rattle.command_meanings.specs.Lottery.{LotteryMeans};
+
+    ghost means = { λ command pool. IsTheAnswer (LotteryMeans command.limits pool) };
+}
+
+/// One call of `lottery`. It is answered by a function, since its run starts threads.
+pub fn call_lottery<R: Threads + Sync, W: Watch + Sync, S: Source, O: Sink, E: Sink>(
+    resources: &Resources<'_, R, W>,
+    command: &Lottery,
+    source: &mut S,
+    out: &mut O,
+    errs: &mut E,
+) -> Status
+    ensures { TextOutcome (About pool_format (λ pool. IsTheAnswer (LotteryMeans command.now.limits pool))) (told (number_of result)
+        (object (S.left source.old) (S.left source.new) (S.faults source.old) (S.faults source.new))
+        (object (O.written out.old) (O.written out.new) (O.faults out.old) (O.faults out.new))
+        (object (E.written errs.old) (E.written errs.new) (E.faults errs.old) (E.faults errs.new))) }
+{
+    // The closure takes the resources apart: of one that captures a value whose type names a lifetime, Rattle drops the `ensures`.
+    let Resources { rt, alloc, watch } = *resources;
+    call_answered_by(
+        alloc,
+        command,
+        |pool: &Pool| -> Result<Answer, AllocError>
+            requires { IsSync R.row × IsSync W.row }
+            ensures { IfOk result (λ answer. IsTheAnswer (LotteryMeans command.entry.now.limits pool.now) (saying answer)) }
+        { answered(&Resources { rt, alloc, watch }, command, pool) },
+        source,
+        out,
+        errs,
+    )
+}
+
+/// What `lottery` answers about a pool.
+fn answered<R: Threads + Sync, W: Watch + Sync>(
+    resources: &Resources<'_, R, W>,
+    command: &Lottery,
+    pool: &Pool,
+) -> Result<Answer, AllocError>
+    ensures { IfOk result (λ answer. IsTheAnswer (LotteryMeans command.now.limits pool.now) (saying answer)) }
+{
+    lottery_has_one_answer();
+    solved(resources, command.limits, command.workers, pool)
+}
+
+/// The same, by how the run ends.
+fn solved<R: Threads + Sync, W: Watch + Sync>(
+    resources: &Resources<'_, R, W>,
+    limits: Limits,
+    workers: Workers,
+    pool: &Pool,
+) -> Result<Answer, AllocError>
+    ensures { IfOk result (λ answer. IsRight (LotteryMeans limits pool.now) (saying answer)) }
+{
+    no_panel_where_none();
+    let Resources { rt, alloc, watch } = *resources;
+    match solve(rt, alloc, pool, limits, workers.number(), watch) {
+        Ok(Solved::Found(answer)) => Ok(Answer::Prints {
+            printed: Printed::Done,
+            text: write_bundle(alloc, pool, &answer)?,
+        }),
+        Ok(Solved::NoPanel) => no_panel(alloc),
+        Err(stop) => stopped(alloc, limits, &stop),
+    }
+}
+
+/// What is answered where a step of the run is refused.
+pub(crate) fn stopped(alloc: Global, limits: Limits, stop: &Stop) -> Result<Answer, AllocError>
+    ensures { IfOk result (λ answer. TellsStop limits stop.now (saying answer)) }
+{
+    match stop {
+        Stop::TooWide(at, pass) => Ok(Answer::Stops {
+            cause: Cause::Wide,
+            line: wide_line(alloc, at, pass)?,
+        }),
+        Stop::TotalPasses(_, place, total, den) => Ok(Answer::Stops {
+            cause: Cause::Wide,
+            line: total_line(alloc, *place, *total, *den)?,
+        }),
+        Stop::PivotsSpent(at) => Ok(Answer::Stops {
+            cause: Cause::Spent,
+            line: pivots_spent_line(alloc, limits.pivots(), at)?,
+        }),
+        Stop::NodesSpent(at) => Ok(Answer::Stops {
+            cause: Cause::Spent,
+            line: nodes_spent_line(alloc, limits.nodes(), at)?,
+        }),
+        Stop::OutOfMemory => Err(AllocError),
+    }
+}

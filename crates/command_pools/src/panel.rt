@@ -1,0 +1,75 @@
+//! The command `panel`: the first quota panel of a pool.
+
+ghost use Rattle.std.specs.Prelude.{IfOk};
+ghost use Rattle.command_shell.specs.Answers.{IsRight, saying};
+ghost use Rattle.command_meanings.specs.Panel.{PanelMeans};
+ghost use Rattle.command_pools.specs.Found.{FirstSays};
+
+use crate::lines::{nodes_spent_line, panel_line};
+use alike::{classes, first_panel};
+use command_meanings::panel_has_one_answer;
+use command_shell::{Answer, Cause, Command, Meaning, Printed, no_panel};
+use define_searches::{alike_make_classes, first_search_decides};
+use leximin_run::At;
+use panel_search::{SearchStop, first};
+use pool_model::{Panel, Pool};
+use std::alloc::{AllocError, Global};
+
+/// `panel`: the first quota panel of a pool.
+#[derive(Clone, Copy, Debug)]
+pub struct FirstPanel {
+    /// The most visits that the search may make, from 0 to 1,000,000,000,000.
+    pub nodes: u64,
+}
+
+impl Meaning for FirstPanel {
+    type About = Pool;
+
+    ghost use Rattle.command_shell.specs.Answers.{IsTheAnswer};
+    ghost use Rattle.command_meanings.specs.Panel.{PanelMeans};
+
+    ghost means = { λ command pool. IsTheAnswer (PanelMeans command.nodes pool) };
+}
+
+impl Command for FirstPanel {
+    fn answer(&self, alloc: Global, pool: &Pool, _text: &[u8]) -> Result<Answer, AllocError> {
+        panel_has_one_answer();
+        panel(alloc, self.nodes, pool)
+    }
+}
+
+/// What `panel` answers about a pool.
+fn panel(alloc: Global, nodes: u64, pool: &Pool) -> Result<Answer, AllocError>
+    ensures { IfOk result (λ answer. IsRight (PanelMeans nodes pool.now) (saying answer)) }
+{
+    match first_of(alloc, nodes, pool) {
+        Ok(Some(panel)) => Ok(Answer::Prints {
+            printed: Printed::Done,
+            text: panel_line(alloc, pool, &panel)?,
+        }),
+        Ok(None) => no_panel(alloc),
+        Err(SearchStop::Spent) => Ok(Answer::Stops {
+            cause: Cause::Spent,
+            line: nodes_spent_line(alloc, nodes, &At::Opening)?,
+        }),
+        Err(SearchStop::OutOfMemory) => Err(AllocError),
+    }
+}
+
+/// The first members of the first composition's classes, if the search makes at most `nodes` visits.
+fn first_of(alloc: Global, nodes: u64, pool: &Pool) -> Result<Option<Panel>, SearchStop>
+    ensures { FirstSays nodes pool.now result }
+{
+    alike_make_classes();
+    first_search_decides();
+    let Ok(classes) = classes(alloc, pool) else {
+        return Err(SearchStop::OutOfMemory);
+    };
+    let Some(composition) = first(alloc, &classes, nodes)? else {
+        return Ok(None);
+    };
+    match first_panel(alloc, &classes, &composition) {
+        Ok(panel) => Ok(Some(panel)),
+        Err(_) => Err(SearchStop::OutOfMemory),
+    }
+}

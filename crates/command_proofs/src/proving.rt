@@ -1,0 +1,164 @@
+//! The command `prove`: the lottery of a pool, or of a bundle, with a proof that is verified before it is told.
+
+ghost use Rattle.std.specs.Prelude.{◌≡◌, IfOk};
+ghost use Rattle.define_bundles.specs.BundleText.{Bundle as SeenBundle};
+ghost use Rattle.command_shell.specs.Answers.{IsRight, saying};
+ghost use Rattle.command_shell.specs.declared.formats.PoolOrBundle.TheVariants as either;
+ghost use Rattle.command_meanings.specs.Prove.{ProveMeans, ProvesWithin};
+ghost use Rattle.define_pools.specs.Pool.{Pool as SeenPool};
+ghost use Rattle.proof_limits.specs.Budgets.{Left, SpendsOn};
+ghost use Rattle.proof_model.specs.Parts.{seen};
+ghost use Rattle.proof_run.specs.Made.{IsOfBundle, IsOfPool};
+ghost use Rattle.command_proofs.specs.Proved.{TellsOfBundle, TellsOfPool, ending, proof_said};
+
+use crate::proving_lines::{lost, stopped};
+use bundle_text::Bundle;
+use command_bundles::refused_line;
+use command_shell::{Answer, Command, Meaning, PoolOrBundle, Printed};
+use pool_model::Pool;
+use proof_limits::Budget;
+use proof_model::{Parts, Proof};
+use proof_run::{make_proof, prove_bundle};
+use proof_text::write_proof;
+use proof_verify::{Verdict, verify};
+use std::alloc::{AllocError, Global};
+
+/// `prove`: the proof of a pool or of a bundle, by a run under a budget.
+#[derive(Clone, Copy, Debug)]
+pub struct Prove {
+    /// The most pivots of the whole run, from 0 to 1,000,000,000.
+    pub pivots: u64,
+    /// The most nodes of the whole run, from 0 to 1,000,000,000,000.
+    pub nodes: u64,
+}
+
+impl Meaning for Prove {
+    type About = PoolOrBundle;
+
+    ghost use Rattle.command_meanings.specs.Prove.{ProvesWithin};
+
+    ghost means = { λ command about. ProvesWithin command.pivots command.nodes about };
+}
+
+impl Command for Prove {
+    fn answer(
+        &self,
+        alloc: Global,
+        about: &PoolOrBundle,
+        _text: &[u8],
+    ) -> Result<Answer, AllocError> {
+        proved(alloc, self.pivots, self.nodes, about)
+    }
+}
+
+/// What `prove` answers by a run with a budget of its own.
+fn proved(
+    alloc: Global,
+    pivots: u64,
+    nodes: u64,
+    about: &PoolOrBundle,
+) -> Result<Answer, AllocError>
+    ensures { IfOk result (λ answer. ProvesWithin pivots nodes about.now (saying answer)) }
+{
+    let mut budget = Budget::new(pivots, nodes);
+    prove_within(alloc, &mut budget, about)
+}
+
+/// What `prove` answers by a run under a budget, and what that leaves of it.
+///
+/// # Errors
+///
+/// Want of memory alone.
+pub fn prove_within(
+    alloc: Global,
+    budget: &mut Budget,
+    about: &PoolOrBundle,
+) -> Result<Answer, AllocError>
+    ensures right { IfOk result (λ answer. IsRight (ProveMeans budget.new about.now) (saying answer)) }
+    ensures spends { SpendsOn budget.old budget.new }
+{
+    match about {
+        PoolOrBundle::Pool(pool) => about_pool(alloc, budget, pool),
+        PoolOrBundle::Bundle(bundle) => about_bundle(alloc, budget, bundle),
+    }
+}
+
+/// What `prove` answers about a pool.
+fn about_pool(alloc: Global, budget: &mut Budget, pool: &Pool) -> Result<Answer, AllocError>
+    ensures right { IfOk result (λ answer. IsRight (ProveMeans budget.new (either.Pool pool.now)) (saying answer)) }
+    ensures spends { SpendsOn budget.old budget.new }
+{
+    match make_proof(alloc, pool, budget) {
+        Ok(proof) => told_of_pool(alloc, &proof),
+        Err(stop) => stopped(alloc, budget, &stop),
+    }
+}
+
+/// What `prove` answers about a bundle.
+fn about_bundle(alloc: Global, budget: &mut Budget, bundle: &Bundle) -> Result<Answer, AllocError>
+    ensures right { IfOk result (λ answer. IsRight (ProveMeans budget.new (either.Bundle bundle.now)) (saying answer)) }
+    ensures spends { SpendsOn budget.old budget.new }
+{
+    match prove_bundle(alloc, bundle, budget) {
+        Ok(proof) => told_of_bundle(alloc, &proof),
+        Err(stop) => stopped(alloc, budget, &stop),
+    }
+}
+
+/// What is told of a proof of a pool, which is verified first.
+fn told_of_pool(alloc: Global, proof: &Proof) -> Result<Answer, AllocError>
+    ensures { IfOk result (λ answer. (left : Left) (pool : SeenPool) → IsOfPool pool proof.now → IsRight (ProveMeans left (either.Pool pool)) (saying answer)) }
+{
+    let verdict = verify(alloc, proof)?;
+    proof_or_lost(alloc, proof, &verdict)
+}
+
+/// What is told of a proof of a bundle, which is verified first.
+fn told_of_bundle(alloc: Global, proof: &Proof) -> Result<Answer, AllocError>
+    ensures { IfOk result (λ answer. (left : Left) (bundle : SeenBundle) → IsOfBundle bundle proof.now → IsRight (ProveMeans left (either.Bundle bundle)) (saying answer)) }
+{
+    let verdict = verify(alloc, proof)?;
+    proof_or_refusal(alloc, proof, &verdict)
+}
+
+/// The text of a valid proof, and else that a step of the run was lost.
+fn proof_or_lost(alloc: Global, proof: &Proof, verdict: &Verdict) -> Result<Answer, AllocError>
+    ensures { IfOk result (λ answer. TellsOfPool proof.now verdict.now (saying answer)) }
+{
+    match verdict.refusal() {
+        None => proof_text(alloc, proof),
+        Some(_) => lost(alloc),
+    }
+}
+
+/// The text of a valid proof, and else why it is refused.
+fn proof_or_refusal(alloc: Global, proof: &Proof, verdict: &Verdict) -> Result<Answer, AllocError>
+    ensures { IfOk result (λ answer. TellsOfBundle proof.now verdict.now (saying answer)) }
+{
+    match verdict.refusal() {
+        None => proof_text(alloc, proof),
+        Some(refusal) => Ok(Answer::Prints {
+            printed: Printed::Refused,
+            text: refused_line(alloc, refusal)?,
+        }),
+    }
+}
+
+fn proof_text(alloc: Global, proof: &Proof) -> Result<Answer, AllocError>
+    ensures { IfOk result (λ answer. saying answer ≡ proof_said proof.now) }
+{
+    Ok(Answer::Prints {
+        printed: ending_of(proof.parts()),
+        text: write_proof(alloc, proof)?,
+    })
+}
+
+/// How the command ends with a proof of these parts.
+fn ending_of(parts: &Parts) -> Printed
+    ensures { result ≡ ending (seen parts.now) }
+{
+    match parts {
+        Parts::Lottery(_, _) => Printed::Done,
+        Parts::NoPanel(_, _) => Printed::NoPanel,
+    }
+}

@@ -1,0 +1,82 @@
+-- How a call of a command ends. `Right` says which answers are right; the status is computed from the answer that was told.
+-- Stands on: Told, Answers. Cited by the contract of every call, up to `office`.
+use Rattle.std.specs.Prelude.{◌≡◌, ◌⊎◌, ◌≤◌, ℕ, List, length}
+use Rattle.command_shell.specs.declared.status.Printed.{Printed}
+use Rattle.command_shell.specs.Told.{Bytes, Told, Gains, GainsLine, GainsPart, HasFaulted, HasNoFault, HeldAll, HeldMore, IsUntouched}
+use Rattle.command_shell.specs.Answers.{Saying, Prints, Stops, cause_number, printed_number}
+use Rattle.command_shell.specs.Lines.{input_limit, read_fault_line, too_long_line, want_of_memory_line, write_fault_line}
+
+-- ---- calls that have what they work on
+
+-- out gained the whole text, and errs was left alone
+pub record IsPrinted (number : ℕ) (text : List ℕ) (told : Told) : Type 0 where
+  pub status : told.status ≡ number
+  pub out : Gains told.out text
+  pub no_fault : HasNoFault told.out
+  pub errs : IsUntouched told.errs
+
+-- errs got the line, and out was left alone
+pub record IsStopped (number : ℕ) (line : List ℕ) (told : Told) : Type 0 where
+  pub status : told.status ≡ number
+  pub out : IsUntouched told.out
+  pub errs : GainsLine told.errs line
+
+-- the answer was told whole, with its own status
+abbrev pub IsTold : Saying → Told → Type 0
+IsTold (Prints printed text) told = IsPrinted (printed_number printed) text told
+IsTold (Stops cause line) told = IsStopped (cause_number cause) line told
+
+-- 8: out counted a fault, after it gained a prefix of the text
+pub record IsCutOff (text : List ℕ) (told : Told) : Type 0 where
+  pub status : told.status ≡ 8
+  pub faulted : HasFaulted told.out
+  pub out : GainsPart told.out text
+  pub errs : GainsLine told.errs write_fault_line
+
+-- the answer was told, whole or cut off
+abbrev pub IsToldOrCutOff : Saying → Told → Type 0
+IsToldOrCutOff (Prints printed text) told = IsPrinted (printed_number printed) text told ⊎ IsCutOff text told
+IsToldOrCutOff (Stops cause line) told = IsStopped (cause_number cause) line told
+
+-- how a call ends that has what it works on
+pub data Outcome (Right : Saying → Type 0) (told : Told) : Type 0 where
+  -- the status of an answer that is right: the answer was told
+  Answered : (answer : Saying) → Right answer → IsTold answer told → Outcome Right told
+  -- 8: out failed before the text of an answer that is right was told whole
+  WriteFault : (printed : Printed) (text : List ℕ) → Right (Prints printed text) → IsCutOff text told → Outcome Right told
+  -- 12: want of memory, which may come at any time
+  WantOfMemory : IsStopped 12 want_of_memory_line told → Outcome Right told
+
+-- ---- calls that read the source
+
+-- the answer is right about the bytes that the source held, all of which were read
+pub record IsAboutSource (Means : List ℕ → Saying → Type 0) (source : Bytes) (answer : Saying) : Type 0 where
+  pub bytes : List ℕ
+  pub held : HeldAll source bytes
+  pub within : length bytes ≤ input_limit
+  pub no_fault : HasNoFault source
+  pub means : Means bytes answer
+
+-- 3: the source held more than an input may have, and was read past that
+pub record IsTooLong (told : Told) : Type 0 where
+  pub held : HeldMore told.source input_limit
+  pub no_fault : HasNoFault told.source
+  pub stopped : IsStopped 3 too_long_line told
+
+-- 7: the source counted a fault
+pub record IsReadFault (told : Told) : Type 0 where
+  pub faulted : HasFaulted told.source
+  pub stopped : IsStopped 7 read_fault_line told
+
+-- how a call ends that reads its source. `Means` says which answers are right about some bytes
+pub data TextOutcome (Means : List ℕ → Saying → Type 0) (told : Told) : Type 0 where
+  -- the text was read, or memory was wanting before
+  Ends : Outcome (IsAboutSource Means told.source) told → TextOutcome Means told
+  TooLong : IsTooLong told → TextOutcome Means told
+  ReadFault : IsReadFault told → TextOutcome Means told
+
+-- ---- calls that read nothing
+
+pub record SilentOutcome (Right : Saying → Type 0) (told : Told) : Type 0 where
+  pub source : IsUntouched told.source
+  pub ends : Outcome Right told

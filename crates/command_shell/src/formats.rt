@@ -1,0 +1,80 @@
+//! The formats of texts that commands read: pools, bundles, proofs, and either of the first two. Their readers stand below.
+
+use crate::subject::Subject;
+use bundle_text::{Bundle, ReadBundle, read_bundle};
+use pool_model::Pool;
+use pool_text::{ReadPool, read_pool};
+use proof_model::Proof;
+use proof_text::read_proof;
+use std::alloc::Global;
+use text_lines::{TextFault, TextStop};
+
+/// A text that begins so is read as that of a bundle.
+const BUNDLE: &[u8] = b"bundle";
+
+impl Subject for Pool {
+    ghost use Rattle.command_shell.specs.Formats.{pool_format};
+
+    ghost format = { pool_format };
+
+    fn read(alloc: Global, bytes: &[u8]) -> Result<Pool, TextStop> {
+        match read_pool(alloc, bytes) {
+            Ok(pool) => Ok(pool),
+            Err(ReadPool::Fault(fault)) => Err(TextStop::Fault(TextFault {
+                line: fault.line,
+                kind: fault.kind,
+            })),
+            Err(ReadPool::OutOfMemory) => Err(TextStop::OutOfMemory),
+        }
+    }
+}
+
+impl Subject for Bundle {
+    ghost use Rattle.command_shell.specs.Formats.{bundle_format};
+
+    ghost format = { bundle_format };
+
+    fn read(alloc: Global, bytes: &[u8]) -> Result<Bundle, TextStop> {
+        match read_bundle(alloc, bytes) {
+            Ok(bundle) => Ok(bundle),
+            Err(ReadBundle::Fault(fault)) => Err(TextStop::Fault(TextFault {
+                line: fault.line,
+                kind: fault.kind,
+            })),
+            Err(ReadBundle::OutOfMemory) => Err(TextStop::OutOfMemory),
+        }
+    }
+}
+
+impl Subject for Proof {
+    ghost use Rattle.command_shell.specs.Formats.{proof_format};
+
+    ghost format = { proof_format };
+
+    fn read(alloc: Global, bytes: &[u8]) -> Result<Proof, TextStop> {
+        read_proof(alloc, bytes)
+    }
+}
+
+/// A pool, or a bundle over one. A text that begins as a bundle's is read as one.
+#[derive(Drop)]
+pub enum PoolOrBundle {
+    /// A pool.
+    Pool(Pool),
+    /// A bundle.
+    Bundle(Bundle),
+}
+
+impl Subject for PoolOrBundle {
+    ghost use Rattle.command_shell.specs.Formats.{pool_or_bundle_format};
+
+    ghost format = { pool_or_bundle_format };
+
+    fn read(alloc: Global, bytes: &[u8]) -> Result<PoolOrBundle, TextStop> {
+        if bytes.starts_with(BUNDLE) {
+            Ok(PoolOrBundle::Bundle(Bundle::read(alloc, bytes)?))
+        } else {
+            Ok(PoolOrBundle::Pool(Pool::read(alloc, bytes)?))
+        }
+    }
+}

@@ -1,0 +1,34 @@
+//! What an input is read as. Each format of texts that a command reads has an `impl` of `Subject`, in `formats`.
+
+ghost use Rattle.command_shell.specs.Subjects.{Format, IsRead};
+
+use std::alloc::Global;
+use text_lines::TextStop;
+
+/// A value that a text says: a pool, a bundle, a proof.
+pub trait Subject: Sized + Drop {
+    /// Which texts say which values, and where another text first goes wrong.
+    ghost format: { Format Self };
+
+    /// Reads the value that some bytes say.
+    ///
+    /// # Errors
+    ///
+    /// `Fault` exactly where the bytes are no text of the format, with its first faulty line; `OutOfMemory`.
+    fn read(alloc: Global, bytes: &[u8]) -> Result<Self, TextStop>
+        ensures { IsRead format bytes.now result };
+}
+
+/// What a command reads that reads nothing.
+#[derive(Clone, Copy, Debug, Drop)]
+pub struct Nothing;
+
+impl Subject for Nothing {
+    ghost use Rattle.command_shell.specs.Subjects.{nothing};
+
+    ghost format = { nothing };
+
+    fn read(_alloc: Global, _bytes: &[u8]) -> Result<Nothing, TextStop> {
+        Ok(Nothing)
+    }
+}

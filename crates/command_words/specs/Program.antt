@@ -1,0 +1,42 @@
+-- The program of a table of commands, in the words of `clap`'s rule.
+use Rattle.std.specs.Prelude.{true, List, [], ◌∷◌, Option, Some, None, codes, fold, is_none, map}
+use Rattle.clap.specs.Words.{App, Rule, new_app, new_rule, with_subcommand}
+use Rattle.clap.specs.Simple.{new_shape, on_top}
+use Rattle.clap.specs.declared.builder.value_parser.ValueParser.{ValueParser}
+use Rattle.clap.specs.declared.builder.value_parser.ValueParser.TheVariants as parser
+use Rattle.command_words.specs.declared.words.Form.{Form}
+use Rattle.command_words.specs.declared.words.Form.TheVariants as form
+use Rattle.command_words.specs.Table.{CommandEntry, OptionEntry, Text}
+
+-- what `clap` asks of a value of this form
+abbrev pub form_parser : Form → ValueParser
+form_parser (form.Number least most) = parser.Unsigned least most
+form_parser form.Text = parser.String
+
+abbrev pub default_texts : Option Text → List Text
+default_texts (Some text) = text ∷ []
+default_texts None = []
+
+-- an option is named by two hyphens and its name, and is required where it has no default
+abbrev pub option_rule : OptionEntry → Rule
+option_rule option = record (new_rule option.name) {
+  long = Some option.name;
+  parser = Some (form_parser option.form);
+  defaults = default_texts option.default;
+  required = is_none option.default;
+}
+
+-- a command of this name has a rule for each option
+abbrev pub command_with : Text → List OptionEntry → App
+command_with name options = record { top = record (new_shape name) { rules = map option_rule options }; subs = [] }
+
+abbrev pub command_app : CommandEntry → App
+command_app command = command_with command.name command.options
+
+-- the program, of which one subcommand is required; the words don't include its name
+abbrev pub program_alone : App
+program_alone = on_top (λ top. record top { no_binary_name = true; subcommand_required = true }) (new_app (codes "sortition"))
+
+-- and with each command as a subcommand
+abbrev pub program_app : List CommandEntry → App
+program_app commands = fold (λ app command. with_subcommand app (command_app command).top) program_alone commands

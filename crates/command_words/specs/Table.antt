@@ -1,0 +1,45 @@
+-- The words of commands and options, with their texts in the place of what holds them.
+use Rattle.std.specs.Prelude.{ℕ, List, ◌++◌, map, option_map}
+use Rattle.std.specs.Borrow.{Bor}
+use Rattle.command_words.specs.declared.words.CommandWords.{CommandWords}
+use Rattle.command_words.specs.declared.words.OptionWords.{OptionWords}
+use Rattle.command_words.specs.declared.table.TheConstants.{PROOF_COMMANDS, RUN_COMMANDS}
+
+abbrev pub Text : Type 0
+Text = List ℕ
+
+abbrev pub OptionEntry : Type 0
+OptionEntry = OptionWords Text
+
+abbrev pub CommandEntry : Type 0
+CommandEntry = CommandWords Text (List OptionEntry)
+
+abbrev pub option_as : {T : Type 0} → (T → Text) → OptionWords T → OptionEntry
+option_as text option =
+    record { name = text option.name; help = text option.help; form = option.form; default = option_map text option.default }
+
+abbrev pub command_as : {T U : Type 0} → (T → Text) → (U → List (OptionWords T)) → CommandWords T U → CommandEntry
+command_as text options command = record {
+  command = command.command;
+  name = text command.name;
+  help = text command.help;
+  example = text command.example;
+  options = map (option_as text) (options command.options);
+}
+
+-- of a table that code holds
+abbrev pub option_entry : OptionWords (Bor Text) → OptionEntry
+option_entry = option_as (λ text. text.now)
+
+abbrev pub command_entry : CommandWords (Bor Text) (Bor (List (OptionWords (Bor Text)))) → CommandEntry
+command_entry = command_as (λ text. text.now) (λ options. options.now)
+
+-- the program's own commands: those about proofs and draws, and those about the stated run
+unfoldable pub proof_commands : List CommandEntry
+proof_commands = map (command_as (λ text. text.now) (λ options. options.now)) PROOF_COMMANDS.now
+
+unfoldable pub run_commands : List CommandEntry
+run_commands = map (command_as (λ text. text.now) (λ options. options.now)) RUN_COMMANDS.now
+
+unfoldable pub command_table : List CommandEntry
+command_table = proof_commands ++ run_commands

@@ -1,0 +1,88 @@
+-- What some lists of words give, as the program's users count on it: each command's name, its defaults, and the ends of its ranges. They pin the
+-- table of words, which is code. Proved by computing, in `worked`.
+use Rattle.std.specs.Prelude.{◌≡◌, ℕ, List, [], ◌∷◌, None, Some, codes}
+use Rattle.command_words.specs.Words.{given_in}
+use Rattle.command_words.specs.declared.given.Value.{Value}
+use Rattle.command_words.specs.declared.given.Value.TheVariants.{Number, Text}
+use Rattle.command_words.specs.declared.words.CommandName.{CommandName}
+use Rattle.command_words.specs.declared.words.CommandName.TheVariants as name
+
+-- the words give this command with these values
+abbrev pub Give : List (List ℕ) → CommandName → List (List ℕ × Value) → Type 0
+Give words command values = given_in words ≡ Some (record { command = command; values = values })
+
+-- the words give nothing
+abbrev pub GiveNothing : List (List ℕ) → Type 0
+GiveNothing words = given_in words ≡ None
+
+abbrev pub number : List ℕ → ℕ → List ℕ × Value
+number name value = (name, Number value)
+
+-- a budget of the run that proves: pivots up to 10 ^ 9, nodes up to 10 ^ 12
+pub record ProveGives : Type 0 where
+  pub defaults : Give (codes "prove" ∷ []) name.Prove (number (codes "pivots") 1000000 ∷ number (codes "nodes") 200000 ∷ [])
+  pub least : Give (codes "prove" ∷ codes "--pivots" ∷ codes "0" ∷ codes "--nodes" ∷ codes "0" ∷ []) name.Prove (number (codes "pivots") 0 ∷ number (codes "nodes") 0 ∷ [])
+  pub most : Give (codes "prove" ∷ codes "--pivots" ∷ codes "1000000000" ∷ codes "--nodes" ∷ codes "1000000000000" ∷ []) name.Prove
+      (number (codes "pivots") 1000000000 ∷ number (codes "nodes") 1000000000000 ∷ [])
+  pub pivots : GiveNothing (codes "prove" ∷ codes "--pivots" ∷ codes "1000000001" ∷ [])
+  pub nodes : GiveNothing (codes "prove" ∷ codes "--nodes" ∷ codes "1000000000001" ∷ [])
+
+pub record PlainGive : Type 0 where
+  pub verify : Give (codes "verify" ∷ []) name.Verify []
+  pub bundle : Give (codes "bundle" ∷ []) name.Bundle []
+  pub seal : Give (codes "seal" ∷ []) name.Seal []
+
+-- both texts are required
+pub record DrawGives : Type 0 where
+  pub texts : Give (codes "draw" ∷ codes "--seal" ∷ codes "s" ∷ codes "--digits" ∷ codes "97" ∷ []) name.Draw
+      ((codes "seal", Text (codes "s")) ∷ (codes "digits", Text (codes "97")) ∷ [])
+  pub no_seal : GiveNothing (codes "draw" ∷ codes "--digits" ∷ codes "97" ∷ [])
+  pub no_digits : GiveNothing (codes "draw" ∷ codes "--seal" ∷ codes "s" ∷ [])
+
+-- visits up to 10 ^ 12
+pub record SearchesGive : Type 0 where
+  pub panel : Give (codes "panel" ∷ []) name.Panel (number (codes "nodes") 50000000 ∷ [])
+  pub panel_least : Give (codes "panel" ∷ codes "--nodes" ∷ codes "0" ∷ []) name.Panel (number (codes "nodes") 0 ∷ [])
+  pub panel_most : Give (codes "panel" ∷ codes "--nodes" ∷ codes "1000000000000" ∷ []) name.Panel (number (codes "nodes") 1000000000000 ∷ [])
+  pub panel_more : GiveNothing (codes "panel" ∷ codes "--nodes" ∷ codes "1000000000001" ∷ [])
+  pub check : Give (codes "check" ∷ []) name.Check (number (codes "nodes") 50000000 ∷ [])
+  pub check_least : Give (codes "check" ∷ codes "--nodes" ∷ codes "0" ∷ []) name.Check (number (codes "nodes") 0 ∷ [])
+  pub check_most : Give (codes "check" ∷ codes "--nodes" ∷ codes "1000000000000" ∷ []) name.Check (number (codes "nodes") 1000000000000 ∷ [])
+  pub check_more : GiveNothing (codes "check" ∷ codes "--nodes" ∷ codes "1000000000001" ∷ [])
+
+-- the width in bits from 1 to 127, pivots up to 10 ^ 9, visits up to 10 ^ 12, workers from 1 to 64
+pub record LotteryGives : Type 0 where
+  pub defaults : Give (codes "lottery" ∷ []) name.Lottery
+      (number (codes "bits") 127 ∷ number (codes "pivots") 100000 ∷ number (codes "nodes") 50000000 ∷ number (codes "workers") 1 ∷ [])
+  pub least : Give (codes "lottery" ∷ codes "--bits" ∷ codes "1" ∷ codes "--pivots" ∷ codes "0" ∷ codes "--nodes" ∷ codes "0" ∷ []) name.Lottery
+      (number (codes "bits") 1 ∷ number (codes "pivots") 0 ∷ number (codes "nodes") 0 ∷ number (codes "workers") 1 ∷ [])
+  pub most : Give (codes "lottery" ∷ codes "--pivots" ∷ codes "1000000000" ∷ codes "--nodes" ∷ codes "1000000000000" ∷ codes "--workers" ∷ codes "64" ∷ []) name.Lottery
+      (number (codes "bits") 127 ∷ number (codes "pivots") 1000000000 ∷ number (codes "nodes") 1000000000000 ∷ number (codes "workers") 64 ∷ [])
+  pub no_bits : GiveNothing (codes "lottery" ∷ codes "--bits" ∷ codes "0" ∷ [])
+  pub more_bits : GiveNothing (codes "lottery" ∷ codes "--bits" ∷ codes "128" ∷ [])
+  pub more_pivots : GiveNothing (codes "lottery" ∷ codes "--pivots" ∷ codes "1000000001" ∷ [])
+  pub more_nodes : GiveNothing (codes "lottery" ∷ codes "--nodes" ∷ codes "1000000000001" ∷ [])
+  pub no_workers : GiveNothing (codes "lottery" ∷ codes "--workers" ∷ codes "0" ∷ [])
+  pub more_workers : GiveNothing (codes "lottery" ∷ codes "--workers" ∷ codes "65" ∷ [])
+
+-- a seed up to 2 ^ 63 - 1 and 1 to 400 volunteers, both required, and the limits of `lottery`
+pub record MakeGives : Type 0 where
+  pub defaults : Give (codes "make" ∷ codes "--seed" ∷ codes "0" ∷ codes "--volunteers" ∷ codes "1" ∷ []) name.Make
+      (number (codes "seed") 0 ∷ number (codes "volunteers") 1 ∷ number (codes "bits") 127 ∷ number (codes "pivots") 100000 ∷ number (codes "nodes") 50000000 ∷
+      number (codes "workers") 1 ∷ [])
+  pub most : Give (codes "make" ∷ codes "--seed" ∷ codes "9223372036854775807" ∷ codes "--volunteers" ∷ codes "400" ∷ []) name.Make
+      (number (codes "seed") 9223372036854775807 ∷ number (codes "volunteers") 400 ∷ number (codes "bits") 127 ∷ number (codes "pivots") 100000 ∷
+      number (codes "nodes") 50000000 ∷ number (codes "workers") 1 ∷ [])
+  pub no_seed : GiveNothing (codes "make" ∷ codes "--volunteers" ∷ codes "1" ∷ [])
+  pub no_volunteers : GiveNothing (codes "make" ∷ codes "--seed" ∷ codes "0" ∷ [])
+  pub greater_seed : GiveNothing (codes "make" ∷ codes "--seed" ∷ codes "9223372036854775808" ∷ codes "--volunteers" ∷ codes "1" ∷ [])
+  pub nobody : GiveNothing (codes "make" ∷ codes "--seed" ∷ codes "0" ∷ codes "--volunteers" ∷ codes "0" ∷ [])
+  pub too_many : GiveNothing (codes "make" ∷ codes "--seed" ∷ codes "0" ∷ codes "--volunteers" ∷ codes "401" ∷ [])
+  pub more_bits : GiveNothing (codes "make" ∷ codes "--seed" ∷ codes "0" ∷ codes "--volunteers" ∷ codes "1" ∷ codes "--bits" ∷ codes "128" ∷ [])
+
+-- no command, another word, and words that ask for help
+pub record OthersGive : Type 0 where
+  pub none : GiveNothing []
+  pub another : GiveNothing (codes "solve" ∷ [])
+  pub help : GiveNothing (codes "help" ∷ [])
+  pub option : GiveNothing (codes "seal" ∷ codes "--round" ∷ codes "1" ∷ [])

@@ -1,0 +1,204 @@
+//! The words of the program: its commands with their options, in the order in which people need them.
+//!
+//! They are parted into some constants of at most ten commands, as the cost of a proof that takes a constant grows faster than the
+//! constant does.
+
+ghost use Rattle.std.specs.Prelude.{◌≡◌, IfOk, map};
+ghost use Rattle.command_words.specs.Table.{
+  command_entry,
+  command_table as words_of_command_table,
+  proof_commands as words_of_proof_commands,
+  run_commands as words_of_run_commands,
+};
+
+use crate::words::{CommandName, CommandWords, Form, OptionWords, TableCommand, TableOption};
+use std::alloc::{AllocError, Global};
+
+/// The commands of the program.
+pub(crate) fn command_table(alloc: Global) -> Result<Vec<TableCommand>, AllocError>
+    ensures { IfOk result (λ table. map command_entry table.items ≡ words_of_command_table) }
+{
+    let mut table = Vec::new(alloc);
+    table.extend_from_slice(proof_commands())?;
+    table.extend_from_slice(run_commands())?;
+    Ok(table)
+}
+
+/// Those about proofs and draws.
+fn proof_commands() -> &'static [TableCommand]
+    ensures { map command_entry result.now ≡ words_of_proof_commands }
+{
+    PROOF_COMMANDS
+}
+
+/// Those about the stated run.
+fn run_commands() -> &'static [TableCommand]
+    ensures { map command_entry result.now ≡ words_of_run_commands }
+{
+    RUN_COMMANDS
+}
+
+const PROOF_COMMANDS: &[TableCommand] = &[
+    CommandWords {
+        command: CommandName::Prove,
+        name: "prove",
+        help: "Prints the lottery of the pool or of the bundle on standard input, with a proof",
+        example: "Example: sortition prove < city.pool > city.proof",
+        options: &[
+            OptionWords {
+                name: "pivots",
+                help: "The most pivots that the run may make, up to 1000000000",
+                form: Form::Number {
+                    least: 0,
+                    most: MOST_PIVOTS,
+                },
+                default: Some("1000000"),
+            },
+            OptionWords {
+                name: "nodes",
+                help: "The most nodes that the run's searches may look at together, up to 1000000000000",
+                form: Form::Number {
+                    least: 0,
+                    most: MOST_NODES,
+                },
+                default: Some("200000"),
+            },
+        ],
+    },
+    CommandWords {
+        command: CommandName::Verify,
+        name: "verify",
+        help: "Checks the proof on standard input by additions",
+        example: "Example: sortition verify < city.proof",
+        options: &[],
+    },
+    CommandWords {
+        command: CommandName::Bundle,
+        name: "bundle",
+        help: "Prints the bundle of the proof on standard input",
+        example: "Example: sortition bundle < city.proof > city.bundle",
+        options: &[],
+    },
+    CommandWords {
+        command: CommandName::Seal,
+        name: "seal",
+        help: "Prints the seal of the bundle on standard input",
+        example: "Example: sortition seal < city.bundle",
+        options: &[],
+    },
+    CommandWords {
+        command: CommandName::Draw,
+        name: "draw",
+        help: "Prints the panel that dice draw from the bundle on standard input",
+        example: "Example: sortition draw --seal SEAL --digits 9957 < city.bundle",
+        options: &[
+            OptionWords {
+                name: "seal",
+                help: "The seal of the bundle, as it was published",
+                form: Form::Text,
+                default: None,
+            },
+            OptionWords {
+                name: "digits",
+                help: "The digits of ten-sided dice, in the order of the throws",
+                form: Form::Text,
+                default: None,
+            },
+        ],
+    },
+];
+
+const RUN_COMMANDS: &[TableCommand] = &[
+    CommandWords {
+        command: CommandName::Panel,
+        name: "panel",
+        help: "Prints the first quota panel of the pool on standard input",
+        example: "Example: sortition panel < city.pool",
+        options: &[NODES],
+    },
+    CommandWords {
+        command: CommandName::Lottery,
+        name: "lottery",
+        help: "Prints the lottery over the quota panels of the pool on standard input, with its certificate",
+        example: "Example: sortition lottery < city.pool > city.bundle",
+        options: &[BITS, PIVOTS, NODES, WORKERS],
+    },
+    CommandWords {
+        command: CommandName::Check,
+        name: "check",
+        help: "Checks the certificate of the bundle on standard input",
+        example: "Example: sortition check < city.bundle",
+        options: &[NODES],
+    },
+    CommandWords {
+        command: CommandName::Make,
+        name: "make",
+        help: "Makes a pool from a number, and prints a summary of its lottery",
+        example: "Example: sortition make --seed 7 --volunteers 200",
+        options: &[
+            OptionWords {
+                name: "seed",
+                help: "The number from which the pool is made, up to 9223372036854775807",
+                form: Form::Number {
+                    least: 0,
+                    most: 9_223_372_036_854_775_807,
+                },
+                default: None,
+            },
+            OptionWords {
+                name: "volunteers",
+                help: "How many volunteers the pool has, 1 to 400",
+                form: Form::Number {
+                    least: 1,
+                    most: 400,
+                },
+                default: None,
+            },
+            BITS,
+            PIVOTS,
+            NODES,
+            WORKERS,
+        ],
+    },
+];
+
+const MOST_PIVOTS: u64 = 1_000_000_000;
+
+const MOST_NODES: u64 = 1_000_000_000_000;
+
+const BITS: TableOption = OptionWords {
+    name: "bits",
+    help: "The width in bits of the run's numbers, 1 to 127",
+    form: Form::Number {
+        least: 1,
+        most: 127,
+    },
+    default: Some("127"),
+};
+
+const PIVOTS: TableOption = OptionWords {
+    name: "pivots",
+    help: "The most pivots that the run may make, up to 1000000000",
+    form: Form::Number {
+        least: 0,
+        most: MOST_PIVOTS,
+    },
+    default: Some("100000"),
+};
+
+const NODES: TableOption = OptionWords {
+    name: "nodes",
+    help: "The most visits that a search may make, up to 1000000000000",
+    form: Form::Number {
+        least: 0,
+        most: MOST_NODES,
+    },
+    default: Some("50000000"),
+};
+
+const WORKERS: TableOption = OptionWords {
+    name: "workers",
+    help: "How many workers price, on threads, 1 to 64",
+    form: Form::Number { least: 1, most: 64 },
+    default: Some("1"),
+};

@@ -1,0 +1,72 @@
+//! What a table of words is made of: commands with their options.
+
+/// A command of the program.
+#[derive(Clone, Copy, Debug)]
+pub enum CommandName {
+    /// The lottery of a pool or of a bundle, with its proof.
+    Prove,
+    /// The verdict on a proof.
+    Verify,
+    /// The bundle of a proof.
+    Bundle,
+    /// The seal of a bundle.
+    Seal,
+    /// The panel that dice draw from a bundle.
+    Draw,
+    /// The first quota panel of a pool.
+    Panel,
+    /// The lottery of a pool by the stated run.
+    Lottery,
+    /// The verdict on the certificate of a bundle.
+    Check,
+    /// The summary of the run over a made pool.
+    Make,
+}
+
+/// What the value of an option has to be.
+#[derive(Clone, Copy, Debug)]
+pub enum Form {
+    /// A whole number from `least` to `most`.
+    Number {
+        /// The least number.
+        least: u64,
+        /// The greatest number.
+        most: u64,
+    },
+    /// Any text.
+    Text,
+}
+
+/// The words of an option. They are generic in what a text is, as definitions can name no constant of a struct that has references.
+#[derive(Clone, Copy, Debug)]
+pub struct OptionWords<Text> {
+    /// The name behind the two hyphens.
+    pub name: Text,
+    /// What help says of it.
+    pub help: Text,
+    /// What its value has to be.
+    pub form: Form,
+    /// The value without the option. None where the option is required.
+    pub default: Option<Text>,
+}
+
+/// The words of a command.
+#[derive(Clone, Copy, Debug)]
+pub struct CommandWords<Text, Options> {
+    /// Which command it is.
+    pub command: CommandName,
+    /// The first word of a call.
+    pub name: Text,
+    /// What help says of it.
+    pub help: Text,
+    /// The last line of its help, with a call.
+    pub example: Text,
+    /// Its options, each with another name.
+    pub options: Options,
+}
+
+/// An option of a table.
+pub type TableOption = OptionWords<&'static str>;
+
+/// A command of a table.
+pub type TableCommand = CommandWords<&'static str, &'static [TableOption]>;

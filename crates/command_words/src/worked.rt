@@ -1,0 +1,14 @@
+//! Worked words: what some lists of words give by the program's own table. A function without a body, whose contract is the law.
+
+ghost use Rattle.command_words.specs.WorkedWords.{DrawGives, LotteryGives, MakeGives, OthersGive, PlainGive, ProveGives, SearchesGive};
+
+/// The names of the commands, their defaults and the ends of their ranges are these.
+pub fn words_are_worked()
+    ensures prove { ProveGives }
+    ensures plain { PlainGive }
+    ensures draw { DrawGives }
+    ensures searches { SearchesGive }
+    ensures lottery { LotteryGives }
+    ensures make { MakeGives }
+    ensures others { OthersGive }
+{}

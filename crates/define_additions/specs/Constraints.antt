@@ -1,0 +1,65 @@
+-- The constraints of a stage's problem: sums over a panel's members that are within bounds. The list of earlier stages has the latest
+-- first. `proof_verify` and the engine of `prove` number constraints so.
+use Rattle.std.specs.Prelude.{ℕ, ◌==◌, if◌then◌else◌, Bool, true, List, ◌∷◌, [], ◌++◌, map, filter, fold, reverse, slice_index, slice_index_or, ℤ, pos, ◌+ℤ◌}
+use Rattle.std.specs.List.{enumerate_from, flat_map}
+use Rattle.define_pools.specs.Certificate.{Stage}
+use Rattle.define_pools.specs.Pool.{BoundedValue, Category, Pool, everybody, volunteer}
+use Rattle.define_searches.specs.Classes.{shared_household}
+use Rattle.define_searches.specs.Compositions.{is_of_household}
+
+-- the sum of a function's values over a list
+abbrev pub signed_sum : {X : Type 0} → (X → ℤ) → List X → ℤ
+signed_sum f xs = fold (λ sum x. sum +ℤ f x) (pos 0) xs
+
+-- a coefficient for each volunteer, and the least and the greatest sum of coefficients that a panel's members can have
+pub record Constraint : Type 0 where
+  pub coefficients : List ℤ
+  pub lower : ℤ
+  pub upper : ℤ
+
+-- a volunteer's coefficient
+abbrev pub coefficient : Constraint → ℕ → ℤ
+coefficient constraint i = slice_index_or constraint.coefficients i (pos 0)
+
+-- the constraint of a number; past the last one, a constraint in which nobody counts
+abbrev pub constraint_at : List Constraint → ℕ → Constraint
+constraint_at constraints number = slice_index_or constraints number (record { coefficients = []; lower = pos 0; upper = pos 0 })
+
+-- how many members pass a test is within bounds: 1 for each volunteer who passes, 0 for the others
+abbrev pub counting : Pool → (ℕ → Bool) → ℕ → ℕ → Constraint
+counting pool passes lower upper =
+    record { coefficients = map (λ i. if passes i then pos 1 else pos 0) (everybody pool); lower = pos lower; upper = pos upper }
+
+-- a panel has the pool's size
+abbrev pub size_constraint : Pool → Constraint
+size_constraint pool = counting pool (λ i. true) pool.size pool.size
+
+-- a value's number is within its bounds, for the category in this place
+abbrev pub value_constraint : Pool → ℕ → ℕ × BoundedValue → Constraint
+value_constraint pool category_place (value_place, value) =
+    counting pool (λ i. slice_index (volunteer pool.volunteers i).values category_place == value_place) value.lower value.upper
+
+-- the values of a category
+abbrev pub category_constraints : Pool → ℕ × Category → List Constraint
+category_constraints pool (category_place, category) = map (value_constraint pool category_place) (enumerate_from 0 category.values)
+
+-- a panel weighs an earlier stage's cap: it attains the cap, and no panel that attains the caps before it weighs more
+abbrev pub stage_constraint : Stage → Constraint
+stage_constraint stage = record { coefficients = stage.weights; lower = stage.cap; upper = stage.cap }
+
+-- at most one member is of the household of this number
+abbrev pub household_constraint : Pool → ℕ → Constraint
+household_constraint pool number = counting pool (λ i. is_of_household number (shared_household pool.volunteers i)) 0 1
+
+-- the first member of each shared household, whose number is the household's
+abbrev pub first_members : Pool → List ℕ
+first_members pool = filter (λ i. is_of_household i (shared_household pool.volunteers i)) (everybody pool)
+
+-- the constraints of a stage after earlier ones, numbered from 0: the size, each value over the categories, each earlier stage from the
+-- first to the latest, and each shared household in the order of its first member
+abbrev pub constraints : Pool → List Stage → List Constraint
+constraints pool earlier =
+    size_constraint pool
+    ∷ (flat_map (category_constraints pool) (enumerate_from 0 pool.categories)
+    ++ map stage_constraint (reverse earlier)
+    ++ map (household_constraint pool) (first_members pool))

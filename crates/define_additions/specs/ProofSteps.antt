@@ -1,0 +1,33 @@
+-- How a check of a proof goes on from stage to stage, said as laws. Over ProofVerdict. `proof_verify` goes so.
+use Rattle.std.specs.Prelude.{◌≡◌, ℕ, ◌+◌, List, [], ◌∷◌, length}
+use Rattle.define_checks.specs.Reasons.{Refused, Valid, Verdict, first_reason, lottery_reasons, reasons_before_cap}
+use Rattle.define_pools.specs.Certificate.{Answer, Stage}
+use Rattle.define_pools.specs.Lottery.{Lottery}
+use Rattle.define_pools.specs.Pool.{Pool}
+use Rattle.define_additions.specs.ProofVerdict.{OfLottery, first_tree, later_trees, lines_before_tree, listed_reasons, reasons_from, tree_reasons, verdict}
+use Rattle.define_additions.specs.TreeLines.{TreeLine}
+
+-- the verdict on these stages after earlier ones, given the number of the first line of the first tree
+abbrev pub verdict_from : Pool → Lottery → List Stage → List Stage → ℕ → List (List TreeLine) → Verdict
+verdict_from pool lottery earlier later line trees = first_reason (reasons_from pool lottery earlier later line trees)
+
+-- the refusal, or what comes next if nothing is refused
+abbrev pub or_next : Verdict → Verdict → Verdict
+or_next Valid next = next
+or_next (Refused refusal) next = Refused refusal
+
+-- a check tries the reasons of the lottery, and goes on to the stages
+abbrev pub BeginsWithLottery : Type 0
+BeginsWithLottery = (pool : Pool) (answer : Answer) (trees : List (List TreeLine)) →
+    verdict (OfLottery pool answer trees) ≡
+    or_next (first_reason (lottery_reasons pool answer.lottery))
+    (verdict_from pool answer.lottery [] answer.stages (lines_before_tree (OfLottery pool answer trees) + 1) trees)
+
+-- at a stage it tries the reasons before the cap, those of its tree, and those of the listed panels, and goes on to the later stages
+abbrev pub GoesOnByStages : Type 0
+GoesOnByStages = (pool : Pool) (lottery : Lottery) (earlier later : List Stage) (stage : Stage) (line : ℕ) (trees : List (List TreeLine)) →
+    verdict_from pool lottery earlier (stage ∷ later) line trees ≡
+    or_next (first_reason (reasons_before_cap pool lottery earlier stage))
+    (or_next (first_reason (tree_reasons pool earlier stage line (first_tree trees)))
+    (or_next (first_reason (listed_reasons lottery earlier stage))
+    (verdict_from pool lottery (stage ∷ earlier) later (line + length (first_tree trees) + 1) (later_trees trees))))

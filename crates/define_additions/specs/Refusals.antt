@@ -1,0 +1,62 @@
+-- What a refusal of a proof says of the certificate, and which line of the proof's text it names. Over ProofVerdict. `verify`'s meaning
+-- cites it.
+use Rattle.std.specs.Prelude.{◌≡◌, ℕ, ◌+◌, ◌-◌, ◌<◌, ◌≤◌, List, [], ◌∷◌, ◌++◌, length, reverse, slice_index_or, take}
+use Rattle.define_checks.specs.Reasons.{Refusal}
+use Rattle.define_pools.specs.Certificate.{Answer, Certifies, Stage}
+use Rattle.define_pools.specs.Pool.{Pool}
+use Rattle.define_additions.specs.Leaves.{no_panel_problem, stage_problem, standings}
+use Rattle.define_additions.specs.ProofVerdict.{OfLottery, OfNoPanel, Proof, lines_before_tree}
+use Rattle.define_additions.specs.TreeLines.{TreeLine, fault, tree_fault}
+
+-- if the reason is below 11, the certificate doesn't hold. The reasons from 11 on are of the trees and say nothing of it; a proof that
+-- there is no quota panel has no certificate and no other reasons
+abbrev pub RefusalMeans : Proof → Refusal → Type 0
+RefusalMeans (OfLottery pool answer trees) refusal = refusal.reason < 11 → Certifies pool answer.lottery answer.stages → ⊥
+RefusalMeans (OfNoPanel pool lines) refusal = 11 ≤ refusal.reason
+
+-- ---- lines
+
+-- how many lines these trees have in a proof's text, each with the line that begins the next tree
+abbrev pub lines_of_trees : List (List TreeLine) → ℕ
+lines_of_trees [] = 0
+lines_of_trees (lines ∷ later) = length lines + 1 + lines_of_trees later
+
+-- the tree of a stage, by the stage's number; a proof that there is no quota panel has one tree
+abbrev pub tree_of : Proof → ℕ → List TreeLine
+tree_of (OfLottery pool answer trees) stage = slice_index_or trees (stage - 1) []
+tree_of (OfNoPanel pool lines) stage = lines
+
+-- how many lines of the text come before the first line of that tree
+abbrev pub lines_before : Proof → ℕ → ℕ
+lines_before (OfLottery pool answer trees) stage = lines_before_tree (OfLottery pool answer trees) + lines_of_trees (take (stage - 1) trees)
+lines_before (OfNoPanel pool lines) stage = lines_before_tree (OfNoPanel pool lines)
+
+-- a refusal for a stage's tree names the tree's first fault, by the number of the line in the text
+pub record NamesLineOfStage (pool : Pool) (answer : Answer) (trees : List (List TreeLine)) (refusal : Refusal) : Type 0 where
+  -- the stages before it, the latest first; the stage; and those after it
+  pub earlier : List Stage
+  pub stage : Stage
+  pub later : List Stage
+  pub stages : answer.stages ≡ reverse earlier ++ (stage ∷ later)
+  pub number : refusal.stage ≡ length earlier + 1
+  -- the line
+  pub line : ℕ
+  pub who : refusal.who ≡ line ∷ []
+  pub first_fault : tree_fault (stage_problem pool earlier stage) (standings pool)
+      (lines_before (OfLottery pool answer trees) refusal.stage + 1) (tree_of (OfLottery pool answer trees) refusal.stage) ≡ fault line refusal.reason
+
+-- the same for a proof that there is no quota panel, whose tree has stage 0
+pub record NamesLineOfNone (pool : Pool) (lines : List TreeLine) (refusal : Refusal) : Type 0 where
+  pub number : refusal.stage ≡ 0
+  pub line : ℕ
+  pub who : refusal.who ≡ line ∷ []
+  pub first_fault : tree_fault (no_panel_problem pool) (standings pool) (lines_before (OfNoPanel pool lines) 0 + 1) lines ≡ fault line refusal.reason
+
+abbrev pub NamesLine : Proof → Refusal → Type 0
+NamesLine (OfLottery pool answer trees) refusal = NamesLineOfStage pool answer trees refusal
+NamesLine (OfNoPanel pool lines) refusal = NamesLineOfNone pool lines refusal
+
+-- a tree for each stage
+abbrev pub HasTrees : Proof → Type 0
+HasTrees (OfLottery pool answer trees) = length trees ≡ length answer.stages
+HasTrees (OfNoPanel pool lines) = Unit {0}

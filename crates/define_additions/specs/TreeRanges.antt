@@ -1,0 +1,29 @@
+-- The ranges of the numbers of a tree's lines, in which they have a text and no sum of them passes 128 bits. Over TreeLines. The text of
+-- proofs keeps them.
+use Rattle.std.specs.Prelude.{ℕ, ◌^◌, nat_lt, nat_le, Bool, ◌&&◌, map, unsigned_abs}
+use Rattle.std.specs.List.{list_all}
+use Rattle.define_pools.specs.Lists.{is_increasing}
+use Rattle.define_additions.specs.Leaves.{Leaf, Multiplier}
+use Rattle.define_additions.specs.TreeLines.{OfLeaf, OfSplit, TreeLine}
+
+-- the greatest scale, the greatest absolute value of a factor, and the most that a stage's absolute cap and weights may sum to
+abbrev pub number_limit : ℕ
+number_limit = 2 ^ 56
+
+-- the greatest number of a constraint: there are at most 1 for the size, 1000 values, 400 stages and 400 households
+abbrev pub last_constraint : ℕ
+last_constraint = 1800
+
+abbrev pub is_multiplier : Multiplier → Bool
+is_multiplier multiplier =
+    nat_le multiplier.number last_constraint && nat_lt 0 (unsigned_abs multiplier.factor) && nat_le (unsigned_abs multiplier.factor) number_limit
+
+-- multipliers that aren't 0, of constraints in rising order
+abbrev pub is_leaf : Leaf → Bool
+is_leaf leaf =
+    nat_le leaf.scale number_limit && list_all is_multiplier leaf.multipliers && is_increasing (map (λ multiplier. multiplier.number) leaf.multipliers)
+
+-- a split on a volunteer below this number, or a leaf
+abbrev pub is_tree_line : ℕ → TreeLine → Bool
+is_tree_line volunteers (OfSplit i) = nat_lt i volunteers
+is_tree_line volunteers (OfLeaf leaf) = is_leaf leaf

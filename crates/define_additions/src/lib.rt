@@ -1,0 +1,176 @@
+//! Proofs by additions: the constraints of a stage's problem, leaves and trees that show its cap, the lines of a tree, and the verdict
+//! on a proof. The definitions are in `specs/`. Stands on `define_checks`, `define_searches`, `define_bundles` and
+//! `define_pools`. Above: `proof_verify`, which checks proofs; `define_proof_texts`, which has their text; the engine of `prove`,
+//! which makes them.
+//!
+//! The functions have no body: their contracts are laws over the definitions, and worked examples. The promises that matter most are
+//! `valid_is_greatest` and `valid_no_panel`.
+#![tactic(auto)]
+
+ghost use Rattle.std.specs.Prelude.{map, drop, length, slice_set, ◌≡◌, ◌↔◌, ◌⊎◌, ◌<◌, ◌≤◌, ◌+◌, ◌-◌, ◌^◌, ◌*ℤ◌, ◌+ℤ◌, [], ◌∷◌, ℕ, pos, negsuc, unsigned_abs, List, IsTrue, None, Some};
+ghost use Rattle.std.specs.List.{AllByRecursion, list_all};
+ghost use Rattle.define_bundles.specs.Ranges.{IsInRanges};
+ghost use Rattle.define_pools.specs.declared.Standing.{Standing};
+ghost use Rattle.define_pools.specs.declared.Standing.TheVariants.{Open};
+ghost use Rattle.define_pools.specs.Certificate.{Answer, Certifies, Stage, is_capped};
+ghost use Rattle.define_pools.specs.Lottery.{LeximinGreatest};
+ghost use Rattle.define_pools.specs.Pool.{IsPool, Pool, is_quota_panel, panels};
+ghost use Rattle.define_pools.specs.WorkedExamples.{after_dropout, family, four, stage};
+ghost use Rattle.define_checks.specs.Reasons.{Refusal, Refused, Valid};
+ghost use Rattle.define_checks.specs.WorkedChecks.{below_zero, one_stage, refused, two_women};
+ghost use Rattle.define_additions.specs.CapsHold.{CapsHold, EarlierCapsHold};
+ghost use Rattle.define_additions.specs.Constraints.{constraints};
+ghost use Rattle.define_additions.specs.LeafSums.{charges_and_rests, first_charges, first_multipliers, is_in_reach, is_problem_in_reach, is_stage_in_reach};
+ghost use Rattle.define_additions.specs.Leaves.{Leaf, Problem, charge, multiplied, no_panel, no_panel_problem, rest, stage_problem, standings};
+ghost use Rattle.define_additions.specs.ProofVerdict.{OfLottery, OfNoPanel, Proof, TreesShow, verdict};
+ghost use Rattle.define_additions.specs.Refusals.{HasTrees, NamesLine, RefusalMeans};
+ghost use Rattle.define_additions.specs.TreeRanges.{is_leaf};
+ghost use Rattle.define_additions.specs.ProofSteps.{BeginsWithLottery, GoesOnByStages};
+ghost use Rattle.define_additions.specs.Trees.{Tree, is_undecided, tree_shows};
+ghost use Rattle.define_additions.specs.WorkedTrees.{constraint, couple_lines, couple_proof, double_leaf, four_proof, four_trees, leaf, men_leaf, one_stage_proof, size_leaf, split_lines, split_tree, times, unknown_leaf, women_leaf};
+ghost use Rattle.define_additions.specs.TreeLines.{AreOfTree, OfLeaf, OfSplit, TreeFault, TreeLine, fault, lines_of, tree_fault};
+
+/// If the earlier caps hold, a tree that shows a stage's cap proves that it holds: no quota panel that attains the earlier caps weighs
+/// more.
+pub fn tree_shows_cap()
+    ensures { (pool : Pool) (earlier : List Stage) (stage : Stage) (tree : Tree) → EarlierCapsHold pool earlier →
+        IsTrue (tree_shows (stage_problem pool earlier stage) (standings pool) tree) → IsTrue (is_capped pool earlier stage) }
+{}
+
+/// In a stage in which everybody weighs 0, a tree that shows that no panel weighs more than -1 proves that the pool has no quota panel.
+pub fn tree_shows_no_panel()
+    ensures none { (pool : Pool) (tree : Tree) → IsTrue (tree_shows (no_panel_problem pool) (standings pool) tree) → panels pool ≡ [] }
+    ensures no_list { (pool : Pool) (tree : Tree) (panel : List ℕ) → IsTrue (tree_shows (no_panel_problem pool) (standings pool) tree) → ¬ IsTrue (is_quota_panel pool panel) }
+{}
+
+/// Lines have no fault exactly if they are those of a tree that shows the cap.
+pub fn lines_are_of_tree()
+    ensures { (problem : Problem) (all : List Standing) (number : ℕ) (lines : List TreeLine) → tree_fault problem all number lines ≡ None ↔ AreOfTree problem all lines }
+{}
+
+/// The first fault is in one of the lines, or after them if they end early, and its reason is 11 or 12.
+pub fn fault_is_within_lines()
+    ensures { (problem : Problem) (all : List Standing) (number : ℕ) (lines : List TreeLine) (found : TreeFault) → tree_fault problem all number lines ≡ Some found →
+        (number ≤ found.line) × (found.line ≤ number + length lines) × ((found.reason ≡ 11) ⊎ (found.reason ≡ 12)) }
+{}
+
+/// If a path goes back, it undoes a decision on a volunteer who was undecided.
+pub fn decision_is_undone()
+    ensures { (all : List Standing) (i : ℕ) (standing : Standing) → IsTrue (is_undecided all i) → slice_set (slice_set all i standing) i Open ≡ all }
+{}
+
+/// A check tries the reasons in their order: those of the lottery, then stage by stage those before the cap, those of the tree, and
+/// those of the listed panels.
+pub fn check_goes_by_stages()
+    ensures begins { BeginsWithLottery }
+    ensures goes_on { GoesOnByStages }
+{}
+
+/// If each stage's lines are those of a tree that shows its cap, all caps hold.
+pub fn trees_show_caps()
+    ensures { (pool : Pool) (stages : List Stage) (trees : List (List TreeLine)) → TreesShow pool [] stages trees → CapsHold pool [] stages }
+{}
+
+/// For the answer of each bundle, a proof of a lottery is valid exactly if its stages certify the lottery, are within reach, and have
+/// trees that show their caps.
+pub fn valid_where_shown()
+    ensures { (pool : Pool) (answer : Answer) (trees : List (List TreeLine)) → IsInRanges pool answer →
+        verdict (OfLottery pool answer trees) ≡ Valid ↔ (Certifies pool answer.lottery answer.stages × TreesShow pool [] answer.stages trees) }
+{}
+
+/// A lottery with a valid proof is leximin greatest.
+pub fn valid_is_greatest()
+    ensures { (pool : Pool) (answer : Answer) (trees : List (List TreeLine)) → IsInRanges pool answer →
+        verdict (OfLottery pool answer trees) ≡ Valid → LeximinGreatest pool answer.lottery }
+{}
+
+/// A proof that there is no quota panel is valid exactly if its lines are those of a tree that shows it, and then there is none.
+pub fn valid_no_panel()
+    ensures where_shown { (pool : Pool) (lines : List TreeLine) → verdict (OfNoPanel pool lines) ≡ Valid ↔ AreOfTree (no_panel_problem pool) (standings pool) lines }
+    ensures none { (pool : Pool) (lines : List TreeLine) → verdict (OfNoPanel pool lines) ≡ Valid → panels pool ≡ [] }
+{}
+
+/// A proof is refused for a reason below 11 only if its certificate doesn't hold.
+pub fn refused_is_not_certified()
+    ensures { (proof : Proof) (refusal : Refusal) → verdict proof ≡ Refused refusal → RefusalMeans proof refusal }
+{}
+
+/// If a proof is refused for a line of a tree, the refusal names the tree's first fault, by the number of this line in the text.
+pub fn refused_line_is_named()
+    ensures { (proof : Proof) (refusal : Refusal) → HasTrees proof → verdict proof ≡ Refused refusal → (refusal.reason ≡ 11) ⊎ (refusal.reason ≡ 12) →
+        NamesLine proof refusal }
+{}
+
+/// The constraints of a stage are within reach if the earlier stages are. So is the stage for a pool without a quota panel.
+pub fn constraints_are_in_reach()
+    ensures constraints { (pool : Pool) (earlier : List Stage) → IsPool pool → IsTrue (list_all is_stage_in_reach earlier) → IsTrue (list_all is_in_reach (constraints pool earlier)) }
+    ensures no_panel { (pool : Pool) → IsTrue (is_stage_in_reach (no_panel pool)) }
+{}
+
+/// If the problem is within reach and the leaf is in its ranges, no sum of a check of a leaf passes 128 bits: a volunteer's rest after
+/// the first multipliers, the charges of the first multipliers, all charges with those of the first rests, each product, and what the
+/// total is compared with.
+pub fn leaf_sums_are_narrow()
+    ensures rest { (problem : Problem) (leaf : Leaf) (many i : ℕ) → IsTrue (is_problem_in_reach problem) → IsTrue (is_leaf leaf) →
+        unsigned_abs (rest problem (first_multipliers many leaf) i) < 2 ^ 127 }
+    ensures charges { (problem : Problem) (leaf : Leaf) (many : ℕ) → IsTrue (is_problem_in_reach problem) → IsTrue (is_leaf leaf) →
+        unsigned_abs (first_charges problem many leaf) < 2 ^ 127 }
+    ensures total { (problem : Problem) (leaf : Leaf) (all : List Standing) (many : ℕ) → IsTrue (is_problem_in_reach problem) → IsTrue (is_leaf leaf) →
+        unsigned_abs (charges_and_rests problem all many leaf) < 2 ^ 127 }
+    ensures products { (problem : Problem) (leaf : Leaf) (i : ℕ) → IsTrue (is_problem_in_reach problem) → IsTrue (is_leaf leaf) →
+        AllByRecursion (λ it. (unsigned_abs (multiplied problem.constraints i it) < 2 ^ 127) × (unsigned_abs (charge problem.constraints it) < 2 ^ 127)) leaf.multipliers }
+    ensures bound { (problem : Problem) (leaf : Leaf) → IsTrue (is_problem_in_reach problem) → IsTrue (is_leaf leaf) →
+        unsigned_abs (pos leaf.scale *ℤ (problem.stage.cap +ℤ pos 1)) < 2 ^ 127 }
+{}
+
+/// The constraints of two women and two men in the second stage: the size, the women, the men, and the first stage. If a woman and a
+/// man are of one household, that constraint comes last.
+pub fn worked_constraints()
+    ensures second_stage { constraints four (stage (pos 1) (pos 1 ∷ pos 1 ∷ pos 0 ∷ pos 0 ∷ []) ∷ []) ≡
+        constraint (pos 1 ∷ pos 1 ∷ pos 1 ∷ pos 1 ∷ []) (pos 2) (pos 2) ∷
+        constraint (pos 1 ∷ pos 1 ∷ pos 0 ∷ pos 0 ∷ []) (pos 1) (pos 1) ∷
+        constraint (pos 0 ∷ pos 0 ∷ pos 1 ∷ pos 1 ∷ []) (pos 1) (pos 1) ∷
+        constraint (pos 1 ∷ pos 1 ∷ pos 0 ∷ pos 0 ∷ []) (pos 1) (pos 1) ∷ [] }
+    ensures household { drop 3 (constraints family []) ≡ constraint (pos 1 ∷ pos 0 ∷ pos 1 ∷ pos 0 ∷ []) (pos 0) (pos 1) ∷ [] }
+    ensures earlier_in_order { map (λ it. it.upper) (drop 3 (constraints four (stage (pos 8) [] ∷ stage (pos 7) [] ∷ []))) ≡ pos 7 ∷ pos 8 ∷ [] }
+{}
+
+/// Proofs that hold: with a leaf for each stage, with a split, and of a pool without a quota panel.
+pub fn valid_proofs()
+    ensures four { verdict (four_proof four_trees) ≡ Valid }
+    ensures split { verdict (four_proof (split_lines ∷ (OfLeaf men_leaf ∷ []) ∷ [])) ≡ Valid }
+    ensures split_lines { lines_of split_tree ≡ split_lines }
+    ensures no_panel { verdict (couple_proof couple_lines) ≡ Valid }
+{}
+
+/// Leaves that don't show the cap: with another multiplier, in the first stage and in the second; with a constraint that the stage
+/// doesn't have; in the subtree with a volunteer; and for a pool that has quota panels. The first tree begins with line 20 of the text,
+/// or with line 14.
+pub fn leaves_refused()
+    ensures multiplier { verdict (four_proof ((OfLeaf double_leaf ∷ []) ∷ (OfLeaf men_leaf ∷ []) ∷ [])) ≡ refused 1 12 (20 ∷ []) }
+    ensures second_stage { verdict (four_proof ((OfLeaf women_leaf ∷ []) ∷ (OfLeaf double_leaf ∷ []) ∷ [])) ≡ refused 2 12 (22 ∷ []) }
+    ensures unknown { verdict (four_proof ((OfLeaf unknown_leaf ∷ []) ∷ (OfLeaf men_leaf ∷ []) ∷ [])) ≡ refused 1 12 (20 ∷ []) }
+    ensures with_one { verdict (four_proof ((OfSplit 0 ∷ OfLeaf (leaf 1 []) ∷ OfLeaf (leaf 1 []) ∷ []) ∷ (OfLeaf men_leaf ∷ []) ∷ [])) ≡ refused 1 12 (22 ∷ []) }
+    ensures panels { verdict (OfNoPanel four (OfLeaf (leaf 0 (times 0 (negsuc 0) ∷ times 1 (pos 1) ∷ times 2 (pos 1) ∷ [])) ∷ [])) ≡ refused 0 12 (14 ∷ []) }
+{}
+
+/// Lines that aren't the next ones of a tree: a split on a volunteer who is decided, or on nobody; a tree that ends early; a line after
+/// its end.
+pub fn lines_refused()
+    ensures twice { verdict (four_proof ((OfSplit 0 ∷ split_lines) ∷ (OfLeaf men_leaf ∷ []) ∷ [])) ≡ refused 1 11 (21 ∷ []) }
+    ensures nobody { verdict (four_proof ((OfSplit 4 ∷ OfLeaf women_leaf ∷ OfLeaf women_leaf ∷ []) ∷ (OfLeaf men_leaf ∷ []) ∷ [])) ≡ refused 1 11 (20 ∷ []) }
+    ensures no_line { verdict (four_proof ([] ∷ (OfLeaf men_leaf ∷ []) ∷ [])) ≡ refused 1 11 (20 ∷ []) }
+    ensures early { verdict (four_proof ((OfSplit 0 ∷ OfLeaf women_leaf ∷ []) ∷ (OfLeaf men_leaf ∷ []) ∷ [])) ≡ refused 1 11 (22 ∷ []) }
+    ensures late { verdict (four_proof ((OfLeaf women_leaf ∷ OfLeaf women_leaf ∷ []) ∷ (OfLeaf men_leaf ∷ []) ∷ [])) ≡ refused 1 11 (21 ∷ []) }
+    ensures seated { tree_fault (stage_problem after_dropout [] (stage (pos 9) (pos 1 ∷ pos 1 ∷ pos 1 ∷ pos 1 ∷ []))) (standings after_dropout) 1
+        (OfSplit 1 ∷ OfLeaf size_leaf ∷ OfSplit 2 ∷ OfLeaf size_leaf ∷ OfLeaf size_leaf ∷ []) ≡ fault 3 11 }
+{}
+
+/// Other reasons come in their order: of the lottery, of a stage whose weights and cap reach too far, and of the listed panels.
+pub fn other_reasons()
+    ensures lottery { verdict (OfLottery four two_women []) ≡ refused 0 1 (0 ∷ 1 ∷ []) }
+    ensures negative { verdict (OfLottery four below_zero []) ≡ refused 1 4 (2 ∷ []) }
+    ensures too_far { verdict (one_stage_proof (pos (2 ^ 56 - 3)) double_leaf) ≡ refused 1 13 [] }
+    ensures farthest { verdict (one_stage_proof (pos (2 ^ 56 - 4)) size_leaf) ≡ refused 1 9 (0 ∷ 2 ∷ []) }
+    ensures left { verdict (OfLottery four one_stage ((OfLeaf women_leaf ∷ []) ∷ [])) ≡ refused 1 10 (2 ∷ []) }
+{}

@@ -1,0 +1,198 @@
+-- Lines that are read without a fault are those of the bundle that is read.
+use Rattle.std.proofs.Common.{◌≡◌, ℕ, Bool, true, false, not, ◌||◌, ltb, List, [], ◌∷◌, ◌++◌, length, map, refl, sym, ◌∙◌, ap, subst, append_assoc, arith, Option, Some, None, unwrap_or}
+use Rattle.std.specs.Prelude.{bytes_eq, Ok, is_some}
+use Rattle.std.specs.List.{list_all}
+use Rattle.std.proofs.lemmas.Bool.{not-false, lt-ltb, false≢true}
+use Rattle.std.proofs.lemmas.List.{append-nil, map-append}
+use Rattle.laws_basic.proofs.Each.{list_all-push}
+use Rattle.define_pools.specs.Pool.{Pool, IsPool, has_households}
+use Rattle.define_pools.specs.Lottery.{Lottery}
+use Rattle.define_pools.specs.Certificate.{Answer, Stage}
+use Rattle.define_pools.specs.Building.{lowest_kind}
+use Rattle.define_pools.proofs.BuildingLemmas.{no_kind}
+use Rattle.define_lines.specs.Lines.{text_of, fields_of}
+use Rattle.define_lines.proofs.LineByLine as reading
+use Rattle.define_lines.proofs.NumberLemmas.{bytes_are}
+use Rattle.define_pool_texts.specs.declared.Passed.{Passed}
+use Rattle.define_pool_texts.specs.PoolText.{version_line}
+use Rattle.define_pool_texts.specs.PoolReading as pools
+use Rattle.define_pool_texts.proofs.LowestKinds.{encoding_kind, line_kind_of}
+use Rattle.define_pool_texts.proofs.Spelled as pool_lines_read
+use Rattle.define_pool_texts.proofs.Spelled.{neither, own_version}
+use Rattle.define_bundles.specs.Ranges.{is_weight, is_row, is_stage}
+use Rattle.define_bundles.specs.BundleText.{Bundle, IsBundle, bundle_line, pool_lines, total_line, panel_line, stage_line, done_line, lines_before_done, bundle_spelling}
+use Rattle.define_bundles.specs.BundleReading.{Progress, Begun, InPool, InRows, InStages, Done, AnswerLine, OfRow, OfStage, FaultyStage, TheDone, Unknown, total_of, said_of, row_kinds, stage_kinds, line_kind, after_row, after_stage, after_line, at_last, read_bundle, reader}
+use Rattle.define_bundles.proofs.AnswerLines.{IsSpelled, answer_spelled, total_spelled}
+
+-- the pool's lines are those of a version
+abbrev pub IsOfVersion : Bool → pools.Progress → Type 0
+IsOfVersion second pools.Begun = Unit {0}
+IsOfVersion second (pools.Versioned version) = version ≡ second
+IsOfVersion second (pools.Inside pool passed) = passed.second ≡ second
+IsOfVersion second (pools.Ended pool) = has_households pool ≡ second
+
+-- the rows so far, and their total
+pub record AreRightRows (pool : Pool) (lottery : Lottery) : Type 0 where
+  pub is_pool : IsPool pool
+  pub total : is_weight lottery.total ≡ true
+  pub rows : list_all (is_row (length pool.volunteers)) lottery.rows ≡ true
+
+-- what stands is right: the pool so far, the rows, the answer, the bundle
+abbrev pub IsRight : Progress → Type 0
+IsRight Begun = Unit {0}
+IsRight (InPool second progress) = pool_lines_read.IsRight progress × IsOfVersion second progress
+IsRight (InRows pool lottery) = AreRightRows pool lottery
+IsRight (InStages pool answer) = IsBundle (record { pool = pool; answer = answer })
+IsRight (Done bundle) = IsBundle bundle
+
+-- the lines that stood
+abbrev pub lines_so_far : Progress → List (List ℕ)
+lines_so_far Begun = []
+lines_so_far (InPool second progress) = bundle_line second ∷ pool_lines_read.lines_so_far progress
+lines_so_far (InRows pool lottery) = bundle_line (has_households pool) ∷ (pool_lines pool ++ (total_line lottery.total ∷ map panel_line lottery.rows))
+lines_so_far (InStages pool answer) = lines_before_done pool answer
+lines_so_far (Done bundle) = lines_before_done bundle.pool bundle.answer ++ done_line ∷ []
+
+-- one line more, and what stands is right again
+abbrev Adds : Progress → List ℕ → Progress → Type 0
+Adds progress line after = IsRight after × (lines_so_far after ≡ lines_so_far progress ++ line ∷ [])
+
+-- the version stays
+version_stays : (pool : Pool) (passed : Passed) (entry : pools.Entry) → pool_lines_read.IsRightInside pool passed → pools.entry_kind pool passed entry ≡ None → (second : Bool) → passed.second ≡ second →
+    IsOfVersion second (pools.after_entry pool passed entry)
+version_stays pool passed (pools.OfCategory name) right h second e = e
+version_stays pool passed (pools.OfValue value) right h second e = e
+version_stays pool passed (pools.OfVolunteer id names) right h second e = e
+version_stays pool passed (pools.OfHousehold id name) right h second e = e
+version_stays pool passed (pools.OfStanding standing id) right h second e = e
+version_stays pool passed pools.TheEnd right h second e = own_version pool passed right (no_kind (pools.awaits_household passed) 1 None h).0 ∙ e
+version_stays pool passed pools.Unknown right h second e = e
+
+-- a line of the pool
+in_pool : (second : Bool) (progress : pools.Progress) (line : List ℕ) → IsRight (InPool second progress) → pools.line_kind progress line ≡ None → IsOfVersion second (pools.after_line progress line) →
+    Adds (InPool second progress) line (InPool second (pools.after_line progress line))
+in_pool second progress line right h version =
+    let step = pool_lines_read.line_adds progress line right.0 h in
+    ((step.0, version), ap (λ lines. bundle_line second ∷ lines) step.1)
+
+pool_adds : (second : Bool) (progress : pools.Progress) (line : List ℕ) → IsRight (InPool second progress) → line_kind (InPool second progress) line ≡ None → Adds (InPool second progress) line (after_line (InPool second progress) line)
+pool_adds second pools.Begun line right h =
+    let same = bytes_are line (version_line second) (not-false (bytes_eq line (version_line second)) (no_kind (not (bytes_eq line (version_line second))) 1 None h).0) in
+    subst (λ l. Adds (InPool second pools.Begun) l (InPool second (pools.after_line pools.Begun l))) (sym same) (in_pool second pools.Begun (version_line second) right (right_version second) (is_version second))
+  where
+    right_version : (second : Bool) → pools.line_kind pools.Begun (version_line second) ≡ None
+    right_version true = refl
+    right_version false = refl
+
+    is_version : (second : Bool) → bytes_eq (version_line second) (version_line true) ≡ second
+    is_version true = refl
+    is_version false = refl
+pool_adds second (pools.Versioned version) line right h = in_pool second (pools.Versioned version) line right h right.1
+pool_adds second (pools.Inside pool passed) line right h =
+    let none = (neither (pools.entry_kind pool passed (pools.entry_of (fields_of line))) (encoding_kind line) (sym (line_kind_of pool passed line) ∙ h)).0 in
+    in_pool second (pools.Inside pool passed) line right h (version_stays pool passed (pools.entry_of (fields_of line)) right.0 none second right.1)
+pool_adds second (pools.Ended pool) line right h = given (total_of (fields_of line)) refl (no_kind (not (is_some (total_of (fields_of line)))) 14 None h).0
+  where
+    given : (total : Option ℕ) → total_of (fields_of line) ≡ total → not (is_some total) ≡ false → Adds (InPool second (pools.Ended pool)) line (InRows pool (record { total = unwrap_or (total_of (fields_of line)) 0; rows = [] }))
+    given None e k = absurd (false≢true (sym k))
+    given (Some total) e k =
+        let spelled = total_spelled line total e in
+        let known : unwrap_or (total_of (fields_of line)) 0 ≡ total = ap (λ o. unwrap_or o 0) e in
+        let right_rows : IsRight (InRows pool (record { total = total; rows = [] })) = record { is_pool = right.0; total = spelled.1; rows = refl } in
+        let lines : lines_so_far (InRows pool (record { total = total; rows = [] })) ≡ lines_so_far (InPool second (pools.Ended pool)) ++ line ∷ [] =
+        ap (λ version. bundle_line version ∷ (pool_lines pool ++ total_line total ∷ [])) right.1 ∙ ap (λ l. bundle_line second ∷ (pool_lines pool ++ l ∷ [])) (sym spelled.0) in
+        subst (λ t. Adds (InPool second (pools.Ended pool)) line (InRows pool (record { total = t; rows = [] }))) (sym known) (right_rows, lines)
+
+-- a line behind the total, or behind a panel's
+row_adds : (pool : Pool) (lottery : Lottery) (line : List ℕ) (said : AnswerLine) → IsRight (InRows pool lottery) → IsSpelled (length pool.volunteers) line said →
+    lowest_kind (row_kinds (ltb 0 (length lottery.rows)) said) ≡ None → Adds (InRows pool lottery) line (after_row pool lottery said)
+row_adds pool lottery line (OfRow row) right spelled h =
+    let first = bundle_line (has_households pool) in
+    let total = total_line lottery.total in
+    let rows = map panel_line lottery.rows in (
+      record { is_pool = right.is_pool; total = right.total; rows = list_all-push (is_row (length pool.volunteers)) lottery.rows row right.rows spelled.1 },
+      ap (λ lines. first ∷ (pool_lines pool ++ (total ∷ lines))) (map-append panel_line lottery.rows (row ∷ []) ∙ ap (λ l. rows ++ l ∷ []) (sym spelled.0))
+          ∙ ap (λ lines. first ∷ lines) (sym (append_assoc (pool_lines pool) (total ∷ rows) (line ∷ []))),
+    )
+row_adds pool lottery line (OfStage stage) right spelled h =
+    let first = bundle_line (has_households pool) in
+    let total = total_line lottery.total in
+    let rows = map panel_line lottery.rows in
+    let some = not-false (ltb 0 (length lottery.rows)) (no_kind (not (ltb 0 (length lottery.rows))) 15 None h).0 in (
+      record {
+        is_pool = right.is_pool;
+        in_ranges = record { total = right.total; some_row = some; rows = right.rows; some_stage = refl; stages = list_all-push (is_stage (length pool.volunteers)) [] stage refl spelled.1 };
+      },
+      ap (λ l. first ∷ (pool_lines pool ++ (total ∷ (rows ++ l ∷ [])))) (sym spelled.0) ∙ ap (λ lines. first ∷ lines) (sym (append_assoc (pool_lines pool) (total ∷ rows) (line ∷ []))),
+    )
+row_adds pool lottery line FaultyStage right spelled h = absurd (no_way (ltb 0 (length lottery.rows)) h)
+  where
+    no_way : (behind : Bool) → lowest_kind (row_kinds behind FaultyStage) ≡ None → ⊥
+    no_way true k = cc
+    no_way false k = cc
+row_adds pool lottery line TheDone right spelled h = cc
+row_adds pool lottery line Unknown right spelled h = cc
+
+-- a line behind a stage's
+stage_adds : (pool : Pool) (answer : Answer) (line : List ℕ) (said : AnswerLine) → IsRight (InStages pool answer) → IsSpelled (length pool.volunteers) line said →
+    lowest_kind (stage_kinds said) ≡ None → Adds (InStages pool answer) line (after_stage pool answer said)
+stage_adds pool answer line (OfRow row) right spelled h = cc
+stage_adds pool answer line (OfStage stage) right spelled h =
+    let first = bundle_line (has_households pool) in
+    let total = total_line answer.lottery.total in
+    let rows = map panel_line answer.lottery.rows in
+    let stages = map stage_line answer.stages in
+    let ranges = right.in_ranges in (
+      record {
+        is_pool = right.is_pool;
+        in_ranges = record {
+          total = ranges.total;
+          some_row = ranges.some_row;
+          rows = ranges.rows;
+          some_stage = some_more answer.stages stage;
+          stages = list_all-push (is_stage (length pool.volunteers)) answer.stages stage ranges.stages spelled.1;
+        };
+      },
+      ap (λ lines. first ∷ (pool_lines pool ++ (total ∷ (rows ++ lines)))) (map-append stage_line answer.stages (stage ∷ []) ∙ ap (λ l. stages ++ l ∷ []) (sym spelled.0))
+          ∙ (ap (λ lines. first ∷ (pool_lines pool ++ (total ∷ lines))) (sym (append_assoc rows stages (line ∷ [])))
+          ∙ ap (λ lines. first ∷ lines) (sym (append_assoc (pool_lines pool) (total ∷ (rows ++ stages)) (line ∷ [])))),
+    )
+  where
+    some_more : (stages : List Stage) (stage : Stage) → ltb 0 (length (stages ++ stage ∷ [])) ≡ true
+    some_more [] stage = refl
+    some_more (one ∷ stages) stage = lt-ltb 0 (length (one ∷ (stages ++ stage ∷ []))) (omega arith)
+stage_adds pool answer line FaultyStage right spelled h = cc
+stage_adds pool answer line TheDone right spelled h = (right, ap (λ l. lines_before_done pool answer ++ l ∷ []) (sym spelled))
+stage_adds pool answer line Unknown right spelled h = cc
+
+-- a right line is one line more, and what stands stays right
+pub line_adds : (progress : Progress) (line : List ℕ) → IsRight progress → line_kind progress line ≡ None → IsRight (after_line progress line) × (lines_so_far (after_line progress line) ≡ lines_so_far progress ++ line ∷ [])
+line_adds Begun line right h =
+    let fails = no_kind (not (bytes_eq line (bundle_line false) || bytes_eq line (bundle_line true))) 13 None h in
+    let some = not-false (bytes_eq line (bundle_line false) || bytes_eq line (bundle_line true)) fails.0 in
+    ((tt, tt), ap (λ l. l ∷ []) (sym (one_of (bytes_eq line (bundle_line false)) (bytes_eq line (bundle_line true)) refl refl some)))
+  where
+    one_of : (first second : Bool) → bytes_eq line (bundle_line false) ≡ first → bytes_eq line (bundle_line true) ≡ second → (first || second) ≡ true → line ≡ bundle_line second
+    one_of first true e f some = bytes_are line (bundle_line true) f
+    one_of true false e f some = bytes_are line (bundle_line false) e
+    one_of false false e f some = absurd (false≢true some)
+line_adds (InPool second progress) line right h = pool_adds second progress line right h
+line_adds (InRows pool lottery) line right h = row_adds pool lottery line (said_of pool line) right (answer_spelled (length pool.volunteers) line) h
+line_adds (InStages pool answer) line right h = stage_adds pool answer line (said_of pool line) right (answer_spelled (length pool.volunteers) line) h
+line_adds (Done bundle) line right h = cc
+
+-- a text that ends with its last line is the text of the bundle that is read
+last_is_spelled : (number : ℕ) (progress : Progress) (bytes : List ℕ) (bundle : Bundle) → IsRight progress → at_last number progress bytes ≡ Ok bundle →
+    IsBundle bundle × (text_of (lines_so_far progress) ++ bytes ≡ bundle_spelling bundle)
+last_is_spelled number Begun bytes bundle right h = cc
+last_is_spelled number (InPool second progress) bytes bundle right h = cc
+last_is_spelled number (InRows pool lottery) bytes bundle right h = cc
+last_is_spelled number (InStages pool answer) bytes bundle right h = cc
+last_is_spelled number (Done other) (byte ∷ bytes) bundle right h = cc
+last_is_spelled number (Done other) [] bundle right h =
+    let same : other ≡ bundle = cc in
+    (subst IsBundle same right, append-nil (bundle_spelling other) ∙ ap bundle_spelling same)
+
+-- what is read is spelled so, each byte of it
+pub read_is_spelled : (bytes : List ℕ) (bundle : Bundle) → read_bundle bytes ≡ Ok bundle → IsBundle bundle × (bytes ≡ bundle_spelling bundle)
+read_is_spelled bytes bundle h = reading.read_is_spelled reader IsRight lines_so_far IsBundle bundle_spelling line_adds last_is_spelled 1 Begun tt refl bytes bundle h

@@ -1,0 +1,24 @@
+-- Texts that are read line by line, up to the first faulty line. Over Lines. The readings of pools, bundles and proofs are each a
+-- Reader.
+use Rattle.std.specs.Prelude.{ℕ, ◌+◌, List, [], ◌∷◌, Option, Some, None, Result, Err}
+use Rattle.define_lines.specs.Lines.{Fault}
+
+-- How lines are read, given the progress that the lines before made. `line_kind` is the lowest kind of fault of a line. `after_line` is
+-- the progress after a line without fault. `at_last` is the value or the fault of the whole text, given the number of the last piece,
+-- the progress and the bytes after the last LF
+pub record Reader (Progress Value : Type 0) : Type 0 where
+  pub line_kind : Progress → List ℕ → Option ℕ
+  pub after_line : Progress → List ℕ → Progress
+  pub at_last : ℕ → Progress → List ℕ → Result Value Fault
+
+-- the fault of this kind in the line of this number, or the outcome of the later lines if there is none
+abbrev pub fault_or : {Value : Type 0} → Option ℕ → ℕ → Result Value Fault → Result Value Fault
+fault_or None number later = later
+fault_or (Some kind) number later = Err (record { line = number; kind = kind })
+
+-- the first faulty line, the lines being numbered from `number`, or the value of all lines
+abbrev pub read_lines : {Progress Value : Type 0} → Reader Progress Value → ℕ → Progress → List (List ℕ) → Result Value Fault
+read_lines reader number progress [] = reader.at_last number progress []
+read_lines reader number progress (bytes ∷ []) = reader.at_last number progress bytes
+read_lines reader number progress (line ∷ next ∷ later) =
+    fault_or (reader.line_kind progress line) number (read_lines reader (number + 1) (reader.after_line progress line) (next ∷ later))

@@ -1,0 +1,76 @@
+//! Pools that are made from a number, and the summary of a run: the generator of numbers, the made pool, and the lines of the summary.
+//! The definitions are in `specs/`. Stands on `define_pools`, `define_bundles`, `define_draws` for the seal,
+//! `define_lines` and `frac128`. Above: `office_reports`, which makes them, and the command `make`.
+//!
+//! The functions have no body: their contracts are laws over the definitions, and worked examples.
+#![tactic(auto)]
+
+ghost use Rattle.std.specs.Prelude.{◌≡◌, ◌≤◌, ◌<◌, ◌-◌, ◌^◌, [], ◌∷◌, ℕ, List, All, Contains, IsTrue, codes, length, map, take};
+ghost use Rattle.std.specs.List.{range_with_len};
+ghost use Rattle.define_pools.specs.Pool.{IsPool, is_quota_panel, panels};
+ghost use Rattle.define_pools.specs.WorkedExamples.{after_dropout, bounded, category, person};
+ghost use Rattle.define_lines.specs.Lines.{text_of};
+ghost use Rattle.define_made_pools.specs.Generator.{number};
+ghost use Rattle.define_made_pools.specs.MadePools.{made_pool, made_size, made_values};
+ghost use Rattle.define_made_pools.specs.Summary.{least, greatest, summary_lines};
+ghost use Rattle.define_made_pools.specs.WorkedExamples.{single_answer, single_summary, dropout_answer, dropout_summary};
+
+/// The made pool of any seed and of 1 to 400 volunteers is a pool.
+pub fn made_pool_is_pool()
+    ensures { (seed n : ℕ) → 1 ≤ n → n ≤ 400 → IsPool (made_pool seed n) }
+{}
+
+/// The first volunteers of a made pool, as many as a panel has, are a quota panel.
+pub fn first_volunteers_are_a_panel()
+    ensures { (seed n : ℕ) → 1 ≤ n → n ≤ 400 → IsTrue (is_quota_panel (made_pool seed n) (range_with_len 0 (made_size n))) }
+{}
+
+/// So each made pool has a quota panel.
+pub fn made_pool_has_a_panel()
+    ensures { (seed n : ℕ) → 1 ≤ n → n ≤ 400 → Contains (panels (made_pool seed n)) (range_with_len 0 (made_size n)) }
+{}
+
+/// Each number has 31 bits.
+pub fn numbers_have_31_bits()
+    ensures { (seed place : ℕ) → number seed place < 2 ^ 31 }
+{}
+
+/// The least and the greatest of some numbers are among them, and no number is less, or greater.
+pub fn least_and_greatest()
+    ensures least { (xs : List ℕ) → 1 ≤ length xs → Contains xs (least xs) }
+    ensures none_less { (xs : List ℕ) → All (λ x. least xs ≤ x) xs }
+    ensures greatest { (xs : List ℕ) → 1 ≤ length xs → Contains xs (greatest xs) }
+    ensures none_greater { (xs : List ℕ) → All (λ x. x ≤ greatest xs) xs }
+{}
+
+/// The first numbers of seeds 0, 7 and 2^63 - 1.
+pub fn first_numbers()
+    ensures zero { map (number 0) (0 ∷ 1 ∷ 2 ∷ 3 ∷ []) ≡ 167951807 ∷ 218396424 ∷ 1299921937 ∷ 861605236 ∷ [] }
+    ensures seven { map (number 7) (0 ∷ 1 ∷ 2 ∷ 3 ∷ []) ≡ 1059165278 ∷ 2052263231 ∷ 1946856753 ∷ 585718673 ∷ [] }
+    ensures greatest { map (number (2 ^ 63 - 1)) (0 ∷ 1 ∷ 2 ∷ 3 ∷ []) ≡ 500810664 ∷ 416590519 ∷ 133760853 ∷ 1974759426 ∷ [] }
+{}
+
+/// Made pools: the only volunteer of seed 0 is a young man from the country. The first volunteers of seed 7 have these values, and
+/// these are the bounds among 20 of them; the first two are an old woman and a man of middle age, both from the country.
+pub fn made_pools()
+    ensures single { made_pool 0 1 ≡ record {
+      size = 1;
+      categories =
+          category (codes "gender") (bounded (codes "female") 0 1 ∷ bounded (codes "male") 0 2 ∷ []) ∷
+          category (codes "age") (bounded (codes "young") 0 2 ∷ bounded (codes "middle") 0 1 ∷ bounded (codes "old") 0 1 ∷ []) ∷
+          category (codes "area") (bounded (codes "town") 0 1 ∷ bounded (codes "country") 0 2 ∷ []) ∷ [];
+      volunteers = person (codes "v1") (1 ∷ 0 ∷ 1 ∷ []) ∷ [];
+    } }
+    ensures sizes { map made_size (1 ∷ 9 ∷ 10 ∷ 19 ∷ 20 ∷ 400 ∷ []) ≡ 1 ∷ 1 ∷ 1 ∷ 1 ∷ 2 ∷ 40 ∷ [] }
+    ensures values { map (made_values 7) (0 ∷ 1 ∷ 2 ∷ []) ≡ (0 ∷ 2 ∷ 1 ∷ []) ∷ (1 ∷ 1 ∷ 1 ∷ []) ∷ (0 ∷ 0 ∷ 1 ∷ []) ∷ [] }
+    ensures bounds { (made_pool 7 20).categories ≡
+        category (codes "gender") (bounded (codes "female") 0 2 ∷ bounded (codes "male") 0 2 ∷ []) ∷
+        category (codes "age") (bounded (codes "young") 0 1 ∷ bounded (codes "middle") 0 2 ∷ bounded (codes "old") 0 2 ∷ []) ∷
+        category (codes "area") (bounded (codes "town") 0 1 ∷ bounded (codes "country") 1 3 ∷ []) ∷ [] }
+{}
+
+/// Summaries before their seal: that of the only volunteer of seed 0; and one after a dropout, in which two of four have no chance.
+pub fn summaries()
+    ensures single { text_of (take 10 (summary_lines (made_pool 0 1) single_answer (record { classes = 1; columns = 1; pivots = 1 }))) ≡ single_summary }
+    ensures dropout { text_of (take 10 (summary_lines after_dropout dropout_answer (record { classes = 4; columns = 1; pivots = 12 }))) ≡ dropout_summary }
+{}

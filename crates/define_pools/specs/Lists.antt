@@ -1,0 +1,37 @@
+-- Words on lists of numbers, for Pool and Lottery.
+use Rattle.std.specs.Prelude.{ℕ, zero, suc, Bool, true, not, ◌&&◌, ◌==◌, nat_lt, nat_le, if◌then◌else◌, List, [], ◌∷◌, ◌++◌, map, bytes_eq}
+use Rattle.std.specs.List.{list_all, list_any}
+
+-- all ways to choose `count` elements of a list, in its order; those that take its first element come first
+abbrev pub choices : ℕ → List ℕ → List (List ℕ)
+choices zero xs = [] ∷ []
+choices (suc size) [] = []
+choices (suc size) (x ∷ xs) = map (λ chosen. x ∷ chosen) (choices size xs) ++ choices (suc size) xs
+
+-- the list includes the number
+abbrev pub includes : List ℕ → ℕ → Bool
+includes xs i = list_any (λ x. x == i) xs
+
+-- each number is below all that follow it
+abbrev pub is_increasing : List ℕ → Bool
+is_increasing [] = true
+is_increasing (x ∷ xs) = list_all (λ y. nat_lt x y) xs && is_increasing xs
+
+-- the lists include the list
+abbrev pub includes_list : List (List ℕ) → List ℕ → Bool
+includes_list rest xs = list_any (bytes_eq xs) rest
+
+-- no list comes twice
+abbrev pub all_different : List (List ℕ) → Bool
+all_different [] = true
+all_different (xs ∷ rest) = not (includes_list rest xs) && all_different rest
+
+-- a number put into a rising list, in its place
+abbrev pub put_in_order : ℕ → List ℕ → List ℕ
+put_in_order x [] = x ∷ []
+put_in_order x (y ∷ ys) = (if nat_le x y then x ∷ (y ∷ ys) else y ∷ put_in_order x ys)
+
+-- the numbers in rising order
+abbrev pub rising : List ℕ → List ℕ
+rising [] = []
+rising (x ∷ xs) = put_in_order x (rising xs)

@@ -1,0 +1,40 @@
+//! What the program is measured against: pools and quota panels, lotteries and their order, certificates, and how a pool is built. The
+//! definitions are in `specs/`. Stands on `laws_basic`. Above: every crate that speaks of pools, by `pool_model` for the values,
+//! `define_pool_texts` for their text and `define_searches` for classes.
+//!
+//! The functions have no body: their contracts are laws over the definitions, and the promise that matters most is
+//! `certified_is_greatest`. Worked examples are in `laws_worked`.
+#![tactic(auto)]
+
+ghost use Rattle.std.specs.Prelude.{◌≡◌, ◌↔◌, ◌*◌, [], ◌∷◌, List, ℕ, Contains, IsTrue, sum};
+ghost use Rattle.std.specs.List.{list_all};
+ghost use Rattle.define_pools.specs.Pool.{is_of_size, is_quota_panel, Pool, IsPool, panels};
+ghost use Rattle.define_pools.specs.Lottery.{Lottery, IsLottery, TotalAgrees, LeximinGreatest, counts};
+ghost use Rattle.define_pools.specs.Certificate.{Stage, Certifies};
+
+/// A volunteer's standing: whether a panel may, must or can't have them.
+#[derive(Clone, Copy, Debug, PartialEq, Eq)]
+pub enum Standing {
+    /// May be chosen.
+    Open,
+    /// Is on the panel in each case.
+    Seated,
+    /// Can't be chosen any more.
+    Gone,
+}
+
+/// A lottery that stages certify is leximin greatest: no lottery over the pool's quota panels is above it.
+pub fn certified_is_greatest()
+    ensures { (pool : Pool) (lottery : Lottery) (stages : List Stage) → Certifies pool lottery stages → LeximinGreatest pool lottery }
+{}
+
+/// The list of quota panels has exactly the quota panels.
+pub fn all_are_listed()
+    ensures { (pool : Pool) (panel : List ℕ) → Contains (panels pool) panel ↔ IsTrue (is_quota_panel pool panel) }
+{}
+
+/// If the weights sum to the total and each panel has the pool's size, the volunteers' counts sum to the size times the total.
+pub fn counts_sum()
+    ensures { (pool : Pool) (lottery : Lottery) → TotalAgrees lottery → IsTrue (list_all (λ row. is_of_size pool row.panel) lottery.rows) →
+        sum (counts pool lottery) ≡ pool.size * lottery.total }
+{}

@@ -1,0 +1,29 @@
+-- The places of a proof's tree lines in its text. Over ProofText and Refusals of `define_additions`. The refusals of `verify` name
+-- lines by it.
+use Rattle.std.specs.Prelude.{◌≡◌, ℕ, ◌+◌, ◌≤◌, List, [], ◌∷◌, ◌++◌, drop, length, map}
+use Rattle.define_checks.specs.Reasons.{Refusal}
+use Rattle.define_additions.specs.ProofVerdict.{OfLottery, OfNoPanel, Proof}
+use Rattle.define_additions.specs.Refusals.{lines_before, tree_of}
+use Rattle.define_proof_texts.specs.ProofText.{close_line, lines_before_close, node_line, trees_from}
+
+-- all lines of the text
+abbrev pub proof_lines : Proof → List (List ℕ)
+proof_lines proof = lines_before_close proof ++ close_line ∷ []
+
+-- a proof has a tree of this number: that of a stage, or 0 if there is to be no quota panel
+abbrev pub HasTree : Proof → ℕ → Type 0
+HasTree (OfLottery pool answer trees) stage = (1 ≤ stage) × (stage ≤ length trees)
+HasTree (OfNoPanel pool lines) stage = stage ≡ 0
+
+-- the lines after those of that tree: of the later trees, and the last line
+abbrev pub lines_behind : Proof → ℕ → List (List ℕ)
+lines_behind (OfLottery pool answer trees) stage = trees_from (stage + 1) (drop stage trees) ++ close_line ∷ []
+lines_behind (OfNoPanel pool lines) stage = close_line ∷ []
+
+-- a refusal names a line of the text: a line of its stage's tree, or, if the tree has no more, the next line of the text
+pub record NamesTextLine (proof : Proof) (refusal : Refusal) : Type 0 where
+  -- how many of the tree's lines come before it
+  pub place : ℕ
+  pub within : place ≤ length (tree_of proof refusal.stage)
+  pub who : refusal.who ≡ (lines_before proof refusal.stage + place + 1) ∷ []
+  pub text : drop (lines_before proof refusal.stage + place) (proof_lines proof) ≡ map node_line (drop place (tree_of proof refusal.stage)) ++ lines_behind proof refusal.stage

@@ -1,0 +1,53 @@
+-- Small texts of proofs on which the definitions compute.
+use Rattle.std.specs.Prelude.{ℕ, false, List, [], ◌∷◌, ◌++◌, codes, Result, Err}
+use Rattle.define_bundles.specs.BundleText.{lines_before_done}
+use Rattle.define_bundles.specs.WorkedExamples.{four_answer}
+use Rattle.define_lines.specs.Lines.{Fault, line_of, text_of}
+use Rattle.define_pools.specs.WorkedExamples.{four}
+use Rattle.define_pool_texts.specs.PoolText.{version_line}
+use Rattle.define_additions.specs.ProofVerdict.{Proof}
+use Rattle.define_additions.specs.TreeLines.{OfLeaf, TreeLine}
+use Rattle.define_additions.specs.WorkedTrees.{four_proof, four_trees, women_leaf}
+use Rattle.define_proof_texts.specs.ProofReading.{read_proof}
+use Rattle.define_proof_texts.specs.ProofText.{bundle_lines, close_line, lines_before_close, none_line, proof_line}
+
+-- what is read from the text of these lines
+abbrev pub read_text : List (List ℕ) → Result Proof Fault
+read_text lines = read_proof (text_of lines)
+
+-- the first fault of a text
+abbrev pub faulty : ℕ → ℕ → Result Proof Fault
+faulty line kind = Err (record { line = line; kind = kind })
+
+-- a whole proof of the answer for two women and two men, by these trees
+abbrev pub whole : List (List TreeLine) → List (List ℕ)
+whole trees = lines_before_close (four_proof trees) ++ close_line ∷ []
+
+-- a first line of another version
+abbrev pub second_version : List (List ℕ)
+second_version = line_of (codes "proof" ∷ codes "2" ∷ []) ∷ []
+
+-- neither a bundle nor a pool after the first line
+abbrev pub without_pool : List (List ℕ)
+without_pool = proof_line ∷ none_line ∷ []
+
+-- a pool whose size isn't allowed, and one whose end is missing
+abbrev pub without_size : List (List ℕ)
+without_size = proof_line ∷ version_line false ∷ line_of (codes "size" ∷ codes "0" ∷ []) ∷ []
+
+abbrev pub without_end : List (List ℕ)
+without_end = proof_line ∷ version_line false ∷ []
+
+-- a bundle whose end is missing, and one without a tree
+abbrev pub without_done : List (List ℕ)
+without_done = proof_line ∷ lines_before_done four four_answer
+
+abbrev pub without_tree : List (List ℕ)
+without_tree = proof_line ∷ (bundle_lines four four_answer ++ close_line ∷ [])
+
+-- one tree for two stages, and three
+abbrev pub one_tree : List (List ℕ)
+one_tree = whole ((OfLeaf women_leaf ∷ []) ∷ [])
+
+abbrev pub three_trees : List (List ℕ)
+three_trees = whole (four_trees ++ (OfLeaf women_leaf ∷ []) ∷ [])

@@ -1,0 +1,60 @@
+-- What each table of a run keeps, from step to step. Over Run. `leximin_run` and `laws_of_runs` rest on it.
+use Rattle.std.specs.Prelude.{◌≡◌, ◌≢◌, ℕ, ◌<◌, ◌≤◌, true, List, length, take, slice_index, Contains, Some, None}
+use Rattle.std.specs.List.{All}
+use Rattle.define_rows.specs.Choice.{choice}
+use Rattle.define_rows.specs.InOrder.{IsInOrder}
+use Rattle.define_rows.specs.Laws.{MayAdd}
+use Rattle.define_rows.specs.Steps.{add_column, open_row}
+use Rattle.define_rows.specs.Table.{Table, row_at}
+use Rattle.define_searches.specs.Classes.{Classes, KeepsLimits}
+use Rattle.define_searches.specs.Compositions.{compositions, price}
+use Rattle.define_searches.specs.Fronts.{sizes_of}
+use Rattle.define_spreads.specs.Spreading.{AreParts}
+use Rattle.define_runs.specs.Run.{Limits, RunLimits, GoOn, closed_rows, follow, opening, parts_of, run_limits}
+
+-- the limits are in their ranges
+pub record AreRunLimits (limits : RunLimits) : Type 0 where
+  pub some_bits : 1 ≤ limits.bits
+  pub few_bits : limits.bits ≤ 127
+  pub few_pivots : limits.pivots ≤ 1000000000
+
+abbrev pub AreLimits : Limits → Type 0
+AreLimits limits = AreRunLimits (run_limits limits)
+
+-- the run over these classes reaches this table
+pub record IsReached (all : Classes) (limits : RunLimits) (table : Table) : Type 0 where
+  pub steps : ℕ
+  pub there : follow all limits (opening all limits) steps ≡ GoOn table
+
+-- what each table of a run keeps
+pub record KeepsRun (all : Classes) (limits : RunLimits) (table : Table) : Type 0 where
+  pub in_order : IsInOrder table
+  pub sizes : table.sizes ≡ sizes_of all
+  pub width : table.bits ≡ limits.bits
+  pub pivots : table.pivots ≤ limits.pivots
+  -- each column is a composition
+  pub columns : All (Contains (compositions all)) table.columns
+  -- no composition that attains the rows closed earlier weighs more in a closed row than its right side
+  pub priced_out : (k : ℕ) → k < length table.closed → price all (take k (closed_rows table)) (row_at table (slice_index table.closed k)) ≡ None
+
+-- each table that a run over classes within a pool's limits reaches keeps this
+abbrev pub ReachedIsKept : Type 0
+ReachedIsKept = (all : Classes) (limits : RunLimits) (table : Table) → KeepsLimits all → AreRunLimits limits → IsReached all limits table → KeepsRun all limits table
+
+-- a stage is open, nothing is chosen, and pricing found a composition
+pub record IsPriced (all : Classes) (limits : RunLimits) (table : Table) (counts : List ℕ) : Type 0 where
+  pub keeps : KeepsRun all limits table
+  pub open_now : table.in_stage ≡ true
+  pub done : choice table ≡ None
+  pub found : price all (closed_rows table) (row_at table (open_row table)) ≡ Some counts
+
+-- then the composition may become a column, and with it something is chosen
+abbrev pub PricedMayBeAdded : Type 0
+PricedMayBeAdded = (all : Classes) (limits : RunLimits) (table : Table) (counts : List ℕ) → KeepsLimits all → IsPriced all limits table counts → MayAdd table counts
+
+abbrev pub PricedIsChosen : Type 0
+PricedIsChosen = (all : Classes) (limits : RunLimits) (table : Table) (counts : List ℕ) → KeepsLimits all → IsPriced all limits table counts → choice (add_column table counts) ≢ None
+
+-- the columns of positive value are different compositions, with fractions that sum to one
+abbrev pub PartsSpread : Type 0
+PartsSpread = (all : Classes) (limits : RunLimits) (table : Table) → KeepsRun all limits table → AreParts all (parts_of table)

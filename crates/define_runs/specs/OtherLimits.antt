@@ -1,0 +1,49 @@
+-- The run over one pool under different limits. Over Run. Why an answer doesn't depend on limits.
+use Rattle.std.specs.Prelude.{◌≡◌, ◌≤◌, Bool, true, false, IsFalse}
+use Rattle.define_pools.specs.Certificate.{Answer}
+use Rattle.define_pools.specs.Pool.{Pool}
+use Rattle.define_runs.specs.Run.{Ending, NoPanel, Found, TooWide, TotalPasses, PivotsSpent, NodesSpent, Limits, RunEnds, RunFinds}
+
+-- the run stopped because a budget of pivots or of visits was spent
+abbrev pub is_spent : Ending → Bool
+is_spent NoPanel = false
+is_spent (Found last answer) = false
+is_spent (TooWide stood pass) = false
+is_spent (TotalPasses stood pass) = false
+is_spent (PivotsSpent stood) = true
+is_spent (NodesSpent stood) = true
+
+-- the same width, with budgets that are at least as great
+pub record HasMoreBudget (limits more : Limits) : Type 0 where
+  pub bits : more.bits ≡ limits.bits
+  pub pivots : limits.pivots ≤ more.pivots
+  pub nodes : limits.nodes ≤ more.nodes
+
+-- each limit is at least as great
+pub record AllowsMore (limits more : Limits) : Type 0 where
+  pub bits : limits.bits ≤ more.bits
+  pub pivots : limits.pivots ≤ more.pivots
+  pub nodes : limits.nodes ≤ more.nodes
+
+-- with greater budgets a run ends as it did, unless a budget was spent
+abbrev pub BudgetsKeepEnding : Type 0
+BudgetsKeepEnding = (pool : Pool) (limits more : Limits) (ending : Ending) → HasMoreBudget limits more → RunEnds pool limits ending → IsFalse (is_spent ending) → RunEnds pool more ending
+
+-- so each width has one ending that is no spent budget, whatever the budgets
+abbrev pub OneEndingOverBudgets : Type 0
+OneEndingOverBudgets = (pool : Pool) (limits other : Limits) (first second : Ending) → limits.bits ≡ other.bits → RunEnds pool limits first → RunEnds pool other second →
+    IsFalse (is_spent first) → IsFalse (is_spent second) → first ≡ second
+
+-- with greater limits a run that finds an answer finds the same one, and one that finds no panel finds none
+abbrev pub LimitsKeepAnswer : Type 0
+LimitsKeepAnswer = (pool : Pool) (limits more : Limits) (answer : Answer) → AllowsMore limits more → RunFinds pool limits answer → RunFinds pool more answer
+
+abbrev pub LimitsKeepNoPanel : Type 0
+LimitsKeepNoPanel = (pool : Pool) (limits more : Limits) → AllowsMore limits more → RunEnds pool limits NoPanel → RunEnds pool more NoPanel
+
+-- so a pool has one answer, or no panel, whatever the limits
+abbrev pub OneAnswerOverLimits : Type 0
+OneAnswerOverLimits = (pool : Pool) (limits other : Limits) (first second : Answer) → RunFinds pool limits first → RunFinds pool other second → first ≡ second
+
+abbrev pub AnswerOrNoPanel : Type 0
+AnswerOrNoPanel = (pool : Pool) (limits other : Limits) (answer : Answer) → RunFinds pool limits answer → RunEnds pool other NoPanel → ⊥

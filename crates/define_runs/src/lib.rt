@@ -1,0 +1,82 @@
+//! The run that finds the lottery: the opening search, then stage by stage pivots, pricing and closing, and how it ends. The
+//! definitions are in `specs/`. Stands on the table of `define_rows`, the searches of `define_searches` and `define_waves`,
+//! and the spreading of `define_spreads`. Above: `laws_of_runs`, on what its ends say of the pool; `leximin_run`, which runs it; the
+//! commands and the program's words, for `Limits` and `Workers`; summaries, for `RunSizes`.
+//!
+//! The functions without a body are the promises: laws over the definitions, and worked examples.
+#![tactic(auto)]
+
+ghost use Rattle.std.specs.Prelude.{◌≡◌, None, Some, pos};
+ghost use Rattle.define_pools.specs.Pool.{Pool};
+ghost use Rattle.define_pools.specs.WorkedExamples.{four};
+ghost use Rattle.define_rows.specs.declared.Op.TheVariants.{Add};
+ghost use Rattle.define_rows.specs.WorkedRun.{ended, entered, widened};
+ghost use Rattle.define_runs.specs.OtherLimits.{AnswerOrNoPanel, BudgetsKeepEnding, LimitsKeepAnswer, LimitsKeepNoPanel, OneAnswerOverLimits, OneEndingOverBudgets};
+ghost use Rattle.define_runs.specs.Run.{Ending, Limits as Seen, NoPanel, Found, TooWide, PivotsSpent, NodesSpent, RunEnds, RunFinds};
+ghost use Rattle.define_runs.specs.Keeps.{ReachedIsKept, PricedMayBeAdded, PricedIsChosen, PartsSpread};
+ghost use Rattle.define_runs.specs.Work.{EachEnds, EachRunEnds, StepLeavesLess};
+ghost use Rattle.define_runs.specs.WorkedRuns.{limits, halves, pairs};
+ghost use Rattle.define_searches.specs.WorkedSearches.{either};
+
+mod ranges;
+mod sizes;
+
+pub use ranges::{
+    LEAST_BITS, LEAST_WORKERS, Limits, MOST_BITS, MOST_NODES, MOST_PIVOTS, MOST_WORKERS, Workers,
+};
+pub use sizes::RunSizes;
+
+/// A run has one ending under its limits. Under other budgets of pivots and visits it has the same one, or one of the two is a spent
+/// budget. An answer, or that there is no panel, is the same under every width and budget.
+pub fn one_ending()
+    ensures limits { (pool : Pool) (limits : Seen) (first second : Ending) → RunEnds pool limits first → RunEnds pool limits second → first ≡ second }
+    ensures budgets { OneEndingOverBudgets }
+    ensures answers { OneAnswerOverLimits }
+    ensures no_panel { AnswerOrNoPanel }
+{}
+
+/// With greater budgets a run ends as it did, unless a budget was spent. With greater limits, also of the width, it finds the answer
+/// that it found, and no panel if it found none.
+pub fn greater_limits_keep_endings()
+    ensures budgets { BudgetsKeepEnding }
+    ensures answers { LimitsKeepAnswer }
+    ensures no_panel { LimitsKeepNoPanel }
+{}
+
+/// Each step of a run leaves less of the run to do. So a run has an ending, over classes within the limits of a pool and so over each
+/// pool.
+pub fn each_run_ends()
+    ensures less { StepLeavesLess }
+    ensures classes { EachEnds }
+    ensures pool { EachRunEnds }
+{}
+
+/// Each table of a run is in order and has compositions as its columns, and its closed rows were priced out.
+pub fn reached_is_kept()
+    ensures { ReachedIsKept }
+{}
+
+/// A composition that pricing finds isn't a column of the table yet, and may become one.
+pub fn priced_may_be_added()
+    ensures { PricedMayBeAdded }
+{}
+
+/// When it has become a column, a pivot is chosen.
+pub fn priced_is_chosen()
+    ensures { PricedIsChosen }
+{}
+
+/// The columns of positive value are different compositions, whose values are positive fractions that sum to one.
+pub fn parts_can_be_spread()
+    ensures { PartsSpread }
+{}
+
+/// One seat for one of two volunteers: two pivots, and a search of 3 visits at most.
+pub fn worked_runs()
+    ensures found { RunEnds either (limits 2 2 3) (Found ended halves) }
+    ensures too_wide { RunEnds either (limits 1 2 3) (TooWide None (record { row = 1; op = Add; x = pos 1; y = pos 1 })) }
+    ensures one_pivot { RunEnds either (limits 2 1 3) (PivotsSpent widened) }
+    ensures no_pivot { RunEnds either (limits 2 0 3) (PivotsSpent entered) }
+    ensures few_nodes { RunEnds either (limits 2 2 2) (NodesSpent None) }
+    ensures four { RunFinds four (limits 127 4 100) pairs }
+{}

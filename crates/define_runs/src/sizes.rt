@@ -1,0 +1,12 @@
+//! The sizes of a run's last table. The run counts them, and the summary says them.
+
+/// The sizes of a run's last table: the classes, the columns, and the pivots that were made.
+#[derive(Clone, Copy, Debug)]
+pub struct RunSizes {
+    /// How many classes of alike volunteers the pool has.
+    pub classes: usize,
+    /// How many compositions were found.
+    pub columns: usize,
+    /// How many pivots were made in all.
+    pub pivots: u64,
+}

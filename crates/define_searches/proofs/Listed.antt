@@ -1,0 +1,11 @@
+-- What holds of each element of a list that is counted down.
+use Rattle.std.proofs.Common.{ℕ, zero, suc, ◌+◌, ◌≤◌, List, [], refl, arith, le_of_eq}
+use Rattle.std.specs.List.{flat_map, AllByRecursion}
+use Rattle.laws_basic.proofs.Each.{each_append}
+use Rattle.define_searches.specs.Compositions.{counts_down}
+
+-- what holds for each count that goes down
+pub each_count : {X : Type 0} (P : X → Type 0) (F : ℕ → List X) (least more : ℕ) → ((c : ℕ) → least ≤ c → c ≤ least + more → AllByRecursion P (F c)) → AllByRecursion P (flat_map F (counts_down least more))
+each_count P F least zero f = each_append P (F least) [] (f least (le_of_eq refl) (omega arith)) tt
+each_count P F least (suc more) f =
+    each_append P (F (least + suc more)) (flat_map F (counts_down least more)) (f (least + suc more) (omega arith) (le_of_eq refl)) (each_count P F least more (λ c l m. f c l (omega arith)))

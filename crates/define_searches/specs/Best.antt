@@ -1,0 +1,24 @@
+-- What makes a composition the best one. Over Compositions. The law `price_is_best` speaks of it.
+use Rattle.std.specs.Prelude.{ℕ, ◌==◌, nat_lt, Bool, false, ◌&&◌, ◌||◌, IsTrue, List, [], ◌∷◌, Contains, int_lt, int_le}
+use Rattle.define_rows.specs.Row.{Row}
+use Rattle.define_searches.specs.Classes.{Classes}
+use Rattle.define_searches.specs.Compositions.{attains, compositions, weight_in}
+
+-- a composition that attains the closed rows, and weighs more in the priced row than its right side
+pub record Qualifies (all : Classes) (closed : List Row) (row : Row) (counts : List ℕ) : Type 0 where
+  pub composition : Contains (compositions all) counts
+  pub attained : IsTrue (attains closed counts)
+  pub above : IsTrue (int_lt row.b (weight_in row.a counts))
+
+-- in order of compositions: class by class, the greater count first
+abbrev pub comes_before : List ℕ → List ℕ → Bool
+comes_before [] others = false
+comes_before (c ∷ counts) [] = false
+comes_before (c ∷ counts) (d ∷ others) = nat_lt d c || (c == d && comes_before counts others)
+
+-- a composition that qualifies; of those that qualify none weighs more, and none earlier in order weighs as much
+pub record IsBest (all : Classes) (closed : List Row) (row : Row) (counts : List ℕ) : Type 0 where
+  pub qualifies : Qualifies all closed row counts
+  pub none_heavier : (other : List ℕ) → Qualifies all closed row other → IsTrue (int_le (weight_in row.a other) (weight_in row.a counts))
+  pub first : (other : List ℕ) → Qualifies all closed row other → IsTrue (comes_before other counts) →
+      IsTrue (int_lt (weight_in row.a other) (weight_in row.a counts))

@@ -1,0 +1,33 @@
+-- Small classes on which spreading computes, for the worked examples here and in `laws_worked`.
+use Rattle.std.specs.Prelude.{ℕ, List, [], ◌∷◌, codes, length, None}
+use Rattle.frac128.specs.Fractions.{Fraction}
+use Rattle.define_pools.specs.Pool.{Pool}
+use Rattle.define_pools.specs.WorkedExamples.{bounded, category, person}
+use Rattle.define_searches.specs.Classes.{Class, Classes}
+
+-- a class of these members, all of whom may be taken
+abbrev pub class : List ℕ → Class
+class members = record { members = members; values = []; least = 0; most = length members; household = None }
+
+-- two seats: one of a class of three, and one of a class of two
+abbrev pub three_and_two : Classes
+three_and_two = record { size = 2; bounds = []; classes = class (0 ∷ 1 ∷ 2 ∷ []) ∷ class (3 ∷ 4 ∷ []) ∷ [] }
+
+abbrev pub over : ℕ → ℕ → Fraction
+over num den = record { num = num; den = den }
+
+-- one seat, for one of three volunteers, each of another value
+abbrev pub one_of_three : Pool
+one_of_three = record {
+  size = 1;
+  categories = category (codes "value") (bounded (codes "p") 0 1 ∷ bounded (codes "q") 0 1 ∷ bounded (codes "r") 0 1 ∷ []) ∷ [];
+  volunteers = person (codes "a") (0 ∷ []) ∷ person (codes "b") (1 ∷ []) ∷ person (codes "c") (2 ∷ []) ∷ [];
+}
+
+-- one seat, for one of two volunteers of a value and one of another
+abbrev pub pair_and_one : Pool
+pair_and_one = record {
+  size = 1;
+  categories = category (codes "value") (bounded (codes "p") 0 1 ∷ bounded (codes "q") 0 1 ∷ []) ∷ [];
+  volunteers = person (codes "a") (0 ∷ []) ∷ person (codes "b") (0 ∷ []) ∷ person (codes "c") (1 ∷ []) ∷ [];
+}

@@ -1,0 +1,77 @@
+//! The search for the best composition in pieces, which run in waves. The definitions are in `specs/`. Stands on `define_searches`
+//! and the rows of `define_rows`. Above: `panel_search`, which cuts a search into pieces and searches one, `pricing_pool`, which
+//! runs waves on threads, and `define_runs`, whose visits are these.
+//!
+//! The functions have no body: their contracts are laws over the definitions, and worked examples.
+#![tactic(auto)]
+
+ghost use Rattle.std.specs.Prelude.{◌≡◌, ◌↔◌, ℕ, List, [], ◌∷◌, ◌++◌, filter, map, length, None, Some, IsTrue, IsFalse, pos, ℤ, int_lt};
+ghost use Rattle.std.specs.List.{AllByRecursion};
+ghost use Rattle.define_rows.specs.Row.{Row};
+ghost use Rattle.define_searches.specs.Classes.{Classes, IsSearchable, classes_of};
+ghost use Rattle.define_searches.specs.Compositions.{all_counts, attains, is_composition, price, weight_in};
+ghost use Rattle.define_searches.specs.Fronts.{HaveEntries, later_than};
+ghost use Rattle.define_searches.specs.WorkedSearches.{either, apart, row};
+ghost use Rattle.define_waves.specs.Below.{IsFront, QualifiesBelow, below, best_below, search_from};
+ghost use Rattle.define_waves.specs.Waves.{best_in_waves, piece_depth, pieces};
+ghost use Rattle.define_waves.specs.WorkedFronts.{first_gone, first_seated};
+
+/// The compositions that begin with a front are exactly those among the lists that continue it with a count for each later class.
+pub fn below_goes_on()
+    ensures { (all : Classes) (front : List ℕ) → IsFront all front →
+        below all front ≡ filter (is_composition all) (map (λ counts. front ++ counts) (all_counts (later_than front all.classes))) }
+{}
+
+/// The search below a front finds the best composition below it: of those that attain the closed rows, the first of greatest weight
+/// above the floor, and nothing exactly if none weighs more than the floor. The best composition below a front begins with it.
+pub fn search_from_finds_best()
+    ensures best { (all : Classes) (closed : List Row) (priced : Row) (front : List ℕ) (floor : ℤ) → IsSearchable all → HaveEntries all (priced ∷ closed) → IsFront all front →
+        (search_from all closed priced front floor).kept ≡ best_below all closed priced front floor }
+    ensures found { (all : Classes) (closed : List Row) (priced : Row) (front : List ℕ) (floor : ℤ) (counts : List ℕ) →
+        best_below all closed priced front floor ≡ Some counts → QualifiesBelow all closed priced front floor counts }
+    ensures none { (all : Classes) (closed : List Row) (priced : Row) (front : List ℕ) (floor : ℤ) →
+        best_below all closed priced front floor ≡ None ↔ AllByRecursion (λ counts. IsTrue (attains closed counts) → IsFalse (int_lt floor (weight_in priced.a counts))) (below all front) }
+{}
+
+/// The search in waves finds the price: of the compositions that attain the closed rows, the first of greatest weight above the row's
+/// right side, and nothing if there is none.
+pub fn waves_find_price()
+    ensures { (all : Classes) (closed : List Row) (priced : Row) → IsSearchable all → HaveEntries all (priced ∷ closed) →
+        (best_in_waves all closed priced).kept ≡ price all closed priced }
+{}
+
+/// The front of each piece has a count for each of the first `piece_depth` classes, from the class's least to its most.
+pub fn pieces_are_fronts()
+    ensures fronts { (all : Classes) (closed : List Row) (priced : Row) → IsSearchable all → AllByRecursion (IsFront all) (pieces all closed priced).fronts }
+    ensures depth { (all : Classes) (closed : List Row) (priced : Row) → AllByRecursion (λ front. length front ≡ piece_depth all) (pieces all closed priced).fronts }
+{}
+
+/// Without classes, the search in waves makes one visit.
+pub fn no_class_is_one_visit()
+    ensures { (all : Classes) (closed : List Row) (priced : Row) → all.classes ≡ [] → (best_in_waves all closed priced).visits ≡ 1 }
+{}
+
+/// The best compositions of small pools in a row, with the visits of the pieces and those of the fronts before them.
+pub fn worked_waves()
+    ensures apart_pieces { pieces (classes_of apart) [] (row (pos 0) (pos 0 ∷ pos 0 ∷ pos 1 ∷ pos 0 ∷ []))
+        ≡ record { visits = 9; fronts = (1 ∷ 0 ∷ 1 ∷ 0 ∷ []) ∷ (0 ∷ 1 ∷ 1 ∷ 0 ∷ []) ∷ (0 ∷ 0 ∷ 1 ∷ 1 ∷ []) ∷ [] } }
+    ensures apart { best_in_waves (classes_of apart) [] (row (pos 0) (pos 0 ∷ pos 0 ∷ pos 1 ∷ pos 0 ∷ []))
+        ≡ record { visits = 12; floor = pos 1; kept = Some (1 ∷ 0 ∷ 1 ∷ 0 ∷ []) } }
+    ensures either { best_in_waves (classes_of either) [] (row (pos 0) (pos 0 ∷ pos 1 ∷ []))
+        ≡ record { visits = 3; floor = pos 1; kept = Some (0 ∷ 1 ∷ []) } }
+    ensures either_again { best_in_waves (classes_of either) [] (row (pos 1) (pos 1 ∷ pos 1 ∷ []))
+        ≡ record { visits = 1; floor = pos 1; kept = None } }
+{}
+
+/// One seat for one of two volunteers. If the first one is gone, counts that begin with 1 are no front, and no composition begins with
+/// them; if the first one is seated, the same of counts that begin with 0.
+pub fn worked_fronts()
+    ensures gone { IsFront (classes_of first_gone) (1 ∷ []) → ⊥ }
+    ensures below_gone { below (classes_of first_gone) (1 ∷ []) ≡ [] }
+    ensures not_gone { IsFront (classes_of first_gone) (0 ∷ []) }
+    ensures below_not_gone { below (classes_of first_gone) (0 ∷ []) ≡ (0 ∷ 1 ∷ []) ∷ [] }
+    ensures unseated { IsFront (classes_of first_seated) (0 ∷ []) → ⊥ }
+    ensures below_unseated { below (classes_of first_seated) (0 ∷ []) ≡ [] }
+    ensures seated { IsFront (classes_of first_seated) (1 ∷ []) }
+    ensures below_seated { below (classes_of first_seated) (1 ∷ []) ≡ (1 ∷ 0 ∷ []) ∷ [] }
+{}

@@ -1,5 +1,0 @@
-use Rattle.draw_definitions.proofs.DrawLemmas.{draw-row}
-use Rattle.draw_definitions.proofs.draws_the_row_of_the_ticket.Goals as goal
-
-pub returns-clause-row : goal.returns-clause-row
-returns-clause-row c = draw-row

@@ -1,8 +1,0 @@
-use Rattle.draw_definitions.proofs.TicketLemmas.{only_row, row_of_holds}
-use Rattle.draw_definitions.proofs.each_ticket_has_one_row.Goals as goal
-
-pub returns-clause-holds : goal.returns-clause-holds
-returns-clause-holds c = row_of_holds
-
-pub returns-clause-only : goal.returns-clause-only
-returns-clause-only c = only_row

@@ -1,0 +1,47 @@
+//! The classes of a small pool, and which rows a search may be asked about. `fronts`, `pricing` and `searches` use this.
+
+ghost use Rattle.std.specs.Prelude.{◌≡◌, [], ◌∷◌, true};
+ghost use Rattle.define_searches.specs.Fronts.{HaveEntries, HaveReach};
+
+use alike::{Classes, Composition, classes};
+use panel_search::Row;
+use pool_text::read_pool;
+use std::alloc::Global;
+use std::test::Fail;
+
+/// Two are chosen of four volunteers, each of whom has another value.
+pub(crate) const APART: &[u8] =
+    b"pool\t1\nsize\t2\ncategory\tvalue\nvalue\tp\t0\t1\nvalue\tq\t0\t1\nvalue\tr\t0\t1\nvalue\ts\t0\t1\nvolunteer\ta\tp\nvolunteer\tb\tq\nvolunteer\tc\tr\nvolunteer\td\ts\nend\n";
+
+const GREATEST: i128 = 1_000_000_000;
+
+// True if the row has one entry for each class, and no number above 1,000,000,000 by absolute value.
+pub(crate) fn is_small(classes: &Classes, row: &Row) -> bool
+    ensures entries { result ≡ true → HaveEntries classes.now (row.now ∷ []) }
+    ensures reach { result ≡ true → HaveReach classes.now (row.now ∷ []) }
+{
+    classes.facts();
+    let side = row.side();
+    if row.entries().len() != classes.classes().len() || side < -GREATEST || GREATEST < side {
+        return false;
+    }
+    for entry in row.entries() {
+        if *entry < -GREATEST || GREATEST < *entry {
+            return false;
+        }
+    }
+    true
+}
+
+/// Reads a pool, and returns its classes.
+pub(crate) fn classes_of(alloc: Global, text: &[u8]) -> Result<Classes, Fail> {
+    Ok(classes(alloc, &read_pool(alloc, text)?)?)
+}
+
+/// Returns the counts of what a search found.
+pub(crate) fn counts_of(found: &Option<Composition>) -> Option<&[usize]> {
+    match found {
+        Some(composition) => Some(composition.counts()),
+        None => None,
+    }
+}

@@ -1,0 +1,46 @@
+-- What a search keeps of the front where it is. Over Tallies and Homes.
+use Rattle.std.specs.Prelude.{◌≡◌, ℕ, ◌*◌, ◌≤◌, ◌<◌, true, List, length, slice_index, slice_get, get_or, Some}
+use Rattle.define_searches.specs.Classes.{Class, Classes, volunteer_count}
+use Rattle.define_searches.specs.Compositions.{taken_of, has_value, is_of_household}
+use Rattle.define_searches.specs.Fronts.{sizes_of, taken_by, most_given}
+use Rattle.laws_of_fronts.specs.Tallies.{cell}
+
+-- how many are taken, and how many the later classes give at most, in all and for the cell of each value; and how many are taken of each
+-- household
+pub record FrontTally : Type 0 where
+  pub taken : ℕ
+  pub held : List ℕ
+  pub later_taken : ℕ
+  pub later : List ℕ
+  pub homes : List ℕ
+
+-- the tally is that of a front and the later classes: how many the front takes and these classes give at most, in all and of each value,
+-- and how many the front takes of each household
+pub record Tracks (all : Classes) (front : List ℕ) (to_come : List Class) (tally : FrontTally) : Type 0 where
+  pub taken : tally.taken ≡ taken_by all front
+  pub later_taken : tally.later_taken ≡ most_given (λ class. true) to_come
+  pub held_cells : length tally.held ≡ 50 * length all.bounds
+  pub later_cells : length tally.later ≡ 50 * length all.bounds
+  pub held : (c v : ℕ) → c < length all.bounds → v < 50 → slice_index tally.held (cell c v) ≡ taken_of (has_value c v) all.classes front
+  pub later : (c v : ℕ) → c < length all.bounds → v < 50 → slice_index tally.later (cell c v) ≡ most_given (has_value c v) to_come
+  pub homes_cells : length tally.homes ≡ volunteer_count all
+  pub homes : (h : ℕ) → h < volunteer_count all → slice_index tally.homes h ≡ taken_of (λ class. is_of_household h class.household) all.classes front
+
+-- the most that these classes give, in all and of each value
+pub record Gives (all : Classes) (classes : List Class) (total : ℕ) (cells : List ℕ) : Type 0 where
+  pub in_all : total ≡ most_given (λ class. true) classes
+  pub room : length cells ≡ 50 * length all.bounds
+  pub each : (c v : ℕ) → c < length all.bounds → v < 50 → slice_index cells (cell c v) ≡ most_given (has_value c v) classes
+
+-- each count is at most its class's size
+abbrev pub AreWithin : Classes → List ℕ → Type 0
+AreWithin all counts = (t : ℕ) → t < length counts → slice_index counts t ≤ slice_index (sizes_of all) t
+
+-- at least `count` members of the class in this place can be taken
+abbrev pub CanTake : Classes → ℕ → ℕ → Type 0
+CanTake all depth count = (class : Class) → slice_get all.classes depth ≡ Some class → count ≤ length class.members
+
+-- the class in this place
+pub record Stands (all : Classes) (i : ℕ) (class : Class) : Type 0 where
+  pub below : i < length all.classes
+  pub is : class ≡ get_or all.classes i class

@@ -1,0 +1,72 @@
+-- The greatest sums of units in a row, and what fronts weigh in it. Over Fronts. Both searches keep them as tables.
+use Rattle.std.specs.Prelude.{◌≡◌, ℕ, ◌+◌, ◌*◌, ◌^◌, ◌≤◌, ◌<◌, List, length, drop, take, ℤ, pos, ◌+ℤ◌, unsigned_abs, slice_index_or, slice_get, Some}
+use Rattle.std.specs.Int.{int_max}
+use Rattle.laws_of_fronts.specs.Beside.{EachHas}
+use Rattle.define_rows.specs.Row.{Row, sum_of_sizes}
+use Rattle.define_searches.specs.Classes.{Classes}
+use Rattle.define_searches.specs.Compositions.{weight_in}
+use Rattle.define_searches.specs.Fronts.{sizes_of, units, falling, sum_of, greatest_sum}
+
+-- the number in a place
+abbrev pub at : List ℤ → ℕ → ℤ
+at xs i = slice_index_or xs i (pos 0)
+
+-- the products of sizes and absolute entries sum to below 2 ^ 127, so every sum of units fits 128 bits
+pub record AreNarrow (all : Classes) (entries : List ℤ) : Type 0 where
+  pub one_each : length entries ≡ length all.classes
+  pub narrow : sum_of_sizes (sizes_of all) entries < 2 ^ 127
+
+-- the number can be added to each of these within 128 bits
+abbrev pub CanAdd : ℤ → List ℤ → Type 0
+CanAdd weight sums = (n : ℕ) → n < length sums → unsigned_abs (at sums n) + unsigned_abs weight < 2 ^ 127
+
+-- the result for `count` units out of `units` others and one more: if all the others are taken, the sum with this one; else the greater
+-- of the sums with and without it
+pub record IsGreater (units count : ℕ) (without with_it result : ℤ) : Type 0 where
+  pub all_taken : units < count → result ≡ with_it
+  pub some_left : count ≤ units → result ≡ int_max without with_it
+
+-- the greatest sums of 0, 1, 2 and more of `units` units, before and after one more unit of this weight
+pub record HasUnit (units : ℕ) (weight : ℤ) (before after : List ℤ) : Type 0 where
+  pub same : length after ≡ length before
+  pub none : at after 0 ≡ at before 0
+  pub some : (n : ℕ) → n + 1 < length before → IsGreater units (n + 1) (at before (n + 1)) (at before n +ℤ weight) (at after (n + 1))
+
+-- these are the greatest sums of 0, 1, 2 and more of these units
+abbrev pub AreGreatest : List ℤ → List ℤ → Type 0
+AreGreatest units sums = (n : ℕ) → n < length sums → at sums n ≡ sum_of (take n (falling units))
+
+-- the units of the classes from this place on
+abbrev pub units_from : Classes → List ℤ → ℕ → List ℤ
+units_from all entries place = units (drop place all.classes) (drop place entries)
+
+-- the cell of `count` units of the last `later` classes
+abbrev pub cell_of : Classes → ℕ → ℕ → ℕ
+cell_of all later count = later * (all.size + 1) + count
+
+-- the table has the greatest sums for the last 0 to `lines` classes, each for 0 units up to the size
+pub record HoldsSums (all : Classes) (entries : List ℤ) (lines : ℕ) (table : List ℤ) : Type 0 where
+  pub room : length table ≡ lines * (all.size + 1)
+  pub each : (later place count : ℕ) → later < lines → later + place ≡ length all.classes → count ≤ all.size →
+      at table (cell_of all later count) ≡ greatest_sum count (drop place all.classes) (drop place entries)
+
+-- the table of the greatest sums in a row
+abbrev pub IsSummed : Classes → Row → List ℤ → Type 0
+IsSummed all row sums = HoldsSums all row.a (length all.classes + 1) sums
+
+-- such a table for each of the rows; `S` keeps one, and the function reads it
+abbrev pub SumEach : {S : Type 0} → (S → List ℤ) → Classes → List Row → List S → Type 0
+SumEach read all rows sums = EachHas (λ row here. IsSummed all row (read here)) rows sums
+
+-- the weights in a row of a front and of each front before it, by their lengths
+pub record Weighs (all : Classes) (row : Row) (front : List ℕ) (weights : List ℤ) : Type 0 where
+  pub room : length weights ≡ length all.classes + 1
+  pub each : (depth : ℕ) → depth ≤ length front → at weights depth ≡ weight_in row.a (take depth front)
+
+-- the same for each of the rows; `W` keeps one list, and the function reads it
+abbrev pub WeighEach : {W : Type 0} → (W → List ℤ) → Classes → List Row → List ℕ → List W → Type 0
+WeighEach read all rows front weights = EachHas (λ row here. Weighs all row front (read here)) rows weights
+
+-- each of the rows is narrow
+abbrev pub EachNarrow : Classes → List Row → Type 0
+EachNarrow all rows = (i : ℕ) (row : Row) → slice_get rows i ≡ Some row → AreNarrow all row.a

@@ -1,0 +1,50 @@
+-- What the endings of a run say of the pool, for each test of who is alike that makes its classes. Over Run and Levels.
+use Rattle.std.specs.Prelude.{◌≡◌, ℕ, ◌≤◌, Bool, []}
+use Rattle.define_bundles.specs.Ranges.{IsInRanges}
+use Rattle.define_pools.specs.Certificate.{Answer, Certifies}
+use Rattle.define_pools.specs.Lottery.{IsLottery, LeximinGreatest}
+use Rattle.define_pools.specs.Pool.{IsPool, Pool, panels}
+use Rattle.define_runs.specs.Keeps.{AreRunLimits}
+use Rattle.define_runs.specs.Run.{Ends, Found, NoPanel, RunLimits}
+use Rattle.define_rows.specs.Table.{Table}
+use Rattle.define_searches.specs.Classes.{MakesClasses, classes_by}
+use Rattle.define_searches.specs.Visits.{first_search}
+use Rattle.define_spreads.specs.Spreading.{greatest_total}
+
+-- if a run ends with no panel, the pool has no quota panel
+abbrev pub NoPanelWhereNone : Type 0
+NoPanelWhereNone = (pool : Pool) (alike : ℕ → ℕ → Bool) → MakesClasses pool alike → (limits : RunLimits) → Ends (classes_by alike pool) limits NoPanel → panels pool ≡ []
+
+-- then the opening search made no more visits than its budget
+abbrev pub NoPanelIsWithin : Type 0
+NoPanelIsWithin = (pool : Pool) (alike : ℕ → ℕ → Bool) → MakesClasses pool alike → (limits : RunLimits) → Ends (classes_by alike pool) limits NoPanel →
+    (first_search (classes_by alike pool)).visits ≤ limits.opening
+
+-- if the pool has none, and the opening search is within its budget, the run ends so
+abbrev pub NoneEndsSo : Type 0
+NoneEndsSo = (pool : Pool) (alike : ℕ → ℕ → Bool) → MakesClasses pool alike → (limits : RunLimits) → panels pool ≡ [] →
+    (first_search (classes_by alike pool)).visits ≤ limits.opening → Ends (classes_by alike pool) limits NoPanel
+
+-- what holds of each answer that a run finds, for limits in their ranges
+abbrev OfFound : (Pool → Answer → Type 0) → Type 0
+OfFound P = (pool : Pool) (alike : ℕ → ℕ → Bool) → MakesClasses pool alike → (limits : RunLimits) (last : Table) (answer : Answer) → IsPool pool → AreRunLimits limits →
+    Ends (classes_by alike pool) limits (Found last answer) → P pool answer
+
+-- the lottery that a run finds is one over the pool's quota panels, of a total of at most 10 ^ 38
+abbrev pub FoundIsLottery : Type 0
+FoundIsLottery = OfFound (λ pool answer. IsLottery pool answer.lottery)
+
+abbrev pub FoundIsWithin : Type 0
+FoundIsWithin = OfFound (λ pool answer. answer.lottery.total ≤ greatest_total)
+
+-- its stages certify it
+abbrev pub FoundIsCertified : Type 0
+FoundIsCertified = OfFound (λ pool answer. Certifies pool answer.lottery answer.stages)
+
+-- so no lottery over the pool is above it
+abbrev pub FoundIsGreatest : Type 0
+FoundIsGreatest = OfFound (λ pool answer. LeximinGreatest pool answer.lottery)
+
+-- and its numbers keep the ranges that they have in the text of a bundle
+abbrev pub FoundIsInRanges : Type 0
+FoundIsInRanges = OfFound IsInRanges

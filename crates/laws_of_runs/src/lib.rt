@@ -1,0 +1,54 @@
+//! Laws of the run: what its endings say of the pool. Over definitions alone: those of `define_runs` and below it, and the ranges
+//! of a bundle (`define_bundles`). Above: `leximin_run`, whose promises they carry over, and the commands `lottery` and `make`.
+//!
+//! The functions have no body: their contracts are the laws.
+#![tactic(auto)]
+
+ghost use Rattle.define_pools.specs.Certificate.{Certifies};
+ghost use Rattle.define_pools.specs.WorkedExamples.{four};
+ghost use Rattle.define_runs.specs.WorkedRuns.{pairs};
+ghost use Rattle.laws_of_runs.specs.Levels.{LevelsMakeStages};
+ghost use Rattle.laws_of_runs.specs.Laws.{FoundIsCertified, FoundIsGreatest, FoundIsInRanges, FoundIsLottery, FoundIsWithin, NoPanelIsWithin, NoPanelWhereNone, NoneEndsSo};
+
+use define_runs::worked_runs;
+
+/// A run ends with no panel only if the pool has no quota panel and the opening search is within its budget, and then it does so.
+pub fn no_panel_where_none()
+    ensures none { NoPanelWhereNone }
+    ensures within { NoPanelIsWithin }
+    ensures ends { NoneEndsSo }
+{}
+
+/// The lottery that a run finds is a lottery over the pool's quota panels, of a total of at most 10^38.
+pub fn found_is_lottery()
+    ensures lottery { FoundIsLottery }
+    ensures within { FoundIsWithin }
+{}
+
+/// If each volunteer's chance is the sum of the levels of the stages at which the volunteer was unsettled, and the stages have what
+/// else is asked of them, they hold.
+pub fn levels_make_stages()
+    ensures { LevelsMakeStages }
+{}
+
+/// The stages that a run finds with a lottery certify it.
+pub fn found_is_certified()
+    ensures { FoundIsCertified }
+{}
+
+/// The lottery that a run finds is leximin greatest: no lottery over the pool's quota panels is above it.
+pub fn found_is_greatest()
+    ensures { FoundIsGreatest }
+{}
+
+/// The numbers of the answer that a run finds are in the ranges that they have in the text of a bundle.
+pub fn found_is_in_ranges()
+    ensures { FoundIsInRanges }
+{}
+
+/// The lottery that the run finds over two women and two men is certified by the two stages that it finds.
+pub fn worked_certificate()
+    ensures { Certifies four pairs.lottery pairs.stages }
+{
+    worked_runs();
+}

@@ -1,0 +1,13 @@
+-- The tests of UTF-8 compute once they are opened.
+use Rattle.std.proofs.Common.{refl}
+use Rattle.std.specs.Str.{is_utf8, chars}
+use lib.Utf8.{encode}
+use Rattle.laws_worked.proofs.pools.pools_without_panel.Goals as goal
+
+pub returns-clause-short : goal.returns-clause-short
+unfolding is_utf8 chars encode
+returns-clause-short c = record { size = refl; few_categories = refl; categories = refl; different_categories = refl; few_volunteers = refl; ids = refl; different_ids = refl; values = refl; households = refl }
+
+pub returns-clause-crossed : goal.returns-clause-crossed
+unfolding is_utf8 chars encode
+returns-clause-crossed c = record { size = refl; few_categories = refl; categories = refl; different_categories = refl; few_volunteers = refl; ids = refl; different_ids = refl; values = refl; households = refl }

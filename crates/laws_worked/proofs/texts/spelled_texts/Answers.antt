@@ -1,0 +1,22 @@
+-- Numbers in digits and the tests of UTF-8 compute once they are opened.
+use Rattle.std.proofs.Common.{refl}
+use Rattle.std.specs.Fmt.{digits}
+use Rattle.std.specs.Str.{is_utf8, chars}
+use lib.Utf8.{encode}
+use Rattle.laws_worked.proofs.texts.spelled_texts.Goals as goal
+
+pub returns-clause-pool : goal.returns-clause-pool
+unfolding digits is_utf8 chars encode
+returns-clause-pool c = refl
+
+pub returns-clause-pool_is_read : goal.returns-clause-pool_is_read
+unfolding digits is_utf8 chars encode
+returns-clause-pool_is_read c = refl
+
+pub returns-clause-bundle : goal.returns-clause-bundle
+unfolding digits is_utf8 chars encode
+returns-clause-bundle c = refl
+
+pub returns-clause-bundle_is_read : goal.returns-clause-bundle_is_read
+unfolding digits is_utf8 chars encode
+returns-clause-bundle_is_read c = refl

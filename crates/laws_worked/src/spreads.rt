@@ -1,0 +1,26 @@
+//! Lotteries that are spread up to the greatest total, some whose total passes it, and fractions that are close to each other.
+
+ghost use Rattle.std.specs.Prelude.{◌≡◌, ◌<◌, [], ◌∷◌, ◌+◌, ◌-◌, ◌*◌, ◌^◌, Ok, Err};
+ghost use Rattle.frac128.specs.Divisors.{lcm_of};
+ghost use Rattle.define_pools.specs.WorkedExamples.{row};
+ghost use Rattle.define_searches.specs.Classes.{classes_of};
+ghost use Rattle.define_spreads.specs.Spreading.{spread};
+ghost use Rattle.define_spreads.specs.WorkedSpreads.{one_of_three, pair_and_one, over};
+
+/// One seat for three volunteers of different values: two with shares of 1/10^38, and one with all that is left; the total is 10^38.
+/// With 10^38 + 1 as a denominator the total passes at once. If the first is one of two alike, the dial has two places, and 10^38
+/// passes too.
+pub fn widest_spreads()
+    ensures greatest { spread (classes_of one_of_three) ((1 ∷ 0 ∷ 0 ∷ [], over 1 (10 ^ 38)) ∷ (0 ∷ 1 ∷ 0 ∷ [], over (10 ^ 38 - 1) (10 ^ 38)) ∷ []) ≡
+        Ok (record { total = 10 ^ 38; rows = row (0 ∷ []) 1 ∷ row (1 ∷ []) (10 ^ 38 - 1) ∷ [] }) }
+    ensures passed { spread (classes_of one_of_three) ((1 ∷ 0 ∷ 0 ∷ [], over 1 (10 ^ 38 + 1)) ∷ (0 ∷ 1 ∷ 0 ∷ [], over (10 ^ 38) (10 ^ 38 + 1)) ∷ []) ≡
+        Err (record { place = 0; total = 1; den = 10 ^ 38 + 1 }) }
+    ensures dial { spread (classes_of pair_and_one) ((1 ∷ 0 ∷ [], over 1 (10 ^ 38)) ∷ (0 ∷ 1 ∷ [], over (10 ^ 38 - 1) (10 ^ 38)) ∷ []) ≡
+        Err (record { place = 0; total = 1; den = 10 ^ 38 }) }
+{}
+
+/// (10^38 - 1)/10^38 is less than 10^38/(10^38 + 1), by the products across; and 12 is the least common multiple of 4 and 6.
+pub fn close_fractions()
+    ensures less { (10 ^ 38 - 1) * (10 ^ 38 + 1) < 10 ^ 38 * 10 ^ 38 }
+    ensures multiple { lcm_of 4 6 ≡ 12 }
+{}

@@ -1,5 +1,0 @@
-use Rattle.make_definitions.proofs.MadePools.{first_are_panel}
-use Rattle.make_definitions.proofs.first_volunteers_are_a_panel.Goals as goal
-
-pub returns : goal.returns
-returns c = first_are_panel

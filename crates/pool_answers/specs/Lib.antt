@@ -1,5 +1,0 @@
-pub mod Lines
-pub mod OfPool
-pub mod Panel
-pub mod Lottery
-pub mod Make

@@ -1,4 +1,0 @@
-pub mod OfProof
-pub mod Verify
-pub mod ItsBundle
-pub mod Prove

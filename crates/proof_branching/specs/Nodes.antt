@@ -1,0 +1,22 @@
+-- What a table has at a node of a search, and the stops of tests.
+use Rattle.std.specs.Prelude.{ℕ, ◌<◌, List, length}
+use Rattle.proof_limits.specs.Spans.{Ends}
+use Rattle.proof_limits.specs.declared.stops.ProveStop.{ProveStop}
+use Rattle.proof_limits.specs.declared.stops.ProveStop.TheVariants.{Wide, BeyondWidth, Spent, Lost, OutOfMemory}
+use Rattle.proof_branching.specs.declared.nodes.AtNode.{AtNode}
+use Rattle.proof_branching.specs.declared.nodes.AtNode.TheVariants.{Empty, Whole, Broken}
+use Rattle.proof_branching.specs.Searches.{IsWithin}
+
+-- a whole point lies in the spans, and a split is on one of their columns
+abbrev pub IsAtNode : List Ends → AtNode → Type 0
+IsAtNode spans Empty = Unit {0}
+IsAtNode spans (Whole point) = IsWithin spans point.items
+IsAtNode spans (Broken split) = split.column < length spans
+
+-- the table was wrong, or memory runs out
+abbrev pub IsLostOrMemory : ProveStop → Type 0
+IsLostOrMemory (Wide pass) = ⊥
+IsLostOrMemory BeyondWidth = ⊥
+IsLostOrMemory (Spent limit) = ⊥
+IsLostOrMemory Lost = Unit {0}
+IsLostOrMemory OutOfMemory = Unit {0}

@@ -1,0 +1,21 @@
+//! The search for a point of whole numbers that keeps the spans of a table's columns and rows: if the table's point is not whole, a
+//! column's span is split there and both parts are searched. The same search, run to its end, lists the steps that show that there is no
+//! such point. Stands on `proof_table` and `proof_limits`; `proof_stages`, `proof_peeling` and `proof_run` stand on it. It knows nothing of
+//! proofs: `proof_run` makes the lines of trees of the steps.
+//! Promises: a point lies in the columns' spans, each call ends and spends what its clauses say, and each stop is right. That a point
+//! keeps the rows, or that there is none, is no promise: callers test points, and `proof_verify` tests proofs.
+#![tactic(auto)]
+
+mod nodes;
+mod path;
+mod proving;
+mod refutations;
+mod searching;
+mod steps;
+mod weighing;
+
+pub use proving::prove_empty;
+pub use refutations::in_lowest_terms;
+pub use searching::{Found, search};
+pub use steps::{Refutation, Step};
+pub use weighing::{add_weights, ceiling, reach_of, search_weighing};

@@ -1,0 +1,68 @@
+//! The search for a point of whole numbers, at a limited number of nodes. Stands on `nodes` and `path`; `weighing`, `proof_stages` and
+//! `proof_peeling` call it.
+
+ghost use Rattle.std.specs.Prelude.{◌≡◌, ◌<◌, IfOk, IfErr, OnOk, length};
+ghost use Rattle.proof_table.specs.Sizes.{SameSizes};
+ghost use Rattle.proof_branching.specs.Searches.{IsFound, SearchStops};
+ghost use Rattle.proof_limits.specs.Budgets.{SpendsOn};
+
+use crate::nodes::{AtNode, look};
+use crate::path::SearchPath;
+use proof_limits::{Budget, Narrow, ProveStop, Span};
+use proof_table::Table;
+use std::alloc::Global;
+
+/// What a search found.
+#[derive(Debug, Drop)]
+pub enum Found {
+    /// A point: a number for each column.
+    Point(Vec<Narrow>),
+    /// That there is no point, if the table was right.
+    Nothing,
+    /// Neither a point nor that there is none, at the nodes that the search may look at.
+    Doubt,
+}
+
+/// Searches for a point of whole numbers within these spans of columns and rows, at no more than `most` nodes. If the table's point is
+/// not whole, the search splits the column that is farthest from a whole number, and enters the nearer part first.
+pub fn search(
+    alloc: Global,
+    table: &mut Table,
+    columns: &[Span],
+    rows: &[Span],
+    most: u64,
+    budget: &mut Budget,
+) -> Result<Found, ProveStop>
+    requires columns { length columns.now ≡ table.old.columns }
+    requires rows { length rows.now ≡ table.old.rows }
+    ensures found { IfOk result (IsFound columns.now most budget.old budget.new) }
+    ensures looks { OnOk result (budget.new.nodes < budget.old.nodes) }
+    ensures sizes { SameSizes table.old table.new }
+    ensures spends { SpendsOn budget.old budget.new }
+    ensures stops { IfErr result (SearchStops table.new budget.new) }
+{
+    let mut path = SearchPath::new(alloc, columns)?;
+    let mut left = most;
+    'nodes: loop {
+        budget.take_node()?;
+        if left == 0 {
+            return Ok(Found::Doubt);
+        }
+        left -= 1;
+        match look(alloc, table, columns, path.spans(), rows, budget)? {
+            AtNode::Whole(point) => return Ok(Found::Point(point)),
+            AtNode::Broken(split) => {
+                if split.is_above_nearer {
+                    path.enter(split.column, split.above, split.below)?;
+                } else {
+                    path.enter(split.column, split.below, split.above)?;
+                }
+            }
+            AtNode::Empty => {
+                if !path.turn()? {
+                    return Ok(Found::Nothing);
+                }
+            }
+        }
+    }
+}

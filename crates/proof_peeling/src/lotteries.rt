@@ -1,0 +1,356 @@
+//! The lottery of a point: turns of peeling, and tails if peeling gets stuck. Stands on `peels`, `tails`, `remainders` and `seen`;
+//! `proof_run` calls `lottery_of_point`. Promise: nothing of the budget is given back.
+
+ghost use Rattle.std.specs.Prelude.{◌≡◌, length, IfOk, OnOk};
+ghost use Rattle.proof_peeling.specs.Shapes.{HasTable, IsPeelingRun};
+ghost use Rattle.proof_limits.specs.Budgets.{SpendsOn};
+
+use crate::peels::{Turn, peel};
+use crate::remainders::Remainder;
+use crate::rows::PanelRows;
+use crate::seen::SeenPanels;
+use crate::tails::{Tail, tail_of};
+use proof_limits::{Budget, Narrow, ProveStop, wide_mul};
+use proof_program::Program;
+use proof_stages::Chances;
+use proof_table::Table;
+use std::alloc::Global;
+
+/// How many turns of peeling each round has. The turn before the first round is one more.
+const TURNS: [u64; 4] = [12, 12, 48, 96];
+
+/// How far pseudo-random numbers may shift a wish in all turns but the first.
+const WILDNESS: u32 = 40;
+
+/// A remainder is doubled only if its whole is below this number, 2^56.
+const MOST_DOUBLED: i64 = 72_057_594_037_927_936;
+
+/// The width of the tails of all rounds but the last: 2^46.
+const TAIL_WIDTH: i64 = 70_368_744_177_664;
+
+/// A panel with its weight.
+#[derive(Debug, Drop)]
+pub struct WeightedPanel {
+    /// The panel's weight in the lottery.
+    pub weight: i128,
+    /// The numbers of its members, rising.
+    pub members: Vec<usize>,
+}
+
+/// What was found for a point.
+#[derive(Debug, Drop)]
+pub enum Peeled {
+    /// Panels with weights. A panel may come more than once.
+    Found(Vec<WeightedPanel>),
+    /// The point is no mix of panels.
+    Outside,
+    /// All turns ended without an answer.
+    Doubt,
+}
+
+/// The state of a run that makes the lottery of a point.
+#[derive(Drop)]
+struct PeelingRun<'a> {
+    alloc: Global,
+    program: &'a Program,
+    rows: &'a PanelRows,
+    table: Table,
+    seen: SeenPanels,
+    remainder: Remainder,
+    best: Option<Remainder>,
+}
+
+/// Makes a lottery of the point that the chances of columns are, over panels of this size that keep the rows. The contract says nothing of
+/// it, since each proof is verified before it is printed.
+pub fn lottery_of_point(
+    alloc: Global,
+    program: &Program,
+    rows: &PanelRows,
+    classes: &Program,
+    chances: &Chances,
+    size: usize,
+    budget: &mut Budget,
+) -> Result<Peeled, ProveStop>
+    ensures { SpendsOn budget.old budget.new }
+{
+    let remainder = remainder_of(alloc, classes, chances)?;
+    if remainder.parts.len() != program.columns() {
+        return Err(ProveStop::Lost);
+    }
+    let mut run = PeelingRun {
+        alloc,
+        program,
+        rows,
+        table: loaded(alloc, program, rows)?,
+        seen: SeenPanels::new(alloc, size),
+        remainder,
+        best: None,
+    };
+    run.lottery(budget)
+}
+
+/// Returns the width of the tails of all rounds but the last.
+fn tail_width() -> Narrow {
+    match Narrow::new(TAIL_WIDTH) {
+        Some(width) => width,
+        None => Narrow::GREATEST,
+    }
+}
+
+/// Returns a table of the rows over volunteers.
+fn loaded(alloc: Global, program: &Program, rows: &PanelRows) -> Result<Table, ProveStop>
+    ensures columns { IfOk result (λ table. table.columns ≡ length program.now.firsts) }
+    ensures rows { IfOk result (λ table. table.rows ≡ length rows.now.rows.items) }
+{
+    let mut table = Table::new(alloc, program.columns())?;
+    for row in 0..rows.rows.len() {
+        let coefficients = &rows.rows[row].coefficients;
+        if coefficients.len() != program.columns() {
+            return Err(ProveStop::Lost);
+        }
+        table.add_row(coefficients)?;
+    }
+    Ok(table)
+}
+
+/// Returns each volunteer's chance times the common denominator, before any panel is taken off.
+fn remainder_of(
+    alloc: Global,
+    classes: &Program,
+    chances: &Chances,
+) -> Result<Remainder, ProveStop> {
+    let total = chances.common();
+    let mut parts = Vec::new(alloc);
+    for i in 0..classes.volunteers() {
+        let chance = chances.chance(classes.column_of(i)).ok_or(ProveStop::Lost)?;
+        parts.push(chance.scaled(total)?)?;
+    }
+    Ok(Remainder {
+        parts,
+        total,
+        whole: total,
+        taken: Vec::new(alloc),
+    })
+}
+
+/// True if tails stopped at their width or at 2^62.
+fn is_too_wide(found: &Result<Peeled, ProveStop>) -> bool {
+    matches!(found, Err(ProveStop::Wide(_) | ProveStop::BeyondWidth))
+}
+
+impl PeelingRun<'_> {
+    /// Makes the lottery: one quiet turn, then rounds of turns, with tails after each round.
+    fn lottery(&mut self, budget: &mut Budget) -> Result<Peeled, ProveStop>
+        requires run { IsPeelingRun self.old }
+        requires table { HasTable self.old }
+        ensures { SpendsOn budget.old budget.new }
+    {
+        if self.peel(0, 0, budget)? {
+            return self.found(&[], Narrow::ONE);
+        }
+        let mut next: u64 = 1;
+        for round in 0..TURNS.len() {
+            let end = next.saturating_add(TURNS[round]);
+            if self.turns(next, end, budget)? {
+                return self.found(&[], Narrow::ONE);
+            }
+            next = end;
+            let is_last = round + 1 == TURNS.len();
+            self.go_to_best()?;
+            let found = self.tails(is_last, budget);
+            if is_last || !is_too_wide(&found) {
+                return found;
+            }
+            self.begin_anew()?;
+        }
+        Ok(Peeled::Doubt)
+    }
+
+    /// Peels in turns `first..end`. True if nothing is left after one of them.
+    fn turns(&mut self, first: u64, end: u64, budget: &mut Budget) -> Result<bool, ProveStop>
+        requires run { IsPeelingRun self.old }
+        requires table { HasTable self.old }
+        ensures run { IsPeelingRun self.new }
+        ensures table { HasTable self.new }
+        ensures spends { SpendsOn budget.old budget.new }
+    {
+        for turn in first..end {
+            self.begin_turn(turn)?;
+            if self.peel(turn, WILDNESS, budget)? {
+                return Ok(true);
+            }
+        }
+        Ok(false)
+    }
+
+    /// Peels in one turn. True if nothing is left.
+    fn peel(&mut self, number: u64, wildness: u32, budget: &mut Budget) -> Result<bool, ProveStop>
+        requires run { IsPeelingRun self.old }
+        requires table { HasTable self.old }
+        ensures run { IsPeelingRun self.new }
+        ensures table { HasTable self.new }
+        ensures spends { SpendsOn budget.old budget.new }
+    {
+        let turn = Turn { number, wildness };
+        peel(
+            self.alloc,
+            &mut self.table,
+            &self.rows.rows,
+            &mut self.seen,
+            &mut self.remainder,
+            turn,
+            budget,
+        )
+    }
+
+    /// Prepares a turn: keeps the remainder or returns to the best one, puts some panels back, and doubles in every fourth turn.
+    fn begin_turn(&mut self, turn: u64) -> Result<(), ProveStop>
+        requires run { IsPeelingRun self.old }
+        requires table { HasTable self.old }
+        ensures run { IsPeelingRun self.new }
+        ensures table { HasTable self.new }
+    {
+        self.keep_or_return()?;
+        self.put_back(2 + 2 * (turn % 8) + turn / 8 % 8 * 4)?;
+        if turn % 4 != 0 {
+            return Ok(());
+        }
+        self.double()
+    }
+
+    /// Keeps the remainder as the best one if less is left than in the best one so far, else returns to that.
+    fn keep_or_return(&mut self) -> Result<(), ProveStop>
+        requires run { IsPeelingRun self.old }
+        requires table { HasTable self.old }
+        ensures run { IsPeelingRun self.new }
+        ensures table { HasTable self.new }
+    {
+        let is_better = match &self.best {
+            Some(best) => self.remainder.is_less_than(best),
+            None => true,
+        };
+        if !is_better {
+            return self.return_to_best();
+        }
+        self.best = Some(self.remainder.copy(self.alloc)?);
+        Ok(())
+    }
+
+    /// Puts back the last `count` panels taken.
+    fn put_back(&mut self, count: u64) -> Result<(), ProveStop>
+        requires run { IsPeelingRun self.old }
+        requires table { HasTable self.old }
+        ensures run { IsPeelingRun self.new }
+        ensures table { HasTable self.new }
+    {
+        self.remainder.put_back(&self.seen, count)
+    }
+
+    /// Doubles the remainder, unless its whole is too great.
+    fn double(&mut self) -> Result<(), ProveStop>
+        requires run { IsPeelingRun self.old }
+        requires table { HasTable self.old }
+        ensures run { IsPeelingRun self.new }
+        ensures table { HasTable self.new }
+    {
+        if self.remainder.whole.get() >= MOST_DOUBLED {
+            return Ok(());
+        }
+        self.remainder.double()
+    }
+
+    /// Returns to the best remainder if less is left in it, else keeps this one as the best.
+    fn go_to_best(&mut self) -> Result<(), ProveStop>
+        requires run { IsPeelingRun self.old }
+        requires table { HasTable self.old }
+        ensures run { IsPeelingRun self.new }
+        ensures table { HasTable self.new }
+    {
+        let is_worse = match &self.best {
+            Some(best) => best.is_less_than(&self.remainder),
+            None => false,
+        };
+        if is_worse {
+            return self.return_to_best();
+        }
+        self.best = Some(self.remainder.copy(self.alloc)?);
+        Ok(())
+    }
+
+    /// Returns to the best remainder, if there is one.
+    fn return_to_best(&mut self) -> Result<(), ProveStop>
+        requires run { IsPeelingRun self.old }
+        requires table { HasTable self.old }
+        ensures run { IsPeelingRun self.new }
+        ensures table { HasTable self.new }
+    {
+        if let Some(best) = &self.best {
+            self.remainder = best.copy(self.alloc)?;
+        }
+        Ok(())
+    }
+
+    /// Makes a new table, since one that stopped in a change of basis must not be used further; and returns to the best remainder.
+    fn begin_anew(&mut self) -> Result<(), ProveStop>
+        requires { IsPeelingRun self.old }
+        ensures run { IsPeelingRun self.new }
+        ensures table { OnOk result (HasTable self.new) }
+    {
+        self.table = loaded(self.alloc, self.program, self.rows)?;
+        self.return_to_best()
+    }
+
+    /// Tries tails. While the remainder is no mix of panels, puts back twice as many panels as before and tries again.
+    fn tails(&mut self, is_last: bool, budget: &mut Budget) -> Result<Peeled, ProveStop>
+        requires run { IsPeelingRun self.old }
+        requires table { HasTable self.old }
+        ensures run { IsPeelingRun self.new }
+        ensures spends { SpendsOn budget.old budget.new }
+    {
+        let width = if is_last {
+            Narrow::GREATEST
+        } else {
+            tail_width()
+        };
+        let mut count: u64 = 1;
+        'doublings: for _ in 1..64 {
+            let tail = tail_of(
+                self.alloc,
+                &mut self.table,
+                &self.rows.rows,
+                &mut self.seen,
+                &self.remainder,
+                width,
+                budget,
+            )?;
+            match tail {
+                Tail::Inside(weights, denominator) => return self.found(&weights, denominator),
+                Tail::Outside if self.remainder.taken.is_empty() => return Ok(Peeled::Outside),
+                Tail::Doubt if self.remainder.taken.is_empty() => return Ok(Peeled::Doubt),
+                _ => {}
+            }
+            count = count.saturating_mul(2);
+            self.put_back(count)?;
+        }
+        Err(ProveStop::Lost)
+    }
+
+    /// Returns the panels that were taken off and those of a tail, whose weights have this denominator, with weights of one denominator.
+    fn found(&self, tail: &[(i128, usize)], denominator: Narrow) -> Result<Peeled, ProveStop> {
+        let mut panels = Vec::new(self.alloc);
+        for taken in &self.remainder.taken {
+            let weight = wide_mul(taken.weight.wide(), denominator.wide())?;
+            panels.push(self.weighted(weight, taken.panel)?)?;
+        }
+        for (weight, panel) in tail {
+            panels.push(self.weighted(*weight, *panel)?)?;
+        }
+        Ok(Peeled::Found(panels))
+    }
+
+    /// Returns the panel of a number with a weight.
+    fn weighted(&self, weight: i128, panel: usize) -> Result<WeightedPanel, ProveStop> {
+        let members = Vec::from_slice(self.alloc, self.seen.members(panel))?;
+        Ok(WeightedPanel { weight, members })
+    }
+}

@@ -1,0 +1,128 @@
+//! Peeling: panels are taken off a remainder, each as often as the remainder keeps the quotas on average, until nothing is left. Stands on
+//! `faces`, `remainders`, `seen` and `odds`; `lotteries` calls `peel`.
+
+ghost use Rattle.std.specs.Prelude.{◌≡◌, length};
+ghost use Rattle.proof_table.specs.Sizes.{SameSizes};
+ghost use Rattle.proof_limits.specs.Budgets.{SpendsOn};
+
+use crate::faces::Face;
+use crate::odds::log;
+use crate::remainders::Remainder;
+use crate::rows::PanelRow;
+use crate::seen::SeenPanels;
+use proof_branching::{Found, search};
+use proof_limits::{Budget, Narrow, ProveStop, Span, narrow_add, narrow_sub, times, wide_sub};
+use proof_table::{PseudoRandom, Table};
+use std::alloc::Global;
+
+/// How many nodes a search for a panel may look at.
+pub(crate) const MOST_NODES: u64 = 2000;
+
+/// What distinguishes a turn of peeling from others.
+#[derive(Clone, Copy, Debug)]
+pub(crate) struct Turn {
+    pub(crate) number: u64,
+    // how far pseudo-random numbers may shift each wish, up or down
+    pub(crate) wildness: u32,
+}
+
+/// Takes panels off a remainder until nothing is left or no further panel is found. True if nothing is left.
+pub(crate) fn peel(
+    alloc: Global,
+    table: &mut Table,
+    rows: &[PanelRow],
+    seen: &mut SeenPanels,
+    remainder: &mut Remainder,
+    turn: Turn,
+    budget: &mut Budget,
+) -> Result<bool, ProveStop>
+    requires columns { length remainder.old.parts.items ≡ table.old.columns }
+    requires rows { length rows.now ≡ table.old.rows }
+    ensures sizes { SameSizes table.old table.new }
+    ensures spends { SpendsOn budget.old budget.new }
+    ensures parts { length remainder.new.parts.items ≡ length remainder.old.parts.items }
+{
+    let mut random = PseudoRandom::new(turn.number.wrapping_mul(7919).wrapping_add(1));
+    'panels: while remainder.total.get() > 0 {
+        let face = Face::of(alloc, remainder, rows)?;
+        let wishes = wishes_of(alloc, remainder, &face, turn, &mut random)?;
+        table.aim(&wishes, remainder.total.get().unsigned_abs() % 1024)?;
+        let found = search(alloc, table, &face.columns, &face.rows, MOST_NODES, budget)?;
+        let Found::Point(point) = found else {
+            return Ok(false);
+        };
+        let weight = greatest_weight(remainder, &face, rows, &point)?;
+        if weight.get() <= 0 {
+            return Ok(false);
+        }
+        let panel = seen.see(&point)?;
+        remainder.take(seen, panel, weight)?;
+    }
+    Ok(true)
+}
+
+/// Returns how much each volunteer is wished for: more if more of the remainder is theirs, and a little at random.
+fn wishes_of(
+    alloc: Global,
+    remainder: &Remainder,
+    face: &Face,
+    turn: Turn,
+    random: &mut PseudoRandom,
+) -> Result<Vec<i64>, ProveStop> {
+    let mut wishes = Vec::new(alloc);
+    for (part, span) in remainder.parts.iter().zip(&face.columns) {
+        let mut wish = 0;
+        if !span.is_point() {
+            let others = narrow_sub(remainder.total.wide(), part.wide())?;
+            wish = log(*part).saturating_sub(log(others));
+        }
+        if turn.wildness > 0 {
+            wish = wish.saturating_add(random.next_within(turn.wildness));
+        }
+        wishes.push(wish)?;
+    }
+    Ok(wishes)
+}
+
+/// Returns how often a panel can be taken off such that the remainder keeps each row on average.
+fn greatest_weight(
+    remainder: &Remainder,
+    face: &Face,
+    rows: &[PanelRow],
+    point: &[Narrow],
+) -> Result<Narrow, ProveStop> {
+    let total = remainder.total;
+    let mut weight = total.wide();
+    for (part, value) in remainder.parts.iter().zip(point) {
+        let left = if value.is_zero() {
+            wide_sub(total.wide(), part.wide())?
+        } else {
+            part.wide()
+        };
+        weight = weight.min(left);
+    }
+    for ((row, span), sum) in rows.iter().zip(&face.rows).zip(&face.sums) {
+        weight = weight.min(row_weight(row.sum(point)?, *span, *sum, total)?);
+    }
+    narrow_add(weight, 0)
+}
+
+/// Returns the same for one row: `own` is the panel's sum, and `sum` that of the remainder.
+fn row_weight(own: i128, span: Span, sum: i128, total: Narrow) -> Result<i128, ProveStop> {
+    let (least, greatest) = (span.least(), span.greatest());
+    let mut weight = total.wide();
+    if own > least.wide() {
+        let above = wide_sub(sum, times(least, total))?;
+        weight = weight.min(quotient(above, wide_sub(own, least.wide())?)?);
+    }
+    if own < greatest.wide() {
+        let below = wide_sub(times(greatest, total), sum)?;
+        weight = weight.min(quotient(below, wide_sub(greatest.wide(), own)?)?);
+    }
+    Ok(weight)
+}
+
+/// Returns a quotient, rounded towards 0.
+fn quotient(x: i128, y: i128) -> Result<i128, ProveStop> {
+    x.checked_div(y).ok_or(ProveStop::Lost)
+}

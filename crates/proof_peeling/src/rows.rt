@@ -1,0 +1,100 @@
+//! The rows that each panel of a lottery keeps: those of the quotas, and those of stages. `faces` and `tails` use them; `proof_run` makes
+//! `PanelRows`, and uses `weights_of`. Promises: the lengths.
+
+ghost use Rattle.std.specs.Prelude.{◌≡◌, ◌+◌, length, IfOk};
+
+use proof_limits::{Narrow, ProveStop, Span, times, wide_add};
+use proof_program::Program;
+use proof_stages::ClassStage;
+use std::alloc::Global;
+
+/// A row over volunteers: its coefficients, the places of those that are not 0, and the span of its sums.
+#[derive(Debug, Drop)]
+pub(crate) struct PanelRow {
+    pub(crate) coefficients: Vec<Narrow>,
+    pub(crate) places: Vec<usize>,
+    pub(crate) span: Span,
+}
+
+/// The rows that each panel of a lottery keeps.
+#[derive(Debug, Drop)]
+pub struct PanelRows {
+    pub(crate) rows: Vec<PanelRow>,
+}
+
+impl PanelRows {
+    /// Returns the rows of the quotas over volunteers, and a row for each stage, whose cap each panel attains.
+    pub fn new(
+        alloc: Global,
+        program: &Program,
+        classes: &Program,
+        stages: &[ClassStage],
+    ) -> Result<PanelRows, ProveStop>
+        ensures { IfOk result (λ made. length made.rows.items ≡ length program.now.rows + length stages.now) }
+    {
+        let mut rows = Vec::new(alloc);
+        for number in 0..program.rows().len() {
+            let row = &program.rows()[number];
+            let coefficients = Vec::from_slice(alloc, row.coefficients())?;
+            rows.push(panel_row(alloc, coefficients, row.span())?)?;
+        }
+        for number in 0..stages.len() {
+            let stage = &stages[number];
+            let weights = weights_of(alloc, classes, &stage.weights)?;
+            rows.push(panel_row(alloc, weights, Span::point(stage.cap))?)?;
+        }
+        Ok(PanelRows { rows })
+    }
+}
+
+/// Returns each volunteer's weight, which is that of the volunteer's column.
+pub fn weights_of(
+    alloc: Global,
+    classes: &Program,
+    weights: &[Narrow],
+) -> Result<Vec<Narrow>, ProveStop>
+    ensures { IfOk result (λ own. length own.items ≡ length classes.now.column_numbers) }
+{
+    let mut own = Vec::new(alloc);
+    for i in 0..classes.volunteers() {
+        own.push(value_at(weights, classes.column_of(i)))?;
+    }
+    Ok(own)
+}
+
+/// Returns a row with these coefficients.
+fn panel_row(alloc: Global, coefficients: Vec<Narrow>, span: Span) -> Result<PanelRow, ProveStop> {
+    let mut places = Vec::new(alloc);
+    for (i, coefficient) in coefficients.iter().enumerate() {
+        if !coefficient.is_zero() {
+            places.push(i)?;
+        }
+    }
+    Ok(PanelRow {
+        coefficients,
+        places,
+        span,
+    })
+}
+
+impl PanelRow {
+    /// Returns the sum of the row over values of volunteers.
+    pub(crate) fn sum(&self, values: &[Narrow]) -> Result<i128, ProveStop> {
+        let mut sum = 0;
+        for place in &self.places {
+            sum = wide_add(
+                sum,
+                times(
+                    value_at(&self.coefficients, *place),
+                    value_at(values, *place),
+                ),
+            )?;
+        }
+        Ok(sum)
+    }
+}
+
+/// Returns the value at a place, or 0 past the end.
+pub(crate) fn value_at(values: &[Narrow], place: usize) -> Narrow {
+    values.get(place).copied().unwrap_or(Narrow::ZERO)
+}

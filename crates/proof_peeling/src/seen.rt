@@ -1,0 +1,62 @@
+//! The panels that searches found so far. `peels` and `tails` add to them, and `remainders` names panels by their numbers here.
+
+use proof_limits::{Narrow, ProveStop};
+use std::alloc::{AllocError, Global};
+
+/// Panels of one size, each once, in the order in which they were found: the numbers of their members, rising.
+#[derive(Debug, Drop)]
+pub(crate) struct SeenPanels {
+    alloc: Global,
+    size: usize,
+    panels: Vec<Vec<usize>>,
+}
+
+impl SeenPanels {
+    /// Begins with no panel.
+    pub(crate) fn new(alloc: Global, size: usize) -> SeenPanels {
+        SeenPanels {
+            alloc,
+            size,
+            panels: Vec::new(alloc),
+        }
+    }
+
+    /// Returns all panels.
+    pub(crate) fn panels(&self) -> &[Vec<usize>] {
+        &self.panels
+    }
+
+    /// Returns the members of the panel of a number.
+    pub(crate) fn members(&self, number: usize) -> &[usize] {
+        match self.panels.get(number) {
+            Some(members) => members,
+            None => &[],
+        }
+    }
+
+    /// Adds the panel of a point, and returns its number. Stops if the point has a value other than 0 and 1, or if its ones are not as many as
+    /// a panel has members.
+    pub(crate) fn see(&mut self, point: &[Narrow]) -> Result<usize, ProveStop> {
+        let mut members = Vec::new(self.alloc);
+        for (i, value) in point.iter().enumerate() {
+            match value.get() {
+                0 => {}
+                1 => members.push(i)?,
+                _ => return Err(ProveStop::Lost),
+            }
+        }
+        if members.len() != self.size {
+            return Err(ProveStop::Lost);
+        }
+        let known = self
+            .panels
+            .iter()
+            .position(|panel| panel.as_slice() == members.as_slice());
+        if let Some(number) = known {
+            return Ok(number);
+        }
+        let number = self.panels.len();
+        self.panels.push(members)?;
+        Ok(number)
+    }
+}

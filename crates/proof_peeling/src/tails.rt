@@ -1,0 +1,255 @@
+//! The exact tail: a table of the panels seen makes up a remainder, and its multipliers ask for further panels. Stands on `faces` and
+//! `seen`; `lotteries` calls `tail_of`.
+
+ghost use Rattle.std.specs.Prelude.{◌≡◌, length, IfOk, OnOk};
+ghost use Rattle.proof_table.specs.Sizes.{SameSizes, Spends};
+ghost use Rattle.proof_peeling.specs.Shapes.{IsPanelMix};
+ghost use Rattle.proof_limits.specs.Budgets.{SpendsOn};
+
+use crate::faces::Face;
+use crate::peels::MOST_NODES;
+use crate::remainders::Remainder;
+use crate::rows::{PanelRow, value_at};
+use crate::seen::SeenPanels;
+use proof_branching::{Found, ceiling, reach_of, search_weighing};
+use proof_limits::{Budget, Narrow, ProveStop, Span, times, wide_sub};
+use proof_table::{PseudoRandom, Table};
+use std::alloc::Global;
+
+/// How many panels a tail may ask for.
+const MOST_STEPS: usize = 600;
+
+/// The greatest pseudo-random number by which panels differ in the goal.
+const MOST_TIE_BREAK: u64 = 64;
+
+/// The result of a tail.
+#[derive(Debug, Drop)]
+pub(crate) enum Tail {
+    /// Weights of panels, which have these numbers, and the denominator of the weights.
+    Inside(Vec<(i128, usize)>, Narrow),
+    /// The remainder is no mix of panels.
+    Outside,
+    /// A search ended in doubt, or the tail asked for too many panels.
+    Doubt,
+}
+
+/// The table of a tail: a column for each panel of the face, a row for each volunteer who is on some of them and not on all, and a row for
+/// the total.
+#[derive(Drop)]
+struct PanelMix {
+    table: Table,
+    moving: Vec<usize>,
+    panels: Vec<usize>,
+    random: PseudoRandom,
+    columns: Vec<Span>,
+    rows: Vec<Span>,
+}
+
+/// Looks for weights of panels that make up a remainder exactly. Stops if an entry passes the width.
+pub(crate) fn tail_of(
+    alloc: Global,
+    table: &mut Table,
+    rows: &[PanelRow],
+    seen: &mut SeenPanels,
+    remainder: &Remainder,
+    width: Narrow,
+    budget: &mut Budget,
+) -> Result<Tail, ProveStop>
+    requires columns { length remainder.now.parts.items ≡ table.old.columns }
+    requires rows { length rows.now ≡ table.old.rows }
+    ensures sizes { OnOk result (SameSizes table.old table.new) }
+    ensures spends { SpendsOn budget.old budget.new }
+{
+    let face = Face::of(alloc, remainder, rows)?;
+    let mut mix = PanelMix::new(alloc, remainder, &face, width)?;
+    let numbers = panels_of(alloc, seen, rows, &face)?;
+    for number in &numbers {
+        mix.join(alloc, seen, *number, remainder.total)?;
+    }
+    'steps: for _ in 0..MOST_STEPS {
+        if mix.has_point(budget)? {
+            return mix.weights(alloc);
+        }
+        let (wishes, need) = mix.wanted(alloc, remainder)?;
+        let found = beat(alloc, table, &face, &wishes, need, budget)?;
+        match found {
+            Found::Point(point) => {
+                let number = seen.see(&point)?;
+                if mix.panels.contains(&number) {
+                    return Err(ProveStop::Lost);
+                }
+                mix.join(alloc, seen, number, remainder.total)?;
+            }
+            Found::Nothing => return Ok(Tail::Outside),
+            Found::Doubt => return Ok(Tail::Doubt),
+        }
+    }
+    Ok(Tail::Doubt)
+}
+
+/// Returns the numbers of the seen panels that keep a face, sorted by their members.
+fn panels_of(
+    alloc: Global,
+    seen: &SeenPanels,
+    rows: &[PanelRow],
+    face: &Face,
+) -> Result<Vec<usize>, ProveStop> {
+    let mut numbers = Vec::new(alloc);
+    for (number, members) in seen.panels().iter().enumerate() {
+        let point = point_of(alloc, members, face.columns.len())?;
+        if face.has(rows, &point)? {
+            numbers.push(number)?;
+        }
+    }
+    numbers.sort_unstable_by(|a, b| seen.members(*a).cmp(seen.members(*b)));
+    Ok(numbers)
+}
+
+/// Returns a value of 1 for each member, and 0 for each other volunteer.
+fn point_of(alloc: Global, members: &[usize], volunteers: usize) -> Result<Vec<Narrow>, ProveStop> {
+    let mut point = vec![in alloc; Narrow::ZERO; volunteers]?;
+    for member in members {
+        if let Some(value) = point.get_mut(*member) {
+            *value = Narrow::ONE;
+        }
+    }
+    Ok(point)
+}
+
+/// Searches for a panel of the face whose wishes sum to at least `need`.
+fn beat(
+    alloc: Global,
+    table: &mut Table,
+    face: &Face,
+    wishes: &[Narrow],
+    need: Narrow,
+    budget: &mut Budget,
+) -> Result<Found, ProveStop>
+    requires wishes { length wishes.now ≡ table.old.columns }
+    requires columns { length face.now.columns.items ≡ table.old.columns }
+    requires rows { length face.now.rows.items ≡ table.old.rows }
+    ensures sizes { OnOk result (SameSizes table.old table.new) }
+    ensures spends { SpendsOn budget.old budget.new }
+{
+    let span = Span::reaching(need, reach_of(wishes)?);
+    search_weighing(
+        alloc,
+        table,
+        &face.columns,
+        &face.rows,
+        wishes,
+        span,
+        MOST_NODES,
+        budget,
+    )
+}
+
+impl PanelMix {
+    /// Begins with the rows of a remainder, and no panel.
+    fn new(
+        alloc: Global,
+        remainder: &Remainder,
+        face: &Face,
+        width: Narrow,
+    ) -> Result<PanelMix, ProveStop>
+        requires { length face.now.columns.items ≡ length remainder.now.parts.items }
+        ensures { IfOk result IsPanelMix }
+    {
+        let mut moving = Vec::new(alloc);
+        let mut rows = Vec::new(alloc);
+        for i in 0..face.columns.len() {
+            if !face.columns[i].is_point() {
+                moving.push(i)?;
+                rows.push(Span::point(remainder.parts[i]))?;
+            }
+        }
+        rows.push(Span::point(remainder.total))?;
+        let mut table = Table::new(alloc, 0)?;
+        table.set_width(width);
+        'rows: for _ in 0..rows.len() {
+            table.add_row(&[])?;
+        }
+        Ok(PanelMix {
+            table,
+            moving,
+            panels: Vec::new(alloc),
+            random: PseudoRandom::new(1),
+            columns: Vec::new(alloc),
+            rows,
+        })
+    }
+
+    /// Adds a column for the panel of a number.
+    fn join(
+        &mut self,
+        alloc: Global,
+        seen: &SeenPanels,
+        number: usize,
+        total: Narrow,
+    ) -> Result<(), ProveStop>
+        requires { IsPanelMix self.old }
+        ensures { OnOk result (IsPanelMix self.new) }
+    {
+        let members = seen.members(number);
+        let mut column = Vec::new(alloc);
+        for i in 0..self.moving.len() {
+            column.push(one_if(members.contains(&self.moving[i])))?;
+        }
+        column.push(Narrow::ONE)?;
+        self.table
+            .add_column(&column, -(self.random.next_up_to(MOST_TIE_BREAK) as i64))?;
+        self.columns.push(Span::reaching(Narrow::ZERO, total))?;
+        self.panels.push(number)?;
+        Ok(())
+    }
+
+    /// True if the panels make up the remainder.
+    fn has_point(&mut self, budget: &mut Budget) -> Result<bool, ProveStop>
+        requires { IsPanelMix self.old }
+        ensures mix { IsPanelMix self.new }
+        ensures spends { Spends budget.old budget.new }
+    {
+        self.table.run(&self.columns, &self.rows, budget)
+    }
+
+    /// Returns the panels of the point that was found, with their weights.
+    fn weights(&self, alloc: Global) -> Result<Tail, ProveStop> {
+        let values = self.table.point(alloc)?;
+        let mut weights = Vec::new(alloc);
+        for (value, number) in values.iter().zip(&self.panels) {
+            if *value != 0 {
+                weights.push((*value, *number))?;
+            }
+        }
+        Ok(Tail::Inside(weights, self.table.denominator()))
+    }
+
+    /// Returns how much each volunteer is wished for on a further panel, by the multipliers of the rows, and the least sum of wishes that
+    /// helps.
+    fn wanted(
+        &self,
+        alloc: Global,
+        remainder: &Remainder,
+    ) -> Result<(Vec<Narrow>, Narrow), ProveStop>
+        ensures { IfOk result (λ wanted. length wanted.0.items ≡ length remainder.now.parts.items) }
+    {
+        let mut wishes = vec![in alloc; Narrow::ZERO; remainder.parts.len()]?;
+        let multipliers = self.table.refutation(alloc)?;
+        let mut sum = 0;
+        for (i, multiplier) in self.moving.iter().zip(&multipliers) {
+            if let Some(wish) = wishes.get_mut(*i) {
+                *wish = -*multiplier;
+            }
+            sum = wide_sub(sum, times(*multiplier, value_at(&remainder.parts, *i)))?;
+        }
+        if remainder.total < Narrow::ONE {
+            return Err(ProveStop::Lost);
+        }
+        Ok((wishes, ceiling(sum, remainder.total.wide())?))
+    }
+}
+
+/// Returns 1 if a condition holds, else 0.
+fn one_if(holds: bool) -> Narrow {
+    if holds { Narrow::ONE } else { Narrow::ZERO }
+}

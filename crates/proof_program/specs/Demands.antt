@@ -1,0 +1,57 @@
+-- Demands: the constraints of a pool, by whom they count.
+use Rattle.std.specs.Prelude.{◌≡◌, ℕ, ◌<◌, ◌≤◌, ◌==◌, Bool, true, List, map, length, slice_index, Option, None, Some}
+use Rattle.std.specs.List.{All}
+use Rattle.define_additions.specs.Constraints.{Constraint, counting}
+use Rattle.define_pools.specs.Pool.{Pool, everybody, volunteer}
+use Rattle.define_searches.specs.Classes.{Class, shared_household}
+use Rattle.define_searches.specs.Compositions.{is_of_household}
+use Rattle.proof_program.specs.declared.columns.Column.{Column}
+use Rattle.proof_program.specs.declared.demands.Counted.{Counted}
+use Rattle.proof_program.specs.declared.demands.Counted.TheVariants.{Everybody, WithValue, OfHousehold}
+use Rattle.proof_program.specs.declared.demands.Demand.{Demand}
+
+-- a demand counts a volunteer
+abbrev pub is_counted : Pool → Counted → ℕ → Bool
+is_counted pool Everybody i = true
+is_counted pool (WithValue category value) i = slice_index (volunteer pool.volunteers i).values category == value
+is_counted pool (OfHousehold number) i = is_of_household number (shared_household pool.volunteers i)
+
+-- the constraint of a demand
+abbrev pub constraint_of : Pool → Demand → Constraint
+constraint_of pool demand = counting pool (is_counted pool demand.counted) demand.lower demand.upper
+
+-- for each volunteer the household that is shared with somebody
+abbrev pub shared_households : Pool → List (Option ℕ)
+shared_households pool = map (shared_household pool.volunteers) (everybody pool)
+
+-- the household of a class, which then has one member
+abbrev pub household_of : Option Class → Option ℕ
+household_of None = None
+household_of (Some class) = class.household
+
+-- a column has from 1 to 400 members, and its bounds are in order
+pub record IsColumn (column : Column) : Type 0 where
+  pub has_member : 1 ≤ column.size
+  pub few : column.size ≤ 400
+  pub in_order : column.least ≤ column.greatest
+  pub within : column.greatest ≤ column.size
+
+-- at most 400 columns, whose first members are volunteers of the pool
+pub record AreColumns (pool : Pool) (columns : List Column) : Type 0 where
+  pub few : length columns ≤ 400
+  pub firsts : All (λ column. column.first < length pool.volunteers) columns
+  pub each : All IsColumn columns
+
+-- each volunteer has the number of a column
+pub record NumberColumns (pool : Pool) (numbers : List ℕ) (columns : List Column) : Type 0 where
+  pub one_each : length numbers ≡ length pool.volunteers
+  pub within : All (λ column. column < length columns) numbers
+
+-- the bounds are in order, and at most 999
+abbrev pub HasBounds : Demand → Type 0
+HasBounds demand = (demand.lower ≤ demand.upper) × (demand.upper ≤ 999)
+
+-- at most as many demands as a pool can have constraints, with bounds in order
+pub record AreDemands (demands : List Demand) : Type 0 where
+  pub few : length demands ≤ 1401
+  pub each : All HasBounds demands

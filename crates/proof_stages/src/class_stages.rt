@@ -1,0 +1,65 @@
+//! Stages over columns, and what both ways to find them share. Stands on `chances`; `relaxed` and `columned` make such stages, and
+//! `proof_peeling` and `proof_run` read them.
+
+ghost use Rattle.std.specs.Prelude.{◌≡◌, ◌≤◌, length, IfOk};
+
+use crate::chances::Chances;
+use crate::fractions::Chance;
+use proof_branching::Refutation;
+use proof_limits::{Narrow, ProveStop, narrow_add};
+use proof_program::Program;
+use std::alloc::Global;
+
+/// A stage over classes: a weight for each column, the cap, and a refutation that shows the cap, if there is one.
+#[derive(Debug, Drop)]
+pub struct ClassStage {
+    /// Each column's weight, which each of its members has.
+    pub weights: Vec<Narrow>,
+    /// The most that a panel weighs that attains the earlier caps.
+    pub cap: Narrow,
+    /// Multipliers of constraints that show the cap.
+    pub shown_by: Option<Refutation>,
+}
+
+/// Returns a weight of 1 for each unsettled column, and as the cap the most members that a panel may have of them together.
+pub(crate) fn everybody_left(
+    alloc: Global,
+    program: &Program,
+    chances: &Chances,
+) -> Result<(Vec<Narrow>, Narrow), ProveStop>
+    ensures { IfOk result (λ found. length found.0.items ≡ length program.now.firsts) }
+{
+    let mut weights = Vec::new(alloc);
+    let mut cap = Narrow::ZERO;
+    for column in 0..program.columns() {
+        let is_left = chances.chance(column).is_none();
+        if is_left {
+            let most = program.spans()[column].greatest();
+            cap = narrow_add(cap.wide(), most.wide())?;
+        }
+        weights.push(one_if(is_left))?;
+    }
+    Ok((weights, cap))
+}
+
+/// Returns 1 if a condition holds, else 0.
+pub(crate) fn one_if(holds: bool) -> Narrow {
+    if holds { Narrow::ONE } else { Narrow::ZERO }
+}
+
+/// Settles each unsettled column whose weight is above 0 at a chance.
+pub(crate) fn settle(
+    chances: &mut Chances,
+    weights: &[Narrow],
+    chance: Chance,
+) -> Result<(), ProveStop>
+    requires { length weights.now ≤ length chances.old.chances }
+    ensures { length chances.new.chances ≡ length chances.old.chances }
+{
+    for column in 0..weights.len() {
+        if chances.chance(column).is_none() && weights[column].get() > 0 {
+            chances.settle(column, chance)?;
+        }
+    }
+    Ok(())
+}

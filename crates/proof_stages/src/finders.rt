@@ -1,0 +1,116 @@
+//! The search for compositions that weigh enough. Stands on `tables` and on the searches of `proof_branching`; `columned` uses this.
+
+ghost use Rattle.std.specs.Prelude.{◌≡◌, ◌<◌, IfOk, IfSome, OnOk, length};
+ghost use Rattle.proof_stages.specs.Shapes.{IsFinder};
+ghost use Rattle.proof_limits.specs.Budgets.{SpendsOn};
+
+use crate::tables::{row_spans, table_of};
+use proof_branching::{Found, search, search_weighing};
+use proof_limits::{Budget, Narrow, ProveStop, Span, narrow_add, times, wide_add};
+use proof_program::Program;
+use proof_table::Table;
+use std::alloc::Global;
+
+/// A search for compositions that meet the quotas and attain the caps of the closed stages.
+#[derive(Drop)]
+pub(crate) struct Finder<'a> {
+    alloc: Global,
+    program: &'a Program,
+    table: Table,
+    rows: Vec<Span>,
+}
+
+impl<'a> Finder<'a> {
+    /// Begins with no closed stage.
+    pub(crate) fn new(alloc: Global, program: &'a Program) -> Result<Finder<'a>, ProveStop>
+        ensures { IfOk result (IsFinder (length program.entry.now.firsts)) }
+    {
+        let mut table = table_of(alloc, program)?;
+        table.aim(&[], 1)?;
+        let rows = row_spans(alloc, program, Narrow::ONE)?;
+        Ok(Finder {
+            alloc,
+            program,
+            table,
+            rows,
+        })
+    }
+
+    /// Returns a composition, if there is one.
+    pub(crate) fn any(&mut self, budget: &mut Budget) -> Result<Option<Vec<Narrow>>, ProveStop>
+        requires { IsFinder self.old.table.columns self.old }
+        ensures finder { IsFinder self.old.table.columns self.new }
+        ensures spends { SpendsOn budget.old budget.new }
+        ensures counts { IfOk result (λ found. IfSome found (λ counts. length counts.items ≡ self.old.table.columns)) }
+    {
+        let spans = self.program.spans();
+        let found = search(
+            self.alloc,
+            &mut self.table,
+            spans,
+            &self.rows,
+            u64::MAX,
+            budget,
+        )?;
+        point_of(found, self.program.columns())
+    }
+
+    /// Returns a composition that weighs at least `need`, if there is one.
+    pub(crate) fn beating(
+        &mut self,
+        weights: &[Narrow],
+        need: Narrow,
+        budget: &mut Budget,
+    ) -> Result<Option<Vec<Narrow>>, ProveStop>
+        requires finder { IsFinder self.old.table.columns self.old }
+        requires weights { length weights.now ≡ self.old.table.columns }
+        ensures finder { OnOk result (IsFinder self.old.table.columns self.new) }
+        ensures counts { IfOk result (λ found. IfSome found (λ counts. length counts.items ≡ self.old.table.columns)) }
+        ensures spends { SpendsOn budget.old budget.new }
+        ensures nodes { OnOk result (budget.new.nodes < budget.old.nodes) }
+    {
+        let span = Span::reaching(need, reach(self.program, weights)?);
+        let found = search_weighing(
+            self.alloc,
+            &mut self.table,
+            self.program.spans(),
+            &self.rows,
+            weights,
+            span,
+            u64::MAX,
+            budget,
+        )?;
+        point_of(found, self.program.columns())
+    }
+
+    /// Closes a stage: from now on each composition that is found weighs its cap.
+    pub(crate) fn close(&mut self, weights: &[Narrow], cap: Narrow) -> Result<(), ProveStop>
+        requires finder { IsFinder self.old.table.columns self.old }
+        requires weights { length weights.now ≡ self.old.table.columns }
+        ensures { OnOk result (IsFinder self.old.table.columns self.new) }
+    {
+        self.table.add_row(weights)?;
+        self.rows.push(Span::point(cap))?;
+        Ok(())
+    }
+}
+
+/// Returns the point that was found, which has a number for each of `columns` columns.
+fn point_of(found: Found, columns: usize) -> Result<Option<Vec<Narrow>>, ProveStop>
+    ensures { IfOk result (λ found. IfSome found (λ counts. length counts.items ≡ columns)) }
+{
+    match found {
+        Found::Point(point) if point.len() == columns => Ok(Some(point)),
+        Found::Nothing => Ok(None),
+        Found::Point(_) | Found::Doubt => Err(ProveStop::Lost),
+    }
+}
+
+/// Returns the most that a point of the columns' spans can weigh, if all weights are taken without their signs.
+fn reach(program: &Program, weights: &[Narrow]) -> Result<Narrow, ProveStop> {
+    let mut reach = 0;
+    for (weight, span) in weights.iter().zip(program.spans()) {
+        reach = wide_add(reach, times(weight.abs(), span.greatest()))?;
+    }
+    narrow_add(reach, 0)
+}

@@ -1,0 +1,54 @@
+-- The sizes of a table, what its calls spend, and which stops they return. Every contract of the crates above that takes a table cites `SameSizes`.
+use Rattle.std.specs.Prelude.{◌≡◌, ℕ, ◌^◌, ◌<◌, ◌≤◌, ℤ}
+use Rattle.proof_limits.specs.Budgets.{Left}
+use Rattle.proof_limits.specs.declared.stops.Limit.TheVariants.{Pivots, Nodes, Lottery}
+use Rattle.proof_limits.specs.declared.stops.ProveStop.{ProveStop}
+use Rattle.proof_limits.specs.declared.stops.ProveStop.TheVariants.{Wide, BeyondWidth, Spent, Lost, OutOfMemory}
+
+-- how many rows and columns there are, the width of entries, and what the values of a point are multiplied by
+pub record TableSizes : Type 0 where
+  pub rows : ℕ
+  pub columns : ℕ
+  pub width : ℕ
+  pub denominator : ℤ
+
+-- the rows, the columns and the width are the same
+pub record SameSizes (old new : TableSizes) : Type 0 where
+  pub rows : new.rows ≡ old.rows
+  pub columns : new.columns ≡ old.columns
+  pub width : new.width ≡ old.width
+
+-- the whole run may spend the same, and only pivots are spent
+pub record Spends (old new : Left) : Type 0 where
+  pub most_pivots : new.most_pivots ≡ old.most_pivots
+  pub most_nodes : new.most_nodes ≡ old.most_nodes
+  pub pivots : new.pivots ≤ old.pivots
+  pub nodes : new.nodes ≡ old.nodes
+
+-- a stop of a change of basis: an operation passes 2^62, or an entry passes a width below 2^62
+abbrev pub ChangeStops : ℕ → ProveStop → Type 0
+ChangeStops width (Wide pass) = Unit {0}
+ChangeStops width BeyondWidth = width < 2 ^ 62
+ChangeStops width (Spent spent) = ⊥
+ChangeStops width Lost = ⊥
+ChangeStops width OutOfMemory = ⊥
+
+-- a stop of a run: an operation passes 2^62, an entry passes a width below 2^62, no pivot is left, or memory runs out
+abbrev pub RunStops : TableSizes → Left → ProveStop → Type 0
+RunStops table left (Wide pass) = Unit {0}
+RunStops table left BeyondWidth = table.width < 2 ^ 62
+RunStops table left (Spent Pivots) = left.pivots ≡ 0
+RunStops table left (Spent Nodes) = ⊥
+RunStops table left (Spent Lottery) = ⊥
+RunStops table left Lost = ⊥
+RunStops table left OutOfMemory = Unit {0}
+
+-- a stop of a call that takes a row off: as of a run, or the row was not found
+abbrev pub DropStops : TableSizes → Left → ProveStop → Type 0
+DropStops table left (Wide pass) = Unit {0}
+DropStops table left BeyondWidth = table.width < 2 ^ 62
+DropStops table left (Spent Pivots) = left.pivots ≡ 0
+DropStops table left (Spent Nodes) = ⊥
+DropStops table left (Spent Lottery) = ⊥
+DropStops table left Lost = Unit {0}
+DropStops table left OutOfMemory = Unit {0}

@@ -1,0 +1,144 @@
+//! The slots that may enter the basis for a row whose variable is out of its span. `table` uses this.
+
+ghost use Rattle.std.specs.Prelude.{◌≢◌, pos, IfErr};
+ghost use Rattle.proof_limits.specs.Stops.{IsWideOrMemory};
+
+use crate::rows::entry_at;
+use crate::slots::Slot;
+use crate::spans::Spans;
+use crate::variables::Variable;
+use crate::worst::{Rule, Worst};
+use proof_limits::{Narrow, ProveStop, Span, times, wide_mul, wide_sub};
+
+// A slot whose variable helps, with the row's entry there, which is not 0.
+#[derive(Clone, Copy)]
+pub(crate) struct Candidate {
+    pub(crate) slot: usize,
+    pub(crate) variable: Variable,
+    pub(crate) entry: Narrow,
+    ratio: u128,
+    ghost is_entry: { entry ≢ pos 0 },
+}
+
+// Returns the goal's entry divided by the row's, without signs, in units of 2^-60.
+fn ratio(goal: Narrow, entry: Narrow) -> u128
+    requires { entry ≢ pos 0 }
+{
+    (goal.get().unsigned_abs() as u128 * (1 << 60)) / entry.get().unsigned_abs() as u128
+}
+
+// Returns the slot as a candidate, if a move of its variable from its end of the span helps.
+fn helping(
+    slot: usize,
+    at: Slot,
+    entry: Narrow,
+    goal: Narrow,
+    span: Span,
+    is_below: bool,
+) -> Option<Candidate> {
+    if entry.is_zero() || span.is_point() {
+        return None;
+    }
+    if (entry.get() > 0) != (is_below != at.is_at_greatest) {
+        return None;
+    }
+    Some(Candidate {
+        slot,
+        variable: at.variable,
+        entry,
+        ratio: ratio(goal, entry),
+    })
+}
+
+// Lists the slots that help a row's variable back into its span.
+pub(crate) fn gather(
+    entries: &[Narrow],
+    slots: &[Slot],
+    goal: &[Narrow],
+    spans: &Spans,
+    is_below: bool,
+    candidates: &mut Vec<Candidate>,
+) -> Result<(), ProveStop>
+    ensures { IfErr result IsWideOrMemory }
+{
+    candidates.clear();
+    for slot in 0..slots.len() {
+        let at = slots[slot];
+        let found = helping(
+            slot,
+            at,
+            entry_at(entries, slot),
+            entry_at(goal, slot),
+            spans.of(at.variable),
+            is_below,
+        );
+        if let Some(found) = found {
+            candidates.push(found)?;
+        }
+    }
+    Ok(())
+}
+
+// Returns the candidate of the least variable.
+fn least(candidates: &[Candidate]) -> Option<Candidate> {
+    let mut found: Option<Candidate> = None;
+    for candidate in candidates {
+        let is_less = match &found {
+            None => true,
+            Some(so_far) => candidate.variable < so_far.variable,
+        };
+        if is_less {
+            found = Some(*candidate);
+        }
+    }
+    found
+}
+
+// Returns the need that is left once a candidate's variable has moved to the other end of its span.
+fn need_after(need: i128, candidate: &Candidate, span: Span) -> Result<i128, ProveStop>
+    ensures { IfErr result IsWideOrMemory }
+{
+    let gap = span.greatest().wide() - span.least().wide();
+    wide_sub(need, wide_mul(candidate.entry.abs().wide(), gap)?)
+}
+
+// Moves candidates to the other ends of their spans, in order, up to the first that meets the need, which is returned.
+fn pass(
+    candidates: &[Candidate],
+    slots: &mut [Slot],
+    spans: &Spans,
+    worst: Worst,
+) -> Result<Option<Candidate>, ProveStop>
+    ensures { IfErr result IsWideOrMemory }
+{
+    let mut need = worst.need;
+    for candidate in candidates {
+        need = need_after(need, candidate, spans.of(candidate.variable))?;
+        if need <= 0 {
+            return Ok(Some(*candidate));
+        }
+        if let Some(slot) = slots.get_mut(candidate.slot) {
+            slot.is_at_greatest = !slot.is_at_greatest;
+        }
+    }
+    Ok(None)
+}
+
+// Returns the candidate that enters, if any helps enough.
+pub(crate) fn choose(
+    candidates: &mut Vec<Candidate>,
+    slots: &mut [Slot],
+    spans: &Spans,
+    worst: Worst,
+    rule: Rule,
+) -> Result<Option<Candidate>, ProveStop>
+    ensures { IfErr result IsWideOrMemory }
+{
+    match rule {
+        Rule::Least => Ok(least(candidates)),
+        Rule::Farthest => {
+            candidates.sort_unstable_by_key(|c| (c.ratio, c.entry.abs(), c.variable));
+            pass(candidates, slots, spans, worst)
+        }
+    }
+}

@@ -1,0 +1,27 @@
+//! The spans of one run, by variable. `slots`, `candidates` and `worst` look them up here.
+
+use crate::variables::Variable;
+use proof_limits::{Narrow, Span};
+
+// The spans of columns and of rows.
+#[derive(Clone, Copy)]
+pub(crate) struct Spans<'a> {
+    columns: &'a [Span],
+    rows: &'a [Span],
+}
+
+impl<'a> Spans<'a> {
+    // Spans by the numbers of columns and rows.
+    pub(crate) fn new(columns: &'a [Span], rows: &'a [Span]) -> Spans<'a> {
+        Spans { columns, rows }
+    }
+
+    // Returns the span of a variable.
+    pub(crate) fn of(&self, variable: Variable) -> Span {
+        let span = match variable {
+            Variable::Row(row) => self.rows.get(row.0),
+            Variable::Column(column) => self.columns.get(column),
+        };
+        span.copied().unwrap_or(Span::point(Narrow::ZERO))
+    }
+}

@@ -1,0 +1,90 @@
+//! The values of basic variables, and the row whose variable has to leave the basis because it is out of its span. `table` and
+//! `candidates` use this.
+
+ghost use Rattle.std.specs.Prelude.{◌<◌, length, IfOk, IfErr, IfSome};
+ghost use Rattle.proof_limits.specs.Stops.{IsWideOrMemory};
+
+use crate::rows::TableRow;
+use crate::spans::Spans;
+use crate::variables::Variable;
+use proof_limits::{Narrow, ProveStop, Span, times, wide_add, wide_sub};
+
+// A row whose basic variable is out of its span, and by how much, times the denominator.
+#[derive(Clone, Copy)]
+pub(crate) struct Worst {
+    pub(crate) row: usize,
+    pub(crate) variable: Variable,
+    pub(crate) need: i128,
+    pub(crate) is_below: bool,
+}
+
+// How the leaving row and the entering slot are picked.
+#[derive(Clone, Copy, PartialEq, Eq)]
+pub(crate) enum Rule {
+    // the row that is farthest out of its span, and the slot by ratios
+    Farthest,
+    // the least variable that is out, and the least that helps, so that no basis comes twice
+    Least,
+}
+
+// Returns the value of a basic variable times the denominator.
+fn row_value(entries: &[Narrow], values: &[Narrow]) -> Result<i128, ProveStop>
+    ensures { IfErr result IsWideOrMemory }
+{
+    let mut sum = 0;
+    for slot in 0..entries.len().min(values.len()) {
+        if !entries[slot].is_zero() && !values[slot].is_zero() {
+            sum = wide_add(sum, times(entries[slot], values[slot]))?;
+        }
+    }
+    Ok(sum)
+}
+
+// Returns by how much a value is out of its span, times the denominator, or a number of at most 0 if it is inside. True if it is below.
+fn distance(value: i128, span: Span, denominator: Narrow) -> Result<(i128, bool), ProveStop>
+    ensures { IfErr result IsWideOrMemory }
+{
+    let below = wide_sub(times(span.least(), denominator), value)?;
+    let above = wide_sub(value, times(span.greatest(), denominator))?;
+    Ok((below.max(above), below > 0))
+}
+
+// True if a row is picked before the one so far.
+fn is_before(rule: Rule, variable: Variable, need: i128, so_far: &Option<Worst>) -> bool {
+    match so_far {
+        None => true,
+        Some(worst) => match rule {
+            Rule::Farthest => need > worst.need,
+            Rule::Least => variable < worst.variable,
+        },
+    }
+}
+
+// Writes the value of each row, and picks a row that is out of its span.
+pub(crate) fn find_worst(
+    rows: &mut [TableRow],
+    values: &[Narrow],
+    spans: &Spans,
+    denominator: Narrow,
+    rule: Rule,
+) -> Result<Option<Worst>, ProveStop>
+    ensures row { IfOk result (λ found. IfSome found (λ worst. worst.row < length rows.new)) }
+    ensures stops { IfErr result IsWideOrMemory }
+{
+    let mut found = None;
+    for row in 0..rows.len() {
+        let value = row_value(&rows[row].entries, values)?;
+        rows[row].value = value;
+        let variable = rows[row].basic;
+        let (need, is_below) = distance(value, spans.of(variable), denominator)?;
+        if need > 0 && is_before(rule, variable, need, &found) {
+            found = Some(Worst {
+                row,
+                variable,
+                need,
+                is_below,
+            });
+        }
+    }
+    Ok(found)
+}

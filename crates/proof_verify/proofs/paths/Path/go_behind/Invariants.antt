@@ -1,0 +1,13 @@
+use Rattle.std.proofs.Common.{◌≡◌, length}
+use Rattle.define_additions.specs.TreeLines.{path_behind}
+use Rattle.proof_verify.proofs.paths.Path.go_behind.Given as goal
+
+-- the line behind is the one behind what is left of the path
+abbrev pub invariant-loop-latest : goal.invariant-loop-latest
+invariant-loop-latest l = record {
+  pool : l.self.pool ≡ l.initial.self.pool;
+  same : path_behind l.initial.self.decisions ≡ path_behind l.self.decisions;
+}
+
+abbrev pub decreases-loop-latest : goal.decreases-loop-latest
+decreases-loop-latest l = length l.self.decisions

@@ -1,0 +1,17 @@
+//! The check of a proof: whether it shows that a lottery is leximin greatest, or that a pool has no quota panel, and why not if it does
+//! not. It multiplies, adds and compares whole numbers. It searches nothing and divides nothing, and its time grows with the text times the
+//! volunteers. Stands on `check_reasons`, for the reasons that are no sums over trees, on the values of `proof_model`, and on the
+//! definitions of `define_additions`; it uses no crate that finds a lottery. `proof_commands` and `prove_command` stand on it.
+//! Promise: `verify` returns exactly the verdict of the definitions. All other functions are helpers.
+#![tactic(auto)]
+
+mod constraints;
+mod first_lines;
+mod leaves;
+mod paths;
+mod trees;
+mod verifying;
+
+pub use check_reasons::{Refusal, Verdict};
+pub use proof_model::Proof;
+pub use verifying::verify;

@@ -1,5 +1,0 @@
-use Rattle.run_definitions.proofs.Parts.{parts_are}
-use Rattle.run_definitions.proofs.parts_can_be_spread.Goals as goal
-
-pub returns : goal.returns
-returns c = λ all limits table keeps. parts_are all limits table keeps

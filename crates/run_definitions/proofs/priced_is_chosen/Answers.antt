@@ -1,5 +1,0 @@
-use Rattle.run_definitions.proofs.Priced.{is_chosen}
-use Rattle.run_definitions.proofs.priced_is_chosen.Goals as goal
-
-pub returns : goal.returns
-returns c = λ all limits table counts limited priced. is_chosen all limits table counts limited priced

@@ -1,5 +1,0 @@
-use Rattle.run_laws.proofs.NoPanels.{no_panel_is_within, no_panel_where_none, none_where_no_panel}
-use Rattle.run_laws.proofs.no_panel_where_none.Goals as goal
-
-pub returns : goal.returns
-returns c = record { none = none_where_no_panel; within = no_panel_is_within; ends = no_panel_where_none }

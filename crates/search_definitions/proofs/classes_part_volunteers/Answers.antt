@@ -1,5 +1,0 @@
-use Rattle.search_definitions.proofs.Parting.{all_counted, classes_part}
-use Rattle.search_definitions.proofs.classes_part_volunteers.Goals as goal
-
-pub returns : goal.returns
-returns c = record { part = classes_part; count = all_counted }

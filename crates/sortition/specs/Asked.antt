@@ -1,0 +1,68 @@
+-- What the words of a call ask for: a command with its arguments.
+-- Stands on the words' own definitions (`given_in`); cited by the contract of `office`.
+use Rattle.std.specs.Prelude.{◌&&◌, ℕ, List, Option, Some, None, codes, if◌then◌else◌, nat_le, option_and_then, option_map}
+use Rattle.define_runs.specs.Run.{Limits}
+use Rattle.command_words.specs.Given.{Given, number_of, text_of}
+use Rattle.command_words.specs.Words.{given_in}
+use Rattle.command_words.specs.declared.words.CommandName.{CommandName}
+use Rattle.command_words.specs.declared.words.CommandName.TheVariants as name
+use Rattle.sortition.specs.declared.asked.Asked.{Asked}
+use Rattle.sortition.specs.declared.asked.Asked.TheVariants as asks
+
+abbrev pub limits_from : ℕ → ℕ → ℕ → Option Limits
+limits_from bits pivots nodes =
+    if nat_le 1 bits && nat_le bits 127 && nat_le pivots 1000000000 && nat_le nodes 1000000000000
+    then Some (record { bits = bits; pivots = pivots; nodes = nodes }) else None
+
+-- the limits of a run
+abbrev pub limits_in : Given → Option Limits
+limits_in given =
+    option_and_then (λ bits.
+    option_and_then (λ pivots. option_and_then (limits_from bits pivots) (number_of (codes "nodes") given))
+    (number_of (codes "pivots") given))
+    (number_of (codes "bits") given)
+
+abbrev pub workers_from : ℕ → Option ℕ
+workers_from number = if nat_le 1 number && nat_le number 64 then Some number else None
+
+-- by how many workers a run prices
+abbrev pub workers_in : Given → Option ℕ
+workers_in given = option_and_then workers_from (number_of (codes "workers") given)
+
+abbrev pub volunteers_from : ℕ → Option ℕ
+volunteers_from number = if nat_le 1 number && nat_le number 400 then Some number else None
+
+-- how many volunteers a made pool has
+abbrev pub volunteers_in : Given → Option ℕ
+volunteers_in given = option_and_then volunteers_from (number_of (codes "volunteers") given)
+
+abbrev pub make_asked : Given → Option Asked
+make_asked given =
+    option_and_then (λ seed.
+    option_and_then (λ volunteers.
+    option_and_then (λ limits.
+    option_map (λ workers. asks.Make (record { seed = seed; volunteers = volunteers; limits = limits; workers = workers }))
+    (workers_in given)) (limits_in given)) (volunteers_in given)) (number_of (codes "seed") given)
+
+abbrev pub command_asked : CommandName → Given → Option Asked
+command_asked name.Prove given =
+    option_and_then (λ pivots. option_map (λ nodes. asks.Prove (record { pivots = pivots; nodes = nodes })) (number_of (codes "nodes") given))
+    (number_of (codes "pivots") given)
+command_asked name.Verify given = Some (asks.Verify (record {}))
+command_asked name.Bundle given = Some (asks.Bundle (record {}))
+command_asked name.Seal given = Some (asks.Seal (record {}))
+command_asked name.Draw given =
+    option_and_then (λ seal. option_map (asks.Draw seal) (text_of (codes "digits") given)) (text_of (codes "seal") given)
+command_asked name.Panel given = option_map (λ nodes. asks.Panel (record { nodes = nodes })) (number_of (codes "nodes") given)
+command_asked name.Lottery given =
+    option_and_then (λ limits. option_map (λ workers. asks.Lottery (record { limits = limits; workers = workers })) (workers_in given)) (limits_in given)
+command_asked name.Check given = option_map (λ nodes. asks.Check (record { nodes = nodes })) (number_of (codes "nodes") given)
+command_asked name.Make given = make_asked given
+
+-- the command of the values that the words give
+abbrev pub asked_by : Given → Option Asked
+asked_by given = command_asked given.command given
+
+-- what the words ask for, where they are of the forms; else nothing
+abbrev pub asked : List (List ℕ) → Option Asked
+asked words = option_and_then asked_by (given_in words)

@@ -1,0 +1,295 @@
+-- What the program promises, in one page: each field of `Headline` is a sentence, and `headline` (src/headline.rt) shows that every call of
+-- `office` keeps them. To believe them a reader needs, beside this page, what a pool, a quota panel, a lottery and a certificate are
+-- (define_pools: Pool, Lottery, Certificate), how they are spelled (PoolText, BundleText, ProofText), and what the words ask for (Asked).
+use Rattle.std.specs.Prelude.{◌≡◌, ◌≢◌, ◌↔◌, ◌⊎◌, ◌≤◌, ◌==◌, ℕ, nat_lt, Bool, IsTrue, IsFalse, List, [], ◌∷◌, length, Option, Some, None, Err}
+use Rattle.std.specs.List.{list_all, list_any}
+use Rattle.define_additions.specs.ProofVerdict.{OfLottery, OfNoPanel, Proof, verdict}
+use Rattle.define_additions.specs.TreeLines.{TreeLine}
+use Rattle.define_bundles.specs.BundleText.{Bundle, IsBundle, bundle_spelling, bundle_text}
+use Rattle.define_additions.specs.Refusals.{RefusalMeans}
+use Rattle.define_checks.specs.Reasons.{Refusal, Refused, Valid}
+use Rattle.define_lines.specs.Lines.{Fault}
+use Rattle.define_made_pools.specs.MadePools.{made_pool}
+use Rattle.define_made_pools.specs.Summary.{Sizes, summary_text}
+use Rattle.define_pools.specs.Certificate.{Answer, Certifies}
+use Rattle.define_pools.specs.Lottery.{IsLottery, Lottery, TotalAgrees, is_above}
+use Rattle.define_pools.specs.Pool.{IsPool, Pool, is_of_size, keeps_households, keeps_standings, meets_quotas, panels}
+use Rattle.define_proof_texts.specs.ProofText.{IsProof, proof_spelling}
+use Rattle.proof_limits.specs.Budgets.{Left, SpendsOn, unspent}
+use Rattle.define_runs.specs.Run.{Limits}
+use Rattle.define_pool_texts.specs.PoolText.{spelling}
+use Rattle.command_bundles.specs.declared.check.Check.{Check}
+use Rattle.command_proofs.specs.declared.verify.Verify.{Verify}
+use Rattle.command_shell.specs.Answers.{Saying}
+use Rattle.command_shell.specs.Formats.{bundle_format, pool_format, pool_or_bundle_format, proof_format}
+use Rattle.command_shell.specs.Lines.{input_limit}
+use Rattle.command_shell.specs.Outcomes.{IsTold, IsTooLong}
+use Rattle.command_shell.specs.Subjects.{Format}
+use Rattle.command_shell.specs.Told.{Bytes, Told, Gains, GainsLine, HasFaulted, HeldAll, HeldMore}
+use Rattle.command_meanings.specs.Check.{SpendsStage, refused_line, valid_line}
+use Rattle.command_meanings.specs.Draw.{PrintsDrawn, RefusesDraw}
+use Rattle.command_meanings.specs.ItsBundle.{no_lottery_line}
+use Rattle.command_meanings.specs.Lottery.{PassesWidth, SpendsBudget}
+use Rattle.command_meanings.specs.Panel.{PrintsFirstPanel, SpendsVisits}
+use Rattle.command_meanings.specs.Prove.{PassesProofWidth, SpendsProofBudget}
+use Rattle.command_meanings.specs.Seal.{seal_line}
+use Rattle.command_meanings.specs.Verify.{shown_line}
+use Rattle.sortition.specs.Asked.{asked}
+use Rattle.sortition.specs.Office.{OfficeIsRight}
+use Rattle.sortition.specs.declared.asked.Asked.{Asked}
+use Rattle.sortition.specs.declared.asked.Asked.TheVariants as asks
+
+-- ---- what is promised of a lottery over the quota panels of a pool
+
+pub record IsLeximin (pool : Pool) (lottery : Lottery) : Type 0 where
+  -- it is a lottery over quota panels: different ones, each with a weight. What that says is told part by part
+  pub is_lottery : IsLottery pool lottery
+  -- it has a panel, and each has the stated size: so many different volunteers of the pool
+  pub some : IsTrue (nat_lt 0 (length lottery.rows))
+  pub sized : IsTrue (list_all (λ row. is_of_size pool row.panel) lottery.rows)
+  -- each panel meets every quota
+  pub quotas : IsTrue (list_all (λ row. meets_quotas pool.categories pool.volunteers row.panel) lottery.rows)
+  -- none has two members of one household
+  pub households : IsTrue (list_all (λ row. keeps_households pool.volunteers row.panel) lottery.rows)
+  -- each holds everyone who is seated and no one who is gone
+  pub standings : IsTrue (list_all (λ row. keeps_standings pool.volunteers row.panel) lottery.rows)
+  -- the fractions sum to one: the weights are at least 1 and sum to the total
+  pub fractions : TotalAgrees lottery
+  -- no lottery over quota panels has a sorted list of chances that is lexicographically greater
+  pub greatest : (other : Lottery) → IsLottery pool other → IsFalse (is_above pool other lottery)
+  -- so there is a quota panel
+  pub exists : panels pool ≢ []
+
+-- ---- what the source held, all of which was read. What a source doesn't tell, as a terminal, a file or a pipe, no contract can say: of such a source
+-- these hold of every text
+
+pub record HeldPool (source : Bytes) (pool : Pool) : Type 0 where
+  pub is_pool : IsPool pool
+  pub held : HeldAll source (spelling pool)
+
+pub record HeldBundle (source : Bytes) (bundle : Bundle) : Type 0 where
+  pub is_bundle : IsBundle bundle
+  pub held : HeldAll source (bundle_spelling bundle)
+
+pub record HeldProof (source : Bytes) (proof : Proof) : Type 0 where
+  pub is_proof : IsProof proof
+  pub held : HeldAll source (proof_spelling proof)
+
+-- a pool, or a bundle over it
+abbrev pub HeldEither : Bytes → Pool → Type 0
+HeldEither source pool = HeldPool source pool ⊎ ((answer : Answer) × HeldBundle source (record { pool = pool; answer = answer }))
+
+-- ---- a lottery is answered
+
+-- `lottery`: the bundle of the pool that the source held, by the stated run
+pub record TellsBundle (told : Told) : Type 0 where
+  pub pool : Pool
+  pub held : HeldPool told.source pool
+  pub answer : Answer
+  pub out : Gains told.out (bundle_text pool answer)
+  pub certified : Certifies pool answer.lottery answer.stages
+  pub leximin : IsLeximin pool answer.lottery
+
+-- `prove`: a valid proof of a lottery over the pool that the source held, or of the lottery of the bundle that it held
+pub record TellsProof (told : Told) : Type 0 where
+  pub pool : Pool
+  pub answer : Answer
+  pub held : HeldPool told.source pool ⊎ HeldBundle told.source (record { pool = pool; answer = answer })
+  pub trees : List (List TreeLine)
+  pub out : Gains told.out (proof_spelling (OfLottery pool answer trees))
+  pub valid : verdict (OfLottery pool answer trees) ≡ Valid
+  pub leximin : IsLeximin pool answer.lottery
+
+-- `make`: the summary of a lottery over the pool that the number makes
+pub record TellsSummary (pool : Pool) (told : Told) : Type 0 where
+  pub answer : Answer
+  pub sizes : Sizes
+  pub out : Gains told.out (summary_text pool answer sizes)
+  pub leximin : IsLeximin pool answer.lottery
+
+-- ---- what status 0 says of each command
+
+-- `check`: the certificate of the bundle that the source held holds, so its lottery is leximin greatest, whoever wrote it
+pub record TellsValid (told : Told) : Type 0 where
+  pub bundle : Bundle
+  pub held : HeldBundle told.source bundle
+  pub certified : Certifies bundle.pool bundle.answer.lottery bundle.answer.stages
+  pub leximin : IsLeximin bundle.pool bundle.answer.lottery
+  pub out : Gains told.out valid_line
+
+-- `verify`: the proof that the source held is valid, so its lottery is leximin greatest, or its pool has no quota panel, whoever wrote it
+abbrev pub IsShown : Proof → Type 0
+IsShown (OfLottery pool answer trees) = IsLeximin pool answer.lottery
+IsShown (OfNoPanel pool lines) = panels pool ≡ []
+
+pub record TellsShown (told : Told) : Type 0 where
+  pub proof : Proof
+  pub held : HeldProof told.source proof
+  pub valid : verdict proof ≡ Valid
+  pub shown : IsShown proof
+  pub out : Gains told.out (shown_line proof)
+
+-- `draw`: what the dice draw from the bundle that the source held, whose seal was given
+pub record TellsDrawn (seal digits : List ℕ) (told : Told) : Type 0 where
+  pub bundle : Bundle
+  pub held : HeldBundle told.source bundle
+  pub text : List ℕ
+  pub out : Gains told.out text
+  pub drawn : PrintsDrawn seal digits bundle text
+
+-- `seal`: the seal of the bundle that the source held
+pub record TellsSeal (told : Told) : Type 0 where
+  pub bundle : Bundle
+  pub held : HeldBundle told.source bundle
+  pub out : Gains told.out (seal_line bundle)
+
+-- `bundle`: the bundle of the proof that the source held, as it stands there
+pub record TellsItsBundle (told : Told) : Type 0 where
+  pub pool : Pool
+  pub answer : Answer
+  pub trees : List (List TreeLine)
+  pub held : HeldProof told.source (OfLottery pool answer trees)
+  pub out : Gains told.out (bundle_spelling (record { pool = pool; answer = answer }))
+
+-- `panel`: the first quota panel of the pool that the source held
+pub record TellsPanel (nodes : ℕ) (told : Told) : Type 0 where
+  pub pool : Pool
+  pub held : HeldPool told.source pool
+  pub text : List ℕ
+  pub out : Gains told.out text
+  pub panel : PrintsFirstPanel nodes pool text
+
+abbrev pub TellsDone : Option Asked → Told → Type 0
+TellsDone None told = ⊥
+TellsDone (Some (asks.Prove it)) told = TellsProof told
+TellsDone (Some (asks.Verify it)) told = TellsShown told
+TellsDone (Some (asks.Bundle it)) told = TellsItsBundle told
+TellsDone (Some (asks.Seal it)) told = TellsSeal told
+TellsDone (Some (asks.Draw seal digits)) told = TellsDrawn seal digits told
+TellsDone (Some (asks.Panel it)) told = TellsPanel it.nodes told
+TellsDone (Some (asks.Lottery it)) told = TellsBundle told
+TellsDone (Some (asks.Check it)) told = TellsValid told
+TellsDone (Some (asks.Make it)) told = TellsSummary (made_pool it.seed it.volunteers) told
+
+-- ---- no panel is answered
+
+-- the pool has no quota panel
+abbrev pub TellsNone : Option Asked → Told → Type 0
+TellsNone (Some (asks.Lottery it)) told = (pool : Pool) × HeldPool told.source pool × (panels pool ≡ [])
+TellsNone (Some (asks.Panel it)) told = (pool : Pool) × HeldPool told.source pool × (panels pool ≡ [])
+TellsNone (Some (asks.Prove it)) told = (pool : Pool) × HeldEither told.source pool × (panels pool ≡ [])
+TellsNone (Some (asks.Make it)) told = panels (made_pool it.seed it.volunteers) ≡ []
+-- no other command answers so
+TellsNone other told = ⊥
+
+-- ---- every other answer is a refusal whose cause holds
+
+-- the source held bytes that are no text of the format, or more bytes than an input may have
+abbrev pub HeldNoText : {Value : Type 0} → Format Value → Told → Type 0
+HeldNoText format told =
+    ((bytes : List ℕ) × (fault : Fault) × HeldAll told.source bytes × (format.read bytes ≡ Err fault)) ⊎ HeldMore told.source input_limit
+
+-- 3: a text outside its form
+abbrev pub TextIsWrong : Option Asked → Told → Type 0
+TextIsWrong (Some (asks.Prove it)) told = HeldNoText pool_or_bundle_format told
+TextIsWrong (Some (asks.Verify it)) told = HeldNoText proof_format told
+TextIsWrong (Some (asks.Bundle it)) told = HeldNoText proof_format told
+TextIsWrong (Some (asks.Seal it)) told = HeldNoText bundle_format told
+-- or a bundle whose weights don't sum to its total
+TextIsWrong (Some (asks.Draw seal digits)) told =
+    HeldNoText bundle_format told ⊎ ((bundle : Bundle) × HeldBundle told.source bundle × (TotalAgrees bundle.answer.lottery → ⊥))
+TextIsWrong (Some (asks.Panel it)) told = HeldNoText pool_format told
+TextIsWrong (Some (asks.Lottery it)) told = HeldNoText pool_format told
+TextIsWrong (Some (asks.Check it)) told = HeldNoText bundle_format told
+TextIsWrong (Some (asks.Make it)) told = ⊥
+TextIsWrong None told = ⊥
+
+-- 4: the operation, or the total, that passed its limit, as errs tells it
+abbrev pub NumberPassed : Option Asked → Told → Type 0
+NumberPassed (Some (asks.Lottery it)) told = (pool : Pool) × HeldPool told.source pool × (line : List ℕ) × GainsLine told.errs line × PassesWidth it.limits pool line
+NumberPassed (Some (asks.Make it)) told = (line : List ℕ) × GainsLine told.errs line × PassesWidth it.limits (made_pool it.seed it.volunteers) line
+NumberPassed (Some (asks.Prove it)) told = (line : List ℕ) × GainsLine told.errs line × PassesProofWidth line
+NumberPassed other told = ⊥
+
+-- 5: the budget that was spent, as errs tells it
+abbrev pub BudgetSpent : Option Asked → Told → Type 0
+BudgetSpent (Some (asks.Panel it)) told = (pool : Pool) × HeldPool told.source pool × (line : List ℕ) × GainsLine told.errs line × SpendsVisits it.nodes pool line
+BudgetSpent (Some (asks.Lottery it)) told = (pool : Pool) × HeldPool told.source pool × (line : List ℕ) × GainsLine told.errs line × SpendsBudget it.limits pool line
+BudgetSpent (Some (asks.Make it)) told = (line : List ℕ) × GainsLine told.errs line × SpendsBudget it.limits (made_pool it.seed it.volunteers) line
+BudgetSpent (Some (asks.Check it)) told = (bundle : Bundle) × HeldBundle told.source bundle × (line : List ℕ) × GainsLine told.errs line × SpendsStage it.nodes bundle line
+BudgetSpent (Some (asks.Prove it)) told = (left : Left) × SpendsOn (unspent it.pivots it.nodes) left × (line : List ℕ) × GainsLine told.errs line × SpendsProofBudget left line
+BudgetSpent other told = ⊥
+
+-- 6: the rule that was broken, as errs tells it
+abbrev pub RuleBroken : Option Asked → Told → Type 0
+RuleBroken (Some (asks.Draw seal digits)) told = (bundle : Bundle) × HeldBundle told.source bundle × (line : List ℕ) × GainsLine told.errs line × RefusesDraw seal digits bundle line
+RuleBroken (Some (asks.Bundle it)) told = (pool : Pool) × (lines : List TreeLine) × HeldProof told.source (OfNoPanel pool lines) × GainsLine told.errs no_lottery_line
+RuleBroken other told = ⊥
+
+-- 11: the certificate, or the proof, that doesn't hold. Of a bundle that `prove` was given the certificate doesn't hold, unless the reason is one of
+-- the trees that it made
+abbrev pub CheckFailed : Option Asked → Told → Type 0
+CheckFailed (Some (asks.Check it)) told =
+    (bundle : Bundle) × HeldBundle told.source bundle × (Certifies bundle.pool bundle.answer.lottery bundle.answer.stages → ⊥)
+CheckFailed (Some (asks.Verify it)) told = (proof : Proof) × HeldProof told.source proof × (verdict proof ≢ Valid)
+CheckFailed (Some (asks.Prove it)) told =
+    (bundle : Bundle) × HeldBundle told.source bundle × (trees : List (List TreeLine)) × (refusal : Refusal) × (verdict (OfLottery bundle.pool bundle.answer trees) ≡ Refused refusal) ×
+    RefusalMeans (OfLottery bundle.pool bundle.answer trees) refusal × Gains told.out (refused_line refusal)
+CheckFailed other told = ⊥
+
+-- ---- a checker
+
+-- the source told a text, of which all was to be had
+pub record ToldText (source : Bytes) (text : List ℕ) : Type 0 where
+  pub told : source.before ≡ Some text
+  pub within : length text ≤ input_limit
+  pub no_fault : HasFaulted source → ⊥
+
+-- ---- the promises
+
+-- the statuses of the program without a store
+abbrev pub is_status : ℕ → Bool
+is_status number = list_any (λ status. number == status) (0 ∷ 1 ∷ 2 ∷ 3 ∷ 4 ∷ 5 ∷ 6 ∷ 7 ∷ 8 ∷ 11 ∷ 12 ∷ [])
+
+-- what every call of the program with these words keeps
+pub record Headline (words : List (List ℕ)) (told : Told) : Type 0 where
+  -- where a lottery is answered, it is leximin greatest over the quota panels of its pool; and what else status 0 says
+  pub done : told.status ≡ 0 → TellsDone (asked words) told
+  -- 'no panel' is answered only where none exists
+  pub no_panel : told.status ≡ 1 → TellsNone (asked words) told
+  -- every other answer is a refusal whose cause holds: words outside their form,
+  pub usage : told.status ≡ 2 → asked words ≡ None
+  -- a text outside its form,
+  pub text : told.status ≡ 3 → TextIsWrong (asked words) told
+  -- a number that passed its limit,
+  pub number : told.status ≡ 4 → NumberPassed (asked words) told
+  -- a budget that was spent,
+  pub budget : told.status ≡ 5 → BudgetSpent (asked words) told
+  -- a broken rule,
+  pub rule : told.status ≡ 6 → RuleBroken (asked words) told
+  -- a fault that the source or out counted,
+  pub read_fault : told.status ≡ 7 → HasFaulted told.source
+  pub write_fault : told.status ≡ 8 → HasFaulted told.out
+  -- or a certificate or a proof that doesn't hold;
+  pub check : told.status ≡ 11 → CheckFailed (asked words) told
+  -- and want of memory, 12, needs no cause: there is no other status. The run of `prove` is no definition, so which of its refusals comes is not said
+  pub statuses : IsTrue (is_status told.status)
+  -- memory and budget aside, `check` says valid exactly where the certificate holds,
+  pub certificate : (it : Check) → asked words ≡ Some (asks.Check it) → (bundle : Bundle) → IsBundle bundle → ToldText told.source (bundle_spelling bundle) →
+      told.status ≢ 5 → told.status ≢ 8 → told.status ≢ 12 → told.status ≡ 0 ↔ Certifies bundle.pool bundle.answer.lottery bundle.answer.stages
+  -- and `verify` exactly where the proof does
+  pub proof : (it : Verify) → asked words ≡ Some (asks.Verify it) → (proof : Proof) → IsProof proof → ToldText told.source (proof_spelling proof) →
+      told.status ≢ 8 → told.status ≢ 12 → told.status ≡ 0 ↔ verdict proof ≡ Valid
+
+-- two calls told the same
+abbrev pub TellTheSame : Told → Told → Type 0
+TellTheSame first second = ((answer : Saying) × IsTold answer first × IsTold answer second) ⊎ (IsTooLong first × IsTooLong second)
+
+-- every number of workers gives the same bytes: two calls of `lottery` with equal limits about one text, faults and memory aside
+abbrev pub WorkersChangeNothing : Type 0
+WorkersChangeNothing =
+    (words other_words : List (List ℕ)) (first second : Told) → OfficeIsRight words first → OfficeIsRight other_words second →
+    (limits : Limits) (workers others : ℕ) → asked words ≡ Some (asks.Lottery (record { limits = limits; workers = workers })) →
+    asked other_words ≡ Some (asks.Lottery (record { limits = limits; workers = others })) →
+    (text : List ℕ) → first.source.before ≡ Some text → second.source.before ≡ Some text → (HasFaulted first.source → ⊥) → (HasFaulted second.source → ⊥) →
+    first.status ≢ 8 → first.status ≢ 12 → second.status ≢ 8 → second.status ≢ 12 → TellTheSame first second

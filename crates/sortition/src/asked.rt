@@ -1,0 +1,152 @@
+//! The commands of the program with their arguments, as the words of a call give them. `read_asked` is the only call that others use.
+
+ghost use Rattle.std.specs.Prelude.{◌≡◌, map, string_bytes};
+ghost use Rattle.command_words.specs.Words.{Says};
+ghost use Rattle.sortition.specs.Asked.{
+  asked,
+  asked_by as words_of_asked,
+  limits_from as words_of_limits,
+  limits_in,
+  make_asked as words_of_make,
+  volunteers_in,
+  workers_from as words_of_workers,
+  workers_in,
+};
+
+use command_bundles::{Check, Seal};
+use command_pools::{FirstPanel, Lottery, Make, Volunteers};
+use command_proofs::{ItsBundle, Prove, Verify};
+use command_words::{CommandName, Given, Word, WordsStop, read_words};
+use define_runs::{Limits, Workers};
+use std::alloc::Global;
+
+/// The text for a number that `clap` took out of its range: no words lead there.
+const OUT_OF_RANGE: &str = "error: a number is out of its range\n";
+
+/// What the words of a call ask for. Texts are lent from the words.
+#[derive(Debug, Drop)]
+pub(crate) enum Asked<'a> {
+    /// The lottery of a pool or of a bundle, with a proof.
+    Prove(Prove),
+    /// The verdict on a proof.
+    Verify(Verify),
+    /// The bundle of a proof.
+    Bundle(ItsBundle),
+    /// The seal of a bundle.
+    Seal(Seal),
+    /// The panel that dice draw from a bundle.
+    Draw {
+        /// The bundle's seal, as it was published.
+        seal: Word<'a>,
+        /// The digits of dice.
+        digits: Word<'a>,
+    },
+    /// The first quota panel of a pool.
+    Panel(FirstPanel),
+    /// The lottery of a pool, by the stated run.
+    Lottery(Lottery),
+    /// The verdict on the certificate of a bundle.
+    Check(Check),
+    /// The summary of the run over a made pool.
+    Make(Make),
+}
+
+/// The command that the words ask for. They don't include the program's name.
+pub(crate) fn read_asked<'a>(alloc: Global, words: &'a [String]) -> Result<Asked<'a>, WordsStop>
+    ensures { Says (asked (map string_bytes words.entry.now)) result }
+{
+    let given = read_words(alloc, words)?;
+    match asked_by(&given) {
+        Some(asked) => Ok(asked),
+        None => match String::from_str(alloc, OUT_OF_RANGE) {
+            Ok(text) => Err(WordsStop::Usage(text)),
+            Err(_) => Err(WordsStop::OutOfMemory),
+        },
+    }
+}
+
+/// The command with the values that the words give.
+fn asked_by<'a>(given: &Given<'a>) -> Option<Asked<'a>>
+    ensures { result ≡ words_of_asked given.now }
+{
+    match given.command() {
+        CommandName::Prove => {
+            let pivots = given.number("pivots")?;
+            let nodes = given.number("nodes")?;
+            Some(Asked::Prove(Prove { pivots, nodes }))
+        }
+        CommandName::Verify => Some(Asked::Verify(Verify)),
+        CommandName::Bundle => Some(Asked::Bundle(ItsBundle)),
+        CommandName::Seal => Some(Asked::Seal(Seal)),
+        CommandName::Draw => {
+            let seal = given.text("seal")?;
+            let digits = given.text("digits")?;
+            Some(Asked::Draw { seal, digits })
+        }
+        CommandName::Panel => {
+            let nodes = given.number("nodes")?;
+            Some(Asked::Panel(FirstPanel { nodes }))
+        }
+        CommandName::Lottery => {
+            let limits = limits_of(given)?;
+            let workers = workers_of(given)?;
+            Some(Asked::Lottery(Lottery { limits, workers }))
+        }
+        CommandName::Check => {
+            let nodes = given.number("nodes")?;
+            Some(Asked::Check(Check { nodes }))
+        }
+        CommandName::Make => make_of(given),
+    }
+}
+
+fn make_of<'a>(given: &Given<'a>) -> Option<Asked<'a>>
+    ensures { result ≡ words_of_make given.now }
+{
+    let seed = given.number("seed")?;
+    let volunteers = volunteers_of(given)?;
+    let limits = limits_of(given)?;
+    let workers = workers_of(given)?;
+    Some(Asked::Make(Make {
+        seed,
+        volunteers,
+        limits,
+        workers,
+    }))
+}
+
+/// How many volunteers a made pool has.
+fn volunteers_of(given: &Given<'_>) -> Option<Volunteers>
+    ensures { result ≡ volunteers_in given.now }
+{
+    Volunteers::new(given.number("volunteers")?)
+}
+
+/// The limits of a run.
+fn limits_of(given: &Given<'_>) -> Option<Limits>
+    ensures { result ≡ limits_in given.now }
+{
+    let bits = given.number("bits")?;
+    let pivots = given.number("pivots")?;
+    let nodes = given.number("nodes")?;
+    limits_from(bits, pivots, nodes)
+}
+
+fn limits_from(bits: u64, pivots: u64, nodes: u64) -> Option<Limits>
+    ensures { result ≡ words_of_limits bits pivots nodes }
+{
+    Limits::new(u32::try_from(bits).ok()?, pivots, nodes)
+}
+
+/// By how many workers a run prices.
+fn workers_of(given: &Given<'_>) -> Option<Workers>
+    ensures { result ≡ workers_in given.now }
+{
+    workers_from(given.number("workers")?)
+}
+
+fn workers_from(number: u64) -> Option<Workers>
+    ensures { result ≡ words_of_workers number }
+{
+    Workers::new(u32::try_from(number).ok()?)
+}

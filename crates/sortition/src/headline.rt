@@ -1,0 +1,16 @@
+//! The promises of the program, as laws over the contract of `office`: functions without a body, whose contracts are the laws.
+
+ghost use Rattle.std.specs.Prelude.{ℕ, List};
+ghost use Rattle.command_shell.specs.Told.{Told};
+ghost use Rattle.sortition.specs.Headline.{Headline, WorkersChangeNothing};
+ghost use Rattle.sortition.specs.Office.{OfficeIsRight};
+
+/// Every call that is right by the contract of `office` keeps what the program promises.
+pub fn headline()
+    ensures { (words : List (List ℕ)) (told : Told) → OfficeIsRight words told → Headline words told }
+{}
+
+/// Every number of workers gives the same bytes.
+pub fn workers_change_nothing()
+    ensures { WorkersChangeNothing }
+{}

@@ -1,8 +1,0 @@
-use Rattle.wave_definitions.proofs.Pieces.{piece_lengths, pieces_are}
-use Rattle.wave_definitions.proofs.pieces_are_fronts.Goals as goal
-
-pub returns-clause-fronts : goal.returns-clause-fronts
-returns-clause-fronts c = pieces_are
-
-pub returns-clause-depth : goal.returns-clause-depth
-returns-clause-depth c = piece_lengths
