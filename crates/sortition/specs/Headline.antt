@@ -1,6 +1,7 @@
--- What the program promises, in one page: each field of `Headline` is a sentence, and `headline` (src/headline.rt) shows that every call of
--- `office` keeps them. To believe them a reader needs, beside this page, what a pool, a quota panel, a lottery and a certificate are
--- (define_pools: Pool, Lottery, Certificate), how they are spelled (PoolText, BundleText, ProofText), and what the words ask for (Asked).
+-- What the program promises, in one file: each field of `Headline` is a sentence, and `headline` (src/headline.rt) shows that every call of
+-- `office` keeps them. To believe them a reader needs, beside this file, what a pool, a quota panel, a lottery and a certificate are
+-- (define_pools: Pool, Lottery, Certificate), when a proof holds (define_additions: ProofVerdict, Refusals), how they are spelled (PoolText,
+-- BundleText, ProofText), what the words ask for (Asked), what was read and printed (Told), and the limits and lines that the imports below name.
 use Rattle.std.specs.Prelude.{◌≡◌, ◌≢◌, ◌↔◌, ◌⊎◌, ◌≤◌, ◌==◌, ℕ, nat_lt, Bool, IsTrue, IsFalse, List, [], ◌∷◌, length, Option, Some, None, Err}
 use Rattle.std.specs.List.{list_all, list_any}
 use Rattle.define_additions.specs.ProofVerdict.{OfLottery, OfNoPanel, Proof, verdict}
@@ -226,8 +227,8 @@ RuleBroken (Some (asks.Draw seal digits)) told = (bundle : Bundle) × HeldBundle
 RuleBroken (Some (asks.Bundle it)) told = (pool : Pool) × (lines : List TreeLine) × HeldProof told.source (OfNoPanel pool lines) × GainsLine told.errs no_lottery_line
 RuleBroken other told = ⊥
 
--- 11: the certificate, or the proof, that doesn't hold. Of a bundle that `prove` was given the certificate doesn't hold, unless the reason is one of
--- the trees that it made
+-- 11: the certificate, or the proof, that doesn't hold. Of `prove`: with some trees the bundle makes a proof that is refused, and the printed reason is true
+-- of it; a reason that is one of these trees says nothing of the certificate
 abbrev pub CheckFailed : Option Asked → Told → Type 0
 CheckFailed (Some (asks.Check it)) told =
     (bundle : Bundle) × HeldBundle told.source bundle × (Certifies bundle.pool bundle.answer.lottery bundle.answer.stages → ⊥)
