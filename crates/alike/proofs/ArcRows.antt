@@ -1,4 +1,4 @@
--- The rows of a dial's arcs, one after the other, and what their weights are.
+-- The rows of a dial's arcs, one after the other, and their weights.
 use Rattle.std.proofs.Common.{◌≡◌, ℕ, zero, suc, ◌+◌, ◌-◌, ◌*◌, ◌/◌, ◌≤◌, ◌<◌, true, ltb, List, [], ◌∷◌, ◌++◌, map, take, length, get_or, slice_index_or, refl, sym, ap, ◌∙◌, arith, subst, append_assoc}
 use Rattle.std.specs.Int.{◌∣◌}
 use Rattle.std.specs.List.{list_all, AllByRecursion}
@@ -19,7 +19,7 @@ use Rattle.define_spreads.proofs.FewPanels.{length-arcs}
 
 -- ---- arcs by their number
 
--- an arc goes from its cut to the next one, or to the end
+-- arc `k` begins before the dial's end, and has a length above 0 up to the next cut or the end
 pub record IsArc (end : ℕ) (xs : List ℕ) (k : ℕ) : Type 0 where
   pub on : get_or xs k 0 < end
   pub rises : get_or xs k 0 < slice_index_or xs (k + 1) end
@@ -54,7 +54,7 @@ map-take_more f (x ∷ xs) (suc k) d l = ap (λ rest. f x ∷ rest) (map-take_mo
 
 -- ---- weights
 
--- the weight of one place
+-- the weight of one place times `places` is at most the total
 pub record PlaceWeight (num den places total : ℕ) : Type 0 where
   pub product : den * places ≤ total
   pub whole : places * (num * (total / (den * places))) ≤ total
@@ -95,7 +95,7 @@ arc_of all counts xs places k e f l =
 pub arc_weighs : (places at next place_weight limit : ℕ) → next ≤ places → places * place_weight ≤ limit → (next - at) * place_weight ≤ limit
 arc_weighs places at next place_weight limit l whole = let less : (next - at) * place_weight ≤ places * place_weight = mul-le-mul_right {m = next - at} {n = places} place_weight (omega arith) in omega arith
 
--- one row more
+-- the next row is pushed
 pub row_added : (all : Classes) (counts xs : List ℕ) (places k place_weight next : ℕ) (rows before : List LotteryRow) (row : LotteryRow) (panel : List ℕ) (weight : ℕ) → xs ≡ cuts all counts → places ≡ dial all counts → k < length xs →
     panel ≡ panel_at all counts (get_or xs k 0) → next ≡ slice_index_or xs (k + 1) places → weight ≡ (next - get_or xs k 0) * place_weight → row ≡ (let made : LotteryRow = record { panel = panel; weight = weight } in made) →
     rows ≡ before ++ map (arc_row all counts place_weight) (take k (arcs all counts)) → rows ++ row ∷ [] ≡ before ++ map (arc_row all counts place_weight) (take (k + 1) (arcs all counts))

@@ -8,7 +8,7 @@ use Rattle.frac128.specs.Divisors.{lcm_of, IsLeastCommonMultiple}
 use Rattle.frac128.proofs.DivisorLaws.{IsLeastCommonMultiple-lcm_of}
 use Rattle.define_spreads.proofs.CommonTotals.{lcm_of-positive}
 
--- a least common multiple is at least its second number, and at least its first
+-- both numbers are at most their least common multiple
 pub lcm_of-beyond : (x y : ℕ) → 0 < x → 0 < y → (x ≤ lcm_of x y) × (y ≤ lcm_of x y)
 unfolding IsLeastCommonMultiple
 lcm_of-beyond x y some more =
@@ -26,13 +26,13 @@ fold-beyond a (x ∷ xs) some each =
 pub fold-positive : (a : ℕ) (xs : List ℕ) → 0 < a → AllByRecursion (λ x. 0 < x) xs → 0 < fold lcm_of a xs
 fold-positive a xs some each = let beyond = fold-beyond a xs some each in omega arith
 
--- one size more
+-- the dial's length with the next size
 pub fold-next : (places : ℕ) (sizes : List ℕ) (k size : ℕ) → k < length sizes → size ≡ get_or sizes k size → fold lcm_of places (drop k sizes) ≡ fold lcm_of (lcm_of places size) (drop (suc k) sizes)
 fold-next places sizes k size within at =
     let cut : drop k sizes ≡ size ∷ drop (suc k) sizes = drop-cons sizes k size within ∙ ap (λ s. s ∷ drop (suc k) sizes) (sym at) in
     ap (fold lcm_of places) cut
 
--- where the length passes after a size, it passes in the end
+-- if the length passes the limit after some size, the length over all sizes does too
 pub passes_in_end : (places limit : ℕ) (sizes : List ℕ) (k size : ℕ) → k < length sizes → size ≡ get_or sizes k size → All (λ s. 0 < s) sizes → 0 < places → limit < lcm_of places size →
     limit < fold lcm_of places (drop k sizes)
 passes_in_end places limit sizes k size within at each some high =
@@ -46,14 +46,14 @@ passes_in_end places limit sizes k size within at each some high =
     each_drop (suc k) [] h = tt
     each_drop (suc k) (x ∷ xs) h = each_drop k xs h.1
 
--- a product whose factor is above a limit's quotient passes the limit
+-- if `den` is above `limit / places`, `den * places` is above the limit
 pub product_passes : (den places limit : ℕ) → 0 < places → limit / places < den → limit < den * places
 product_passes den places limit some high =
     let beyond = lt-mul-div-succ limit some in
     let more : places * (limit / places + 1) ≤ places * den = mul-le-mul_left {m = limit / places + 1} {n = den} places (omega arith) in
     omega (arith, beyond, more)
 
--- so does the least common multiple with a product whose factor passes, or whose product does
+-- if `places` or `den * places` is above the limit, so is the least common multiple of a total with the product
 pub next_passes : (total den places limit : ℕ) → 0 < total → 0 < den → 0 < places → (limit < places) ⊎ (limit < den * places) → lcm_of total (den * places) ≤ limit → ⊥
 next_passes total den places limit some over has high low =
     let beyond = (lcm_of-beyond total (den * places) some (mul-pos over has)).1 in

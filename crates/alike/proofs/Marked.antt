@@ -1,4 +1,4 @@
--- Marks at volunteers' numbers, and the numbers that are marked.
+-- Marks at volunteers' numbers, and the list of the numbers that are marked.
 use Rattle.std.proofs.Common.{◌≡◌, ℕ, ◌+◌, ◌-◌, ◌≤◌, ◌<◌, Bool, false, ◌||◌, List, ◌++◌, take, drop, length, slice_index_or, sym, ap, ◌∙◌, ⊎_elim, arith, min}
 use Rattle.std.proofs.lemmas.Bool.{cases_lt}
 use Rattle.std.proofs.lemmas.List.{take-append-le, take_all, append-nil}
@@ -13,7 +13,7 @@ use Rattle.define_spreads.proofs.Cuts.{includes-append}
 
 -- ---- windows in two pieces
 
--- the first so many of two lists, one after the other
+-- the first `c` of two lists, one after the other
 take-both : (c : ℕ) (xs ys : List ℕ) → take c (xs ++ ys) ≡ take (min c (length xs)) xs ++ take (min (length ys) (c - min c (length xs))) ys
 take-both c xs ys = ⊎_elim beyond within (cases_lt (length xs) c)
   where
@@ -36,7 +36,7 @@ take-both c xs ys = ⊎_elim beyond within (cases_lt (length xs) c)
         ∙ ap (λ zs. zs ++ take (c - length xs) ys) (sym (take_all (length xs) xs (omega arith)))
         ∙ ap (λ zs. take (length xs) xs ++ zs) (sym (cut (c - length xs) ys)))
 
--- marked in two pieces: a window
+-- marking a window in two pieces, up to the end of the members and from their beginning
 pub window_marked : (before mid after : List Bool) (start count : ℕ) (members first second : List ℕ) → first ≡ take (min count (length (drop start members))) (drop start members) →
     second ≡ take (min (length (take start members)) (count - min count (length (drop start members)))) (take start members) →
     AreMarked before mid (includes first) → AreMarked mid after (includes second) → AreMarked before after (includes (turned start count members))

@@ -1,4 +1,4 @@
--- Rising lists that hold the same numbers are the same, so sorting and dropping what repeats gives a dial's cuts.
+-- Two rising lists with the same numbers are equal. So sorting the marks and dropping repeated ones gives a dial's cuts.
 use Rattle.std.proofs.Common.{◌≡◌, ℕ, zero, suc, ◌≤◌, ◌<◌, Bool, true, false, ◌||◌, eqb, ltb, List, [], ◌∷◌, refl, sym, ap, ◌∙◌, ⊎_elim, arith}
 use Rattle.std.specs.Ordering.{nat_cmp}
 use Rattle.std.specs.List.{dedup, list_all, Contains}
@@ -13,7 +13,7 @@ use Rattle.define_pools.proofs.Increasing.{is_increasing-from_neighbours}
 use Rattle.define_spreads.specs.Spreading.{once_each}
 use Rattle.define_spreads.proofs.Cuts.{once_increases, includes-once_rising}
 
--- a number below all of a list is not in it
+-- a number below all numbers of a list is not in the list
 none_above : (x z : ℕ) (xs : List ℕ) → list_all (λ y. ltb x y) xs ≡ true → z ≤ x → includes xs z ≡ false
 none_above x z [] h l = refl
 none_above x z (y ∷ xs) h l =
@@ -66,14 +66,14 @@ included [] z (k, l, e) = absurd (omega arith)
 included (x ∷ xs) z (zero, l, e) = let s : eqb x z ≡ true = eq-eqb x z e in rw s refl
 included (x ∷ xs) z (suc k, l, e) = let rest = included xs z (k, omega arith, e) in rw rest (or-true (eqb x z))
 
--- lists that contain the same numbers include the same
+-- if two lists contain the same numbers, the test `includes` is the same for both
 pub same_includes : (xs ys : List ℕ) → ((z : ℕ) → Contains xs z → Contains ys z) → ((z : ℕ) → Contains ys z → Contains xs z) → (z : ℕ) → includes xs z ≡ includes ys z
 same_includes xs ys f g z = ⊎_elim
     (λ (h : includes xs z ≡ true). h ∙ sym (included ys z (f z (contained xs z h))))
     (λ (h : includes xs z ≡ false). ⊎_elim (λ (k : includes ys z ≡ true). absurd (false≢true (sym h ∙ included xs z (g z (contained ys z k))))) (λ (k : includes ys z ≡ false). h ∙ sym k) (cases_Bool (includes ys z)))
     (cases_Bool (includes xs z))
 
--- numbers sorted, each kept once
+-- the marks sorted, and each kept once, are the cuts
 pub cuts_made : (marks sorted kept : List ℕ) → IsPermutation marks sorted → IsSorted nat_cmp sorted → kept ≡ dedup eqb sorted → kept ≡ once_each (rising marks)
 cuts_made marks sorted kept moved order e =
     e ∙ same_rising (dedup eqb sorted) (once_each (rising marks)) (is_increasing-from_neighbours (dedup eqb sorted) (IsStrictlyIncreasing-dedup sorted order)) (once_increases marks)

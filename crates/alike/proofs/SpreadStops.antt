@@ -14,7 +14,7 @@ unfolding spread
 stop_told all parts (TotalPasses place before den) (pass, e, f, g, h) = (pass, ap (lottery_of all parts) e, f, g, h)
 stop_told all parts OutOfMemory told = tt
 
--- the lottery that is made of a common total and its rows
+-- the lottery made of the common total and its rows is the lottery that was sought
 pub lottery_made : (all : Classes) (parts : List (List ℕ × Fraction)) (total z : ℕ) (rows : List LotteryRow) (lottery : Lottery) → total_from all 0 1 parts ≡ Ok total →
     rows ≡ flat_map (rows_of all total) parts → z ≡ total → lottery ≡ (let made : Lottery = record { total = z; rows = rows } in made) → spread all parts ≡ Ok lottery
 unfolding spread

@@ -25,7 +25,7 @@ some_size class count e =
 pub start_within : (size places at : ℕ) → at < places → at * size / places ≤ size
 start_within size places at below = div-le_of_le-mul places (omega (arith, mul-le-mul_right {m = at} {n = places} size (omega arith)))
 
--- where all members are taken, or none, any start gives the same
+-- if all members are taken, or none, every start gives the same members
 pub any_start : (class : Class) (count j i : ℕ) → is_partly_taken class count ≡ false → j ≤ length class.members → includes (turned 0 count class.members) i ≡ includes (turned j count class.members) i
 any_start class count j i e within = by (whole_or_none count (length class.members) e)
   where
@@ -63,7 +63,7 @@ size_divides all counts k class count l m e f taken =
     let d : Divided (length class.members) (dial all counts) = each_included (λ size. Divided size (dial all counts)) (partly_taken all.classes counts) (length class.members) (divided_dial all counts) there in
     subst (λ n. length class.members ∣ n) d.is (dvd-mul_left (length class.members) d.step)
 
--- one class more has marked whom it gives
+-- after marking the window of the next class, the marks are those of the first `k + 1` classes
 pub given_more : (len at : ℕ) (classes : List Class) (counts : List ℕ) (k n : ℕ) (class : Class) (count start : ℕ) (before mid after : List Bool) → k < length classes → k < length counts →
     class ≡ get_or classes k class → count ≡ get_or counts k count → n ≡ suc k →
     ((i : ℕ) → includes (turned start count class.members) i ≡ includes (turned (at * length class.members / len) count class.members) i) →
@@ -80,7 +80,7 @@ given_more len at classes counts k n class count start before mid after l m e f 
       ∙ ap (λ n. slice_index_or before i false || is_given len at (take n classes) (take n counts) i) (sym next);
 }
 
--- all classes have
+-- after the last class, the marks are those of all classes
 pub given_all : (len at : ℕ) (classes : List Class) (counts : List ℕ) (k : ℕ) (before after : List Bool) → (length classes ≤ k) ⊎ (length counts ≤ k) →
     AreMarked before after (is_given len at (take k classes) (take k counts)) → AreMarked before after (is_given len at classes counts)
 given_all len at classes counts k before after l marked = record {
@@ -90,7 +90,7 @@ given_all len at classes counts k before after l marked = record {
 
 -- ---- lists of truth values
 
--- a list told by its places
+-- a list of truth values is given by its value at each place
 pub told_by_places : (p : ℕ → Bool) (first : ℕ) (xs : List Bool) → ((i : ℕ) → i < length xs → get_or xs i false ≡ p (first + i)) → xs ≡ map p (range_with_len first (length xs))
 told_by_places p first [] h = refl
 told_by_places p first (x ∷ xs) h =
@@ -99,7 +99,7 @@ told_by_places p first (x ∷ xs) h =
     let rest = told_by_places p (first + 1) xs (λ i l. let e : first + suc i ≡ first + 1 + i = omega arith in h (suc i) (omega arith) ∙ ap p e) in
     ap (λ b. b ∷ xs) here ∙ ap (λ zs. p first ∷ zs) rest
 
--- what is marked where nothing was
+-- marks set in a list without marks are exactly the places that pass
 pub first_marks : (p : ℕ → Bool) (n : ℕ) (before after : List Bool) → before ≡ replicate n false → AreMarked before after p → after ≡ map p (range_with_len 0 n)
 first_marks p n before after e marked =
     let none : length before ≡ n = ap (λ (xs : List Bool). length xs) e ∙ length-replicate n false in

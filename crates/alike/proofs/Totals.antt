@@ -1,4 +1,4 @@
--- The total so far at each place of the parts, and what it is to each part in the end.
+-- The common total of the parts so far, and why the final total suits each part.
 use Rattle.std.proofs.Common.{◌≡◌, ℕ, suc, ◌+◌, ◌*◌, ◌/◌, ◌≤◌, ◌<◌, List, ◌∷◌, drop, length, Err, get_or, sum_by, refl, sym, ap, ◌∙◌, arith}
 use Rattle.std.specs.List.{All}
 use Rattle.std.proofs.lemmas.Bool.{le-leb, lt-leb}
@@ -14,7 +14,7 @@ use Rattle.alike.specs.Steps.{IsTotalOf}
 cut_here : (parts : List (List ℕ × Fraction)) (place : ℕ) (part : List ℕ × Fraction) → place < length parts → part ≡ get_or parts place part → drop place parts ≡ part ∷ drop (suc place) parts
 cut_here parts place part within at = drop-cons parts place part within ∙ ap (λ part. part ∷ drop (suc place) parts) (sym at)
 
--- the next total
+-- if the common total with the next part is within 10 ^ 38, it goes on from there
 pub next_so_far : (all : Classes) (parts : List (List ℕ × Fraction)) (place total next : ℕ) (part : List ℕ × Fraction) → place < length parts → part ≡ get_or parts place part →
     lcm_of total (part.1.den * dial all part.0) ≤ greatest_total → next ≡ lcm_of total (part.1.den * dial all part.0) →
     total_from all 0 1 parts ≡ total_from all place total (drop place parts) → total_from all 0 1 parts ≡ total_from all (place + 1) next (drop (place + 1) parts)
@@ -26,7 +26,7 @@ next_so_far all parts place total next part within at low e so_far =
     ∙ ap (λ n. total_from all (place + 1) (lcm_of total (part.1.den * dial all part.0)) (drop n parts)) more
     ∙ ap (λ n. total_from all (place + 1) n (drop (place + 1) parts)) (sym e)
 
--- or it passes here
+-- if it passes 10 ^ 38 at this part, that is the answer
 pub passes_here : (all : Classes) (parts : List (List ℕ × Fraction)) (place total : ℕ) (part : List ℕ × Fraction) → place < length parts → part ≡ get_or parts place part →
     greatest_total < lcm_of total (part.1.den * dial all part.0) → total_from all 0 1 parts ≡ total_from all place total (drop place parts) →
     total_from all 0 1 parts ≡ Err (record { place = place; total = total; den = part.1.den })
@@ -35,7 +35,7 @@ passes_here all parts place total part within at high so_far =
     let stop : total_from all place total (part ∷ drop (suc place) parts) ≡ Err (record { place = place; total = total; den = part.1.den }) = rw test refl in
     so_far ∙ ap (total_from all place total) (cut_here parts place part within at) ∙ stop
 
--- what the common total is to each part
+-- the common total of all parts suits each part
 pub total_of_each : (all : Classes) (parts : List (List ℕ × Fraction)) (total : ℕ) → AreParts all parts → IsCommonTotal all parts total → All (IsTotalOf all total) parts
 total_of_each all parts total are common k d inside = record {
   some = common.positive;

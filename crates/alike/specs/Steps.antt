@@ -1,4 +1,4 @@
--- What the steps of spreading know of a part, and what marking changes. For the helpers of spreading.
+-- What the helpers of spreading know of one part, and which marks they set.
 use Rattle.std.specs.Prelude.{◌≡◌, ℕ, ◌*◌, ◌/◌, ◌<◌, ◌≤◌, Bool, false, ◌||◌, List, length, slice_index_or}
 use Rattle.std.specs.Int.{◌∣◌}
 use Rattle.frac128.specs.Fractions.{Fraction}
@@ -6,8 +6,8 @@ use Rattle.define_pools.specs.Lottery.{LotteryRow}
 use Rattle.define_searches.specs.Classes.{Classes}
 use Rattle.define_spreads.specs.Spreading.{dial, greatest_total, panel_at}
 
--- a total of at most 10 ^ 38 that is a multiple of a part's denominator times its dial's length, and that holds the part's fraction of
--- it
+-- `total` suits the part: it is from 1 to 10 ^ 38, a multiple of the part's denominator times its dial's length, and at least the part's
+-- fraction of it
 pub record IsTotalOf (all : Classes) (total : ℕ) (part : List ℕ × Fraction) : Type 0 where
   pub some : 0 < total
   pub within : total ≤ greatest_total
@@ -15,11 +15,11 @@ pub record IsTotalOf (all : Classes) (total : ℕ) (part : List ℕ × Fraction)
   pub multiple : part.1.den * dial all part.0 ∣ total
   pub holds_part : part.1.num * (total / part.1.den) ≤ total
 
--- the row of an arc, given the weight of one place of the dial
+-- the row of the arc that begins at `at` and has length `arc`, if one place of the dial weighs `place_weight`
 abbrev pub arc_row : Classes → List ℕ → ℕ → ℕ × ℕ → LotteryRow
 arc_row all counts place_weight (at, arc) = record { panel = panel_at all counts at; weight = arc * place_weight }
 
--- the places that pass the test are marked too
+-- the list after marking: each place that passes the test is marked, and each that was marked still is
 pub record AreMarked (before after : List Bool) (passes : ℕ → Bool) : Type 0 where
   pub long : length after ≡ length before
   pub marked : (i : ℕ) → i < length before → slice_index_or after i false ≡ (slice_index_or before i false || passes i)

@@ -1,5 +1,5 @@
-//! The panel of an arc of a dial: each class gives the members of its window, which turns on by one member at each of its marks. A
-//! helper of spreading.
+//! The panel of an arc of a dial. Each class gives the members of its window, and the window moves on by one member at each of the class's
+//! marks. A helper of spreading.
 
 ghost use Rattle.std.specs.Prelude.{◌≡◌, ◌*◌, ◌/◌, ◌<◌, ◌≤◌, ℕ, false, filter, map, length, slice_index_or, All, IfOk, IsTrue};
 ghost use Rattle.std.specs.Int.{◌∣◌};
@@ -33,7 +33,7 @@ pub(crate) fn panel_at(
     }
 }
 
-// For each volunteer whether a class gives them on this arc.
+// Returns for each volunteer whether they are on the panel of the arc that begins at `at`.
 fn given(
     alloc: Global,
     classes: &Classes,
@@ -51,7 +51,7 @@ fn given(
     Ok(given)
 }
 
-// Marks those whom the classes give on this arc.
+// Marks the volunteers whom the classes give on the arc that begins at `at`.
 fn mark_given(given: &mut [bool], classes: &Classes, counts: &[usize], places: u128, at: u128)
     requires given { length given.old ≡ volunteer_count classes.now }
     requires parts { PartVolunteers classes.now }
@@ -65,7 +65,8 @@ fn mark_given(given: &mut [bool], classes: &Classes, counts: &[usize], places: u
     }
 }
 
-// At which member a class's window begins at this place of the dial. If all members are taken, or none, any start gives the same.
+// Returns the place in the class's members at which its window begins on the arc at `at`. If all members are taken, or none, it answers 0,
+// since every start gives the same members.
 fn window_start(class: &Class, count: usize, places: u128, at: u128) -> usize
     requires places { IsTrue (is_partly_taken class.now count) → length class.now.members ∣ places }
     requires at { at < places }
@@ -80,7 +81,8 @@ fn window_start(class: &Class, count: usize, places: u128, at: u128) -> usize
     }
 }
 
-// How many times a class's window has turned on at this place of the dial: each time after the same length.
+// Returns how often the window of a class of `size` members has moved on by one member when the dial is at `at`. It moves after each
+// `places / size` places.
 fn turns(size: usize, places: u128, at: u128) -> usize
     requires size { (0 < size) × (size ∣ places) }
     requires at { at < places }
@@ -90,7 +92,7 @@ fn turns(size: usize, places: u128, at: u128) -> usize
     (at / (places / size as u128)) as usize
 }
 
-// Marks `count` members from a start on, turning round at the end.
+// Marks `count` members from `start` on, and goes on at the first member after the last one.
 fn mark_window(given: &mut [bool], members: &[usize], start: usize, count: usize)
     requires start { start ≤ length members.now }
     requires members { All (λ i. i < length given.old) members.now }
@@ -102,7 +104,7 @@ fn mark_window(given: &mut [bool], members: &[usize], start: usize, count: usize
     mark(given, &before[..before.len().min(count - first)]);
 }
 
-// Marks these numbers.
+// Marks the numbers in `members`.
 fn mark(given: &mut [bool], members: &[usize])
     requires { All (λ i. i < length given.old) members.now }
     ensures { AreMarked given.old given.new (includes members.now) }
@@ -112,7 +114,7 @@ fn mark(given: &mut [bool], members: &[usize])
     }
 }
 
-// The numbers that are marked, rising.
+// Returns the numbers that are marked, in rising order.
 fn numbers(alloc: Global, given: &[bool]) -> Result<Vec<usize>, AllocError>
     ensures { IfOk result (λ numbers. numbers.items ≡ filter (λ i. slice_index_or given.now i false) (range_with_len 0 (length given.now))) }
 {

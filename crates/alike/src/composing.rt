@@ -9,8 +9,8 @@ use define_rows::Composition;
 use pool_model::Panel;
 use std::alloc::{AllocError, Global};
 
-/// Returns the first members of each class, as many as the composition takes of it. For a composition of these classes, that is a quota
-/// panel.
+/// Returns the panel of the first members of each class, as many as the composition takes of the class. For a composition of these classes it
+/// is a quota panel.
 pub fn first_panel(
     alloc: Global,
     classes: &Classes,
@@ -30,7 +30,7 @@ pub fn first_panel(
     }
 }
 
-/// For each of these volunteers whether they are taken.
+/// Returns the volunteers below `volunteers` who are taken, in rising order.
 fn first_members(
     alloc: Global,
     groups: &[Class],
@@ -44,7 +44,7 @@ fn first_members(
         .collect(alloc)
 }
 
-/// True if the volunteer is among the first members of a class, as many as are taken of it.
+/// True if the volunteer is among the members that `counts` takes of some class, which are its first ones.
 fn is_taken(groups: &[Class], counts: &[usize], volunteer: usize) -> bool
     ensures { result ≡ is_taken_of groups.now counts.now volunteer }
 {

@@ -1,5 +1,5 @@
-//! The dial of a composition: the sizes of the classes that are taken in part, how many places it has, and where it is cut. A helper of
-//! spreading.
+//! The dial of a composition: the sizes of the classes that are taken in part, the number of places of the dial, and where it is cut. A
+//! helper of spreading.
 
 ghost use Rattle.std.specs.Prelude.{◌≡◌, ◌<◌, ◌≤◌, ◌∷◌, ◌++◌, All, IfOk, OnOk, SomeIff};
 ghost use Rattle.std.specs.Int.{◌∣◌};
@@ -22,7 +22,7 @@ pub(crate) fn is_partly_taken(class: &Class, count: usize) -> bool
     0 < count && count < class.size()
 }
 
-/// The sizes of the classes that are taken in part.
+/// Returns the sizes of the classes that are taken in part.
 pub(crate) fn partly_taken(
     alloc: Global,
     groups: &[Class],
@@ -39,7 +39,7 @@ pub(crate) fn partly_taken(
     Ok(sizes)
 }
 
-/// How many places the dial of classes of these sizes has: their least common multiple, if that is at most 10^38.
+/// Returns the number of places of the dial for classes of these sizes: their least common multiple. `None` if that is above 10^38.
 pub(crate) fn places(sizes: &[usize]) -> Option<u128>
     requires { All (λ size. 0 < size) sizes.now }
     ensures { SomeIff result (fold lcm_of 1 sizes.now ≤ greatest_total) (fold lcm_of 1 sizes.now) }
@@ -51,7 +51,7 @@ pub(crate) fn places(sizes: &[usize]) -> Option<u128>
     Some(places)
 }
 
-/// The least common multiple, if it is at most 10^38.
+/// Returns the least common multiple of `x` and `y`, or `None` if it is above 10^38.
 pub(crate) fn common_multiple(x: u128, y: u128) -> Option<u128>
     requires x { (0 < x) × (x ≤ greatest_total) }
     requires y { (0 < y) × (y ≤ greatest_total) }
@@ -61,8 +61,8 @@ pub(crate) fn common_multiple(x: u128, y: u128) -> Option<u128>
     Some(multiple.unsigned_abs())
 }
 
-/// Where a dial is cut: at 0 and at the marks of each class that is taken in part, each once, along the dial. A class's marks divide
-/// the dial into as many equal parts as the class has members.
+/// Returns where a dial is cut: at 0 and at the marks of each class that is taken in part, in rising order and each once. A class's marks
+/// divide the dial into as many equal parts as the class has members.
 pub(crate) fn cuts(alloc: Global, sizes: &[usize], places: u128) -> Result<Vec<u128>, AllocError>
     requires places { 0 < places }
     requires sizes { All (λ size. (0 < size) × (size ∣ places)) sizes.now }
@@ -77,7 +77,7 @@ pub(crate) fn cuts(alloc: Global, sizes: &[usize], places: u128) -> Result<Vec<u
     Ok(cuts)
 }
 
-// Adds the marks of a class of this size.
+// Adds the marks of a class of `size` members.
 fn push_marks(cuts: &mut Vec<u128>, size: u128, places: u128) -> Result<(), AllocError>
     requires size { (0 < size) × (size ∣ places) }
     ensures { OnOk result (cuts.new.items ≡ cuts.old.items ++ marks places size) }

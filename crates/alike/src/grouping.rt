@@ -23,7 +23,7 @@ pub fn classes(alloc: Global, pool: &Pool) -> Result<Classes, AllocError>
     Ok(Classes::new(pool.size(), bounds, groups))
 }
 
-/// For each category the bounds of its values.
+/// Returns the bounds of the values, category by category.
 fn all_bounds(alloc: Global, categories: &[Category]) -> Result<Vec<ValueBounds>, AllocError>
     ensures { IfOk result (λ bounds. bounds.items ≡ bounds_of categories.now) }
 {
@@ -46,7 +46,7 @@ fn value_bounds(alloc: Global, values: &[BoundedValue]) -> Result<Vec<Bounds>, A
         .collect(alloc)
 }
 
-/// The class of each leader.
+/// Returns the classes, one for each leader. A leader is the first member of a class.
 fn groups(
     alloc: Global,
     pool: &Pool,
@@ -64,7 +64,7 @@ fn groups(
     Ok(found)
 }
 
-/// The class of a leader.
+/// Returns the class of `leader`.
 fn group(
     alloc: Global,
     pool: &Pool,
@@ -86,7 +86,7 @@ fn group(
     ))
 }
 
-/// All who are alike to a volunteer, in number order.
+/// Returns the numbers of all who are alike to `leader`, in rising order.
 fn members(
     alloc: Global,
     pool: &Pool,
@@ -106,7 +106,7 @@ fn members(
     Ok(found)
 }
 
-/// True if nobody before is alike.
+/// True if no volunteer before `i` is alike to `i`, so that `i` is the first member of a class.
 fn leads(pool: &Pool, households: &[Option<usize>], i: usize) -> bool
     requires households { households.now ≡ map (shared pool.now.volunteers) (range_with_len 0 (length pool.now.volunteers)) }
     requires below { i < length pool.now.volunteers }
@@ -143,7 +143,7 @@ fn shares(pool: &Pool, households: &[Option<usize>], i: usize) -> bool
     household_of(pool, households, i).is_some()
 }
 
-/// The number of the household that a volunteer shares with another one, if there is one.
+/// Returns the number of the household that volunteer `i` shares with another one, if there is one.
 fn household_of(pool: &Pool, households: &[Option<usize>], i: usize) -> Option<usize>
     requires households { households.now ≡ map (shared pool.now.volunteers) (range_with_len 0 (length pool.now.volunteers)) }
     requires below { i < length pool.now.volunteers }
@@ -174,7 +174,7 @@ fn is_same_standing(one: Standing, other: Standing) -> bool
     }
 }
 
-/// For each volunteer the number of the household that they share with another one, if there is one.
+/// Returns for each volunteer the number of the household that they share with another one, if there is one.
 fn shared_households(
     alloc: Global,
     volunteers: &[Volunteer],
@@ -186,7 +186,8 @@ fn shared_households(
         .collect(alloc)
 }
 
-/// The number of the household that a volunteer shares with another one: that of its first member.
+/// Returns the number of the household that volunteer `i` shares with another one, if there is one. It is the number of the household's
+/// first member.
 fn shared_household(volunteers: &[Volunteer], i: usize) -> Option<usize>
     ensures { result ≡ shared volunteers.now i }
 {
@@ -195,7 +196,7 @@ fn shared_household(volunteers: &[Volunteer], i: usize) -> Option<usize>
     if 2 <= members { first } else { None }
 }
 
-/// How many volunteers are of a volunteer's household.
+/// Returns how many volunteers are of the household of volunteer `i`: 0 if `i` has none.
 fn household_size(volunteers: &[Volunteer], i: usize) -> usize
     ensures { result ≡ count_by (share volunteers.now i) (range_with_len 0 (length volunteers.now)) }
 {
@@ -204,7 +205,7 @@ fn household_size(volunteers: &[Volunteer], i: usize) -> usize
         .count()
 }
 
-/// The number of the first volunteer of a volunteer's household.
+/// Returns the number of the first volunteer of the household of volunteer `i`, if `i` has one.
 fn household_number(volunteers: &[Volunteer], i: usize) -> Option<usize>
     ensures { result ≡ find (share volunteers.now i) (range_with_len 0 (length volunteers.now)) }
 {

@@ -1,4 +1,4 @@
-//! Classes as values, with the size of a panel and the bounds of the values: what a search for panels goes through.
+//! Classes as values, with the size of a panel and the bounds of the values: all that a search for panels reads.
 
 ghost use Rattle.std.specs.Prelude.{◌≡◌, ◌<◌, length, take};
 ghost use Rattle.define_searches.specs.Classes.{HasPlaces, KeepsLimits, PartVolunteers, least_taken, most_taken, volunteer_count};
@@ -8,7 +8,7 @@ use define_pools::Standing;
 use define_searches::Bounds;
 use std::marker::Model;
 
-/// Volunteers with the same values and standing, of whom a panel takes a number. Someone who shares a household with another volunteer
+/// Volunteers with the same values and standing; a panel takes some number of them. Someone who shares a household with another volunteer
 /// is in a class alone.
 #[derive(Debug, Drop)]
 pub struct Class {
@@ -34,7 +34,7 @@ impl Model for Class {
 }
 
 impl Class {
-    // The class of these members.
+    // Returns the class of these members.
     pub(crate) fn new(
         members: Vec<usize>,
         values: Vec<usize>,
@@ -57,21 +57,21 @@ impl Class {
         }
     }
 
-    /// The numbers of the members, rising.
+    /// Returns the numbers of the members, rising.
     pub fn members(&self) -> &[usize]
         ensures { result.now ≡ self.now.members }
     {
         &self.members
     }
 
-    /// How many members the class has.
+    /// Returns how many members the class has.
     pub fn size(&self) -> usize
         ensures { result ≡ length self.now.members }
     {
         self.members().len()
     }
 
-    /// The `count` members of the lowest numbers, or all if there are fewer.
+    /// Returns the first `count` members, or all if there are fewer.
     pub fn first_members(&self, count: usize) -> &[usize]
         ensures { result.now ≡ take count self.now.members }
     {
@@ -79,22 +79,22 @@ impl Class {
         &members[..count.min(members.len())]
     }
 
-    /// For each category the place of the members' value among the category's values, counted from 0.
+    /// Returns for each category the place of the members' value among the category's values, counted from 0.
     pub fn values(&self) -> &[usize]
         ensures { result.now ≡ self.now.values }
     {
         &self.values
     }
 
-    /// The number of the household that the one member shares with a volunteer of another class, if there is one: that of the
-    /// household's first member.
+    /// Returns the number of the household that the class's one member shares with a volunteer of another class, if there is one. It is the
+    /// number of the household's first member.
     pub fn household(&self) -> Option<usize>
         ensures { result ≡ self.now.household }
     {
         self.household
     }
 
-    /// The least number of members that a panel can have: all of a seated class, else none.
+    /// Returns the least number of members that a panel can have: all if the class is seated, else 0.
     pub fn least(&self) -> usize
         ensures { result ≡ self.now.least }
     {
@@ -104,7 +104,7 @@ impl Class {
         }
     }
 
-    /// The greatest number of members that a panel can have: none of a class that is gone, else all.
+    /// Returns the greatest number of members that a panel can have: 0 if the class is gone, else all.
     pub fn most(&self) -> usize
         ensures { result ≡ self.now.most }
     {
@@ -137,7 +137,7 @@ impl ValueBounds {
         ValueBounds { bounds }
     }
 
-    /// The bounds, by the values' places.
+    /// Returns the bounds in the order of the values.
     pub fn as_slice(&self) -> &[Bounds]
         ensures { result.now ≡ self.now }
     {
@@ -180,28 +180,28 @@ impl Classes {
         }
     }
 
-    /// How many members a panel has.
+    /// Returns how many members a panel has.
     pub fn size(&self) -> usize
         ensures { result ≡ self.now.size }
     {
         self.size
     }
 
-    /// For each category the bounds of its values.
+    /// Returns for each category the bounds of its values.
     pub fn bounds(&self) -> &[ValueBounds]
         ensures { result.now ≡ self.now.bounds }
     {
         &self.bounds
     }
 
-    /// The classes, in order.
+    /// Returns the classes, in order.
     pub fn classes(&self) -> &[Class]
         ensures { result.now ≡ self.now.classes }
     {
         &self.classes
     }
 
-    /// How many volunteers the classes hold in all; each of them is in exactly one class.
+    /// Returns how many volunteers the classes have in all; each of them is in exactly one class.
     pub fn volunteers(&self) -> usize
         ensures count { result ≡ volunteer_count self.now }
         ensures parts { PartVolunteers self.now }
@@ -209,7 +209,7 @@ impl Classes {
         self.classes.iter().map(|class| class.size()).sum()
     }
 
-    /// The class in this place, with what holds of it.
+    /// Returns the class at `place`. Its contract also says what holds of each class of a `Classes`.
     pub fn class_at(&self, place: usize) -> &Class
         requires { place < length self.now.classes }
         ensures limits { KeepsLimits self.now }

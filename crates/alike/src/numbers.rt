@@ -1,4 +1,4 @@
-//! The class of each volunteer. The run makes stages by it.
+//! The number of each volunteer's class. The run turns the weights of classes into the weights of volunteers by it.
 
 ghost use Rattle.std.specs.Prelude.{◌≡◌, IfOk, map};
 ghost use Rattle.std.specs.List.{range_with_len};
@@ -27,7 +27,7 @@ fn numbers_up_to(
         .collect(alloc)
 }
 
-// The number of a volunteer's class, or the number of all classes if the volunteer is in none.
+// Returns the number of the volunteer's class, or the number of classes if the volunteer is in none.
 fn class_number(groups: &[Class], volunteer: usize) -> usize
     ensures { result ≡ class_number_of groups.now volunteer }
 {

@@ -1,4 +1,4 @@
-//! Spreads compositions with fractions over panels.
+//! Spreads compositions with fractions over panels, so that all members of a class have one chance.
 
 ghost use Rattle.std.specs.Prelude.{◌≡◌, ◌*◌, ◌/◌, ◌<◌, ◌≤◌, ℕ, Bool, ◌+◌, ◌++◌, length, map, slice_index_or, All, IfOk, OnOk, SomeIff};
 ghost use Rattle.std.specs.Int.{◌∣◌};
@@ -28,7 +28,7 @@ pub enum SpreadStop {
     TotalPasses {
         /// The number of the composition, from 0.
         place: usize,
-        /// The total of those before it, from 1 to 10^38; 1 before the first.
+        /// The common total of the compositions before it, from 1 to 10^38; 1 before the first.
         total: i128,
         /// The denominator of its fraction, at least 1.
         den: i128,
@@ -49,9 +49,9 @@ impl From<AllocError> for SpreadStop {
     }
 }
 
-/// Returns the lottery over the panels of different compositions, whose fractions are positive and sum to one. Each composition's
-/// panels have its fraction of the total, and all members of a class have one chance. The total is the least common multiple of the
-/// denominators, each times the length of its composition's dial.
+/// Returns the lottery over the panels of `parts`, which are different compositions with positive fractions that sum to 1. The panels of a
+/// composition together weigh its fraction of the total, and all members of a class have one chance. The total is the least common
+/// multiple, over the compositions, of the denominator times the dial's length.
 pub fn spread(
     alloc: Global,
     classes: &Classes,
@@ -69,7 +69,7 @@ pub fn spread(
     Ok(Lottery::new(total as i128, rows))
 }
 
-// The least common multiple of the denominators, each times the length of its composition's dial.
+// Returns the least common multiple, over the compositions, of the denominator times the dial's length.
 fn common_total(
     alloc: Global,
     classes: &Classes,
@@ -95,8 +95,7 @@ fn common_total(
     Ok(total)
 }
 
-// The least common multiple of a total and a denominator times the length of the dial for these sizes, if it is at most 10^38. It is a
-// multiple of the dial's length, and of that product.
+// Returns the least common multiple of `total` and `den` times the length of the dial for `sizes`. `None` if it is above 10^38.
 fn next_total(total: u128, den: u128, sizes: &[usize]) -> Option<u128>
     requires total { (0 < total) × (total ≤ greatest_total) }
     requires den { 0 < den }
@@ -110,7 +109,7 @@ fn next_total(total: u128, den: u128, sizes: &[usize]) -> Option<u128>
     common_multiple(total, den * places)
 }
 
-// The rows of all compositions.
+// Returns the rows of all compositions, one composition after the other.
 fn all_rows(
     alloc: Global,
     classes: &Classes,
@@ -134,7 +133,8 @@ fn all_rows(
     Ok(rows)
 }
 
-// Adds the rows of a composition: a panel for each arc of its dial, whose weight is the arc's part of the fraction of the total.
+// Adds the rows of a composition: a panel for each arc of its dial. Of the composition's weight, an arc has the part that it has of the
+// dial's length.
 fn push_rows(
     rows: &mut Vec<LotteryRow>,
     alloc: Global,
@@ -155,7 +155,7 @@ fn push_rows(
     push_arcs(rows, alloc, classes, counts, &cuts, places, weight)
 }
 
-// The weight of one place of a dial of `places` places: its part of the fraction of the total.
+// Returns the weight of one place of a dial of `places` places: the fraction of the total, divided by `places`.
 fn place_weight(fraction: Frac, total: u128, places: u128) -> u128
     requires total { (0 < total) × (total ≤ greatest_total) }
     requires places { 0 < places }
@@ -191,7 +191,7 @@ fn push_arcs(
     Ok(())
 }
 
-// The cut after the one of this number, or the dial's end.
+// Returns the cut after cut `number`, or `end` if it is the last one.
 fn next_cut(cuts: &[u128], number: usize, end: u128) -> u128
     requires { number < length cuts.now }
     ensures { result ≡ slice_index_or cuts.now (number + 1) end }

@@ -13,7 +13,7 @@ use Rattle.bundle_text.specs.Answers.{Reads, stopped}
 use Rattle.bundle_text.specs.Progress.{IsDoneRight}
 use Rattle.define_bundles.specs.BundleText.{Bundle}
 
--- a stop at a line is what the reading comes to
+-- if the reading stops at a line, this stop is the answer for the whole text
 pub stops_at : (T : Type 0) (number : ℕ) (progress : Progress) (rest line later : List ℕ) → pieces_of rest ≡ line ∷ pieces_of later → (wanted : Result Bundle Fault) →
     read_lines reader number progress (pieces_of rest) ≡ wanted → (stop : BuildStop) → Tells {T = T} (line_kind progress line) (Err stop) → (told : ReadBundle) → told ≡ stopped number stop → Reads wanted (Err told)
 stops_at T number progress rest line later parted wanted same stop tells told e = subst (λ said. Reads wanted (Err said)) (sym e) (by stop tells)
@@ -22,7 +22,7 @@ stops_at T number progress rest line later parted wanted same stop tells told e 
     by OutOfMemory h = tt
     by (Kind kind) h = reading.stops_at reader number progress rest line later parted wanted same kind h
 
--- what stands is right at the end too
+-- right progress is right after the last line too
 pub done_right : (progress : Progress) → IsRight progress → IsDoneRight progress
 done_right Begun right = tt
 done_right (InPool second progress) right = tt

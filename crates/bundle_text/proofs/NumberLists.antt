@@ -1,4 +1,4 @@
--- Lists of fields each of which spells a number, one more at the end, and one that spells none.
+-- Reading lists of fields as numbers: one more field that spells a number, and one that spells none.
 use Rattle.std.proofs.Common.{◌≡◌, ◌≢◌, ℕ, ◌+◌, ◌-◌, ◌<◌, ◌≤◌, ◌^◌, List, [], ◌∷◌, ◌++◌, map, length, get_or, take, drop, refl, sym, ◌∙◌, ap, subst, arith, true, false, Option, Some, None, option_map, ℤ, pos, negsuc, ◌≤ℤ◌, Bor}
 use Rattle.std.specs.Prelude.{int_le}
 use Rattle.std.proofs.lemmas.Bool.{leb-true, le-leb, false≢true}
@@ -14,9 +14,9 @@ with_none : {A : Type 0} (first : Option A) → with_number first None ≡ None
 with_none None = refl
 with_none (Some number) = refl
 
--- a reading of all fields, each by itself
+-- `all` reads each field by `one`
 module _ {A : Type 0} (one : List ℕ → Option A) (all : List (List ℕ) → Option (List A)) (nil : all [] ≡ Some []) (cons : (field : List ℕ) (fields : List (List ℕ)) → all (field ∷ fields) ≡ with_number (one field) (all fields)) where
-  -- one more
+  -- the next field spells a number, which is added at the end
   all_more : (done : List (List ℕ)) (field : List ℕ) (numbers : List A) (number : A) → all done ≡ Some numbers → one field ≡ Some number → all (done ++ field ∷ []) ≡ Some (numbers ++ number ∷ [])
   all_more [] field numbers number h k =
       let none : [] ≡ numbers = cc in
@@ -32,12 +32,12 @@ module _ {A : Type 0} (one : List ℕ → Option A) (all : List (List ℕ) → O
           cons first (done ++ field ∷ [])
           ∙ (ap (λ o. with_number o (all (done ++ field ∷ []))) e ∙ (ap (with_number (Some m)) (again ms f) ∙ ap (λ ns. Some (ns ++ number ∷ [])) same))
 
-  -- one that is none
+  -- a field spells no number, so the list gives none
   all_fail : (done : List (List ℕ)) (field : List ℕ) (later : List (List ℕ)) → one field ≡ None → all (done ++ field ∷ later) ≡ None
   all_fail [] field later k = cons field later ∙ ap (λ o. with_number o (all later)) k
   all_fail (first ∷ done) field later k = cons first (done ++ field ∷ later) ∙ (ap (with_number (one first)) (all_fail done field later k) ∙ with_none (one first))
 
-  -- the same of fields that are lent
+  -- `all_more` for borrowed fields
   pub lent_more : (fields : List (Bor (List ℕ))) (i : ℕ) (d : Bor (List ℕ)) (numbers : List A) (number : A) → i < length fields → all (map (λ field. field.now) (take i fields)) ≡ Some numbers →
       one (get_or fields i d).now ≡ Some number → all (map (λ field. field.now) (take (i + 1) fields)) ≡ Some (numbers ++ number ∷ [])
   lent_more fields i d numbers number l h k =
@@ -52,7 +52,7 @@ module _ {A : Type 0} (one : List ℕ → Option A) (all : List (List ℕ) → O
       ∙ (ap all (map-append (λ (field : Bor (List ℕ)). field.now) (take i fields) (get_or fields i d ∷ drop (i + 1) fields))
       ∙ all_fail (map (λ field. field.now) (take i fields)) (get_or fields i d).now (map (λ field. field.now) (drop (i + 1) fields)) k)
 
--- numbers up to a limit
+-- `lent_more` for numbers up to a limit
 pub numbers_more : (limit : ℕ) (fields : List (Bor (List ℕ))) (i : ℕ) (d : Bor (List ℕ)) (numbers : List ℕ) (number : ℕ) → i < length fields →
     numbers_up_to limit (map (λ field. field.now) (take i fields)) ≡ Some numbers → number_up_to limit (get_or fields i d).now ≡ Some number →
     numbers_up_to limit (map (λ field. field.now) (take (i + 1) fields)) ≡ Some (numbers ++ number ∷ [])
@@ -62,7 +62,7 @@ pub numbers_fail : (limit : ℕ) (fields : List (Bor (List ℕ))) (i : ℕ) (d :
     numbers_up_to limit (map (λ field. field.now) fields) ≡ None
 numbers_fail limit = lent_fail (number_up_to limit) (numbers_up_to limit) refl (λ field fields. refl)
 
--- numbers with a sign
+-- `lent_more` for numbers with a sign
 pub signed_more : (fields : List (Bor (List ℕ))) (i : ℕ) (d : Bor (List ℕ)) (numbers : List ℤ) (number : ℤ) → i < length fields → signed_of (map (λ field. field.now) (take i fields)) ≡ Some numbers →
     signed_up_to stage_limit (get_or fields i d).now ≡ Some number → signed_of (map (λ field. field.now) (take (i + 1) fields)) ≡ Some (numbers ++ number ∷ [])
 signed_more = lent_more (signed_up_to stage_limit) signed_of refl (λ field fields. refl)
@@ -83,7 +83,7 @@ pub not_negative : (z kept : ℤ) → kept ≡ z → int_le (pos 0) kept ≡ tru
 not_negative z (pos n) same h = omega (arith, ints)
 not_negative z (negsuc n) same h = absurd (false≢true h)
 
--- a number above 10^38, and one below 0
+-- a number above 10^38, and one below 0, are none from 0 to 10^38
 pub too_great : (z kept : ℤ) → kept ≡ z → int_le kept (pos (10 ^ 38)) ≡ false → (n : ℕ) → n ≤ 10 ^ 38 → Some z ≡ Some (pos n) → ⊥
 too_great z kept same h n most e =
     let is : kept ≡ pos n = cc in
@@ -97,7 +97,7 @@ negative z kept same h n most e =
 pub nothing : (n : ℕ) → n ≤ 10 ^ 38 → None ≡ Some (pos n) → ⊥
 nothing n most e = cc
 
--- a field that spells no such number
+-- a field that spells no number from 0 to 10^38
 pub small_none : (field : List ℕ) (read : Option ℤ) → signed_up_to stage_limit field ≡ read → ((n : ℕ) → n ≤ 10 ^ 38 → read ≡ Some (pos n) → ⊥) → None ≡ option_map pos (number_up_to (10 ^ 38) field)
 small_none field read h other = sym (ap (option_map pos) (no_number (10 ^ 38) field none))
   where

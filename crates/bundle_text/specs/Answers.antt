@@ -8,17 +8,17 @@ use Rattle.bundle_text.specs.declared.faults.BundleFault.{BundleFault}
 use Rattle.bundle_text.specs.declared.faults.ReadBundle.{ReadBundle}
 use Rattle.bundle_text.specs.declared.faults.ReadBundle.TheVariants.{Fault as fault, OutOfMemory}
 
--- a fault as the definitions have it
+-- the fault in the form of the definitions
 abbrev pub fault_of : BundleFault → Fault
 fault_of f = record { line = f.line; kind = f.kind }
 
--- a bundle only if the bytes say this bundle, a fault only if they say this fault; want of memory may come at any time
+-- the answer of a reader if the bytes say `said`: this bundle or this fault; running out of memory is allowed at any time
 abbrev pub Reads : Result Bundle Fault → Result Bundle ReadBundle → Type 0
 Reads said (Ok bundle) = said ≡ Ok bundle
 Reads said (Err (fault f)) = said ≡ Err (fault_of f)
 Reads said (Err OutOfMemory) = ⊤
 
--- what a stop at this line makes the reader answer
+-- the reader's answer if the lines stop at `line`
 abbrev pub stopped : ℕ → BuildStop → ReadBundle
 stopped line (Kind kind) = fault (record { line = line; kind = kind })
 stopped line NoMemory = OutOfMemory

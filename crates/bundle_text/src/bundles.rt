@@ -42,14 +42,14 @@ impl Bundle {
         }
     }
 
-    /// The pool.
+    /// Returns the pool.
     pub fn pool(&self) -> &Pool
         ensures { result.now ≡ self.now.pool }
     {
         &self.pool
     }
 
-    /// The answer.
+    /// Returns the answer.
     pub fn answer(&self) -> &Answer
         ensures value { result.now ≡ self.now.answer }
         ensures in_ranges { IsInRanges self.now.pool self.now.answer }

@@ -8,7 +8,7 @@ pub struct BundleFault {
     /// The first faulty line, counted from 1.
     pub line: usize,
     /// The lowest kind of fault in it:
-    /// - 1 to 12 within the pool's text, as there; 1 also where the pool's version isn't that of the bundle
+    /// - 1 to 12 within the pool's text, the kinds of `PoolFault`; 1 also if the pool's version isn't that of the bundle
     /// - 13 the first line isn't that of a bundle of version 1 or 2
     /// - 14 the line after the pool isn't a total from 1 to 10^38
     /// - 15 before any stage line, the line is neither a right panel line nor, after one, a right stage line

@@ -1,4 +1,4 @@
-//! The lines after the pool: what one says.
+//! What the lines after the pool say.
 
 ghost use Rattle.std.specs.Prelude.{◌≡◌, ◌≤◌, ◌-◌, ◌^◌, ◌≤ℤ◌, pos, map, Some, IfOk, IfSome, option_map, unsigned_abs};
 ghost use Rattle.define_lines.specs.Lines.{fields_of};
@@ -19,7 +19,7 @@ const STAGE: &[u8] = b"stage";
 
 const DONE: &[u8] = b"done";
 
-/// A line after the total.
+/// What a line after the total says.
 #[derive(Debug, Drop)]
 pub(crate) enum AnswerLine {
     Row(LotteryRow),
@@ -60,7 +60,7 @@ fn line_of(alloc: Global, volunteers: usize, fields: &[&[u8]]) -> Result<AnswerL
     }
 }
 
-/// What the fields after `panel` say.
+/// Returns what the fields after `panel` say: a row, or `Unknown`.
 fn panel_of(alloc: Global, volunteers: usize, fields: &[&[u8]]) -> Result<AnswerLine, AllocError>
     ensures { IfOk result (λ answer. said answer ≡ panel_in volunteers (map (λ field. field.now) fields.now)) }
 {
@@ -76,7 +76,7 @@ fn panel_of(alloc: Global, volunteers: usize, fields: &[&[u8]]) -> Result<Answer
     }
 }
 
-/// The row of this weight and these members, if they are right.
+/// Returns the row of this weight and these members, or `Unknown` if the members don't increase or a number is out of range.
 fn row_of(volunteers: usize, weight: i128, members: Vec<usize>) -> AnswerLine
     requires { pos 0 ≤ℤ weight }
     ensures { said result ≡ row_in volunteers (Some (unsigned_abs weight)) (Some members.items) }
@@ -92,7 +92,7 @@ fn row_of(volunteers: usize, weight: i128, members: Vec<usize>) -> AnswerLine
     }
 }
 
-/// What the fields after `stage` say.
+/// Returns what the fields after `stage` say: a stage, or `FaultyStage`.
 fn stage_of(alloc: Global, volunteers: usize, fields: &[&[u8]]) -> Result<AnswerLine, AllocError>
     ensures { IfOk result (λ answer. said answer ≡ stage_in volunteers (map (λ field. field.now) fields.now)) }
 {
@@ -108,7 +108,7 @@ fn stage_of(alloc: Global, volunteers: usize, fields: &[&[u8]]) -> Result<Answer
     }
 }
 
-/// The stage, if it is right.
+/// Returns the stage, or `FaultyStage` if its numbers are out of range.
 fn right_stage(volunteers: usize, stage: Stage) -> AnswerLine
     ensures { said result ≡ stage_words volunteers (Some stage.cap) (Some stage.weights) }
 {
@@ -119,7 +119,7 @@ fn right_stage(volunteers: usize, stage: Stage) -> AnswerLine
     }
 }
 
-/// The numbers up to `limit` that the fields spell, if each spells one.
+/// Returns the numbers up to `limit` that the fields spell, or `None` if a field spells none.
 fn numbers_up_to(
     alloc: Global,
     limit: usize,
@@ -137,7 +137,7 @@ fn numbers_up_to(
     Ok(Some(numbers))
 }
 
-/// The numbers with a sign that the fields spell, if each spells one.
+/// Returns the numbers with a sign that the fields spell, or `None` if a field spells none.
 fn signed_numbers(alloc: Global, fields: &[&[u8]]) -> Result<Option<Vec<i128>>, AllocError>
     ensures { IfOk result (λ numbers. option_map (λ v. v.items) numbers ≡ signed_of (map (λ field. field.now) fields.now)) }
 {
@@ -151,7 +151,7 @@ fn signed_numbers(alloc: Global, fields: &[&[u8]]) -> Result<Option<Vec<i128>>, 
     Ok(Some(numbers))
 }
 
-/// The number with a sign that the field spells. One digit, as most weights have, is read at once.
+/// Returns the number with a sign that the field spells, or `None`. Most weights have one digit; these skip the general parser.
 fn weight_of(field: &[u8]) -> Option<i128>
     ensures { result ≡ signed_up_to (2 ^ 127 - 1) field.now }
 {
@@ -162,7 +162,7 @@ fn weight_of(field: &[u8]) -> Option<i128>
     }
 }
 
-/// The number of a digit.
+/// Returns the number that the digit `byte` spells.
 fn digit(byte: u8) -> i128
     requires least { 48 ≤ byte }
     requires most { byte ≤ 57 }
@@ -171,7 +171,7 @@ fn digit(byte: u8) -> i128
     i128::from(byte - b'0')
 }
 
-/// The number from 0 to 10^38 that the field spells.
+/// Returns the number from 0 to 10^38 that the field spells, or `None`.
 fn small_number(field: &[u8]) -> Option<i128>
     ensures value { result ≡ option_map pos (number_in (10 ^ 38) field.now) }
     ensures least { IfSome result (λ number. pos 0 ≤ℤ number) }
@@ -182,7 +182,7 @@ fn small_number(field: &[u8]) -> Option<i128>
     }
 }
 
-/// The total that a line gives.
+/// Returns the total that a total line gives, or `None` if the line isn't one.
 pub(crate) fn total_of(alloc: Global, line: &[u8]) -> Result<Option<i128>, AllocError>
     ensures { IfOk result (λ total. total ≡ option_map pos (total_in (fields_of line.now))) }
 {

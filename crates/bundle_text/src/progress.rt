@@ -21,34 +21,34 @@ const FIRST_POOL: &[u8] = b"pool\t1";
 
 const SECOND_POOL: &[u8] = b"pool\t2";
 
-/// The kind of a pool's first line that isn't of the bundle's version.
+/// The kind of fault if the pool's first line has another version than the bundle.
 const FORM: u8 = 1;
 
-/// The kind of a first line that is no bundle's.
+/// The kind of fault if the first line isn't that of a bundle.
 const VERSION: u8 = 13;
 
-/// The kind of a line after the pool that is no total.
+/// The kind of fault if the line after the pool gives no total.
 const TOTAL: u8 = 14;
 
-/// The kind of a faulty line before any stage line.
+/// The kind of fault of a line before any stage line.
 const ROW: u8 = 15;
 
-/// The kind of a faulty line after a stage line, and of a faulty stage line after a panel line.
+/// The kind of fault of a line after a stage line, and of a faulty stage line after a panel line.
 const STAGE: u8 = 16;
 
-/// The kind if the lines run out after the pool, and of a line after the last.
+/// The kind of fault if the lines run out after the pool, or if a line follows the last one.
 pub(crate) const ENDING: u8 = 17;
 
-/// The progress of a bundle's text after right lines.
+/// How far the text of a bundle was read, and what its lines gave so far.
 #[derive(Debug, Drop)]
 pub enum Progress {
     /// Before the first line.
     Begun,
-    /// After the first line, of version 2 or 1: the progress of the pool's lines.
+    /// After the first line, true for version 2 and false for version 1, with the progress of the pool's lines.
     InPool(bool, PoolProgress),
-    /// After the total: the panels of the panel lines.
+    /// After the total: the pool, and the lottery with the panels read so far.
     InRows(Pool, Lottery),
-    /// After at least one stage line: the stages too.
+    /// After at least one stage line: also the stages read so far.
     InStages(Pool, Lottery, Certificate),
     /// After the last line.
     Done(Pool, Answer),
@@ -83,7 +83,7 @@ fn first_line(line: &[u8]) -> Result<Progress, BuildStop>
     }
 }
 
-/// The progress after a line of the pool, or after the total's.
+/// Returns the progress after a line of the pool, or after the total line that follows the pool.
 fn after_pool(
     alloc: Global,
     second: bool,
@@ -103,14 +103,14 @@ fn after_pool(
     }
 }
 
-/// The pool's first line in a bundle of version 2, or 1.
+/// Returns the first line of a pool in a bundle of version 2 if `second`, else of version 1.
 fn pool_line(second: bool) -> &'static [u8]
     ensures { result.now ≡ version_line second }
 {
     if second { SECOND_POOL } else { FIRST_POOL }
 }
 
-/// The progress after a line that follows the total, before any stage line.
+/// Returns the progress after a line that comes after the total and before any stage line.
 fn after_row(
     alloc: Global,
     pool: Pool,
@@ -136,7 +136,7 @@ fn after_row(
     }
 }
 
-/// The progress after a line that follows a stage line.
+/// Returns the progress after a line that comes after a stage line.
 fn after_stage(
     alloc: Global,
     pool: Pool,

@@ -6,7 +6,7 @@ ghost use Rattle.define_bundles.specs.Ranges.{IsInRanges, is_weight as keeps_wei
 
 use pool_model::{Answer, LotteryRow, Pool, Stage};
 
-/// The greatest weight.
+/// The greatest total and the greatest weight of a panel, 10^38.
 pub(crate) const MAX_WEIGHT: i128 = 100_000_000_000_000_000_000_000_000_000_000_000_000;
 
 const MAX_REACH: u128 = 170_141_183_460_469_231_731_687_303_715_884_105_727;
@@ -25,7 +25,7 @@ pub fn is_in_ranges(pool: &Pool, answer: &Answer) -> bool
         && are_stages(volunteers, stages)
 }
 
-/// True from 1 to 10^38.
+/// True if the weight is from 1 to 10^38.
 pub(crate) fn is_weight(weight: i128) -> bool
     requires { pos 0 ≤ℤ weight }
     ensures { result ≡ keeps_weight (unsigned_abs weight) }

@@ -15,7 +15,7 @@ use pool_text::Progress as PoolProgress;
 use std::alloc::Global;
 use text_lines::next_line;
 
-/// The kind if the lines run out within the pool's.
+/// The kind of fault if the lines run out within the pool.
 const MISSING_END: u8 = 12;
 
 /// Reads the bytes as the text of a bundle. Fails exactly if they aren't the text of a bundle, with the first faulty line and its
@@ -25,7 +25,7 @@ pub fn read_bundle(alloc: Global, bytes: &[u8]) -> Result<Bundle, ReadBundle>
     ensures spelled { IfOk result (λ bundle. IsBundle bundle × (bytes.now ≡ bundle_spelling bundle)) }
     // The text of each bundle is read as this bundle, unless memory runs out.
     ensures read { (bundle : Words) → IsBundle bundle → bytes.now ≡ bundle_spelling bundle → Reads (Ok bundle) result }
-    // Which fault it is.
+    // The answer is this bundle or this fault, as the definition of reading has it.
     ensures exact { Reads (read bytes.now) result }
 {
     read_lines(alloc, bytes)
@@ -48,7 +48,7 @@ fn read_lines(alloc: Global, bytes: &[u8]) -> Result<Bundle, ReadBundle>
     last(progress, number, rest)
 }
 
-/// Turns a stop at this line into one of the reader.
+/// Returns the reader's stop for a stop at line `line`.
 fn stop_at(line: usize, stop: BuildStop) -> ReadBundle
     ensures { result ≡ stopped line stop }
 {
@@ -58,7 +58,7 @@ fn stop_at(line: usize, stop: BuildStop) -> ReadBundle
     }
 }
 
-/// Returns the bundle or the fault of the whole text, where `rest` is the bytes after its last LF.
+/// Returns the bundle if `done` was the last line and nothing follows it, else the fault. `rest` is the bytes after the last LF.
 fn last(progress: Progress, line: usize, rest: &[u8]) -> Result<Bundle, ReadBundle>
     requires { IsDoneRight (seen progress) }
     ensures { Reads (at_last line (seen progress) rest.now) result }
@@ -77,7 +77,7 @@ fn last(progress: Progress, line: usize, rest: &[u8]) -> Result<Bundle, ReadBund
     }
 }
 
-/// The bundle of this pool and answer, whose numbers are in the ranges.
+/// Returns the bundle of this pool and answer, whose numbers are in the ranges.
 fn finished(pool: Pool, answer: Answer) -> Bundle
     requires { IsInRanges pool answer }
     ensures { result ≡ record { pool = pool; answer = answer } }
@@ -88,7 +88,7 @@ fn finished(pool: Pool, answer: Answer) -> Bundle
     }
 }
 
-/// The kind of fault if the lines run out: within the pool's, or after it.
+/// Returns the kind of fault if the lines run out: 12 within the pool's lines, else 17.
 fn missing_kind(progress: &Progress) -> u8
     ensures { result ≡ missing_kind (seen progress.now) }
 {

@@ -35,7 +35,7 @@ list_all-reverse {X} p (x ∷ xs) =
 
 -- ---- one stage
 
--- where the verdict on a stage is none that holds, it is the answer
+-- if a stage is refused, this verdict is the answer
 pub stops_at : (wanted next : Result Verdict ℕ) (verdict : Verdict) → holds verdict ≡ false → or_next verdict next ≡ Ok verdict
 stops_at wanted next Valid e = absurd (false≢true (sym e))
 stops_at wanted next (Refused refusal) e = refl
@@ -44,7 +44,7 @@ pub is_valid : (verdict : Verdict) → holds verdict ≡ true → verdict ≡ Va
 is_valid Valid e = refl
 is_valid (Refused refusal) e = absurd (false≢true e)
 
--- what is said of stages, by what is said of the first
+-- the answer about stages: the answer about the first one, or if that is valid, the answer about the others
 abbrev then : Result Verdict ℕ → Result Verdict ℕ → Result Verdict ℕ
 then (Ok verdict) next = or_next verdict next
 then (Err stage) next = Err stage

@@ -9,17 +9,17 @@ use Rattle.define_checks.specs.Visits.{stage_search}
 use Rattle.cert_check.specs.declared.stops.CheckStop.{CheckStop}
 use Rattle.cert_check.specs.declared.stops.CheckStop.TheVariants.{NodesSpent, OutOfMemory}
 
--- the verdict, or the stage at which the visits are spent, as wanted; want of memory may come at any time
+-- the verdict, or the stage at which the visits are spent, as `wanted` has it; running out of memory is allowed at any time
 abbrev pub Answers : Result Verdict ℕ → Result Verdict CheckStop → Type 0
 Answers wanted (Ok verdict) = wanted ≡ Ok verdict
 Answers wanted (Err (NodesSpent stage)) = wanted ≡ Err stage
 Answers wanted (Err OutOfMemory) = Unit {0}
 
--- the answer on the cap of a stage after earlier ones
+-- the answer about a stage's cap: the stage's number if the search needs more visits than `nodes`, else the first reason of the cap
 abbrev pub cap_answer : Pool → Lottery → ℕ → List Stage → Stage → Result Verdict ℕ
 cap_answer pool lottery nodes earlier stage =
     if nat_lt nodes (stage_search pool earlier stage).visits then Err (length earlier + 1) else Ok (first_reason (cap_reasons pool lottery earlier stage))
 
--- the answer on the stage
+-- the answer about a stage: the first reason before its cap, or if there is none, the answer about its cap
 abbrev pub stage_answer : Pool → Lottery → ℕ → List Stage → Stage → Result Verdict ℕ
 stage_answer pool lottery nodes earlier stage = or_next (first_reason (reasons_before_cap pool lottery earlier stage)) (cap_answer pool lottery nodes earlier stage)

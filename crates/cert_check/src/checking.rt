@@ -1,4 +1,4 @@
-//! A check, reason by reason: those of the lottery, then stage by stage.
+//! The check, reason by reason: first the reasons of the lottery, then those of each stage.
 
 ghost use Rattle.std.specs.Prelude.{◌≡◌, ◌↔◌, [], length, IfOk, IsTrue};
 ghost use Rattle.std.specs.List.{list_all};
@@ -17,9 +17,9 @@ use check_search::{CapStop, panel_above_cap};
 use pool_model::{Answer, Pool, Stage};
 use std::alloc::Global;
 
-/// Returns whether the certificate of a bundle is valid, or why it is refused, with at most `nodes` visits of each search. `NodesSpent`
-/// names the first stage at which a search makes more, if no reason comes before that search. Valid is answered only of a lottery that
-/// is leximin greatest.
+/// Returns whether the certificate of a bundle is valid, or why it is refused. Each search may make at most `nodes` visits. If no earlier
+/// reason refuses the certificate, `NodesSpent` names the first stage whose search needs more. Valid is answered only if the lottery is
+/// leximin greatest.
 pub fn check(alloc: Global, bundle: &Bundle, nodes: u64) -> Result<Verdict, CheckStop>
     ensures answer { Answers (check_answer bundle.now.pool bundle.now.answer nodes) result }
     ensures valid { IfOk result (λ verdict. verdict ≡ Valid ↔ Certifies bundle.now.pool bundle.now.answer.lottery bundle.now.answer.stages) }
@@ -29,7 +29,7 @@ pub fn check(alloc: Global, bundle: &Bundle, nodes: u64) -> Result<Verdict, Chec
     answer_verdict(alloc, bundle.pool(), bundle.answer(), nodes)
 }
 
-/// The same for an answer over a pool.
+/// Returns the verdict of `check` on an answer over a pool.
 fn answer_verdict(
     alloc: Global,
     pool: &Pool,
@@ -47,7 +47,7 @@ fn answer_verdict(
     stages_verdict(alloc, course, answer.certificate().stages(), nodes)
 }
 
-/// The verdict on the stages, and on who is left unsettled after them.
+/// Returns the verdict on the stages, and on whoever is left unsettled after the last one.
 fn stages_verdict(
     alloc: Global,
     mut course: Course<'_>,
@@ -69,7 +69,7 @@ fn stages_verdict(
     Ok(course.left(alloc)?)
 }
 
-/// The verdict on a stage.
+/// Returns the verdict on a stage.
 fn stage_verdict(
     alloc: Global,
     course: &Course<'_>,
@@ -87,7 +87,7 @@ fn stage_verdict(
     cap_verdict(alloc, course, stage, nodes)
 }
 
-/// The verdict on a stage's cap.
+/// Returns the verdict on a stage's cap: reason 8 for a quota panel above it, reason 9 for a listed panel that doesn't weigh it.
 fn cap_verdict(
     alloc: Global,
     course: &Course<'_>,

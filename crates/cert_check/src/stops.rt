@@ -6,7 +6,7 @@ use thiserror::Error;
 /// Why a check ends without a verdict.
 #[derive(Debug, Drop, Error)]
 pub enum CheckStop {
-    /// The search for a panel above the cap of a stage makes more visits than its budget.
+    /// The search for a panel above the cap of a stage needs more visits than its budget.
     #[error("the search at stage {stage} takes more visits than it may")]
     NodesSpent {
         /// The number of the stage, from 1.

@@ -10,7 +10,7 @@ list_all-enumerated_same p q first [] e = refl
 list_all-enumerated_same p q first (x ∷ xs) e =
     ap₂ (λ a b. a && b) (e first x (omega arith)) (list_all-enumerated_same p q (first + 1) xs (λ k y l. e k y (omega arith)))
 
--- where the element of a number fails, not all pass
+-- if one element fails the test, not all pass
 pub one_fails : {X : Type 0} (p : ℕ × X → Bool) (xs : List X) (k : ℕ) (d : X) → k < length xs → p (k, get_or xs k d) ≡ false → list_all p (enumerate_from 0 xs) ≡ false
 one_fails {X} p xs k d l e =
     false_from_ne_true (list_all p (enumerate_from 0 xs)) (λ all.

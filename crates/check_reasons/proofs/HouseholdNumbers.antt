@@ -1,4 +1,4 @@
--- Members of a panel are of different households exactly where the numbers of their households are different.
+-- Members of a panel are of different households exactly if the numbers of their households are different.
 use Rattle.std.proofs.Common.{◌≡◌, ℕ, ◌+◌, ◌<◌, ◌≤◌, Bool, true, false, not, ◌&&◌, ◌||◌, eqb, leb, ltb, List, [], ◌∷◌, length, map, count_by, get_or, Option, Some, None, refl, sym, ap, ap₂, ◌∙◌, ◌⊎◌, ⊎_elim, arith, subst}
 use Rattle.std.specs.Prelude.{unwrap_or}
 use Rattle.std.specs.List.{find, list_all, list_any, AllByRecursion, range_with_len}
@@ -13,7 +13,7 @@ use Rattle.define_pools.specs.Pool.{Volunteer, volunteer, is_same_household, sha
 use Rattle.define_searches.proofs.Households.{share_back, same_name}
 use Rattle.check_reasons.specs.Households.{household_number, household_numbers, none_twice}
 
--- two tests of which each follows from the other
+-- two tests are equal if each implies the other
 pub same_tests : (a b : Bool) → (a ≡ true → b ≡ true) → (b ≡ true → a ≡ true) → a ≡ b
 same_tests true b f g = sym (f refl)
 same_tests false true f g = absurd (false≢true (g refl))
@@ -48,7 +48,7 @@ module _ (volunteers : List Volunteer) where
 
   -- ---- the number of a household
 
-  -- who has a household is in it
+  -- if `i` has a household, the test by number and the test by household agree
   tested_is : (i : ℕ) → share i i ≡ true → (k : ℕ) → tested i k ≡ share i k
   tested_is i own k = by (eqb k i) refl
     where
@@ -107,7 +107,7 @@ module _ (volunteers : List Volunteer) where
   abbrev few : List ℕ → ℕ → Bool
   few whole i = leb (count_by (share i) whole) 1
 
-  -- the number of a member comes again exactly where somebody after shares the household
+  -- the household number of `x` comes again in `xs` exactly if somebody in `xs` shares the household
   again : (x : ℕ) (xs : List ℕ) → x < length volunteers → list_all (λ y. ltb x y) xs ≡ true → includes (map number xs) (number x) ≡ list_any (share x) xs
   again x [] below after = refl
   again x (y ∷ ys) below after =
@@ -135,7 +135,8 @@ module _ (volunteers : List Volunteer) where
   one_at_most true = omega arith
   one_at_most false = omega arith
 
-  -- one member before others: nobody of them shares the household, and they keep the households
+  -- a member before others: the households are kept exactly if nobody after the member shares the household, and the others keep the
+  -- households
   with_first : (x : ℕ) (xs : List ℕ) → list_all (few (x ∷ xs)) (x ∷ xs) ≡ (not (list_any (share x) xs) && list_all (few xs) xs)
   with_first x xs = by (list_any (share x) xs) refl
     where
@@ -171,7 +172,7 @@ module _ (volunteers : List Volunteer) where
       let rest = numbers_differ xs rises.1 within.1 in
       ap₂ (λ a b. not a && b) (again x xs (ltb-true x (length volunteers) within.0) rises.0) rest ∙ sym (with_first x xs)
 
--- the numbers that are kept of all volunteers are those of a panel's members
+-- the members' household numbers, looked up among all volunteers', are different exactly if the panel keeps the households
 pub kept_numbers_differ : (volunteers : List Volunteer) (numbers panel : List ℕ) → numbers ≡ household_numbers volunteers → is_increasing panel ≡ true →
     list_all (λ i. ltb i (length volunteers)) panel ≡ true → none_twice (map (λ i. get_or numbers i 0) panel) ≡ keeps_households volunteers panel
 kept_numbers_differ volunteers numbers panel e up below =

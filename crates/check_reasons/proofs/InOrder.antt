@@ -1,4 +1,4 @@
--- What is found first in a list, as far as it was read.
+-- The first element that a loop finds in a list, from the part that it has read.
 use Rattle.std.proofs.Common.{◌≡◌, ℕ, zero, suc, ◌+◌, ◌<◌, Bool, true, false, cond, ◌||◌, List, [], ◌∷◌, length, map, get_or, take, Option, Some, None, refl, sym, ap, ◌∙◌, arith}
 use Rattle.std.specs.Prelude.{bytes_eq}
 use Rattle.std.specs.List.{find, list_any}
@@ -36,7 +36,7 @@ moved false true c = refl
 moved false false c = refl
 
 module _ {A : Type 0} (f : A → List ℕ) where
-  -- a list came before
+  -- `xs` equals the list of an earlier row
   abbrev pub came : List A → List ℕ → Bool
   came rows xs = list_any (λ row. bytes_eq xs (f row)) rows
 

@@ -1,4 +1,4 @@
--- What a course keeps tells the counts and who is settled, and so the reasons of a stage.
+-- The counts and the marks that a course keeps give the reasons of a stage.
 use Rattle.std.proofs.Common.{◌≡◌, ℕ, ◌+◌, ◌<◌, ◌≤◌, Bool, true, false, not, ◌||◌, eqb, ltb, List, [], ◌∷◌, length, map, filter, get_or, take, drop, Option, ℤ, pos, refl, sym, ap, ap₂, ◌∙◌, arith}
 use Rattle.std.specs.Prelude.{int_lt, reverse}
 use Rattle.std.specs.List.{AllByRecursion, find, range_with_len}
@@ -19,7 +19,7 @@ use Rattle.define_checks.specs.Reasons.{first_count as first_count_of, first_rea
 use Rattle.check_reasons.proofs.HouseholdNumbers.{same_tests}
 use Rattle.check_reasons.specs.Courses.{Course, Keeps, count_at, first_count, kept_reasons}
 
--- tests of counts as numbers with a sign
+-- comparing counts as numbers with a sign gives the same as without
 same_eq : (a b : ℕ) → int_eq (pos a) (pos b) ≡ eqb a b
 same_eq a b =
     same_tests (int_eq (pos a) (pos b)) (eqb a b) (λ e. eq-eqb a b (same_pos a b (eq-tested (pos a) (pos b) e)))

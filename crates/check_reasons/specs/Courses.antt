@@ -7,39 +7,39 @@ use Rattle.define_pools.specs.Lottery.{Lottery, counts}
 use Rattle.define_pools.specs.Pool.{Pool, everybody}
 use Rattle.define_checks.specs.Reasons.{Refusal, listed, nobody_unless, one, reason}
 
--- the lottery that is checked over a pool, the stages that the check passed, the latest first, and those to come
+-- a check between two stages: the pool, the lottery, the stages that were passed, the latest first, and the stages to come
 pub record Course : Type 0 where
   pub pool : Pool
   pub lottery : Lottery
   pub earlier : List Stage
   pub later : List Stage
 
--- the course after the first of the stages to come was passed
+-- the course after it passes the first of these stages, which are the stages to come
 abbrev pub passed : Course → List Stage → Course
 passed course [] = course
 passed course (stage ∷ later) = record course { earlier = stage ∷ course.earlier; later = later }
 
--- each volunteer's count, and who is settled
+-- `counted` has each volunteer's count, and `marks` says who is settled
 pub record Keeps (course : Course) (counted : List ℤ) (marks : List Bool) : Type 0 where
   pub chances : counted ≡ map pos (counts course.pool course.lottery)
   pub settled : marks ≡ map (is_settled course.earlier) (everybody course.pool)
 
--- a count that is kept
+-- the count of volunteer `i`, or 0 if the list has none
 abbrev pub count_at : List ℤ → ℕ → ℤ
 count_at counted i = slice_index_or counted i (pos 0)
 
--- the kept count of the first of some volunteers, 0 if there are none
+-- the count of the first of these volunteers, or 0 if there are none
 abbrev pub first_count : List ℤ → List ℕ → ℤ
 first_count counted [] = pos 0
 first_count counted (i ∷ rest) = count_at counted i
 
--- the reasons of a stage that are about counts, given what is kept: the counts, who is unsettled, and whom the stage settles
+-- reasons 6 and 7, which are about counts, given the counts, who is unsettled, and whom the stage settles
 abbrev pub count_reasons : List ℤ → List ℕ → List ℕ → ℕ → List (Option Refusal)
 count_reasons counted unsettled settling number =
     reason number 6 (one (find (λ i. not (int_eq (count_at counted i) (first_count counted settling))) settling)) ∷
     reason number 7 (one (find (λ i. int_lt (count_at counted i) (first_count counted settling)) unsettled)) ∷ []
 
--- the reasons that are tried before its cap
+-- reasons 4 to 7, which are tried before the cap, given the counts and who is unsettled
 abbrev pub kept_reasons : List ℤ → List ℕ → ℕ → Stage → List (Option Refusal)
 kept_reasons counted unsettled number stage =
     let settling = filter (is_positive stage) unsettled in

@@ -1,5 +1,5 @@
 //! A check on its way through the stages of a certificate: what it keeps of the lottery and of the stages that it passed, and the
-//! reasons of a stage, except a quota panel that passes its cap.
+//! reasons of a stage, except that a quota panel passes its cap.
 
 ghost use Rattle.std.specs.Prelude.{◌≡◌, ◌∷◌, [], ◌+◌, ◌<◌, ◌-◌, ◌≤◌, ◌^◌, ◌||◌, ℕ, false, IfOk, filter, int_lt, length, map, not, option_map, pos, reverse, slice_index_or, sum_by, unsigned_abs};
 ghost use Rattle.std.specs.List.{find, range_with_len};
@@ -58,30 +58,30 @@ impl<'a> Course<'a> {
         })
     }
 
-    /// The pool.
+    /// Returns the pool.
     pub fn pool(&self) -> &'a Pool
         ensures { result.now ≡ self.now.pool }
     {
         self.pool
     }
 
-    /// The stages that the check passed, in their order.
+    /// Returns the stages that the check passed, in their order.
     pub fn earlier(&self) -> &'a [Stage]
         ensures { reverse result.now ≡ self.now.earlier }
     {
         &self.stages[..self.passed]
     }
 
-    /// The number of the next stage, from 1.
+    /// Returns the number of the next stage, from 1.
     pub fn number(&self) -> usize
         ensures { result ≡ length self.now.earlier + 1 }
     {
         self.earlier().len() + 1
     }
 
-    /// Returns whether the next stage is refused for a reason that is tried before its cap: somebody unsettled has a weight below
-    /// 0, reason 4; nobody unsettled has one above 0, 5; somebody whom it settles has another count than the first of them, 6; or
-    /// somebody unsettled has a lower one, 7.
+    /// Returns the verdict of the reasons that are tried before the cap of the next stage: reason 4 if somebody unsettled has a weight below
+    /// 0; 5 if nobody unsettled has one above 0; 6 if somebody whom the stage settles has another count than the first whom it settles; and 7
+    /// if somebody unsettled has a lower count than that first one.
     pub fn before_cap(&self, alloc: Global, stage: &Stage) -> Result<Verdict, AllocError>
         ensures { IfOk result (λ verdict. verdict ≡ first_reason (reasons_before_cap self.now.pool self.now.lottery self.now.earlier stage.now)) }
     {
@@ -89,8 +89,8 @@ impl<'a> Course<'a> {
         kept_verdict(alloc, &self.counts, &unsettled, self.number(), stage)
     }
 
-    /// Returns whether the next stage is refused because a listed panel doesn't weigh its cap, reason 9. The absolute values of its
-    /// numbers sum to at most 2^127 - 1.
+    /// Returns the verdict of reason 9: a listed panel doesn't weigh the cap of the next stage. The absolute values of the stage's cap and
+    /// weights sum to at most 2^127 - 1.
     pub fn off_cap(&self, alloc: Global, stage: &Stage) -> Result<Verdict, AllocError>
         requires { unsigned_abs stage.now.cap + sum_by unsigned_abs stage.now.weights ≤ 2 ^ 127 - 1 }
         ensures { IfOk result (λ verdict. verdict ≡ first_reason (off_cap_of self.now stage.now ∷ [])) }
@@ -111,7 +111,7 @@ impl<'a> Course<'a> {
         self.passed += 1;
     }
 
-    /// Returns whether the certificate is refused because somebody is still unsettled, reason 10.
+    /// Returns the verdict of reason 10, which comes after the last stage: somebody is still unsettled.
     pub fn left(&self, alloc: Global) -> Result<Verdict, AllocError>
         ensures { IfOk result (λ verdict. verdict ≡ first_reason (reasons_from self.now.pool self.now.lottery self.now.earlier [])) }
     {
@@ -122,7 +122,7 @@ impl<'a> Course<'a> {
     }
 }
 
-/// `count` marks, none of them set.
+/// Returns `count` marks, none of them set.
 fn none_marked(alloc: Global, count: usize) -> Result<Vec<bool>, AllocError>
     ensures size { IfOk result (λ marks. length marks.items ≡ count) }
     ensures none { IfOk result (λ marks. (i : ℕ) → i < count → slice_index_or marks.items i false ≡ false) }
@@ -130,7 +130,7 @@ fn none_marked(alloc: Global, count: usize) -> Result<Vec<bool>, AllocError>
     vec![in alloc; false; count]
 }
 
-/// The reasons of the stage of this number that are tried before its cap.
+/// Returns the verdict of reasons 4 to 7, which are tried before the cap, on stage `number`.
 fn kept_verdict(
     alloc: Global,
     counts: &[i128],
@@ -150,7 +150,7 @@ fn kept_verdict(
     counts_verdict(alloc, counts, unsettled, &settling, number)
 }
 
-/// The reasons that are about counts.
+/// Returns the verdict of reasons 6 and 7, which are about counts, on stage `number`.
 fn counts_verdict(
     alloc: Global,
     counts: &[i128],
@@ -170,7 +170,7 @@ fn counts_verdict(
     Ok(Verdict::valid())
 }
 
-/// The numbers of those who are unsettled, rising.
+/// Returns the numbers of the unsettled volunteers, in rising order.
 fn unsettled_numbers(alloc: Global, settled: &[bool]) -> Result<Vec<usize>, AllocError>
     ensures { IfOk result (λ numbers. numbers.items ≡ filter (λ i. not (slice_index_or settled.now i false)) (range_with_len 0 (length settled.now))) }
 {
@@ -179,7 +179,7 @@ fn unsettled_numbers(alloc: Global, settled: &[bool]) -> Result<Vec<usize>, Allo
         .collect(alloc)
 }
 
-/// The first volunteer who is unsettled.
+/// Returns the number of the first unsettled volunteer, if there is one.
 fn first_unsettled(settled: &[bool]) -> Option<usize>
     ensures { result ≡ find (λ i. not (slice_index_or settled.now i false)) (range_with_len 0 (length settled.now)) }
 {
@@ -192,7 +192,7 @@ fn is_settled(settled: &[bool], i: usize) -> bool
     settled.get(i).copied().unwrap_or(false)
 }
 
-/// The numbers of those whom a stage settles.
+/// Returns the numbers of the unsettled volunteers whom the stage settles.
 fn settling_numbers(
     alloc: Global,
     unsettled: &[usize],
@@ -213,7 +213,7 @@ fn first_negative(unsettled: &[usize], stage: &Stage) -> Option<usize>
     unsettled.iter().copied().find(|i| weight_of(stage, *i) < 0)
 }
 
-/// The count of the first of some volunteers.
+/// Returns the count of the first of these volunteers, or 0 if there are none.
 fn first_count(counts: &[i128], settling: &[usize]) -> i128
     ensures { result ≡ first_count_of counts.now settling.now }
 {
@@ -247,14 +247,14 @@ fn count_at(counts: &[i128], i: usize) -> i128
     counts.get(i).copied().unwrap_or(0)
 }
 
-/// A volunteer's weight, or 0 if the stage has none.
+/// Returns a volunteer's weight, or 0 if the stage has none for this number.
 fn weight_of(stage: &Stage, i: usize) -> i128
     ensures { result ≡ weight_of_one stage.now i }
 {
     stage.weights().get(i).copied().unwrap_or(0)
 }
 
-/// The first listed panel that doesn't weigh the cap.
+/// Returns the first listed panel that doesn't weigh the cap, if there is one.
 fn first_off_cap<'a>(rows: &'a [LotteryRow], stage: &Stage) -> Option<&'a Panel>
     requires { unsigned_abs stage.now.cap + sum_by unsigned_abs stage.now.weights ≤ 2 ^ 127 - 1 }
     ensures { option_map (λ panel. panel.now) result ≡ find (λ panel. not (int_eq (panel_weight_of stage.now panel) stage.now.cap)) (map (λ row. row.panel) rows.now) }

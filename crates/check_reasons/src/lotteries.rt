@@ -1,4 +1,5 @@
-//! The reasons of the lottery itself: a listed panel that is no quota panel, one that is listed twice, and another total.
+//! The reasons of the lottery itself: a listed panel that is no quota panel, a panel that is listed twice, and a total that isn't the sum
+//! of the weights.
 
 ghost use Rattle.std.specs.Prelude.{◌≡◌, [], IfOk, map, not, option_map};
 ghost use Rattle.std.specs.List.{find};
@@ -12,8 +13,8 @@ use pool_model::{Lottery, LotteryRow, Panel, Pool};
 use std::alloc::{AllocError, Global};
 use std::collections::BTreeSet;
 
-/// Returns whether the lottery itself is refused: for a listed panel that is no quota panel, reason 1; for one that equals an earlier
-/// one, reason 2; or because the weights don't sum to the total, reason 3.
+/// Returns the verdict on the lottery itself: reason 1 if a listed panel is no quota panel; 2 if one equals an earlier one; and 3 if the
+/// weights don't sum to the total.
 pub fn lottery_verdict(alloc: Global, pool: &Pool, lottery: &Lottery) -> Result<Verdict, AllocError>
     ensures { IfOk result (λ verdict. verdict ≡ first_reason (lottery_reasons pool.now lottery.now)) }
 {
@@ -30,7 +31,7 @@ pub fn lottery_verdict(alloc: Global, pool: &Pool, lottery: &Lottery) -> Result<
     Ok(Verdict::valid())
 }
 
-/// The first listed panel that is no quota panel.
+/// Returns the first listed panel that is no quota panel, if there is one.
 fn first_unfit<'a>(
     alloc: Global,
     pool: &Pool,
@@ -49,7 +50,7 @@ fn first_unfit<'a>(
     Ok(None)
 }
 
-/// The first panel that equals one before it.
+/// Returns the first listed panel that equals an earlier one, if there is one.
 fn first_repeated<'a>(
     alloc: Global,
     rows: &'a [LotteryRow],

@@ -1,5 +1,5 @@
-//! Tests whether a panel is a quota panel, in a time that grows with its members times the categories: each value is counted once, and
-//! households are compared by number. A helper of `lotteries`.
+//! Tests whether a panel is a quota panel. The time grows with the number of members times the number of categories: each value is counted
+//! once, and households are compared by number. A helper of `lotteries`.
 
 ghost use Rattle.std.specs.Prelude.{◌≡◌, ◌==◌, ◌||◌, ◌<◌, ℕ, false, IfOk, IsTrue, map, nat_lt, length, slice_index_or};
 ghost use Rattle.std.specs.List.{find, list_all, enumerate_from, range_with_len};
@@ -10,7 +10,8 @@ ghost use Rattle.check_reasons.specs.Households.{household_number as number_of, 
 use pool_model::{BoundedValue, Category, Panel, Pool, Standing, Volunteer, share_household};
 use std::alloc::{AllocError, Global};
 
-/// The number of each volunteer's household: that of its first member. For a volunteer without a household it is the volunteer's own.
+/// Returns the number of each volunteer's household, which is that of its first member. A volunteer without a household has their own
+/// number.
 pub(crate) fn household_numbers(
     alloc: Global,
     volunteers: &[Volunteer],
@@ -34,7 +35,7 @@ fn first_of_household(volunteers: &[Volunteer], i: usize) -> Option<usize>
     (0..volunteers.len()).find(|j| *j == i || share_household(volunteers, i, *j))
 }
 
-/// True if the panel is a quota panel of the pool, given the numbers of the households.
+/// True if the panel is a quota panel of the pool. `households` has the number of each volunteer's household.
 pub(crate) fn is_quota_panel(
     alloc: Global,
     pool: &Pool,
@@ -68,7 +69,7 @@ fn are_below(members: &[usize], count: usize) -> bool
     members.iter().all(|i| *i < count)
 }
 
-/// True if every seated and no gone volunteer is a member.
+/// True if each seated volunteer is a member, and none who is gone is.
 fn keep_standings(
     alloc: Global,
     volunteers: &[Volunteer],
@@ -105,7 +106,7 @@ fn permits(standing: Standing, is_in: bool) -> bool
     }
 }
 
-/// For each of `count` numbers whether it is a member's.
+/// Returns for each number below `count` whether it is a member's.
 fn marks(alloc: Global, count: usize, members: &[usize]) -> Result<Vec<bool>, AllocError>
     ensures { IfOk result (λ marks. (i : ℕ) → i < count → slice_index_or marks.items i false ≡ includes members.now i) }
 {
@@ -179,7 +180,7 @@ fn lies_within(value: &BoundedValue, count: usize) -> bool
     value.lower() <= count && count <= value.upper()
 }
 
-/// For each of a category's values how many members have it.
+/// Returns for each of the category's values how many members have it.
 fn numbers_with(
     alloc: Global,
     volunteers: &[Volunteer],
@@ -214,7 +215,7 @@ fn value_of(volunteer: &Volunteer, category: usize) -> usize
     volunteer.values().get(category).copied().unwrap_or(0)
 }
 
-/// True if no two members have one household.
+/// True if no two members are of one household.
 fn differ(alloc: Global, households: &[usize], members: &[usize]) -> Result<bool, AllocError>
     requires known { IsTrue (list_all (λ i. nat_lt i (length households.now)) members.now) }
     requires within { IsTrue (list_all (λ h. nat_lt h (length households.now)) households.now) }

@@ -24,21 +24,21 @@ impl Model for Refusal {
 }
 
 impl Refusal {
-    /// The number of the stage, from 1, or 0 for the lottery itself.
+    /// Returns the number of the stage, from 1, or 0 for the lottery itself.
     pub fn stage(&self) -> usize
         ensures { result ≡ self.now.stage }
     {
         self.stage
     }
 
-    /// The number of the reason: of a certificate from 1 to 10, of a proof from 1 to 7 or from 9 to 13.
+    /// Returns the number of the reason: of a certificate from 1 to 10, of a proof from 1 to 7 or from 9 to 13.
     pub fn reason(&self) -> u8
         ensures { result ≡ self.now.reason }
     {
         self.reason
     }
 
-    /// The numbers of the volunteers who show it.
+    /// Returns the numbers of the volunteers who show it.
     pub fn who(&self) -> &[usize]
         ensures { result.now ≡ self.now.who }
     {
@@ -62,14 +62,15 @@ impl Model for Verdict {
 }
 
 impl Verdict {
-    /// The verdict that the certificate is valid.
+    /// Returns the verdict that the certificate is valid.
     pub fn valid() -> Verdict
         ensures { result ≡ Valid }
     {
         Verdict { refusal: None }
     }
 
-    /// The verdict that the certificate is refused at a stage, 0 for the lottery itself, for a reason that these volunteers show.
+    /// Returns the verdict that the certificate is refused at a stage, or at 0 for the lottery itself, for a reason that the volunteers
+    /// `who` show.
     pub fn refused(
         alloc: Global,
         stage: usize,
@@ -90,7 +91,7 @@ impl Verdict {
         self.refusal.is_none()
     }
 
-    /// Why the certificate is refused, or None if it is valid.
+    /// Returns why the certificate is refused, or None if it is valid.
     pub fn refusal(&self) -> Option<&Refusal>
         ensures { self.now ≡ verdict_of (option_map (λ refusal. refusal.now) result) }
     {

@@ -34,7 +34,7 @@ are_made pool earlier stage likeness firsts second third classes closed row same
     }
 
 module _ (pool : Pool) (earlier : List Stage) (stage : Stage) (classes : Classes) (closed : List Row) (row : Row) (made : AreMade pool earlier stage classes closed row) where
-  -- what holds of the rows of the stages holds of these
+  -- what holds of the classes and rows that the definition names holds of those that were made
   moved : (P : Classes → List Row → Type 0) → P (classes_at pool (stage ∷ earlier)) (map (stage_row pool (stage ∷ earlier)) (stage ∷ earlier)) → P classes (row ∷ closed)
   moved P holds =
       subst (λ all. P all (row ∷ closed)) (sym made.classes_are)

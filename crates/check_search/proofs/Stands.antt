@@ -1,4 +1,4 @@
--- Where a search stands: at a front, at a child that it goes on to, and back at the front.
+-- The state of a search: at a front, at a child that it goes on to, and back at the front.
 use Rattle.std.proofs.Common.{◌≡◌, ℕ, ◌+◌, ◌-◌, ◌<◌, true, ◌&&◌, List, [], ◌∷◌, ◌++◌, length, take, set, sym, ap, ◌∙◌, arith, subst}
 use Rattle.std.specs.Prelude.{int_le, int_lt}
 use Rattle.std.specs.List.{list_all}
@@ -17,7 +17,7 @@ use Rattle.laws_of_fronts.proofs.Fronts.{within_more, placed, front_length}
 use Rattle.laws_of_fronts.proofs.WeightLaws.{weighs_back}
 use Rattle.define_searches.proofs.FirstSearch.{taken_none}
 
--- the same place with another tally
+-- the search is at the same front with another tally
 pub stands_with : (all : Classes) (closed : List Row) (row : Row) (depth : ℕ) (rest rest' : List Class) (before after : Search) → StandsAt all closed row depth rest before → after.counts.items ≡ before.counts.items →
     after.weights ≡ before.weights → after.closed.items ≡ before.closed.items → Tracks all (take depth before.counts.items) rest' after.tally → StandsAt all closed row depth rest' after
 stands_with all closed row depth rest rest' before after stands e g h tracks = record {
@@ -30,7 +30,7 @@ stands_with all closed row depth rest rest' before after stands e g h tracks = r
   closed_rows = subst (λ xs. WeighEach all closed (take depth xs) after.closed.items) (sym e) (subst (WeighEach all closed (take depth before.counts.items)) (sym h) stands.closed_rows);
 }
 
--- at the empty front, where it is live
+-- the search is at the empty front, if that is live
 pub begins_there : (all : Classes) (closed : List Row) (row : Row) (search : Search) → Begins all closed row search → is_live_above all closed row row.b [] ≡ true → StandsAt all closed row 0 all.classes search
 begins_there all closed row search begins live =
     let parts = and_parts (is_reachable all [] && list_all (λ r. int_le r.b (optimistic all r [])) closed) (int_lt row.b (optimistic all row [])) live in
@@ -47,13 +47,13 @@ begins_there all closed row search begins live =
 pub whole_lack : (all : Classes) (size : ℕ) → size ≡ all.size → size ≡ all.size - taken_by all []
 whole_lack all size e = omega (arith, taken_none (λ class. true) all.classes)
 
--- the counts of a child
+-- the counts of a child are within their classes
 pub child_within : (all : Classes) (closed : List Row) (row : Row) (depth count : ℕ) (rest : List Class) (search : Search) → StandsAt all closed row depth rest search → depth < length all.classes → CanTake all depth count →
     AreWithin all (take depth search.counts.items ++ count ∷ [])
 child_within all closed row depth count rest search stands below can =
     within_more all (take depth search.counts.items) depth count (front_length depth search.counts.items (length all.classes) stands.places stands.within) below can stands.counts
 
--- a live child
+-- the search is at a reachable child, once its count is taken
 pub child_stands : (all : Classes) (closed : List Row) (row : Row) (depth count : ℕ) (rest : List Class) (before after : Search) → StandsAt all closed row depth rest before → depth < length all.classes → CanTake all depth count →
     is_reachable all (take depth before.counts.items ++ count ∷ []) ≡ true → after.counts.items ≡ set before.counts.items depth count →
     Tracks all (take depth before.counts.items ++ count ∷ []) rest after.tally → Weighs all row (take depth before.counts.items ++ count ∷ []) after.weights →
@@ -70,7 +70,7 @@ child_stands all closed row depth count rest before after stands below can live 
       closed_rows = subst (λ f. WeighEach all closed f after.closed.items) (sym child) closed_rows;
     }
 
--- back at the front that a child went on from
+-- the search is back at the front, once the child's count is given back
 pub parent_stands : (all : Classes) (closed : List Row) (row : Row) (depth count : ℕ) (rest : List Class) (before child after : Search) → StandsAt all closed row depth rest before → StandsAt all closed row (depth + 1) rest child →
     take (depth + 1) child.counts.items ≡ take depth before.counts.items ++ count ∷ [] → take depth child.counts.items ≡ take depth before.counts.items →
     after.counts.items ≡ child.counts.items → after.weights ≡ child.weights → after.closed.items ≡ child.closed.items →
@@ -88,7 +88,7 @@ parent_stands all closed row depth count rest before child after stands below e 
       closed_rows = subst (WeighEach all closed (take depth after.counts.items)) (sym i) (each_back all closed front_before _ _ count _ e front below.closed_rows);
     }
 
--- a child that is in reach, and whose weights allow it, is live
+-- a reachable child whose weights allow it is live
 pub child_live : (all : Classes) (closed : List Row) (row : Row) (child : List ℕ) → is_reachable all child ≡ true →
     (list_all (λ r. int_le r.b (optimistic all r child)) closed && int_lt row.b (optimistic all row child)) ≡ true → is_live_above all closed row row.b child ≡ true
 child_live all closed row child live weighs =

@@ -8,14 +8,15 @@ use Rattle.define_searches.specs.Visits.{Search}
 use Rattle.check_search.specs.declared.searching.CapStop.{CapStop}
 use Rattle.check_search.specs.declared.searching.CapStop.TheVariants.{Spent, OutOfMemory}
 
--- what a search finds if its visits are within the budget, else that the budget is spent; want of memory may come at any time
+-- a search's answer under a budget of `nodes` visits: what it finds if its visits are within the budget, else that the budget is spent;
+-- running out of memory is allowed at any time
 abbrev pub Answers : Search → ℕ → Result (Option (List ℕ)) CapStop → Type 0
 Answers search nodes (Ok found) = (search.visits ≤ nodes) × (found ≡ search.found)
 Answers search nodes (Err Spent) = nodes < search.visits
 Answers search nodes (Err OutOfMemory) = Unit {0}
 
--- what the search at a stage answers, after earlier stages, the latest first: the first panel above the cap if its visits are within the
--- budget, else that the budget is spent; want of memory may come at any time
+-- the answer of the search at `stage`: the first panel above its cap if the search's visits are within `nodes`, else that the budget is
+-- spent; running out of memory is allowed at any time. The earlier stages have the latest first
 abbrev pub AnswersAt : Pool → List Stage → Stage → ℕ → Result (Option (List ℕ)) CapStop → Type 0
 AnswersAt pool earlier stage nodes (Ok found) = ((stage_search pool earlier stage).visits ≤ nodes) × (found ≡ first_above_cap pool earlier stage)
 AnswersAt pool earlier stage nodes (Err Spent) = nodes < (stage_search pool earlier stage).visits

@@ -1,13 +1,14 @@
--- What a search keeps of the front where it is, as the numbers of `laws_of_fronts`.
+-- What the code's tally of a front means, in the terms of `laws_of_fronts`.
 use Rattle.std.specs.Prelude.{ℕ, List}
 use Rattle.define_searches.specs.Classes.{Class, Classes}
 use Rattle.laws_of_fronts.specs.Front as laws
 use Rattle.check_search.specs.declared.tally.Tally.{Tally}
 
--- the numbers of a tally
+-- the tally in the form of `laws_of_fronts`
 abbrev pub numbers : Tally → laws.FrontTally
 numbers tally = record { taken = tally.taken; held = tally.held.items; later_taken = tally.later_taken; later = tally.later.items; homes = tally.homes.items }
 
--- how many the front takes, and the most that these classes give, in all and of each value; and how many it takes of each household
+-- the tally has what the front takes, in all, of each value and of each household, and the most that the classes in `rest` give, in all and
+-- of each value
 abbrev pub Tracks : Classes → List ℕ → List Class → Tally → Type 0
 Tracks all front rest tally = laws.Tracks all front rest (numbers tally)

@@ -12,7 +12,7 @@ use Rattle.check_search.specs.Weights.{Weighs, WeighEach}
 use Rattle.check_search.specs.declared.searching.BudgetSpent.{BudgetSpent}
 use Rattle.check_search.specs.declared.searching.Search.{Search}
 
--- a search is at a front of the first classes that is within reach, and these classes come after it
+-- the search is at a reachable front of the first `depth` classes, and its tally counts the classes in `later` as still to come
 pub record StandsAt (all : Classes) (closed : List Row) (row : Row) (depth : ℕ) (later : List Class) (search : Search) : Type 0 where
   pub places : length search.counts.items ≡ length all.classes
   pub within : depth ≤ length all.classes
@@ -33,22 +33,22 @@ pub record Begins (all : Classes) (closed : List Row) (row : Row) (search : Sear
 abbrev pub child_above : Classes → List Row → Row → List Class → List ℕ → Due
 child_above all closed row later child = if is_live_above all closed row row.b child then enter_above all closed row later child else record { visits = 0; found = None }
 
--- the children of a front, with these counts of the next class, one after the other
+-- the searches of a front's live children, with these counts of the next class, one after the other
 abbrev pub children_above : Classes → List Row → Row → List Class → List ℕ → List ℕ → Due
 children_above all closed row later front counts =
     one_by_one (map (λ child. enter_above all closed row later child) (filter (is_live_above all closed row row.b) (map (λ c. front ++ c ∷ []) counts)))
 
--- the counts of the first of some classes
+-- the counts that the first of these classes may have
 abbrev pub counts_of_first : List Class → List ℕ
 counts_of_first [] = []
 counts_of_first (class ∷ later) = counts_of class
 
--- the counts that the class in this place may have
+-- the counts that class `depth` may have
 abbrev pub counts_at : Classes → ℕ → List ℕ
 counts_at all depth = counts_of_first (drop depth all.classes)
 
--- a step from a front with `left` visits left: it finds what is due and makes the visits that are due, or these are more than are left;
--- if it finds nothing it returns to the front
+-- a step from `front` with `left` visits left: it finds what `due` finds and makes the visits of `due`, or these are more than `left`. If
+-- it finds nothing, it returns to `front`
 abbrev pub StepsFrom : Classes → List Row → Row → ℕ → List Class → Due → ℕ → List ℕ → Result Bool BudgetSpent → Search → Type 0
 StepsFrom all closed row depth later due left front (Ok true) after = (left ≡ after.left + due.visits) × (due.found ≡ Some after.counts.items)
 StepsFrom all closed row depth later due left front (Ok false) after =
@@ -58,7 +58,7 @@ StepsFrom all closed row depth later due left front (Err spent) after = left < d
 abbrev pub Steps : Classes → List Row → Row → ℕ → List Class → Due → Search → Result Bool BudgetSpent → Search → Type 0
 Steps all closed row depth later due before result after = StepsFrom all closed row depth later due before.left (take depth before.counts.items) result after
 
--- what a whole search finds with `left` visits left
+-- a whole search with `left` visits left: it finds what `due` finds and makes the visits of `due`, or these are more than `left`
 abbrev pub Finds : Due → ℕ → Result Bool BudgetSpent → Search → Type 0
 Finds due left (Ok true) after = (left ≡ after.left + due.visits) × (due.found ≡ Some after.counts.items)
 Finds due left (Ok false) after = (left ≡ after.left + due.visits) × (due.found ≡ None)

@@ -7,14 +7,14 @@ use Rattle.laws_of_fronts.specs.Weights.{AreNarrow, EachNarrow}
 use Rattle.check_search.specs.Weights.{IsSummed, SumEach}
 use Rattle.check_search.specs.declared.terms.Terms.{Terms}
 
--- every weight in the rows fits 128 bits, and these are the rows' greatest sums
+-- every weight in the rows fits 128 bits, and the sums are the rows' greatest sums
 pub record AreTerms (terms : Terms) : Type 0 where
   pub narrow : AreNarrow terms.classes terms.row.a
   pub closed_narrow : EachNarrow terms.classes terms.closed.items
   pub summed : IsSummed terms.classes terms.row terms.sums
   pub closed_summed : SumEach terms.classes terms.closed.items terms.closed_sums.items
 
--- the classes and rows are those of a stage after earlier ones, the latest first
+-- the classes and rows are those of `stage` after the earlier stages, which have the latest first
 pub record AreOfStage (pool : Pool) (earlier : List Stage) (stage : Stage) (terms : Terms) : Type 0 where
   pub classes : terms.classes ≡ classes_at pool (stage ∷ earlier)
   pub closed : terms.closed.items ≡ map (stage_row pool (stage ∷ earlier)) earlier

@@ -10,22 +10,22 @@ use Rattle.check_search.specs.declared.weighing.Weights.{Weights}
 abbrev pub table_of : Sums → List ℤ
 table_of sums = sums.cells.items
 
--- the weights, by the lengths of fronts
+-- what a front and each of its beginnings weigh, by their lengths
 abbrev pub weights_of : Weights → List ℤ
 weights_of weights = weights.by_length.items
 
--- the greatest sums in a row
+-- the table has the greatest sums in the row
 abbrev pub IsSummed : Classes → Row → Sums → Type 0
 IsSummed all row sums = laws.IsSummed all row (table_of sums)
 
--- the same for each of the rows
+-- each table has the greatest sums in its row
 abbrev pub SumEach : Classes → List Row → List Sums → Type 0
 SumEach = laws.SumEach table_of
 
--- the weights in a row of a front and of each front before it
+-- the weights are those of the front and of each of its beginnings in the row
 abbrev pub Weighs : Classes → Row → List ℕ → Weights → Type 0
 Weighs all row front weights = laws.Weighs all row front (weights_of weights)
 
--- the same for each of the rows
+-- the weights are those of the front and of each of its beginnings in each row
 abbrev pub WeighEach : Classes → List Row → List ℕ → List Weights → Type 0
 WeighEach = laws.WeighEach weights_of

@@ -11,10 +11,10 @@ use crate::terms::Terms;
 use pool_model::{Panel, Pool, Stage};
 use std::alloc::{AllocError, Global};
 
-/// Returns the first quota panel, in the order of compositions, that attains the caps of the earlier stages and weighs more than the
-/// cap of the stage, or None if there is none, if the search makes at most `nodes` visits. The earlier stages are in their order, the
-/// first one first, and each stage is in the ranges of a bundle for the pool. Fails with `Spent` if the search makes more visits, and
-/// with `OutOfMemory` if memory runs out.
+/// Searches for a quota panel that attains the caps of the earlier stages and weighs more than the cap of the stage. Returns the first one
+/// in the order of compositions, or None if there is none. The earlier stages are in their order, the first one first, and each stage is in
+/// the ranges of a bundle for the pool. Fails with `Spent` if the search needs more than `nodes` visits, and with `OutOfMemory` if memory
+/// runs out.
 ///
 /// Volunteers of equal values, equal standing and equal weights in the stages are of one class; someone who shares a household is in a
 /// class alone. The panel has the first members of each class. All memory that the search needs is taken before the first visit.
@@ -37,7 +37,7 @@ pub fn panel_above_cap(
     }
 }
 
-// Copies of the stages, the last one first.
+// Returns copies of the stages, the last one first.
 fn reversed(alloc: Global, stages: &[Stage]) -> Result<Vec<Stage>, AllocError>
     ensures { IfOk result (λ copies. copies.items ≡ reverse stages.now) }
 {

@@ -12,7 +12,7 @@ use define_searches::Bounds;
 use pool_model::{BoundedValue, Category};
 use std::alloc::{AllocError, Global};
 
-// The classes at a stage, given the first member of each.
+// Returns the classes at a stage. `leaders` are the first members of the classes.
 pub(crate) fn classes_at(
     alloc: Global,
     likeness: &Likeness<'_>,
@@ -29,7 +29,7 @@ pub(crate) fn classes_at(
     Ok(Classes::new(pool.size(), bounds, groups))
 }
 
-// For each category the bounds of its values.
+// Returns the bounds of the values, category by category.
 fn all_bounds(alloc: Global, categories: &[Category]) -> Result<Vec<ValueBounds>, AllocError>
     ensures { IfOk result (λ bounds. bounds.items ≡ bounds_of categories.now) }
 {
@@ -52,7 +52,7 @@ fn value_bounds(alloc: Global, values: &[BoundedValue]) -> Result<Vec<Bounds>, A
         .collect(alloc)
 }
 
-// The first member of each class: nobody before is alike.
+// Returns the first member of each class: each volunteer to whom no earlier volunteer is alike.
 pub(crate) fn leaders(alloc: Global, likeness: &Likeness<'_>) -> Result<Vec<usize>, AllocError>
     requires { KnowsHouseholds likeness.now }
     ensures { IfOk result (λ found. found.items ≡ leaders_by (is_alike likeness.now) (count_of likeness.now)) }
@@ -66,7 +66,7 @@ pub(crate) fn leaders(alloc: Global, likeness: &Likeness<'_>) -> Result<Vec<usiz
     Ok(found)
 }
 
-// True if nobody before is alike.
+// True if no volunteer before `i` is alike to `i`, so that `i` is the first member of a class.
 fn leads(likeness: &Likeness<'_>, i: usize) -> bool
     requires households { KnowsHouseholds likeness.now }
     requires below { i < count_of likeness.now }
@@ -80,7 +80,7 @@ fn leads(likeness: &Likeness<'_>, i: usize) -> bool
     true
 }
 
-// The class of each leader.
+// Returns the classes, one for each leader.
 fn groups(
     alloc: Global,
     likeness: &Likeness<'_>,
@@ -97,7 +97,7 @@ fn groups(
     Ok(found)
 }
 
-// The class of a leader.
+// Returns the class of `leader`.
 fn group(alloc: Global, likeness: &Likeness<'_>, leader: usize) -> Result<Class, AllocError>
     requires households { KnowsHouseholds likeness.now }
     requires below { leader < count_of likeness.now }
@@ -114,7 +114,7 @@ fn group(alloc: Global, likeness: &Likeness<'_>, leader: usize) -> Result<Class,
     ))
 }
 
-// All who are alike to a volunteer, in number order.
+// Returns the numbers of all who are alike to `leader`, in rising order.
 fn members(alloc: Global, likeness: &Likeness<'_>, leader: usize) -> Result<Vec<usize>, AllocError>
     requires households { KnowsHouseholds likeness.now }
     requires below { leader < count_of likeness.now }

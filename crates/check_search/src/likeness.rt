@@ -1,5 +1,5 @@
 //! Who is alike at a stage: volunteers of equal values, equal standing and equal weights in the stages up to it; someone who shares a
-//! household is alike nobody else. `grouping` makes classes by it.
+//! household is in a class alone. `grouping` makes classes by it.
 
 ghost use Rattle.std.specs.Prelude.{◌≡◌, ◌<◌, ◌∷◌, IfOk, map, count_by, length};
 ghost use Rattle.std.specs.List.{find, list_all, range_with_len};
@@ -55,7 +55,7 @@ impl<'a> Likeness<'a> {
         self.are_alike_once(i, j) && self.weigh_equal(i, j)
     }
 
-    // True if the two are one, or have equal values and standing and neither shares a household.
+    // True if `i` and `j` are one volunteer, or have equal values and equal standing and neither shares a household.
     fn are_alike_once(&self, i: usize, j: usize) -> bool
         requires households { KnowsHouseholds self.now }
         requires one { i < count_of self.now }
@@ -69,7 +69,7 @@ impl<'a> Likeness<'a> {
         i == j || (equal && !one && !other)
     }
 
-    // True if the two have the same weight in each of the stages.
+    // True if volunteers `i` and `j` have the same weight in each of the stages.
     fn weigh_equal(&self, i: usize, j: usize) -> bool
         ensures { result ≡ weigh_equal (stages_of self.now) i j }
     {
@@ -85,7 +85,7 @@ impl<'a> Likeness<'a> {
         self.household_of(i).is_some()
     }
 
-    // The number of the household that a volunteer shares with another one, if there is one.
+    // Returns the number of the household that volunteer `i` shares with another one, if there is one.
     pub(crate) fn household_of(&self, i: usize) -> Option<usize>
         requires households { KnowsHouseholds self.now }
         requires below { i < count_of self.now }
@@ -112,7 +112,7 @@ fn weighs_equal(stage: &Stage, i: usize, j: usize) -> bool
     weight_of(stage, i) == weight_of(stage, j)
 }
 
-// A volunteer's weight, or 0 if the stage has none.
+// Returns a volunteer's weight, or 0 if the stage has none for this number.
 pub(crate) fn weight_of(stage: &Stage, i: usize) -> i128
     ensures { result ≡ weight_in_stage stage.now i }
 {
@@ -137,7 +137,7 @@ fn is_same_standing(one: Standing, other: Standing) -> bool
     }
 }
 
-// For each volunteer the number of the household that they share with another one, if there is one.
+// Returns for each volunteer the number of the household that they share with another one, if there is one.
 fn shared_households(
     alloc: Global,
     volunteers: &[Volunteer],
@@ -149,7 +149,8 @@ fn shared_households(
         .collect(alloc)
 }
 
-// The number of the household that a volunteer shares with another one: that of its first member.
+// Returns the number of the household that volunteer `i` shares with another one, if there is one. It is the number of the household's
+// first member.
 fn shared_household(volunteers: &[Volunteer], i: usize) -> Option<usize>
     ensures { result ≡ shared volunteers.now i }
 {
@@ -158,7 +159,7 @@ fn shared_household(volunteers: &[Volunteer], i: usize) -> Option<usize>
     if 2 <= members { first } else { None }
 }
 
-// How many volunteers are of a volunteer's household.
+// Returns how many volunteers are of the household of volunteer `i`: 0 if `i` has none.
 fn household_size(volunteers: &[Volunteer], i: usize) -> usize
     ensures { result ≡ count_by (share volunteers.now i) (range_with_len 0 (length volunteers.now)) }
 {
@@ -167,7 +168,7 @@ fn household_size(volunteers: &[Volunteer], i: usize) -> usize
         .count()
 }
 
-// The number of the first volunteer of a volunteer's household.
+// Returns the number of the first volunteer of the household of volunteer `i`, if `i` has one.
 fn household_number(volunteers: &[Volunteer], i: usize) -> Option<usize>
     ensures { result ≡ find (share volunteers.now i) (range_with_len 0 (length volunteers.now)) }
 {

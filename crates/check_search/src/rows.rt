@@ -25,7 +25,7 @@ impl Model for StageRow {
 }
 
 impl StageRow {
-    // The row of a stage, given the first member of each class.
+    // Makes the row of a stage. `leaders` are the first members of the classes.
     pub(crate) fn of_stage(
         alloc: Global,
         leaders: &[usize],
@@ -39,14 +39,14 @@ impl StageRow {
         })
     }
 
-    // The cap.
+    // Returns the cap.
     pub(crate) fn side(&self) -> i128
         ensures { result ≡ self.now.b }
     {
         self.cap
     }
 
-    // The entries in class order.
+    // Returns the entries in class order.
     pub(crate) fn entries(&self) -> &[i128]
         ensures { result.now ≡ self.now.a }
     {
@@ -54,7 +54,7 @@ impl StageRow {
     }
 }
 
-// The weights of these volunteers in the stage.
+// Returns the weights of the leaders in the stage.
 fn weights_of(alloc: Global, leaders: &[usize], stage: &Stage) -> Result<Vec<i128>, AllocError>
     ensures { IfOk result (λ weights. weights.items ≡ map (weight_in_stage stage.now) leaders.now) }
 {
@@ -64,7 +64,7 @@ fn weights_of(alloc: Global, leaders: &[usize], stage: &Stage) -> Result<Vec<i12
         .collect(alloc)
 }
 
-// The rows of several stages.
+// Makes the rows of the stages.
 pub(crate) fn rows_of(
     alloc: Global,
     leaders: &[usize],

@@ -31,9 +31,9 @@ pub enum CapStop {
     OutOfMemory,
 }
 
-// Returns the first composition, in order of classes with the greater count first, that attains the closed rows and weighs more in the
-// row than its right side, or None if there is none, if the search makes at most `nodes` visits. Each front that is entered counts one
-// visit, also the empty front. All memory is taken before the first visit.
+// Searches for a composition that attains the closed rows and weighs more in the row than its right side. Returns the first one, in order
+// of classes with the greater count first, or None if there is none. Fails if the search needs more than `nodes` visits: each front that is
+// entered is one, also the empty front. All memory is taken before the first visit.
 pub(crate) fn first_above(
     alloc: Global,
     terms: &Terms,
@@ -68,12 +68,12 @@ impl From<BudgetSpent> for CapStop {
     }
 }
 
-// No visit is left.
+// Says that no visit is left.
 #[derive(Debug, Clone, Copy)]
 pub(crate) struct BudgetSpent;
 
-// Where a search is: the counts of the front's classes, with a place for each class; what the front takes, and what it weighs in the row
-// and in each closed row; and how many visits are left.
+// The state of a search. The front is at the beginning of `counts`, which has a place for each class. Then: what the front takes, what it
+// weighs in the row and in each closed row, and how many visits are left.
 #[derive(Debug, Drop)]
 struct Search {
     counts: Vec<usize>,
@@ -84,7 +84,7 @@ struct Search {
 }
 
 impl Search {
-    // At the empty front, before anything is entered.
+    // Returns the search at the empty front, before any visit.
     fn new(alloc: Global, terms: &Terms, nodes: u64) -> Result<Search, AllocError>
         requires { AreTerms terms.now }
         ensures left { IfOk result (λ search. search.left ≡ nodes) }
@@ -100,7 +100,7 @@ impl Search {
         })
     }
 
-    // The whole search. It has its memory, so it ends with what it finds, or with its budget spent.
+    // Makes the whole search. All its memory is taken before, so only the budget can stop it.
     fn run(mut self, terms: &Terms) -> Result<Option<Composition>, BudgetSpent>
         requires terms { AreTerms terms.now }
         requires begins { Begins terms.now.classes terms.now.closed.items terms.now.row self }
@@ -113,7 +113,7 @@ impl Search {
         }
     }
 
-    // Enters the empty front, if it is live.
+    // Enters the empty front if it is live, else only counts the visit. True if a composition is found, which is then in `counts`.
     fn from_the_empty_front(&mut self, terms: &Terms) -> Result<bool, BudgetSpent>
         requires terms { AreTerms terms.now }
         requires begins { Begins terms.now.classes terms.now.closed.items terms.now.row self.old }
@@ -152,7 +152,7 @@ impl Search {
         attains && terms.row.side() < weight
     }
 
-    // Counts a visit.
+    // Counts a visit, or fails if none is left.
     fn spend(&mut self) -> Result<(), BudgetSpent>
         ensures ok { OnOk result (self.old ≡ record self.new { left = self.new.left + 1 }) }
         ensures err { OnErr result (self.old.left ≡ 0) }
@@ -199,7 +199,7 @@ impl Search {
     }
 
     #[cycle(search)]
-    // Enters a live front of the first `depth` classes. True if it leads to a composition that is sought.
+    // Enters a live front of the first `depth` classes. True if a composition is found below it, which is then in `counts`.
     fn enter(&mut self, terms: &Terms, depth: usize) -> Result<bool, BudgetSpent>
         requires terms { AreTerms terms.now }
         requires stands { StandsAt terms.now.classes terms.now.closed.items terms.now.row depth (drop depth terms.now.classes.classes) self.old }

@@ -1,4 +1,4 @@
-//! Counters for values, 50 places for each category, and what they allow. A helper of `tally`.
+//! Counters for values, 50 places for each category, and the counts that the bounds allow. A helper of `tally`.
 
 ghost use Rattle.std.specs.Prelude.{◌≡◌, ℕ, List, true, false, ◌≤◌, ◌<◌, ◌+◌, ◌^◌, length};
 ghost use Rattle.laws_of_fronts.specs.Tallies.{HaveCells, CanGive, AreAtMost, HasMore, HaveBounds, AllReach, FitCells, EachReaches, SomeFails, within_reach};
@@ -10,7 +10,7 @@ use define_searches::Bounds;
 // How many places each category has.
 pub(crate) const PLACES: usize = 50;
 
-// Adds the count for each category's value. A search often tries the count 0, which changes nothing.
+// Adds `count` to the counter of each of these values. A search often tries the count 0, which changes nothing.
 pub(crate) fn add_to(cells: &mut [usize], values: &[usize], count: usize)
     requires cells { HaveCells values.now cells.old }
     requires small { AreAtMost 1000000 (length values.now) cells.old }
@@ -25,7 +25,7 @@ pub(crate) fn add_to(cells: &mut [usize], values: &[usize], count: usize)
     }
 }
 
-// Takes the count away for each category's value.
+// Takes `count` from the counter of each of these values.
 pub(crate) fn take_from(cells: &mut [usize], values: &[usize], count: usize)
     requires cells { HaveCells values.now cells.old }
     requires enough { CanGive values.now cells.old count }
@@ -39,7 +39,7 @@ pub(crate) fn take_from(cells: &mut [usize], values: &[usize], count: usize)
     }
 }
 
-// True if with `count` more of these values each value's number is at most its upper bound and can still reach its lower one.
+// True if, with `count` more of these values, each value's number is at most its upper bound and with `later` reaches its lower one.
 pub(crate) fn values_allow(
     bounds: &[ValueBounds],
     held: &[usize],
@@ -66,7 +66,7 @@ pub(crate) fn values_allow(
     true
 }
 
-// The greatest number, up to `most`, that the upper bounds of these values leave room for: with more, one passes its bound.
+// Returns the greatest count, at most `most`, that the upper bounds of these values allow. With more, some value passes its bound.
 pub(crate) fn room_left(
     bounds: &[ValueBounds],
     held: &[usize],
@@ -86,7 +86,7 @@ pub(crate) fn room_left(
     room
 }
 
-// The least number, from `least` on, that these values need: with fewer, one can't reach its lower bound.
+// Returns the least count, at least `least`, that these values need. With fewer, some value can't reach its lower bound.
 pub(crate) fn number_needed(
     bounds: &[ValueBounds],
     held: &[usize],
@@ -111,7 +111,7 @@ pub(crate) fn number_needed(
     needed
 }
 
-// True if each value's number is at most its upper bound and can still reach its lower one.
+// True if each value's number is at most its upper bound and with `later` reaches its lower one.
 pub(crate) fn all_within_reach(bounds: &[ValueBounds], held: &[usize], later: &[usize]) -> bool
     requires held { FitCells bounds.now held.now }
     requires later { FitCells bounds.now later.now }

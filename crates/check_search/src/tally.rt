@@ -1,4 +1,4 @@
-//! What a front takes, in all, of each value and of each household, and the most that the classes after it give.
+//! What a front takes, in all, of each value and of each household, and the most that the classes after it can give.
 
 ghost use Rattle.std.specs.Prelude.{◌≡◌, ℕ, false, ◌+◌, ◌-◌, ◌*◌, ◌≤◌, ◌<◌, ◌++◌, ◌^◌, [], ◌∷◌, IfOk, true, nat_le, ◌&&◌, drop, length};
 ghost use Rattle.laws_of_fronts.specs.Front.{Gives};
@@ -13,7 +13,8 @@ use crate::tallies::{
 };
 use std::alloc::{AllocError, Global};
 
-// How many a front takes, and the most that later classes give: in all, and of each value; and how many it takes of each household.
+// How many members a front takes, in all (`taken`), of each value (`held`) and of each household (`homes`); and the most that later classes
+// can give, in all (`later_taken`) and of each value (`later`).
 #[derive(Debug, Drop)]
 pub(crate) struct Tally {
     taken: usize,
@@ -24,7 +25,7 @@ pub(crate) struct Tally {
 }
 
 impl Tally {
-    // Of the empty front, after which each class comes.
+    // Returns the tally of the empty front, with all classes still to come.
     pub(crate) fn new(alloc: Global, classes: &Classes) -> Result<Tally, AllocError>
         ensures { IfOk result (λ tally. Tracks classes.now [] classes.now.classes tally) }
     {
@@ -43,7 +44,7 @@ impl Tally {
         })
     }
 
-    // Takes the class after the front from those that are still to come.
+    // Takes the class after the front off the classes that are still to come.
     pub(crate) fn begin_class(&mut self, classes: &Classes, front: &[usize])
         requires below { length front.now < length classes.now.classes }
         requires stands { Tracks classes.now front.now (drop (length front.now) classes.now.classes) self.old }
@@ -54,7 +55,7 @@ impl Tally {
         self.later_taken -= class.most();
     }
 
-    // Puts that class back.
+    // Puts the class after the front back to the classes that are still to come.
     pub(crate) fn end_class(&mut self, classes: &Classes, front: &[usize])
         requires below { length front.now < length classes.now.classes }
         requires stands { Tracks classes.now front.now (drop (length front.now + 1) classes.now.classes) self.old }
@@ -65,7 +66,7 @@ impl Tally {
         self.later_taken += class.most();
     }
 
-    // The front takes `count` of the next class.
+    // Adds `count` members of the next class to what the front takes.
     pub(crate) fn take(&mut self, classes: &Classes, front: &[usize], count: usize)
         requires below { length front.now < length classes.now.classes }
         requires small { taken_by classes.now front.now ≤ 1000 }
@@ -79,7 +80,7 @@ impl Tally {
         self.taken += count;
     }
 
-    // The front gives `count` of the next class back.
+    // Takes `count` members of the next class from what the front takes.
     pub(crate) fn give_back(&mut self, classes: &Classes, front: &[usize], count: usize)
         requires below { length front.now < length classes.now.classes }
         requires stands { Tracks classes.now (front.now ++ count ∷ []) (drop (length front.now + 1) classes.now.classes) self.old }
@@ -91,7 +92,7 @@ impl Tally {
         self.taken -= count;
     }
 
-    // True if the front is live with `count` of the next class.
+    // True if the front is reachable with `count` of the next class.
     pub(crate) fn allows(&self, classes: &Classes, front: &[usize], count: usize) -> bool
         requires below { length front.now < length classes.now.classes }
         requires live { is_reachable classes.now front.now ≡ true }
@@ -123,7 +124,8 @@ impl Tally {
             )
     }
 
-    // The greatest count of the next class, up to `most`, that the size and the upper bounds allow: with more the front isn't live.
+    // Returns the greatest count of the next class, at most `most`, that the size and the upper bounds allow. With more, the front isn't
+    // reachable.
     pub(crate) fn greatest_count(&self, classes: &Classes, front: &[usize], most: usize) -> usize
         requires below { length front.now < length classes.now.classes }
         requires stands { Tracks classes.now front.now (drop (length front.now + 1) classes.now.classes) self.now }
@@ -135,7 +137,8 @@ impl Tally {
         room_left(classes.bounds(), &self.held, class.values(), most.min(lack))
     }
 
-    // The least count of the next class, from `least` on, that the size and the lower bounds need: with fewer the front isn't live.
+    // Returns the least count of the next class, at least `least`, that the size and the lower bounds need. With fewer, the front isn't
+    // reachable.
     pub(crate) fn least_count(&self, classes: &Classes, front: &[usize], least: usize) -> usize
         requires below { length front.now < length classes.now.classes }
         requires live { is_reachable classes.now front.now ≡ true }
@@ -154,7 +157,7 @@ impl Tally {
         )
     }
 
-    // True if the empty front is live.
+    // True if the empty front is reachable.
     pub(crate) fn begins_alive(&self, classes: &Classes) -> bool
         requires { Tracks classes.now [] classes.now.classes self.now }
         ensures { result ≡ is_reachable classes.now [] }
@@ -164,7 +167,7 @@ impl Tally {
             && all_within_reach(classes.bounds(), &self.held, &self.later)
     }
 
-    // How many members the front with `count` of the next class lacks of the size.
+    // Returns how many members the front with `count` of the next class lacks of the size.
     pub(crate) fn lack(&self, classes: &Classes, front: &[usize], count: usize) -> usize
         requires below { length front.now < length classes.now.classes }
         requires live { is_reachable classes.now (front.now ++ count ∷ []) ≡ true }
@@ -175,7 +178,7 @@ impl Tally {
         classes.size() - (self.taken + count)
     }
 
-    // True if with `count` more at most the size is taken, and the size can be reached.
+    // True if, with `count` more, at most the size is taken and later classes can give the rest.
     fn size_allows(&self, size: usize, count: usize) -> bool
         requires { self.now.taken + count + self.now.later_taken < 2 ^ 64 }
         ensures { result ≡ (nat_le (self.now.taken + count) size && nat_le size (self.now.taken + count + self.now.later_taken)) }
@@ -185,7 +188,7 @@ impl Tally {
     }
 }
 
-// Adds to cells of zero what each class can give of each value. Returns how much all classes can give.
+// Adds what each class can give of each value to the cells, which are 0. Returns how many members all classes can give.
 fn add_all(later: &mut [usize], classes: &Classes) -> usize
     requires room { length later.old ≡ 50 * length classes.now.bounds }
     requires zero { AreAtMost 0 (length classes.now.bounds) later.old }

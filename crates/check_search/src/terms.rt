@@ -26,7 +26,7 @@ pub(crate) struct Terms {
 }
 
 impl Terms {
-    // The terms of a stage, after earlier ones, the latest first.
+    // Makes the terms of a stage after the earlier stages, which have the latest first.
     pub(crate) fn new(
         alloc: Global,
         pool: &Pool,
@@ -45,7 +45,7 @@ impl Terms {
         Ok(Terms::of_rows(alloc, classes, closed, row)?)
     }
 
-    // The terms of rows over classes.
+    // Makes the terms of these classes and rows, with the greatest sums.
     fn of_rows(
         alloc: Global,
         classes: Classes,

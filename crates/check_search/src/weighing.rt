@@ -13,14 +13,14 @@ use crate::groups::Classes;
 use crate::rows::StageRow;
 use std::alloc::{AllocError, Global};
 
-// The weights in a row of a front and of each front before it, by their lengths.
+// What a front and each of its beginnings weigh in a row, by their lengths.
 #[derive(Debug, Drop)]
 pub(crate) struct Weights {
     by_length: Vec<i128>,
 }
 
 impl Weights {
-    // Of the empty front.
+    // Returns the weights of the empty front.
     pub(crate) fn of_nothing(
         alloc: Global,
         classes: &Classes,
@@ -34,7 +34,7 @@ impl Weights {
         Ok(Weights { by_length })
     }
 
-    // The front's weight.
+    // Returns the front's weight.
     pub(crate) fn weight(&self, classes: &Classes, row: &StageRow, front: &[usize]) -> i128
         requires within { length front.now < length classes.now.classes + 1 }
         requires stands { Weighs classes.now row.now front.now self.now }
@@ -43,7 +43,8 @@ impl Weights {
         self.by_length[front.len()]
     }
 
-    // The optimistic weight of the front, which lacks `lack` members.
+    // Returns the front's optimistic weight: what it weighs, plus the greatest sum of `lack` units of the classes after it. `lack` is how
+    // many members it lacks of the size.
     pub(crate) fn optimistic(
         &self,
         sums: &Sums,
@@ -85,7 +86,8 @@ impl Weights {
         weight
     }
 
-    // The optimistic weight of the front with `count` of the next class, which then lacks `lack` members.
+    // Returns the optimistic weight of the front with `count` of the next class, and keeps this front's weight. It lacks `lack` members of
+    // the size.
     pub(crate) fn child(
         &mut self,
         sums: &Sums,
@@ -110,7 +112,7 @@ impl Weights {
     }
 }
 
-// The weights of the empty front in each closed row.
+// Returns the weights of the empty front, for each closed row.
 pub(crate) fn all_weights(
     alloc: Global,
     classes: &Classes,
@@ -126,7 +128,7 @@ pub(crate) fn all_weights(
     Ok(weights)
 }
 
-// A weight with `count` times an entry.
+// Returns the weight plus `count` times the entry.
 fn with_count(weight: i128, count: usize, entry: i128) -> i128
     requires { unsigned_abs weight + count * unsigned_abs entry < 2 ^ 127 }
     ensures { result ≡ weight +ℤ pos count *ℤ entry }

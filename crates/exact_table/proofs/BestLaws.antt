@@ -1,4 +1,4 @@
--- What is found in turn is what the definitions find.
+-- Looking at the variables and the rows in turn finds what the definitions find.
 use Rattle.std.proofs.Common.{◌≡◌, ◌≢◌, ℕ, zero, suc, ◌+◌, ◌-◌, ◌<◌, ◌≤◌, Bool, true, false, cond, not, ◌&&◌, ◌||◌, List, [], ◌∷◌, ◌++◌, map, length, Option, Some, None, pos, ◌≤ℤ◌, refl, sym, ap, ◌∙◌, subst, arith, inl, inr, ⊎_elim}
 use Rattle.std.specs.List.{find, list_all, range_with_len}
 use Rattle.std.proofs.lemmas.Bool.{cases_eq, and_parts}
@@ -15,7 +15,7 @@ use Rattle.define_rows.proofs.Leaving.{IsBest, IsBest-takes, IsBest-keeps, IsBes
 use Rattle.exact_table.specs.Parts.{AreDifferent}
 use Rattle.exact_table.specs.Best.{better, best_of}
 
--- the first of the numbers from k on whose variable passes
+-- finding the first of `f k` to `f (n - 1)` that passes, by looking at `f k` and then at the others
 one_left : (k n : ℕ) → k < n → n - k ≡ suc (n - (k + 1))
 one_left k n l = omega arith
 
@@ -32,7 +32,7 @@ find_from-more p f k n l e =
 pub find_from-end : {X : Type 0} (p : X → Bool) (f : ℕ → X) (k n : ℕ) → n ≤ k → find p (map f (range_with_len k (n - k))) ≡ None
 find_from-end p f k n l = let e : n - k ≡ 0 = omega arith in ap (λ m. find p (map f (range_with_len k m))) e
 
--- in the one list, or else in the other
+-- finding in two lists, one after the other
 pub find-left : {X : Type 0} (p : X → Bool) (xs ys : List X) (x : X) → find p xs ≡ Some x → find p (xs ++ ys) ≡ Some x
 find-left p [] ys x e = absurd cc
 find-left p (y ∷ xs) ys x e = by (p y) e (λ f. find-left p xs ys x f)
@@ -50,7 +50,7 @@ find-right p (y ∷ xs) ys e = by (p y) e (λ f. find-right p xs ys f)
     by false f rest = rest f
 
 module _ (table : Table) (v : Var) (sides : (i : ℕ) → i < length table.rows → pos 0 ≤ℤ (row_at table i).b) where
-  -- what is so of the best of the first n rows
+  -- what holds of the best of the first `n` rows: None if none of them may be left, else the best of them
   abbrev IsState : ℕ → Option ℕ → Type 0
   IsState n None = (k : ℕ) → k < n → may_leave table v k ≡ false
   IsState n (Some b) = IsBest table v n b
@@ -72,7 +72,7 @@ module _ (table : Table) (v : Var) (sides : (i : ℕ) → i < length table.rows 
   state_of zero l = λ k m. absurd (omega arith)
   state_of (suc n) l = state_more n (omega arith) (best_of table v n) (state_of n (omega arith)) (may_leave table v n) refl
 
-  -- the best of all rows is the one row that is least
+  -- the best of all rows is the one that is least by the definition
   module _ (different : AreDifferent table.basic) (each : length table.basic ≡ length table.rows) where
     not_before : (b k : ℕ) → IsBest table v (length table.rows) b → k < b → (t : Bool) → is_least table v k ≡ t → is_least table v k ≡ false
     not_before b k h l false e = e

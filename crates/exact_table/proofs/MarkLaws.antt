@@ -21,7 +21,7 @@ mark_is stage at false = inr ((elim (eqb at never) as (λ t. cond (t && false) s
 abbrev IsMark : ℕ → ℕ → Type 0
 IsMark stages at = at ≢ never → at < stages
 
--- before the next stage the unsettled classes are those unsettled now
+-- a class is unsettled before the next stage exactly if it is unsettled now
 one_now : (stages at : ℕ) → stages ≤ 400 → IsMark stages at → leb stages at ≡ not (ltb at never)
 one_now stages at few h = by (cases_eq at never)
   where
@@ -38,7 +38,7 @@ marks_of-more stages marks few h =
     map-range_with_len_more (unsettled_before marks) 0 stages stages (omega arith)
     ∙ ap (λ bs. marks_of marks stages ++ bs ∷ []) (now stages marks few (recursion_from_All (IsMark stages) marks h))
 
--- whoever is settled as a stage closes was unsettled before it and before each earlier one
+-- closing a stage doesn't change which classes were unsettled before it and before each earlier stage
 one_kept : (r stage at : ℕ) (b : Bool) → r ≤ stage → stage < 400 → leb r (cond (eqb at never && b) stage at) ≡ leb r at
 one_kept r stage at b l few = by (mark_is stage at b)
   where
@@ -98,6 +98,6 @@ length-settled_marks stage [] marks = refl
 length-settled_marks stage (x ∷ xs) [] = refl
 length-settled_marks stage (x ∷ xs) (at ∷ marks) = ap suc (length-settled_marks stage xs marks)
 
--- a later stage's number changes no mark's meaning
+-- marks stay right when one more stage is entered
 pub AreMarks-later : (stages : ℕ) (marks : List ℕ) → AreMarks marks stages → AreMarks marks (stages + 1)
 AreMarks-later stages marks h = λ k d l n. omega (arith, h k d l n)

@@ -17,16 +17,16 @@ pub record IsLeaver (table : Table) (v : Var) (row : ℕ) (side coefficient : �
   pub some_side : pos 0 ≤ℤ side
   pub positive : pos 0 <ℤ coefficient
 
--- the better one of a row and the best one so far
+-- the better of row `i` and the best row so far
 abbrev pub better : Table → Var → ℕ → Option ℕ → Option ℕ
 better table v i None = Some i
 better table v i (Some b) = if leaves_before table v i b then Some i else Some b
 
--- the best row after row i was looked at
+-- the best row after row `i` was looked at
 abbrev pub next_best : Table → Var → ℕ → Option ℕ → Option ℕ
 next_best table v i best = if may_leave table v i then better table v i best else best
 
--- the best of the first n rows, if one of them may be left
+-- the best of the first `n` rows that may be left, or None if there is none
 abbrev pub best_of : Table → Var → ℕ → Option ℕ
 best_of table v zero = None
 best_of table v (suc n) = next_best table v n (best_of table v n)

@@ -6,7 +6,7 @@ use Rattle.std.specs.List.{All, range_with_len}
 abbrev pub never : ℕ
 never = 2 ^ 64 - 1
 
--- which classes were unsettled before a stage
+-- for each class, whether it was unsettled before the stage
 abbrev pub unsettled_before : List ℕ → ℕ → List Bool
 unsettled_before settled_at stage = map (λ at. nat_le stage at) settled_at
 
@@ -14,11 +14,11 @@ unsettled_before settled_at stage = map (λ at. nat_le stage at) settled_at
 abbrev pub marks_of : List ℕ → ℕ → List (List Bool)
 marks_of settled_at stages = map (unsettled_before settled_at) (range_with_len 0 stages)
 
--- which classes are settled
+-- for each class, whether it is settled
 abbrev pub settled_of : List ℕ → List Bool
 settled_of settled_at = map (λ at. nat_lt at never) settled_at
 
--- each settled class was settled when some stage closed
+-- each mark that isn't `never` is the number of a stage that was entered
 abbrev pub AreMarks : List ℕ → ℕ → Type 0
 AreMarks settled_at stages = All (λ at. at ≢ never → at < stages) settled_at
 

@@ -1,4 +1,4 @@
--- The parts of the table that are no rows, and what they keep. Over Table and InOrder of `define_rows`. For `frame` and `table`.
+-- The parts of the table besides its rows, and what holds of them. Over Table and InOrder of `define_rows`. For `frame` and `table`.
 use Rattle.std.specs.Prelude.{◌≡◌, ◌≢◌, ℕ, ◌+◌, ◌-◌, nat_lt, ◌<◌, ◌≤◌, ◌^◌, ◌≤ℤ◌, ◌<ℤ◌, ℤ, pos, unsigned_abs, Bool, true, if◌then◌else◌, Option, Some, None, List, [], length, take, slice_index, slice_index_or}
 use Rattle.std.specs.List.{All}
 use Rattle.define_rows.specs.declared.Var.{Var}
@@ -9,7 +9,7 @@ use Rattle.define_rows.specs.Table.{Table, coefficient_at, row_at}
 use Rattle.define_rows.specs.InOrder.{count_in, IsInOrder}
 use Rattle.exact_table.specs.Marks.{marks_of, settled_of, AreMarks}
 
--- one more, for a count that stays at its last value 2 ^ 64 - 1
+-- the count after one more, which stays at 2 ^ 64 - 1
 abbrev pub counted_on : ℕ → ℕ
 counted_on count = if nat_lt count (2 ^ 64 - 1) then count + 1 else count
 
@@ -32,7 +32,7 @@ frame_of sizes settled_at stages columns closed in_stage bits pivots = record {
   pivots = pivots;
 }
 
--- what the parts keep: a mark for each class, and room for a closed row for each class
+-- what holds of the parts: a mark for each class, room for a closed row for each class, and numbers within their limits
 pub record IsFrame (sizes settled_at : List ℕ) (stages : ℕ) (columns : List (List ℕ)) (closed : List ℕ) (in_stage : Bool) (bits : ℕ) : Type 0 where
   pub some_each : All (λ size. 1 ≤ size) sizes
   pub marks_each : length settled_at ≡ length sizes
@@ -56,7 +56,7 @@ pub record AreRows (table : Table) : Type 0 where
   pub small : All (λ row. reach table.sizes row < 2 ^ 127) table.rows
   pub sides : All (λ row. pos 0 ≤ℤ row.b) table.rows
 
--- the row in which a column is basic: its right side, and the column's coefficient there, which is above 0
+-- the answer about a column: None if it is basic in no row, else the right side of its row, and its coefficient there, which is above 0
 abbrev pub TellsBasic : Table → ℕ → Option (ℤ × ℤ) → Type 0
 TellsBasic table column None = basic_row table (Column column) ≡ None
 TellsBasic table column (Some entry) =
@@ -75,7 +75,7 @@ IsNew table counts = (c : ℕ) → c < length table.columns → slice_index_or t
 abbrev pub AreDifferent : List Var → Type 0
 AreDifferent basic = (i j : ℕ) (d : Var) → i < length basic → j < length basic → slice_index_or basic i d ≡ slice_index_or basic j d → i ≡ j
 
--- what the table keeps: it is in order, and there is a second room for its rows
+-- what holds of the table: it is in order, and there is a second list of as many rows of the same length, into which a pivot writes
 pub record IsTable (frame : Table) (rows room : List Row) (basic : List Var) : Type 0 where
   pub order : IsInOrder (with_rows frame rows basic)
   pub room_count : length room ≡ length rows

@@ -1,11 +1,11 @@
--- Whether steps pass the width, without their outcomes. For `starting` and `table`.
+-- Whether steps pass the width, whatever their outcomes are. For `starting` and `table`.
 use Rattle.std.specs.Prelude.{◌≡◌, Result, Ok, Err, List, ℤ}
 use Rattle.define_rows.specs.declared.Pass.{Pass}
 use Rattle.define_rows.specs.Table.{Table}
 use Rattle.exact_table.specs.declared.TableStop.{TableStop}
 use Rattle.exact_table.specs.declared.TableStop.TheVariants.{OutOfMemory}
 
--- whether steps in turn pass the width, and at which
+-- steps in turn stay within the width, or `pass` is the first operation that passes it
 abbrev pub PassesWith : Result (Unit {0}) Pass → Result (List ℤ) Pass → Type 0
 PassesWith (Ok x) steps = (reaches : List ℤ) × (steps ≡ Ok reaches)
 PassesWith (Err pass) steps = steps ≡ Err pass

@@ -41,14 +41,14 @@ fn comes_before(first: Var, second: Var) -> bool
     }
 }
 
-// The row in which a variable is basic.
+// Returns the row in which a variable is basic, if there is one.
 pub(crate) fn basic_row(basic: &[Var], variable: Var) -> Option<usize>
     ensures { result ≡ position (λ x. is_same x variable) basic.now }
 {
     basic.iter().position(|x| is_same(*x, variable))
 }
 
-// A variable's coefficient in a row.
+// Returns a variable's coefficient in row `row`.
 pub(crate) fn coefficient_in(frame: &Frame, rows: &[Row], row: usize, variable: Var) -> i128
     requires known { IsKnown frame.now variable }
     requires rows { AreRows (with_rows frame.now rows.now []) }
@@ -90,7 +90,7 @@ fn may_enter(frame: &Frame, rows: &[Row], at: usize, variable: Var) -> bool
     }
 }
 
-// The first slack that may enter, or None.
+// Returns the first slack that may enter, or None.
 fn first_slack(frame: &Frame, rows: &[Row], at: usize) -> Option<Var>
     requires rows { AreRows (with_rows frame.now rows.now []) }
     requires closed { All (λ i. i < length rows.now) frame.now.closed }
@@ -106,7 +106,7 @@ fn first_slack(frame: &Frame, rows: &[Row], at: usize) -> Option<Var>
     None
 }
 
-// The first stage variable that may enter, or None.
+// Returns the first stage variable that may enter, or None.
 fn first_stage(frame: &Frame, rows: &[Row], at: usize) -> Option<Var>
     requires rows { AreRows (with_rows frame.now rows.now []) }
     requires closed { All (λ i. i < length rows.now) frame.now.closed }
@@ -122,7 +122,7 @@ fn first_stage(frame: &Frame, rows: &[Row], at: usize) -> Option<Var>
     None
 }
 
-// The first column that may enter, or None.
+// Returns the first column that may enter, or None.
 fn first_column(frame: &Frame, rows: &[Row], at: usize) -> Option<Var>
     requires rows { AreRows (with_rows frame.now rows.now []) }
     requires closed { All (λ i. i < length rows.now) frame.now.closed }
@@ -138,7 +138,7 @@ fn first_column(frame: &Frame, rows: &[Row], at: usize) -> Option<Var>
     None
 }
 
-// The first variable in order that may enter, or None.
+// Returns the first variable in order that may enter, or None.
 fn first_to_enter(frame: &Frame, rows: &[Row], at: usize) -> Option<Var>
     requires rows { AreRows (with_rows frame.now rows.now []) }
     requires closed { All (λ i. i < length rows.now) frame.now.closed }
@@ -164,7 +164,7 @@ struct Leaver {
     basic: Var,
 }
 
-// True if of two rows that may be left, the first is left rather than the second.
+// True if row `one` is left rather than `other`: the smaller right side over coefficient goes first, then the earlier basic variable.
 fn goes_before(one: Leaver, other: Leaver) -> bool
     requires side { pos 0 ≤ℤ one.side }
     requires coefficient { pos 0 <ℤ one.coefficient }
@@ -179,7 +179,7 @@ fn goes_before(one: Leaver, other: Leaver) -> bool
     }
 }
 
-// A row, if it has a positive coefficient on a variable.
+// Returns the row, if the variable's coefficient in it is positive.
 fn leaver_at(
     frame: &Frame,
     rows: &[Row],
@@ -209,7 +209,7 @@ fn leaver_at(
     }
 }
 
-// The best row after one more was looked at.
+// Returns the best row after `row` was looked at, given the best row before.
 fn next_best(
     frame: &Frame,
     rows: &[Row],
@@ -242,7 +242,7 @@ fn next_best(
     }
 }
 
-// The row that is left when a variable enters.
+// Returns the row that is left when the variable enters, if one may be left.
 fn row_to_leave(frame: &Frame, rows: &[Row], basic: &[Var], variable: Var) -> Option<usize>
     requires known { IsKnown frame.now variable }
     requires rows { AreRows (with_rows frame.now rows.now []) }
@@ -260,7 +260,7 @@ fn row_to_leave(frame: &Frame, rows: &[Row], basic: &[Var], variable: Var) -> Op
     }
 }
 
-// The variable that enters.
+// Returns the variable that enters: the stage's variable if it isn't basic, else the first in order that may enter.
 fn entering(frame: &Frame, rows: &[Row], basic: &[Var]) -> Option<Var>
     requires rows { AreRows (with_rows frame.now rows.now []) }
     requires closed { All (λ i. i < length rows.now) frame.now.closed }
@@ -275,7 +275,7 @@ fn entering(frame: &Frame, rows: &[Row], basic: &[Var]) -> Option<Var>
     }
 }
 
-// The row that is left and the variable that enters.
+// Returns Bland's choice: the row that is left and the variable that enters.
 pub(crate) fn choose(frame: &Frame, rows: &[Row], basic: &[Var]) -> Option<(usize, Var)>
     requires rows { AreRows (with_rows frame.now rows.now []) }
     requires closed { All (λ i. i < length rows.now) frame.now.closed }

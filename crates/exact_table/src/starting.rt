@@ -11,7 +11,7 @@ use crate::rows;
 use define_rows::{Pass, Row, Var};
 use std::alloc::{AllocError, Global};
 
-// The rows of the first table, given the counts of the first column.
+// Returns the rows of the first table, given the counts of the first column.
 pub(crate) fn first_rows(alloc: Global, first: &[usize]) -> Result<Vec<Row>, AllocError>
     ensures { IfOk result (λ rows. rows.items ≡ first_rows first.now) }
 {
@@ -24,7 +24,7 @@ pub(crate) fn first_rows(alloc: Global, first: &[usize]) -> Result<Vec<Row>, All
     Ok(rows)
 }
 
-// Makes the operations of the reach of each row.
+// Computes the reach of each row under the width. Fails with the first operation that passes it.
 pub(crate) fn check_reaches(most: i128, sizes: &[usize], rows: &[Row]) -> Result<(), Pass>
     requires most { pos 0 ≤ℤ most }
     requires entries { All (λ row. length row.a ≡ length sizes.now) rows.now }
@@ -42,7 +42,7 @@ pub(crate) fn check_reaches(most: i128, sizes: &[usize], rows: &[Row]) -> Result
     Ok(())
 }
 
-// The basic variables of the first table: column 0, then the slacks.
+// Returns the basic variables of the first table: column 0, then the slacks.
 pub(crate) fn first_basic(alloc: Global, classes: usize) -> Result<Vec<Var>, AllocError>
     ensures { IfOk result (λ basic. basic.items ≡ Var.Column 0 ∷ map Var.Slack (range_with_len 0 classes)) }
 {

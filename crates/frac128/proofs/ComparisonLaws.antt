@@ -4,7 +4,7 @@ use Rattle.std.specs.Ordering.{nat_cmp}
 use Rattle.std.proofs.lemmas.Bool.Decides.{nat_tests}
 use Rattle.std.proofs.Math.Nat.{mul-le-mul_right, mul-pos, mul-lt-mul_of_pos_left, div-add-mod', lt-div-mul-add, div-mul-le_self}
 
--- two comparisons answer alike where the orders carry over
+-- two comparisons are equal if the order of `a` and `b` gives that of `c` and `d`
 pub nat_cmp-same : (a b c d : ℕ) → (a < b → c < d) → (a ≡ b → c ≡ d) → (b < a → d < c) → nat_cmp a b ≡ nat_cmp c d
 nat_cmp-same a b c d less same more = grind (arith, nat_tests)
 
@@ -20,7 +20,7 @@ less_by_quotients : (an ad bn bd : ℕ) → 0 < ad → 0 < bd → an / ad < bn /
 less_by_quotients an ad bn bd some_ad some_bd h =
     less_from_quotients an ad bn bd (an / ad) (bn / bd) (lt-div-mul-add some_ad) (div-mul-le_self bn bd) h some_bd
 
--- fractions with other quotients compare as those do
+-- if the quotients differ, the fractions compare as the quotients do
 pub nat_cmp_by_quotients : (an ad bn bd : ℕ) → 0 < ad → 0 < bd → an / ad ≢ bn / bd → nat_cmp (an / ad) (bn / bd) ≡ nat_cmp (an * bd) (bn * ad)
 nat_cmp_by_quotients an ad bn bd some_ad some_bd other =
     nat_cmp-same (an / ad) (bn / bd) (an * bd) (bn * ad)
@@ -34,7 +34,7 @@ nat_cmp_from_rests an ad bn bd q ar br a_is b_is =
     let b_product : (q * bd + br) * ad ≡ bn * ad = ap (λ n. n * ad) b_is in
     nat_cmp-same (bd * ar) (ad * br) (an * bd) (bn * ad) (λ h. omega arith) (λ h. omega arith) (λ h. omega arith)
 
--- with one quotient, they compare as the divisors over the remainders do the other way round
+-- if the quotients are equal, the fractions compare as the divisors over the remainders do, the other way round
 pub nat_cmp_by_rests : (an ad bn bd : ℕ) → an / ad ≡ bn / bd → nat_cmp (bd * (an % ad)) (ad * (bn % bd)) ≡ nat_cmp (an * bd) (bn * ad)
 nat_cmp_by_rests an ad bn bd e =
     nat_cmp_from_rests an ad bn bd (an / ad) (an % ad) (bn % bd) (div-add-mod' an ad)

@@ -10,7 +10,7 @@ use Rattle.std.proofs.Math.Nat.{eq-zero_of_zero-dvd, pos_of_dvd_of_pos, mul-div_
 use Rattle.std.proofs.lemmas.Bool.{false≢true}
 use Rattle.frac128.specs.Divisors.{divides, common_divisor_up_to, gcd_of, gcd_of_list, lcm_of, IsLeastCommonMultiple}
 
--- Euclid's algorithm finds one
+-- Euclid's algorithm finds a greatest common divisor
 some_IsGcd : (turns x y : ℕ) → y < turns → (g : ℕ) × IsGcd x y g
 some_IsGcd zero x y h = absurd (omega arith)
 some_IsGcd (suc t) x y h =
@@ -34,7 +34,7 @@ both_tested d x y p q =
     let second : y % d ≡ 0 = mod-eq-zero_of_dvd d q in
     grind (arith, nat_tests)
 
--- the search meets the greatest common divisor first
+-- the search from `most` down finds the greatest common divisor
 common_divisor_up_to-found : (most x y g : ℕ) → IsGcd x y g → 0 < g → g ≤ most → common_divisor_up_to most x y ≡ g
 unfolding common_divisor_up_to
 common_divisor_up_to-found zero x y g h some small = omega arith
@@ -65,13 +65,13 @@ gcd_of_is zero (suc y) g h =
     let some : 0 < g = pos_of_dvd_of_pos h.1 (omega arith) in
     common_divisor_up_to-found (max zero (suc y)) zero (suc y) g h some (omega arith)
 
--- and it divides both, and each common divisor divides it
+-- `gcd_of x y` divides both, and each common divisor divides it
 pub IsGcd-gcd_of : (x y : ℕ) → IsGcd x y (gcd_of x y)
 IsGcd-gcd_of x y =
     let found : (g : ℕ) × IsGcd x y g = some_IsGcd (suc y) x y (omega arith) in
     subst (IsGcd x y) (sym (gcd_of_is x y found.0 found.1)) found.1
 
--- the same of a signed number
+-- the same for `gcd_of x y` as a signed number
 pub IsGcd-from_value : (x y : ℕ) (z : ℤ) → z ≡ pos (gcd_of x y) → IsGcd x y (unsigned_abs z)
 IsGcd-from_value x y z e = subst (λ (v : ℤ). IsGcd x y (unsigned_abs v)) (sym e) (IsGcd-gcd_of x y)
 
@@ -94,12 +94,12 @@ gcd_of-swap x y = gcd_of_is x y (gcd_of y x) (IsGcd-swap y x (gcd_of y x) (IsGcd
 pub gcd_of-from_zero : (y : ℕ) → gcd_of 0 y ≡ y
 gcd_of-from_zero y = gcd_of-swap 0 y ∙ gcd_of-zero y
 
--- it is above 0 where one of the numbers is
+-- the greatest common divisor is above 0 if one of the numbers is
 pub gcd_of-positive : (x y : ℕ) → (0 < x) ⊎ (0 < y) → 0 < gcd_of x y
 gcd_of-positive x y (inl some) = pos_of_dvd_of_pos (IsGcd-gcd_of x y).0 some
 gcd_of-positive x y (inr some) = pos_of_dvd_of_pos (IsGcd-gcd_of x y).1 some
 
--- a common factor comes out
+-- if both numbers are multiplied by `k`, so is their greatest common divisor
 IsGcd-scale : (k x y g : ℕ) → 0 < k → IsGcd x y g → IsGcd (k * x) (k * y) (k * g)
 IsGcd-scale k x y g some h =
     let whole = IsGcd-gcd_of (k * x) (k * y) in
@@ -121,7 +121,7 @@ gcd_of-scale k x y =
       | inr some ↦ gcd_of_is (k * x) (k * y) (k * gcd_of x y) (IsGcd-scale k x y (gcd_of x y) some (IsGcd-gcd_of x y))
     ]
 
--- what g is multiplied by to give g is 1
+-- if `g * n` is `g`, then `n` is 1
 one_times : (g n : ℕ) → 0 < g → g * n ≡ g → n ≡ 1
 one_times g n some e = sym (mul-div_right n some) ∙ ap (λ m. m / g) e ∙ div_self some
 
@@ -130,13 +130,13 @@ gcd_of_parts g x y a b some is x_is y_is =
     let whole : gcd_of (g * a) (g * b) ≡ g = ap (λ n. gcd_of n (g * b)) x_is ∙ ap (gcd_of x) y_is ∙ is in
     one_times g (gcd_of a b) some (sym (gcd_of-scale g a b) ∙ whole)
 
--- divided by it, two numbers have no common divisor but 1
+-- two numbers divided by their greatest common divisor have no common divisor but 1
 pub gcd_of-divided : (x y : ℕ) → 0 < gcd_of x y → gcd_of (x / gcd_of x y) (y / gcd_of x y) ≡ 1
 gcd_of-divided x y some =
     let both = IsGcd-gcd_of x y in
     gcd_of_parts (gcd_of x y) x y _ _ some refl (mul-div_cancel' (gcd_of x y) both.0) (mul-div_cancel' (gcd_of x y) both.1)
 
--- what divides a product and has no common divisor with one factor divides the other
+-- if `a` divides `n * b` and has no common divisor with `b`, it divides `n`
 pub dvd-from_coprime : (a b n : ℕ) → gcd_of a b ≡ 1 → a ∣ n * b → a ∣ n
 dvd-from_coprime a b n apart h =
     let all : gcd_of (n * a) (n * b) ≡ n = gcd_of-scale n a b ∙ ap (λ m. n * m) apart ∙ omega arith in
@@ -174,7 +174,7 @@ IsLeastCommonMultiple-lcm_of x y some_x =
     let Goal : ℕ → ℕ → Type 0 = λ u v. IsLeastCommonMultiple u v (x / g * v) in
     subst (λ u. Goal u y) x_is (subst (Goal (g * (x / g))) y_is parts)
 
--- what x has beyond the greatest common divisor is at least 1
+-- `x` divided by its greatest common divisor with `y` is at least 1
 pub beyond-positive : (x y g : ℕ) → g ≡ gcd_of x y → 0 < x → 0 < x / g
 beyond-positive x y g is some_x =
     let x_is : g * (x / g) ≡ x = mul-div_cancel' g (subst (λ d. d ∣ x) (sym is) (IsGcd-gcd_of x y).0) in
@@ -189,7 +189,7 @@ fold_divides a (x ∷ xs) =
     let step = IsGcd-gcd_of a x in
     (dvd_trans _ rest.0 step.0, All-cons (λ n. fold gcd_of (gcd_of a x) xs ∣ n) x xs (dvd_trans _ rest.0 step.1) rest.1)
 
--- it divides each number of the list
+-- the greatest common divisor of a list divides each number of the list
 pub gcd_of_list-divides : (xs : List ℕ) → All (λ x. gcd_of_list xs ∣ x) xs
 gcd_of_list-divides xs = (fold_divides 0 xs).1
 
@@ -198,11 +198,11 @@ fold_greatest d a [] h each = h
 fold_greatest d a (x ∷ xs) h each =
     fold_greatest d (gcd_of a x) xs ((IsGcd-gcd_of a x).2 d h (All-head (λ n. d ∣ n) x xs each)) (All-tail (λ n. d ∣ n) x xs each)
 
--- and each number that divides all of the list divides it
+-- each number that divides all of the list divides the list's greatest common divisor
 pub gcd_of_list-greatest : (d : ℕ) (xs : List ℕ) → All (λ x. d ∣ x) xs → d ∣ gcd_of_list xs
 gcd_of_list-greatest d xs each = fold_greatest d 0 xs (dvd-zero d) each
 
--- it is above 0 where some number of the list is
+-- the greatest common divisor of a list is above 0 if some number of the list is
 pub gcd_of_list-positive : (xs : List ℕ) (x : ℕ) → Contains xs x → 0 < x → 0 < gcd_of_list xs
 gcd_of_list-positive xs x h some =
     pos_of_dvd_of_pos (All-contains (λ n. gcd_of_list xs ∣ n) xs x (gcd_of_list-divides xs) h) some
@@ -212,7 +212,7 @@ fold_scale k a [] = refl
 fold_scale k a (x ∷ xs) =
     ap (λ b. fold gcd_of b (map (λ x. k * x) xs)) (gcd_of-scale k a x) ∙ fold_scale k (gcd_of a x) xs
 
--- a common factor comes out of the whole list
+-- if all numbers of a list are multiplied by `k`, so is their greatest common divisor
 pub gcd_of_list-scale : (k : ℕ) (xs : List ℕ) → gcd_of_list (map (λ x. k * x) xs) ≡ k * gcd_of_list xs
 gcd_of_list-scale k xs =
     let zero_is : 0 ≡ k * 0 = omega arith in
@@ -225,7 +225,7 @@ map_divided g (x ∷ xs) each =
     let rest : map (λ x. g * x) (map (λ x. x / g) xs) ≡ xs = map_divided g xs (All-tail (λ n. g ∣ n) x xs each) in
     cc
 
--- divided by it, the numbers of the list have no common divisor but 1
+-- the numbers of a list divided by their greatest common divisor have no common divisor but 1
 pub gcd_of_list-divided : (xs : List ℕ) → 0 < gcd_of_list xs → gcd_of_list (map (λ x. x / gcd_of_list xs) xs) ≡ 1
 gcd_of_list-divided xs some =
     let g : ℕ = gcd_of_list xs in
@@ -237,7 +237,7 @@ abs_of_negated : (n : ℕ) → unsigned_abs (neg_ℤ (pos n)) ≡ n
 abs_of_negated zero = refl
 abs_of_negated (suc n) = refl
 
--- a quotient's absolute value
+-- the absolute value of a quotient is the quotient of the absolute value
 pub unsigned_abs-int_div : (z : ℤ) (g : ℕ) → unsigned_abs (int_div z (pos g)) ≡ unsigned_abs z / g
 unsigned_abs-int_div (pos n) g = refl
 unsigned_abs-int_div (negsuc n) g = abs_of_negated (suc n / g)
@@ -249,7 +249,7 @@ absolute_quotients g (z ∷ zs) =
     let rest : map unsigned_abs (map (λ y. int_div y (pos g)) zs) ≡ map (λ n. n / g) (map unsigned_abs zs) = absolute_quotients g zs in
     cc
 
--- divided by it, the numbers of the list have no common divisor but 1
+-- signed numbers divided by the greatest common divisor of their absolute values have no common divisor but 1
 pub gcd_of_list-int_divided : (zs : List ℤ) (g : ℕ) → g ≡ gcd_of_list (map unsigned_abs zs) → 0 < g → gcd_of_list (map unsigned_abs (map (λ z. int_div z (pos g)) zs)) ≡ 1
 gcd_of_list-int_divided zs g is some =
     let sizes : List ℕ = map unsigned_abs zs in

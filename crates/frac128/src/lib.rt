@@ -25,8 +25,8 @@ pub fn gcd(x: i128, y: i128) -> i128
     common_divisor(x.unsigned_abs(), y.unsigned_abs()) as i128
 }
 
-// Euclid's algorithm. After the first turn `larger` is the larger one. A division by a smaller number leaves less than half of `larger`,
-// so two turns at least halve it: numbers below 2^127 take at most 255 turns.
+// Returns the greatest common divisor, by Euclid's algorithm. After the first turn `larger` is the larger number, and a remainder is less
+// than half of it, so two turns at least halve it: numbers below 2^127 take at most 255 turns.
 fn common_divisor(x: u128, y: u128) -> u128
     ensures value { result ≡ gcd_of x y }
     ensures small { result ≤ max x y }
@@ -53,7 +53,7 @@ pub fn lcm(x: i128, y: i128, limit: i128) -> Option<i128>
     Some(multiple as i128)
 }
 
-// Returns `y` times the part of `x` beyond the common divisor, or `None` above `limit`. A division tests this before the product is
+// Returns the least common multiple of `x` and `y`, or `None` if it is above `limit`. A division tests this before the product is
 // formed.
 fn common_multiple(x: u128, y: u128, limit: u128) -> Option<u128>
     requires { 0 < x }
@@ -85,8 +85,8 @@ pub fn compare(an: i128, ad: i128, bn: i128, bd: i128) -> Ordering
     )
 }
 
-// Euclid's algorithm on both fractions side by side: the quotients decide, or else the divisors over the remainders, compared the other
-// way round. Two turns at least halve each divisor, so divisors below 2^127 take at most 255 turns.
+// Compares `an / ad` with `bn / bd` by Euclid's algorithm on both: the quotients decide, or else the divisors over the remainders, compared
+// the other way round. Two turns at least halve each divisor, so divisors below 2^127 take at most 255 turns.
 fn compare_quotients(mut an: u128, mut ad: u128, mut bn: u128, mut bd: u128) -> Ordering
     requires ad { 0 < ad }
     requires bd { 0 < bd }
@@ -124,7 +124,7 @@ impl Model for Frac {
 }
 
 impl Frac {
-    /// The upper number, at least 0.
+    /// Returns the upper number, at least 0.
     pub fn num(&self) -> i128
         ensures value { result ≡ pos self.now.num }
         ensures lowest { IsLowest self.now.num self.now.den }
@@ -132,7 +132,7 @@ impl Frac {
         self.num as i128
     }
 
-    /// The lower number, at least 1.
+    /// Returns the lower number, at least 1.
     pub fn den(&self) -> i128
         ensures value { result ≡ pos self.now.den }
         ensures lowest { IsLowest self.now.num self.now.den }

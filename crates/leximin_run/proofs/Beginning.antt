@@ -15,7 +15,7 @@ use Rattle.define_searches.proofs.Contained.{first_there}
 use Rattle.define_runs.proofs.Kept.{MayBegin, first_table_is, may_begin, reached_kept}
 use Rattle.leximin_run.specs.Advancing.{Reaches}
 
--- the opening, where its search stays within the budget
+-- the opening, if its search stays within the budget
 opens : (all : Classes) (limits : RunLimits) → (first_search all).visits ≤ limits.opening → opening all limits ≡ opened all limits (first_composition all)
 unfolding opening
 opens all limits l = ap (λ b. cond b (Ended (NodesSpent None)) (opened all limits (first_composition all))) (le-ltb limits.opening (first_search all).visits l)

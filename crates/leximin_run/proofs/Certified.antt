@@ -29,7 +29,7 @@ keeps_ranges pool limits is_pool ranges (Ok (Found answer)) told = found_in_rang
 keeps_ranges pool limits is_pool ranges (Ok NoPanel) told = tt
 keeps_ranges pool limits is_pool ranges (Err stop) told = tt
 
--- what is told with sizes is told without them
+-- an answer that is right with sizes is right without them
 pub tells_unsized : (all : Classes) (limits : RunLimits) (answer : Result SolvedSized Stop) → TellsSized all limits answer → TellsEnding all limits (unsized answer)
 tells_unsized all limits (Ok (sized.Found answer sizes)) told = (told.0, told.2)
 tells_unsized all limits (Ok sized.NoPanel) told = told

@@ -43,7 +43,7 @@ module _ (all : Classes) (limits : RunLimits) (table : Table) (closed : List Row
   pub passed_at_end : table.in_stage ≡ false → length table.sizes ≤ settled_count table → (pass : TotalPass) → spread all (parts_of table) ≡ Err pass → Ends all limits (TotalPasses table pass)
   passed_at_end shut settled pass e = comes_to_end all limits table (answered all table (Err pass)) reaches.reached (answer_due shut settled ∙ ap (λ s. Ended (answered all table s)) e)
 
-  -- a step that is refused
+  -- if a step is refused, the run stops for this reason
   pub refused_at : (refusal : Refusal) (after : Table) → Refuses all limits table refusal after → TellsEnding all limits (Err (stop_of after refusal))
   refused_at (Wide pass) after told = subst (λ t. Ends all limits (TooWide (Some t) pass)) (sym told.1) (comes_to_end all limits table (TooWide (Some table) pass) reaches.reached told.0)
   refused_at NoPivot after told = (after, refl, subst (λ t. Ends all limits (PivotsSpent t)) (sym told.1) (comes_to_end all limits table (PivotsSpent table) reaches.reached told.0))

@@ -82,9 +82,9 @@ enter_due all limits table shut some =
     ap (λ s. cond s (step_in_stage all limits table (choice table)) (between all limits table)) shut
     ∙ ap (λ s. cond s (GoOn (enter_stage table)) (Ended (answered all table (spread all (parts_of table))))) some
 
--- ---- where a step comes to
+-- ---- the table after a step
 
--- a step that goes on comes to a table as each of the run's is
+-- a step that goes on gives a table that is like each table of the run
 pub stands_on : (all : Classes) (limits : RunLimits) (table : Table) (closed : List Row) → Stands all limits table closed → (after : Table) → step all limits table ≡ GoOn after →
     (rows : List Row) → rows ≡ closed_rows after → Stands all limits after rows
 stands_on all limits table closed stands after e rows are =
@@ -92,7 +92,7 @@ stands_on all limits table closed stands after e rows are =
 
 -- ---- pricing
 
--- what pricing was asked, and where
+-- a pricing is due: what holds of the table, and of the row that is priced
 pub record IsAsked (all : Classes) (limits : RunLimits) (table : Table) (closed : List Row) (row : Row) : Type 0 where
   pub stands : Stands all limits table closed
   pub open_now : table.in_stage ≡ true
@@ -104,7 +104,7 @@ pub asked_so : {all : Classes} {limits : RunLimits} {table : Table} {kept closed
 asked_so {all = all} {limits = limits} {table = table} stands open_now done same row_is place_is =
     record { stands = subst (Stands all limits table) (sym same) stands; open_now = open_now; done = done; row_is = row_is ∙ ap (row_at table) place_is }
 
--- the visits that a pricing is allowed are those of the search for the best composition
+-- a pricing makes the visits of the search for the best composition in waves
 pub visits_are : (all : Classes) (closed : List Row) (row : Row) → pricing_visits all closed row ≡ (best_in_waves all closed row).visits
 unfolding pricing_visits
 visits_are all closed row = refl

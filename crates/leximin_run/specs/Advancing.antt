@@ -11,38 +11,38 @@ use Rattle.panel_search.specs.declared.searching.SearchStop.TheVariants.{Spent, 
 use Rattle.leximin_run.specs.declared.running.Refusal.{Refusal}
 use Rattle.leximin_run.specs.declared.running.Refusal.TheVariants.{Wide, NoPivot, NoVisit, NoMemory}
 
--- the step that is due is refused, and the table is unchanged; want of memory may come at any time
+-- the step that is due is refused for this reason, and the table is unchanged; running out of memory is allowed at any time
 abbrev pub Refuses : Classes → RunLimits → Table → Refusal → Table → Type 0
 Refuses all limits before (Wide pass) after = (step all limits before ≡ Ended (TooWide (Some before) pass)) × (after ≡ before)
 Refuses all limits before NoPivot after = (step all limits before ≡ Ended (PivotsSpent before)) × (after ≡ before)
 Refuses all limits before NoVisit after = (step all limits before ≡ Ended (NodesSpent (Some before))) × (after ≡ before)
 Refuses all limits before NoMemory after = Unit {0}
 
--- the refusal of a pricing that finds no answer
+-- the refusal of a step whose pricing stops
 abbrev pub refusal_of : SearchStop → Refusal
 refusal_of Spent = NoVisit
 refusal_of OutOfMemory = NoMemory
 
--- a step was made, or it is refused
+-- the step that is due was made, or it was refused
 abbrev pub Makes : Classes → RunLimits → Table → Result (Unit {0}) Refusal → Table → Type 0
 Makes all limits before (Ok made) after = step all limits before ≡ GoOn after
 Makes all limits before (Err refusal) after = Refuses all limits before refusal after
 
--- the same, or everybody is settled
+-- true if the step that is due was made, false if all classes are settled, so that none is due; or the step was refused
 abbrev pub Advances : Classes → RunLimits → Table → Result Bool Refusal → Table → Type 0
 Advances all limits before (Ok true) after = step all limits before ≡ GoOn after
 Advances all limits before (Ok false) after = (before.in_stage ≡ false) × (length before.sizes ≤ settled_count before) × (after ≡ before)
 Advances all limits before (Err refusal) after = Refuses all limits before refusal after
 
--- the rows that were kept are the closed ones, and the table keeps what each table of the run keeps, for classes and limits in their
--- ranges
+-- what holds between two steps: the classes and limits are in their ranges, the table keeps what each table of the run keeps, and `closed`
+-- are its closed rows
 pub record Stands (all : Classes) (limits : RunLimits) (table : Table) (closed : List Row) : Type 0 where
   pub limited : KeepsLimits all
   pub ranges : AreRunLimits limits
   pub keeps : KeepsRun all limits table
   pub closed_are : closed ≡ closed_rows table
 
--- the run reaches this table, and the rows that were kept are its closed ones
+-- the run reaches this table, and `closed` are its closed rows
 pub record Reaches (all : Classes) (limits : RunLimits) (table : Table) (closed : List Row) : Type 0 where
   pub reached : IsReached all limits table
   pub stands : Stands all limits table closed

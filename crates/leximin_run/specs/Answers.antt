@@ -20,18 +20,18 @@ use Rattle.define_runs.specs.declared.sizes.RunSizes.{RunSizes}
 use Rattle.leximin_run.specs.declared.stops.Stop.{Stop}
 use Rattle.leximin_run.specs.declared.stops.Stop.TheVariants.{TooWide, TotalPasses, PivotsSpent, NodesSpent, OutOfMemory}
 
--- the table as it was, if there was one
+-- the table at which the run stopped, if there was one
 abbrev pub stood : At → Option Table
 stood Opening = None
 stood (At.Table table) = Some table
 
--- the numbers say at which composition the total passes
+-- `place`, `total` and `den` say at which composition the total passes, as `pass` has them
 pub record IsTotalPass (pass : TotalPass) (place : ℕ) (total den : ℤ) : Type 0 where
   pub place_is : place ≡ pass.place
   pub total_is : total ≡ pos pass.total
   pub den_is : den ≡ pos pass.den
 
--- the answer is how the run over these classes ends; want of memory may come at any time
+-- the answer is how the run over these classes ends; running out of memory is allowed at any time
 abbrev pub TellsEnding : Classes → RunLimits → Result Solved Stop → Type 0
 TellsEnding all limits (Ok (Found answer)) = (last : Table) × Ends all limits (Ending.Found last answer)
 TellsEnding all limits (Ok NoPanel) = Ends all limits Ending.NoPanel
@@ -42,13 +42,13 @@ TellsEnding all limits (Err (PivotsSpent place)) = (table : Table) × (stood pla
 TellsEnding all limits (Err (NodesSpent place)) = Ends all limits (Ending.NodesSpent (stood place))
 TellsEnding all limits (Err OutOfMemory) = Unit {0}
 
--- a lottery that is found is certified by its stages and leximin greatest; if the answer is that there is no panel, the pool has none
+-- if a lottery is found, its stages certify it and it is leximin greatest; if the answer is that there is no panel, the pool has none
 abbrev pub IsCertified : Pool → Result Solved Stop → Type 0
 IsCertified pool (Ok (Found answer)) = Certifies pool answer.lottery answer.stages × LeximinGreatest pool answer.lottery
 IsCertified pool (Ok NoPanel) = panels pool ≡ []
 IsCertified pool (Err stop) = Unit {0}
 
--- the numbers of what is found are in the ranges that they have in the text of a bundle
+-- if a lottery is found, its numbers are in the ranges that they have in the text of a bundle
 abbrev pub KeepsRanges : Pool → Result Solved Stop → Type 0
 KeepsRanges pool (Ok (Found answer)) = IsInRanges pool answer
 KeepsRanges pool (Ok NoPanel) = Unit {0}
@@ -71,7 +71,7 @@ unsized (Ok (sized.Found answer sizes)) = Ok (Found answer)
 unsized (Ok sized.NoPanel) = Ok NoPanel
 unsized (Err stop) = Err stop
 
--- the same with the sizes of the run's last table, if a lottery is found
+-- the answer is how the run ends, with the sizes of the run's last table if a lottery is found
 abbrev pub TellsSized : Classes → RunLimits → Result SolvedSized Stop → Type 0
 TellsSized all limits (Ok (sized.Found answer sizes)) = (last : Table) × (sizes ≡ sizes_in last) × Ends all limits (Ending.Found last answer)
 TellsSized all limits (Ok sized.NoPanel) = TellsEnding all limits (Ok NoPanel)

@@ -11,7 +11,7 @@ use panel_search::Row;
 use pool_model::{Certificate, Stage};
 use std::alloc::{AllocError, Global};
 
-/// The stage of each closed row, in order.
+/// Returns the stages of the closed rows, in order.
 pub(crate) fn certificate(
     alloc: Global,
     classes: &Classes,
@@ -27,7 +27,8 @@ pub(crate) fn certificate(
     Ok(Certificate::new(stages))
 }
 
-// A row's stage: its right side is the cap, and a volunteer weighs the entry of their class.
+// Returns the stage of a row: its right side is the cap, and each volunteer weighs the entry of their class. `numbers` has the number of
+// each volunteer's class.
 fn stage(alloc: Global, numbers: &[usize], row: &Row) -> Result<Stage, AllocError>
     ensures { IfOk result (λ stage. (all : ClassesOf) → numbers.now ≡ map (class_number all.classes) (range_with_len 0 (volunteer_count all)) → stage ≡ stage_of all row.now) }
 {
@@ -44,7 +45,7 @@ fn weights(alloc: Global, numbers: &[usize], row: &Row) -> Result<Vec<i128>, All
         .collect(alloc)
 }
 
-// The entry of a class, or 0 if there is no such class.
+// Returns the entry of a class, or 0 if there is no such class.
 fn entry_of(row: &Row, class: usize) -> i128
     ensures { result ≡ entry row.now class }
 {

@@ -22,7 +22,7 @@ pub(crate) enum Refusal {
     Wide(Pass),
     // A pivot is due, and no more may be made.
     NoPivot,
-    // Pricing makes more visits than its budget.
+    // Pricing needs more visits than its budget.
     NoVisit,
     NoMemory,
 }
@@ -49,7 +49,7 @@ impl From<Pass> for Refusal {
     }
 }
 
-// The refusal of a pricing.
+// Why the pricing of a step stopped, as a refusal of the step.
 impl From<SearchStop> for Refusal {
     ghost use Rattle.std.specs.Prelude.{◌≡◌};
     ghost use Rattle.leximin_run.specs.Advancing.{refusal_of};
@@ -64,7 +64,7 @@ impl From<SearchStop> for Refusal {
     }
 }
 
-// A run between two steps, over the classes of its pricer, which keeps the rows of the closed stages.
+// A run between two steps. Its pricer has the classes and the rows of the closed stages.
 #[derive(Drop)]
 pub(crate) struct Run<'c> {
     pub(crate) limits: Limits,
@@ -73,7 +73,7 @@ pub(crate) struct Run<'c> {
 }
 
 impl<'c> Run<'c> {
-    // Makes the next step. Returns true if one was made; if none was, everybody is settled.
+    // Makes the next step and returns true. Returns false if everybody is settled, so that no step is due.
     pub(crate) fn advance<R: Threads + Sync, W: Watch + Sync>(
         &mut self,
         rt: &R,
@@ -103,7 +103,7 @@ impl<'c> Run<'c> {
         }
     }
 
-    // Makes the chosen pivot.
+    // Makes the chosen pivot, if the budget of pivots allows one more.
     fn pivot(&mut self, row: usize, variable: Var) -> Result<(), Refusal>
         requires stands { Stands self.old.pricer.classes (run_limits self.old.limits) self.old.table self.old.pricer.closed }
         requires open { self.old.table.in_stage ≡ true }
@@ -119,7 +119,8 @@ impl<'c> Run<'c> {
         Ok(self.table.pivot(row, variable)?)
     }
 
-    // No pivot is chosen: prices the open row with this number of workers, and adds a column or closes the stage.
+    // Prices the open row with `workers` workers, once no pivot is chosen. Adds the column that is found, or closes the stage if there is
+    // none.
     fn price<R: Threads + Sync, W: Watch + Sync>(
         &mut self,
         rt: &R,
@@ -153,7 +154,7 @@ impl<'c> Run<'c> {
         }
     }
 
-    // Closes the stage, for which no composition was found, and keeps its row.
+    // Closes the stage, for which pricing found no composition, and adds its row to the pricer.
     fn close(&mut self) -> Result<(), AllocError>
         requires stands { Stands self.old.pricer.classes (run_limits self.old.limits) self.old.table self.old.pricer.closed }
         requires open { self.old.table.in_stage ≡ true }

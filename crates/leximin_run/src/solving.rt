@@ -23,8 +23,8 @@ use pool_model::{Answer, Pool};
 use std::alloc::{AllocError, Global};
 use std::thread::Threads;
 
-/// Runs over a pool under limits. Returns the lottery with its certificate, or that the pool has no quota panel; or fails with the
-/// first step that is refused, with the table as it was then. A lottery is leximin greatest, and its stages certify it. From 1 to 64
+/// Runs over a pool under limits. Returns the lottery with its certificate, or that the pool has no quota panel. A lottery that is found is
+/// leximin greatest, and its stages certify it. Fails with the first step that is refused, and the table before that step. From 1 to 64
 /// workers price, and the watch is told when pieces of work start; the answer depends on neither.
 pub fn solve<R: Threads + Sync, W: Watch + Sync>(
     rt: &R,
@@ -38,7 +38,7 @@ pub fn solve<R: Threads + Sync, W: Watch + Sync>(
     requires few_workers { workers ≤ 64 }
     ensures run { TellsEnding (classes_of pool.now) (run_limits limits) result }
     ensures certified { IsCertified pool.now result }
-    // So a lottery that is found has a bundle.
+    // So a bundle can be made of a lottery that is found.
     ensures ranges { KeepsRanges pool.now result }
 {
     match solve_sized(rt, alloc, pool, limits, workers, watch) {
@@ -48,7 +48,7 @@ pub fn solve<R: Threads + Sync, W: Watch + Sync>(
     }
 }
 
-/// The same run. If it finds a lottery, it also returns the sizes of its last table.
+/// Makes the run of `solve`. If it finds a lottery, it also returns the sizes of its last table.
 pub fn solve_sized<R: Threads + Sync, W: Watch + Sync>(
     rt: &R,
     alloc: Global,
@@ -68,7 +68,7 @@ pub fn solve_sized<R: Threads + Sync, W: Watch + Sync>(
     run(rt, alloc, pool, limits, workers, watch)
 }
 
-// The run over a pool's classes.
+// Makes the run over the pool's classes.
 fn run<R: Threads + Sync, W: Watch + Sync>(
     rt: &R,
     alloc: Global,
@@ -90,7 +90,7 @@ fn run<R: Threads + Sync, W: Watch + Sync>(
     }
 }
 
-// The run after the opening search found the first composition.
+// Makes the run from the composition on that the opening search found.
 fn begin<R: Threads + Sync, W: Watch + Sync>(
     rt: &R,
     alloc: Global,
@@ -125,7 +125,7 @@ fn begin<R: Threads + Sync, W: Watch + Sync>(
     }
 }
 
-// The size of each class.
+// Returns the size of each class.
 fn sizes(alloc: Global, classes: &Classes) -> Result<Vec<usize>, AllocError>
     ensures { IfOk result (λ sizes. sizes.items ≡ sizes_of classes.now) }
 {
@@ -136,7 +136,7 @@ fn sizes(alloc: Global, classes: &Classes) -> Result<Vec<usize>, AllocError>
         .collect(alloc)
 }
 
-// The run from this table on.
+// Makes the run from its table on.
 fn finish<R: Threads + Sync, W: Watch + Sync>(
     rt: &R,
     alloc: Global,
@@ -158,7 +158,7 @@ fn finish<R: Threads + Sync, W: Watch + Sync>(
     }
 }
 
-// Why the run stops when a step is refused.
+// Returns why the run stops when a step is refused, with its table.
 fn stop(run: Run<'_>, refusal: Refusal) -> Stop
     ensures { result ≡ stop_of run.entry.table refusal }
 {
@@ -171,7 +171,7 @@ fn stop(run: Run<'_>, refusal: Refusal) -> Stop
     }
 }
 
-// Everybody is settled: spreads the columns of positive value, with the closed rows as the certificate.
+// Makes the answer once everybody is settled: spreads the columns of positive value, and makes the certificate of the closed rows.
 fn answer(alloc: Global, run: Run<'_>) -> Result<SolvedSized, Stop>
     requires reached { Reaches run.pricer.classes (run_limits run.limits) run.table run.pricer.closed }
     requires shut { run.table.in_stage ≡ false }
@@ -193,7 +193,7 @@ fn answer(alloc: Global, run: Run<'_>) -> Result<SolvedSized, Stop>
     }
 }
 
-// The classes, columns and pivots of a table.
+// Returns how many classes, columns and pivots a table has.
 fn sizes_of(table: &Table) -> RunSizes
     ensures { result ≡ sizes_in table.now }
 {
@@ -204,7 +204,7 @@ fn sizes_of(table: &Table) -> RunSizes
     }
 }
 
-// The columns of positive value as compositions with their fractions.
+// Returns the columns of positive value as compositions with their fractions.
 fn parts(alloc: Global, table: &Table) -> Result<Vec<(Composition, Frac)>, AllocError>
     ensures { IfOk result (λ parts. parts.items ≡ parts_of table.now) }
 {
@@ -217,7 +217,7 @@ fn parts(alloc: Global, table: &Table) -> Result<Vec<(Composition, Frac)>, Alloc
     Ok(parts)
 }
 
-// A copy of the column of this number.
+// Returns a copy of the column of this number.
 fn copied_column(table: &Table, column: usize) -> Result<Composition, AllocError>
     requires { column < length table.now.columns }
     ensures { IfOk result (λ copied. copied ≡ slice_index_or table.now.columns column []) }

@@ -42,7 +42,7 @@ pub enum Stop {
     TotalPasses(At, usize, i128, i128),
     /// A pivot is due, and the budget of pivots is spent.
     PivotsSpent(At),
-    /// A search makes more visits than its budget.
+    /// A search needs more visits than its budget.
     NodesSpent(At),
     /// No memory was left.
     OutOfMemory,

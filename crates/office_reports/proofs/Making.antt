@@ -1,4 +1,4 @@
--- The steps of making a pool come to the definition's pool.
+-- The steps of making a pool make the pool of the definition.
 use Rattle.std.proofs.Common.{◌≡◌, ℕ, suc, ◌+◌, ◌*◌, ◌/◌, ◌≤◌, max, List, [], ◌∷◌, ◌++◌, map, length, refl, sym, ◌∙◌, ap, arith}
 use Rattle.std.specs.List.{range_with_len}
 use Rattle.std.proofs.lemmas.List.FromFn.{length-map-range_with_len, map-range_with_len_more}
@@ -52,7 +52,7 @@ pub next_volunteer : (seed i x : ℕ) (values : List ℕ) (volunteers : List Vol
 next_volunteer seed i x values volunteers e f g =
     ap (λ vs. volunteers ++ with_values i vs ∷ []) (f ∙ ap values_behind e) ∙ ap (λ vs. vs ++ with_values i (values_behind (state seed (3 * i))) ∷ []) g ∙ one_more_volunteer seed i
 
--- the steps one after the other
+-- the steps, one after the other, make the pool of the definition
 pub pool_is_made : (seed n size : ℕ) (first : List (List ℕ)) (empty with_categories with_volunteers : Pool) → 1 ≤ n → size ≡ max (n / 10) 1 →
     first ≡ map (made_values seed) (range_with_len 0 size) → empty ≡ empty_pool size → with_categories ≡ record empty { categories = categories_by first } →
     with_volunteers ≡ record with_categories { volunteers = made_volunteers seed n } → with_volunteers ≡ made_pool seed n

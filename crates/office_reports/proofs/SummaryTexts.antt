@@ -1,4 +1,4 @@
--- What the lines of a summary come to.
+-- The lines of a summary, put together.
 use Rattle.std.proofs.Common.{◌≡◌, ℕ, List, [], ◌∷◌, ◌++◌, map, ℤ, pos, unsigned_abs, codes, take, append_assoc, refl, sym, ◌∙◌, ap, subst}
 use Rattle.std.specs.Prelude.{OnOk, Result}
 use Rattle.std.proofs.lemmas.Grind.{flat_map-append}
@@ -25,32 +25,32 @@ as_naturals zs ns e = ap (map unsigned_abs) e ∙ again ns
     again [] = refl
     again (x ∷ xs) = ap (λ ys. x ∷ ys) (again xs)
 
--- a chance that is picked from the counts
+-- the chance of the count that is picked, the least or the greatest
 chance_is : (pick : List ℕ → ℕ) (zs : List ℤ) (ns : List ℕ) (num den : ℤ) (total : ℕ) → zs ≡ map pos ns → num ≡ pos (pick (map unsigned_abs zs)) → den ≡ pos total →
     lowest_of (unsigned_abs num) (unsigned_abs den) ≡ lowest_of (pick ns) total
 chance_is pick zs ns num den total e n d =
     ap (λ z. lowest_of (unsigned_abs z) (unsigned_abs den)) n ∙ ap (λ z. lowest_of (pick (map unsigned_abs zs)) (unsigned_abs z)) d
     ∙ ap (λ xs. lowest_of (pick xs) total) (as_naturals zs ns e)
 
--- lines one after the other
+-- lines, and more lines after them
 pub more_lines : (before first second : List ℕ) (lines more : List (List ℕ)) → first ≡ before ++ text_of lines → second ≡ first ++ text_of more → second ≡ before ++ text_of (lines ++ more)
 more_lines before first second lines more e f =
     f ∙ ap (λ bytes. bytes ++ text_of more) e ∙ append_assoc before (text_of lines) (text_of more)
     ∙ ap (λ bytes. before ++ bytes) (sym (flat_map-append (λ (line : List ℕ). line ++ line_feed ∷ []) lines more))
 
--- a line of a number
+-- lines, and the line of a number after them
 pub number_is_added : (before first second word : List ℕ) (n m : ℕ) (lines : List (List ℕ)) → n ≡ m → first ≡ before ++ text_of lines → second ≡ first ++ text_of (number_line word n ∷ []) →
     second ≡ before ++ text_of (lines ++ number_line word m ∷ [])
 number_is_added before first second word n m lines same e f =
     more_lines before first second lines (number_line word m ∷ []) e (f ∙ ap (λ k. first ++ text_of (number_line word k ∷ [])) same)
 
--- the last of them, where memory may be wanted
+-- lines, and the line of a last number after them, unless memory runs out
 pub last_number : {T E : Type 0} (result : Result T E) (before first second word : List ℕ) (n m : ℕ) (lines : List (List ℕ)) → n ≡ m → first ≡ before ++ text_of lines →
     OnOk result (second ≡ first ++ text_of (number_line word n ∷ [])) → OnOk result (second ≡ before ++ text_of (lines ++ number_line word m ∷ []))
 last_number result before first second word n m lines same e f =
     subst (λ (bytes : List ℕ). OnOk result (second ≡ bytes)) (number_is_added before first (first ++ text_of (number_line word n ∷ [])) word n m lines same e refl) f
 
--- a line of a chance
+-- lines, and the line of a chance after them
 chance_is_added : (before first second word : List ℕ) (lines : List (List ℕ)) (pick : List ℕ → ℕ) (zs : List ℤ) (ns : List ℕ) (num den : ℤ) (total : ℕ) →
     zs ≡ map pos ns → num ≡ pos (pick (map unsigned_abs zs)) → den ≡ pos total → first ≡ before ++ text_of lines →
     second ≡ first ++ text_of (field_line word (fraction_text (lowest_of (unsigned_abs num) (unsigned_abs den))) ∷ []) →

@@ -7,7 +7,7 @@ use Rattle.define_pools.specs.Building.{value_names}
 use Rattle.define_made_pools.specs.Generator.{next_state, upper_bits}
 use Rattle.define_made_pools.specs.MadePools.{ages, areas, bounded_by, genders, made_id}
 
--- the values of the volunteer whose numbers come after a state
+-- the values of the volunteer who is made of the three numbers after state `x`
 abbrev pub values_behind : ℕ → List ℕ
 values_behind x =
     let first = next_state x in
@@ -15,11 +15,11 @@ values_behind x =
     let third = next_state second in
     upper_bits first % 2 ∷ upper_bits second % 3 ∷ upper_bits third % 2 ∷ []
 
--- how many lists of values have this one in this place
+-- how many of the lists of values have `value_place` at `place`
 abbrev pub members_with : List (List ℕ) → ℕ → ℕ → ℕ
 members_with first place value_place = count_by (λ values. slice_index values place == value_place) first
 
--- a category with its bounds, which the values of the first volunteers give
+-- a category whose bounds come from the values of the first volunteers
 abbrev pub category_by : List (List ℕ) → ℕ → List ℕ → List (List ℕ) → Category
 category_by first place name value_names = record {
   name = name;
@@ -38,11 +38,11 @@ names_of_values categories = map (λ category. value_names category.values) cate
 abbrev pub made_names : List (List (List ℕ))
 made_names = genders ∷ ages ∷ areas ∷ []
 
--- each is a place of a value of its category
+-- each number is the place of a value in its category
 abbrev pub ArePlaces : List ℕ → Type 0
 ArePlaces values = (slice_index values 0 < 2) × (slice_index values 1 < 3) × (slice_index values 2 < 2)
 
--- the volunteer of this number with these three values
+-- volunteer `number` with these three values
 abbrev pub with_values : ℕ → List ℕ → Volunteer
 with_values number values = record {
   id = made_id number;

@@ -15,7 +15,7 @@ pub(crate) struct Generator {
 }
 
 impl Generator {
-    /// The next number, of 31 bits.
+    /// Returns the next number, of 31 bits.
     pub(crate) fn number(&mut self) -> u64
         ensures state { self.new.state ≡ next_state self.old.state }
         ensures value { result ≡ upper_bits (next_state self.old.state) }
@@ -24,7 +24,7 @@ impl Generator {
         self.state >> 33
     }
 
-    /// The next volunteer's values, by the next three numbers.
+    /// Returns the next volunteer's values, made of the next three numbers.
     pub(crate) fn values(&mut self) -> [usize; 3]
         ensures state { self.new.state ≡ next_state (next_state (next_state self.old.state)) }
         ensures value { result ≡ values_behind self.old.state }

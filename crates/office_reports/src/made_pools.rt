@@ -11,10 +11,10 @@ use crate::generator::Generator;
 use pool_model::Pool;
 use std::alloc::{AllocError, Global};
 
-/// Returns the pool that is made from a seed and 1 to 400 volunteers, `v1`, `v2` and so on. A generator gives each of them a gender, an
-/// age and an area, by three numbers in turn. A panel has a tenth of the volunteers, and at least one. Of a value that n of the first
-/// volunteers have, as many volunteers as a panel has, a panel has from n - 1 to n + 1. All volunteers are open, without households.
-/// Fails only if memory runs out.
+/// Returns the pool that is made from a seed and 1 to 400 volunteers, `v1`, `v2` and so on. A generator gives each of them a gender, an age
+/// and an area, by three numbers in turn. A panel has a tenth of the volunteers, and at least one. The bounds come from the first
+/// volunteers, as many as a panel has: if n of them have a value, a panel has from n - 1 to n + 1 members with it, and at least 0. All
+/// volunteers are open, without households. Fails only if memory runs out.
 pub fn made_pool(alloc: Global, seed: u64, volunteers: u32) -> Result<Pool, AllocError>
     requires some { 1 ≤ volunteers }
     requires few { volunteers ≤ 400 }
@@ -28,7 +28,7 @@ pub fn made_pool(alloc: Global, seed: u64, volunteers: u32) -> Result<Pool, Allo
     Ok(pool)
 }
 
-/// A pool without categories and volunteers.
+/// Returns a pool without categories and volunteers.
 fn empty_pool(alloc: Global, size: usize) -> Pool
     requires some { 1 ≤ size }
     requires few { size ≤ 200 }
@@ -40,7 +40,7 @@ fn empty_pool(alloc: Global, size: usize) -> Pool
     }
 }
 
-/// The values of the first volunteers, as many as a panel has.
+/// Returns the values of the first `size` volunteers.
 fn first_values(alloc: Global, seed: u64, size: usize) -> Result<Vec<[usize; 3]>, AllocError>
     ensures { IfOk result (λ first. first.items ≡ map (made_values seed) (range_with_len 0 size)) }
 {
@@ -52,7 +52,7 @@ fn first_values(alloc: Global, seed: u64, size: usize) -> Result<Vec<[usize; 3]>
     Ok(first)
 }
 
-/// Adds the three categories with their bounds, which the first volunteers' values give.
+/// Adds the three categories, with the bounds that come from the first volunteers' values.
 fn add_categories(pool: &mut Pool, first: &[[usize; 3]]) -> Result<(), AllocError>
     requires no_category { pool.old.categories ≡ [] }
     requires nobody { pool.old.volunteers ≡ [] }
@@ -71,7 +71,7 @@ fn add_categories(pool: &mut Pool, first: &[[usize; 3]]) -> Result<(), AllocErro
     add_bounded(pool, "country", members_with(first, 2, 1))
 }
 
-/// How many of the first volunteers have this value in this place.
+/// Returns how many of the first volunteers have the value `value_place` in the category `place`.
 fn members_with(first: &[[usize; 3]], place: usize, value_place: usize) -> usize
     requires { place < 3 }
     ensures value { result ≡ members_with first.now place value_place }
@@ -83,7 +83,7 @@ fn members_with(first: &[[usize; 3]], place: usize, value_place: usize) -> usize
         .count()
 }
 
-/// Adds a value that `members` of the first volunteers have.
+/// Adds a value that `members` of the first volunteers have, with bounds one below and one above.
 fn add_bounded(pool: &mut Pool, name: &str, members: usize) -> Result<(), AllocError>
     requires few { members ≤ 40 }
     requires kind { value_kind pool.old (bounded_by name.now members) ≡ None }
@@ -92,7 +92,7 @@ fn add_bounded(pool: &mut Pool, name: &str, members: usize) -> Result<(), AllocE
     pool.add_right_value(name, members.saturating_sub(1), members + 1)
 }
 
-/// Adds this number of volunteers to a pool that has the three categories.
+/// Adds `volunteers` volunteers to a pool that has the three categories.
 fn add_volunteers(
     alloc: Global,
     pool: &mut Pool,
@@ -111,7 +111,7 @@ fn add_volunteers(
     Ok(())
 }
 
-/// Adds the volunteer of a number, counted from 0, with these values.
+/// Adds volunteer `number`, counted from 0, with these values.
 fn add_volunteer(
     alloc: Global,
     pool: &mut Pool,

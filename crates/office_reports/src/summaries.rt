@@ -93,7 +93,7 @@ fn push_line(text: &mut String, word: &str, field: &str) -> Result<(), AllocErro
     writeln!(text, "{word}\t{field}")
 }
 
-/// The least of some numbers of at least 0, or 0 if there are none.
+/// Returns the least of the counts, which are at least 0, or 0 if there are none.
 fn least(counts: &[i128]) -> i128
     requires { counts.now ≡ map pos (map unsigned_abs counts.now) }
     ensures { result ≡ pos (words_of_least (map unsigned_abs counts.now)) }
@@ -105,7 +105,7 @@ fn least(counts: &[i128]) -> i128
     least
 }
 
-/// The greatest of some numbers of at least 0, or 0 if there are none.
+/// Returns the greatest of the counts, which are at least 0, or 0 if there are none.
 fn greatest(counts: &[i128]) -> i128
     requires { counts.now ≡ map pos (map unsigned_abs counts.now) }
     ensures { result ≡ pos (words_of_greatest (map unsigned_abs counts.now)) }

@@ -11,18 +11,18 @@ take_of_longer count piece more =
     let within : min count (length piece) ≤ length piece = omega arith in
     take-append-le (min count (length piece)) piece more within ∙ take_min count piece
 
--- a part of a piece is a part of a longer one
+-- a part of a piece is a part of the piece with more after it
 pub AppendsPart-append : (old new : Option (List ℕ)) (piece more : List ℕ) → AppendsPart old new piece → AppendsPart old new (piece ++ more)
 AppendsPart-append old new piece more part =
     let P : List ℕ → Type 0 = λ bytes. Appends old new bytes in
     (min part.0 (length piece), subst P (sym (take_of_longer part.0 piece more)) part.1)
 
--- a whole piece, and then a part of the next
+-- a whole piece, and then a part of the next piece
 pub AppendsPart-after : (a b c : Option (List ℕ)) (piece more : List ℕ) → Appends a b piece → AppendsPart b c more → AppendsPart a c (piece ++ more)
 AppendsPart-after a b c piece more whole part =
     let P : List ℕ → Type 0 = λ bytes. Appends a c bytes in
     (length piece + part.0, subst P (sym (take-append-add piece more part.0)) (Appends-trans a b c piece (take part.0 more) whole part.1))
 
--- what one call took, and then the next
+-- what one call took from the front, and then what the next took
 pub LosesFront-trans : (a b c : Option (List ℕ)) → LosesFront a b → LosesFront b c → LosesFront a c
 LosesFront-trans a b c h more = (h.0 ++ more.0, Consumes-trans a b c h.0 more.0 h.1 more.1)

@@ -1,7 +1,7 @@
 -- How an object of the outside counts its faults. The contracts of sources, sinks and the shell cite it.
 use Rattle.std.specs.Prelude.{ℕ, ◌+◌, ◌-◌, ◌^◌, ◌≤◌, min}
 
--- one more; a count at the last value of its type stays at it
+-- the count after one more fault; at the last value of its type it stays
 abbrev pub raised : ℕ → ℕ
 raised count = min (count + 1) (2 ^ 64 - 1)
 

@@ -17,7 +17,7 @@ no_calls failing = record { failing = failing; made = 0; faults = 0 }
 abbrev pub next_fails : Calls → Bool
 next_fails calls = list_any (λ number. number == raised calls.made) calls.failing
 
--- after one more call, which was a fault or not
+-- the calls after one more, which was a fault or not
 abbrev pub after_call : Calls → Bool → Calls
 after_call calls is_fault = record calls { made = raised calls.made; faults = if is_fault then raised calls.faults else calls.faults }
 

@@ -45,14 +45,14 @@ impl MemSink {
         })
     }
 
-    /// The bytes that were written.
+    /// Returns the bytes that were written.
     pub fn written(&self) -> &[u8]
         ensures { result.now ≡ self.now.written }
     {
         self.written.as_slice()
     }
 
-    /// How many puts have failed.
+    /// Returns how many puts have failed.
     pub fn faults(&self) -> u64
         ensures { result ≡ self.now.calls.faults }
     {
@@ -90,7 +90,7 @@ impl Sink for MemSink {
     }
 }
 
-// Appends the piece, or as much of it as fits.
+// Appends the first `fitting` bytes of the piece, or all if it has fewer.
 fn append_front(written: &mut Vec<u8>, piece: &[u8], fitting: usize)
     requires { length written.old.items + fitting ≤ vec_capacity written.old }
     ensures items { written.new.items ≡ written.old.items ++ take fitting piece.now }

@@ -42,14 +42,14 @@ impl MemSource {
         })
     }
 
-    /// The bytes that are left.
+    /// Returns the bytes that are left.
     pub fn left(&self) -> &[u8]
         ensures { result.now ≡ self.now.left }
     {
         &self.bytes[self.at..]
     }
 
-    /// How many reads have failed.
+    /// Returns how many reads have failed.
     pub fn faults(&self) -> u64
         ensures { result ≡ self.now.calls.faults }
     {
@@ -87,7 +87,7 @@ impl Source for MemSource {
     }
 }
 
-// Copies as many bytes as there are and fit, and returns how many.
+// Copies bytes to the front of the room, as many as fit, and returns how many.
 fn copy_front(bytes: &[u8], room: &mut [u8]) -> usize
     ensures count { result ≡ min (length room.old) (length bytes.now) }
     ensures room { room.new ≡ take result bytes.now ++ drop result room.old }

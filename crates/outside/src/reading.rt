@@ -21,7 +21,7 @@ pub enum ReadStop {
     OutOfMemory,
 }
 
-// The most bytes of one read.
+// The most bytes that one read takes.
 const ROOM: usize = 4096;
 
 /// Reads all that is left, at most `limit` bytes. Each turn but the last takes at least one byte, so there are at most `limit + 2`
@@ -32,7 +32,7 @@ pub fn read_all<S: Source>(alloc: Global, source: &mut S, limit: usize) -> Resul
         (λ bytes. ReadsAll (S.left source.old) (S.left source.new) bytes.items) }
     ensures within { IfOk result (λ bytes. length bytes.items ≤ limit) }
 
-    // When each error comes. Want of memory may come at any time.
+    // When each error is answered. Memory may run out at any time.
     ensures fault { result ≡ Err ReadStop.Fault
         → Rose (S.faults source.old) (S.faults source.new) }
     ensures long { result ≡ Err ReadStop.TooLong

@@ -1,4 +1,4 @@
-//! A sink of bytes. In memory and over std, below.
+//! A sink of bytes, as a trait. `MemSink` is one in memory, and `StdSink` one over a writer of std.
 ghost use Rattle.std.specs.Prelude.{◌≡◌, ◌≤◌, List, ℕ, OnErr, OnOk, Option};
 ghost use Rattle.std.specs.Io.KnownBytes.{Appends};
 ghost use Rattle.outside.specs.Content.{AppendsPart};

@@ -1,4 +1,4 @@
-//! A source of bytes. In memory and over std, below.
+//! A source of bytes, as a trait. `MemSource` is one in memory, and `StdSource` one over a reader of std.
 ghost use Rattle.std.specs.Prelude.{◌≡◌, ◌≤◌, List, ℕ, OnErr, OnOk, Option};
 ghost use Rattle.std.specs.Io.{ReadsAtMost};
 ghost use Rattle.std.specs.Io.KnownBytes.{ReadConsumes};

@@ -24,7 +24,7 @@ impl<W: Write> StdSink<W> {
         StdSink { inner, faults: 0 }
     }
 
-    /// How many puts have failed.
+    /// Returns how many puts have failed.
     pub fn faults(&self) -> u64
         ensures { result ≡ ⟦<StdSink<W> as Sink>⟧.faults self.now }
     {

@@ -24,7 +24,7 @@ impl<R: Read> StdSource<R> {
         StdSource { inner, faults: 0 }
     }
 
-    /// How many reads have failed.
+    /// Returns how many reads have failed.
     pub fn faults(&self) -> u64
         ensures { result ≡ ⟦<StdSource<R> as Source>⟧.faults self.now }
     {

@@ -3,8 +3,8 @@ use Rattle.std.specs.Prelude.{◌≡◌, ℕ, Option, Some, None, Result, Ok, Er
 use Rattle.pool_model.specs.declared.building.BuildStop.{BuildStop}
 use Rattle.pool_model.specs.declared.building.BuildStop.TheVariants.{Kind, OutOfMemory}
 
--- the step is done only if no kind of fault applies, and stops with a kind only if this is the lowest; it wants memory only if no kind
--- applies
+-- the step is made only if no kind of fault applies, and stops with a kind only if it is the lowest that applies; it runs out of memory
+-- only if no kind applies
 abbrev pub Answers : {T : Type 0} → Option ℕ → Result T BuildStop → Type 0
 Answers kind (Ok done) = kind ≡ None
 Answers kind (Err (Kind told)) = kind ≡ Some told

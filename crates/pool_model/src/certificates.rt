@@ -32,14 +32,14 @@ impl Stage {
         Stage { weights, cap }
     }
 
-    /// The weight of each volunteer.
+    /// Returns the weight of each volunteer.
     pub fn weights(&self) -> &[i128]
         ensures { result.now ≡ self.now.weights }
     {
         &self.weights
     }
 
-    /// The cap on a panel's weight.
+    /// Returns the cap on a panel's weight.
     pub fn cap(&self) -> i128
         ensures { result ≡ self.now.cap }
     {
@@ -89,7 +89,7 @@ impl Certificate {
         Ok(())
     }
 
-    /// The stages, in order.
+    /// Returns the stages, in order.
     pub fn stages(&self) -> &[Stage]
         ensures { result.now ≡ self.now }
     {
@@ -141,14 +141,14 @@ impl Answer {
         }
     }
 
-    /// The lottery.
+    /// Returns the lottery.
     pub fn lottery(&self) -> &Lottery
         ensures { result.now ≡ self.now.lottery }
     {
         &self.lottery
     }
 
-    /// The certificate.
+    /// Returns the certificate.
     pub fn certificate(&self) -> &Certificate
         ensures { result.now ≡ self.now.stages }
     {
@@ -179,7 +179,7 @@ pub fn panel_weight(panel: &Panel, stage: &Stage) -> i128
     sum
 }
 
-/// Adds a weight to a sum; 127 bits and a sign hold the result.
+/// Adds a weight to a sum. The result fits 127 bits and a sign.
 fn with_weight(sum: i128, weight: i128) -> i128
     requires { unsigned_abs (sum +ℤ weight) ≤ 2 ^ 127 - 1 }
     ensures { result ≡ sum +ℤ weight }
@@ -187,7 +187,7 @@ fn with_weight(sum: i128, weight: i128) -> i128
     sum + weight
 }
 
-/// A volunteer's weight, or 0 if the stage has none.
+/// Returns a volunteer's weight, or 0 if the stage has none for this number.
 fn weight_of(stage: &Stage, i: usize) -> i128
     ensures { result ≡ weight_of_one stage.now i }
 {

@@ -1,4 +1,4 @@
-//! Whether volunteers have households, and which volunteers are of one household. The texts' versions and the classes go by it.
+//! Whether volunteers have households, and which volunteers are of one household. The versions of texts and the classes depend on it.
 
 ghost use Rattle.std.specs.Prelude.{◌≡◌, is_some};
 ghost use Rattle.std.specs.List.{list_any};

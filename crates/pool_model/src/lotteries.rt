@@ -33,14 +33,14 @@ impl LotteryRow {
         LotteryRow { panel, weight }
     }
 
-    /// The panel.
+    /// Returns the panel.
     pub fn panel(&self) -> &Panel
         ensures { result.now ≡ self.now.panel }
     {
         &self.panel
     }
 
-    /// The panel's weight, at least 0.
+    /// Returns the panel's weight, at least 0.
     pub fn weight(&self) -> i128
         ensures { result ≡ pos self.now.weight }
     {
@@ -94,14 +94,14 @@ impl Lottery {
         Ok(())
     }
 
-    /// The total, at least 0.
+    /// Returns the total, at least 0.
     pub fn total(&self) -> i128
         ensures { result ≡ pos self.now.total }
     {
         self.total
     }
 
-    /// The panels with their weights.
+    /// Returns the panels with their weights.
     pub fn rows(&self) -> &[LotteryRow]
         ensures value { result.now ≡ self.now.rows }
         ensures total { self.now.total < 2 ^ 127 }

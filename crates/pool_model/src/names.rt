@@ -56,7 +56,7 @@ pub(crate) fn are_known(categories: &[Category], names: &[&[u8]]) -> bool
         .all(|(category, name)| is_value(category.values(), name))
 }
 
-/// The same for names that a caller owns.
+/// True if each name is that of a value of its category, for names that the caller owns.
 pub(crate) fn are_named(categories: &[Category], names: &[Name]) -> bool
     ensures { result ≡ each_is_known categories.now names.now }
 {
@@ -66,7 +66,7 @@ pub(crate) fn are_named(categories: &[Category], names: &[Name]) -> bool
     ))
 }
 
-/// The place of the value of this name.
+/// Returns the place of the value of this name, if there is one.
 fn place(values: &[BoundedValue], name: &[u8]) -> Option<usize>
     ensures { result ≡ place_of values.now name.now }
 {
@@ -75,7 +75,7 @@ fn place(values: &[BoundedValue], name: &[u8]) -> Option<usize>
         .position(|value| name == value.name().as_bytes())
 }
 
-/// For each category the place of the value of the name that is given for it, or 0 if there is none.
+/// Returns for each category the place of the value whose name is given for it, or 0 if there is none.
 pub(crate) fn places(
     alloc: Global,
     categories: &[Category],
@@ -90,7 +90,7 @@ pub(crate) fn places(
         .collect(alloc)
 }
 
-/// The bytes of each name.
+/// Returns the bytes of each name.
 pub(crate) fn bytes_of(alloc: Global, names: &[Name]) -> Result<Vec<&[u8]>, AllocError>
     ensures { IfOk result (λ v. map (λ name. name.now) v.items ≡ names.now) }
 {

@@ -35,7 +35,7 @@ impl Panel {
         }
     }
 
-    /// The numbers of the members, increasing.
+    /// Returns the numbers of the members, increasing.
     pub fn members(&self) -> &[usize]
         ensures value { result.now ≡ self.now }
         ensures increasing { IsTrue (is_increasing self.now) }

@@ -37,14 +37,14 @@ impl Name {
         Ok(Name { text })
     }
 
-    /// The text.
+    /// Returns the text.
     pub fn as_str(&self) -> &str
         ensures { result.now ≡ self.now }
     {
         self.text.as_str()
     }
 
-    /// The bytes of the text.
+    /// Returns the bytes of the text.
     pub fn as_bytes(&self) -> &[u8]
         ensures { result.now ≡ self.now }
     {
@@ -83,14 +83,14 @@ impl BoundedValue {
         BoundedValue { name, bound }
     }
 
-    /// The value's name.
+    /// Returns the value's name.
     pub fn name(&self) -> &Name
         ensures { result.now ≡ self.now.name }
     {
         &self.name
     }
 
-    /// How many members of a panel may have the value.
+    /// Returns how many members of a panel may have the value.
     pub fn bound(&self) -> Bound
         ensures lower { result.lower ≡ self.now.lower }
         ensures upper { result.upper ≡ self.now.upper }
@@ -98,14 +98,14 @@ impl BoundedValue {
         self.bound
     }
 
-    /// The least number of members with the value.
+    /// Returns the least number of members with the value.
     pub fn lower(&self) -> usize
         ensures { result ≡ self.now.lower }
     {
         self.bound.lower
     }
 
-    /// The greatest number of members with the value.
+    /// Returns the greatest number of members with the value.
     pub fn upper(&self) -> usize
         ensures { result ≡ self.now.upper }
     {
@@ -139,7 +139,7 @@ impl Model for Category {
 }
 
 impl Category {
-    // A category without values.
+    // Returns a category without values.
     pub(crate) fn new(alloc: Global, name: &str) -> Result<Category, AllocError>
         ensures { IfOk result (λ category. category ≡ record { name = name.now; values = [] }) }
     {
@@ -157,14 +157,14 @@ impl Category {
         Ok(())
     }
 
-    /// The category's name.
+    /// Returns the category's name.
     pub fn name(&self) -> &Name
         ensures { result.now ≡ self.now.name }
     {
         &self.name
     }
 
-    /// The values with their bounds, in the order in which they were added.
+    /// Returns the values with their bounds, in the order in which they were added.
     pub fn values(&self) -> &[BoundedValue]
         ensures { result.now ≡ self.now.values }
     {
@@ -210,7 +210,7 @@ impl Model for Volunteer {
 }
 
 impl Volunteer {
-    // A volunteer who may be chosen, without a household.
+    // Returns an open volunteer without a household.
     pub(crate) fn new(id: Name, values: Vec<usize>) -> Volunteer
         ensures { result ≡ record { id = id; values = values.items; standing = Open; household = None } }
     {
@@ -222,21 +222,21 @@ impl Volunteer {
         }
     }
 
-    /// The volunteer's id.
+    /// Returns the volunteer's id.
     pub fn id(&self) -> &Name
         ensures { result.now ≡ self.now.id }
     {
         &self.id
     }
 
-    /// For each category the place of the volunteer's value among the category's values, counted from 0.
+    /// Returns for each category the place of the volunteer's value among the category's values, counted from 0.
     pub fn values(&self) -> &[usize]
         ensures { result.now ≡ self.now.values }
     {
         &self.values
     }
 
-    /// Whether the volunteer may, must or can't be chosen.
+    /// Returns the volunteer's standing: whether they may, must or can't be chosen.
     pub fn standing(&self) -> Standing
         ensures { result ≡ self.now.standing }
     {
@@ -249,7 +249,7 @@ impl Volunteer {
         self.standing = standing;
     }
 
-    /// The name of the volunteer's household, if one is known.
+    /// Returns the name of the volunteer's household, if the volunteer has one.
     pub fn household(&self) -> Option<&Name>
         ensures { option_map (λ name. name.now) result ≡ self.now.household }
     {

@@ -1,4 +1,4 @@
-//! Pools, and their builder. A text reader, a maker and an importer build a pool by these calls.
+//! Pools, and the calls that build one: `pool_text` reads a pool with them, and `office_reports` makes one.
 
 ghost use Rattle.std.specs.Prelude.{◌≡◌, ◌≢◌, ◌<◌, ◌==◌, ◌||◌, nat_le, not, [], ◌∷◌, length, map, None, Err, OnOk, OnErr, IfOk, vec_len};
 ghost use Rattle.define_pools.specs.Lists.{includes_list};
@@ -48,21 +48,21 @@ impl Model for Pool {
 }
 
 impl Pool {
-    /// How many members a panel has.
+    /// Returns how many members a panel has.
     pub fn size(&self) -> usize
         ensures { result ≡ self.now.size }
     {
         self.size
     }
 
-    /// The categories, in the order in which they were added.
+    /// Returns the categories, in the order in which they were added.
     pub fn categories(&self) -> &[Category]
         ensures { result.now ≡ self.now.categories }
     {
         &self.categories
     }
 
-    /// The volunteers, by number.
+    /// Returns the volunteers, by number.
     pub fn volunteers(&self) -> &[Volunteer]
         ensures { result.now ≡ self.now.volunteers }
     {
@@ -210,7 +210,8 @@ impl Pool {
         self.volunteer_fault(id, known, values.len())
     }
 
-    // The same, given whether each name for a category is one of its values, and the number of names.
+    // Does what `volunteer_kind` does. `known` says whether each name is that of a value of its category, and `count` is the number of
+    // names.
     fn volunteer_fault(&self, id: &[u8], known: bool, count: usize) -> Option<u8>
         ensures { result ≡ lowest_kind (
             (6, not known) ∷
@@ -231,8 +232,8 @@ impl Pool {
         }
     }
 
-    /// Appends a volunteer, who may be chosen, given the name of a value for each category. Stops with the kind that
-    /// `volunteer_kind` returns; the pool is then unchanged.
+    /// Appends an open volunteer, given the name of a value for each category. Stops with the kind that `volunteer_kind` returns; the pool is
+    /// then unchanged.
     pub fn add_volunteer(&mut self, id: &str, values: &[Name]) -> Result<(), BuildStop>
         ensures kind { Answers (volunteer_kind self.old id.now values.now) result }
         ensures ok { OnOk result (self.new ≡ volunteer_added self.old id.now values.now) }
@@ -307,7 +308,7 @@ pub fn household_kind(name: &[u8]) -> Option<u8>
     }
 }
 
-/// The kind of fault of a size: 2 exactly if it is not from 1 to 200.
+/// Returns the kind of fault of a size: 2 exactly if it is not from 1 to 200.
 fn size_kind(size: usize) -> Option<u8>
     ensures { result ≡ size_kind size }
 {
@@ -318,7 +319,7 @@ fn size_kind(size: usize) -> Option<u8>
     }
 }
 
-// The values of the last category.
+// Returns the values of the last category, none if there is no category.
 fn last_values(categories: &[Category]) -> &[BoundedValue]
     ensures { result.now ≡ values_of_last categories.now }
 {

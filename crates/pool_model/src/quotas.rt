@@ -102,7 +102,7 @@ fn keep_households(volunteers: &[Volunteer], members: &[usize]) -> bool
         .all(|i| number_of_household(volunteers, members, *i) <= 1)
 }
 
-// How many members are of a volunteer's household.
+// Returns how many of the members are of the household of volunteer `i`.
 fn number_of_household(volunteers: &[Volunteer], members: &[usize], i: usize) -> usize
     ensures { result ≡ count_by (share volunteers.now i) members.now }
 {

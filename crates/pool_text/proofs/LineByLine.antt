@@ -13,7 +13,7 @@ use Rattle.pool_text.specs.declared.faults.ReadPool.{ReadPool}
 use Rattle.pool_text.specs.declared.faults.ReadPool.TheVariants.{OutOfMemory as Unread}
 use Rattle.pool_text.specs.Progress.{line_due}
 
--- a stop at a line is what the reading comes to
+-- if the reading stops at a line, this stop is the answer for the whole text
 pub stops_at : (T : Type 0) (number : ℕ) (progress : Progress) (rest line later : List ℕ) → pieces_of rest ≡ line ∷ pieces_of later → (wanted : Result Pool Fault) →
     read_lines reader number progress (pieces_of rest) ≡ wanted → (stop : BuildStop) → Tells {T = T} (line_kind progress line) (Err stop) → (told : ReadPool) → told ≡ stopped number stop → Reads wanted (Err told)
 stops_at T number progress rest line later parted wanted same stop tells told e = subst (λ said. Reads wanted (Err said)) (sym e) (by stop tells)
@@ -22,7 +22,7 @@ stops_at T number progress rest line later parted wanted same stop tells told e 
     by OutOfMemory h = tt
     by (Kind kind) h = reading.stops_at reader number progress rest line later parted wanted same kind h
 
--- what follows an entry is due no earlier than the third line
+-- if an entry is at line 3 or later, line `number + 1` isn't too early for the progress after it
 entry_due : (pool : Pool) (passed : Passed) (entry : Entry) (number : ℕ) → 3 ≤ number → line_due (after_entry pool passed entry) ≤ number + 1
 entry_due pool passed (OfCategory name) number h = omega arith
 entry_due pool passed (OfValue value) number h = omega arith
@@ -32,14 +32,14 @@ entry_due pool passed (OfStanding standing id) number h = omega arith
 entry_due pool passed TheEnd number h = omega arith
 entry_due pool passed Unknown number h = omega arith
 
--- one line further
+-- if line `number` isn't too early for the progress, line `number + 1` isn't too early for the progress after it
 pub next_due : (progress : Progress) (line : List ℕ) (number : ℕ) → line_due progress ≤ number → line_due (after_line progress line) ≤ number + 1
 next_due Begun line number h = omega arith
 next_due (Versioned second) line number h = omega arith
 next_due (Inside pool passed) line number h = entry_due pool passed (entry_of (fields_of line)) number h
 next_due (Ended pool) line number h = omega arith
 
--- a fault that is read from a line on is none of an earlier line
+-- a fault that is found from line `number` on is in this line or a later one
 last_from : (number : ℕ) (progress : Progress) (bytes : List ℕ) → IsRightBefore number (at_last number progress bytes)
 last_from number Begun bytes = omega arith
 last_from number (Versioned second) bytes = omega arith
@@ -60,7 +60,7 @@ reads_from number progress (line ∷ next ∷ later) =
       | Some kind ↦ omega arith
     ]
 
--- want of memory at a line is the builder's
+-- if a stop at a line says that memory ran out, it did in the builder
 pub memory_wanted : (stop : BuildStop) (number : ℕ) → stopped number stop ≡ Unread → stop ≡ OutOfMemory
 memory_wanted OutOfMemory number h = refl
 memory_wanted (Kind kind) number h = cc

@@ -9,7 +9,7 @@ use Rattle.define_pool_texts.specs.PoolText.{version_line, size_line, category_l
 use Rattle.define_lines.specs.Lines.{tab, tabbed, text_of}
 use Rattle.define_lines.proofs.LineLemmas.{text_of-append}
 
--- a place is that of a value of its category
+-- each place is that of a value of its category
 pub place_inside : (categories : List Category) (places : List ℕ) (i : ℕ) (d : Category) → has_values categories places ≡ true → i < length places → get_or places i 0 < length (get_or categories i d).values
 place_inside [] [] i d h l = absurd (omega arith)
 place_inside [] (place ∷ places) i d h l = absurd (false≢true h)
@@ -24,7 +24,7 @@ as_many [] (place ∷ places) h = absurd (false≢true h)
 as_many (category ∷ categories) [] h = absurd (false≢true h)
 as_many (category ∷ categories) (place ∷ places) h = ap suc (as_many categories places (and_parts _ (has_values categories places) h).1)
 
--- one name more
+-- the names with that of one more category
 pub tabbed_more : (categories : List Category) (places : List ℕ) (i : ℕ) (d : Category) → i < length categories → i < length places →
     tabbed (names_at (take (i + 1) categories) (take (i + 1) places)) ≡ tabbed (names_at (take i categories) (take i places)) ++ (tab ∷ get_or (value_names (get_or categories i d).values) (get_or places i 0) [])
 tabbed_more [] places i d l m = absurd (omega arith)
@@ -37,7 +37,7 @@ tabbed_more (category ∷ categories) (place ∷ places) (suc i) d l m =
     rw e (ap (λ rest. first ++ rest) (tabbed_more categories places i d (omega arith) (omega arith))
     ∙ sym (append_assoc first (tabbed (names_at (take i categories) (take i places))) last))
 
--- the parts of a pool's text, one after the other
+-- the parts of a pool's text, one after the other, are its spelling
 pub pool_written : (text : List ℕ) (pool : Pool) →
     ((((((text ++ text_of (version_line (has_households pool) ∷ [])) ++ text_of (size_line pool.size ∷ [])) ++ text_of (flat_map category_lines pool.categories))
     ++ text_of (map (volunteer_line pool.categories) pool.volunteers)) ++ text_of (household_lines pool.volunteers)) ++ text_of (standing_lines pool.volunteers)) ++ text_of (end_line ∷ []) ≡ text ++ spelling pool

@@ -8,28 +8,29 @@ use Rattle.pool_text.specs.declared.faults.PoolFault.{PoolFault}
 use Rattle.pool_text.specs.declared.faults.ReadPool.{ReadPool}
 use Rattle.pool_text.specs.declared.faults.ReadPool.TheVariants.{Fault as fault, OutOfMemory}
 
--- a fault as the definitions have it
+-- the fault in the form of the definitions
 abbrev pub fault_of : PoolFault → Fault
 fault_of f = record { line = f.line; kind = f.kind }
 
--- a pool only if the bytes say this pool, a fault only if they say this fault; want of memory may come at any time
+-- the answer of a reader if the bytes say `said`: this pool or this fault; running out of memory is allowed at any time
 abbrev pub Reads : Result Pool Fault → Result Pool ReadPool → Type 0
 Reads said (Ok pool) = said ≡ Ok pool
 Reads said (Err (fault f)) = said ≡ Err (fault_of f)
 Reads said (Err OutOfMemory) = ⊤
 
--- a right line only if no kind of fault applies, a kind only if it is the lowest; want of memory may come at any time
+-- the answer about a line: it is right only if no kind of fault applies, and has a kind only if it is the lowest that applies; running out
+-- of memory is allowed at any time
 abbrev pub Tells : {T : Type 0} → Option ℕ → Result T BuildStop → Type 0
 Tells kind (Ok right) = kind ≡ None
 Tells kind (Err (Kind told)) = kind ≡ Some told
 Tells kind (Err NoMemory) = ⊤
 
--- no line before the one of this number has a fault
+-- no line before line `number` has a fault
 abbrev pub IsRightBefore : ℕ → Result Pool Fault → Type 0
 IsRightBefore number (Ok pool) = ⊤
 IsRightBefore number (Err f) = number ≤ f.line
 
--- what a stop of the builder at this line makes the reader answer
+-- the reader's answer if the builder stops at `line`
 abbrev pub stopped : ℕ → BuildStop → ReadPool
 stopped line (Kind kind) = fault (record { line = line; kind = kind })
 stopped line NoMemory = OutOfMemory

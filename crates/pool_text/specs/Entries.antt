@@ -1,4 +1,4 @@
--- An entry of the code as one of the definitions.
+-- The code's entries in the form of the definitions.
 use Rattle.std.specs.Prelude.{map}
 use Rattle.std.specs.Str.{IsUtf8}
 use Rattle.define_pool_texts.specs.PoolReading as words
@@ -14,7 +14,7 @@ said (Standing standing id) = words.OfStanding standing id.now
 said End = words.TheEnd
 said Unknown = words.Unknown
 
--- a new name in an entry is text
+-- the new name or id of an entry is UTF-8 text
 abbrev pub IsText : words.Entry → Type 0
 IsText (words.OfCategory name) = IsUtf8 name
 IsText (words.OfValue value) = IsUtf8 value.name

@@ -1,4 +1,4 @@
--- The progress of the code as that of the definitions. The readings of bundles and proofs cite it.
+-- The code's progress in the form of the definitions. The contracts of the readers of bundles and proofs cite it.
 use Rattle.std.specs.Prelude.{ℕ, Option, Some, None}
 use Rattle.define_pools.specs.Pool.{Pool}
 use Rattle.define_pool_texts.specs.PoolReading as words
@@ -12,14 +12,14 @@ seen (Versioned second) = words.Versioned second
 seen (Inside pool passed) = words.Inside pool passed
 seen (Ended pool) = words.Ended pool
 
--- the number of the line that is due, at least
+-- the least number that the next line can have
 abbrev pub line_due : words.Progress → ℕ
 line_due words.Begun = 1
 line_due (words.Versioned second) = 2
 line_due (words.Inside pool passed) = 3
 line_due (words.Ended pool) = 4
 
--- the progress of a pool whose lines have come this far, or after the end
+-- the progress within a pool, if `passed` says how far its lines have come, else after its end
 abbrev pub with_pool : Pool → Option Passed → words.Progress
 with_pool pool (Some passed) = words.Inside pool passed
 with_pool pool None = words.Ended pool

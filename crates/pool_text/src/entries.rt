@@ -1,4 +1,4 @@
-//! The lines between the size and the end: what one says, and how it is added to the pool.
+//! What the lines between the size and the end say, and how that is added to the pool.
 
 ghost use Rattle.std.specs.Prelude.{◌≡◌, ◌<◌, ◌+◌, length, map, IfOk, IfSome, IsSome, None, OnOk, Option, unwrap_or};
 ghost use Rattle.define_pools.specs.Building.{household_kind as name_kind, household_set, standing_set};
@@ -17,16 +17,17 @@ use text_lines::{fields, number_up_to};
 /// The greatest bound.
 const MAX_BOUND: usize = 999;
 
-/// A number that is no bound.
+/// What a field that spells no bound is read as.
 const NO_BOUND: usize = 1000;
 
-/// The kind of a line that isn't allowed where it is.
+/// The kind of fault of a line that isn't allowed where it is.
 pub(crate) const FORM: u8 = 1;
 
-/// The kind of a household or standing line whose id isn't that of a volunteer after the one of the last such line.
+/// The kind of fault of a household or standing line whose id isn't that of a volunteer who comes after the volunteer of the last line of
+/// this sort.
 const NOT_AHEAD: u8 = 9;
 
-/// The kind of a line that isn't UTF-8.
+/// The kind of fault of a line that isn't UTF-8.
 const NOT_UTF8: u8 = 11;
 
 const CATEGORY: &[u8] = b"category";
@@ -43,7 +44,7 @@ const GONE: &[u8] = b"gone";
 
 const END: &[u8] = b"end";
 
-/// A line between the size and the end, by its first field and its number of fields.
+/// What a line between the size and the end says, by its first field and its number of fields.
 #[derive(Drop)]
 pub(crate) enum Entry<'a> {
     Category(&'a [u8]),
@@ -114,8 +115,8 @@ fn standing_entry<'a>(standing: Standing, rest: &'a [&'a [u8]]) -> Entry<'a>
     }
 }
 
-/// Adds to the pool what a line says, given how far the lines have come. Returns how far they are then, or None at the end. A line with
-/// a fault changes nothing.
+/// Adds to the pool what a line says. `passed` is how far the lines before it have come. Returns how far they have come with it, or None if
+/// it is the end. A line with a fault changes nothing.
 pub(crate) fn read_entry(
     alloc: Global,
     pool: &mut Pool,
@@ -142,7 +143,7 @@ fn is_text(line: &[u8]) -> bool
     str::from_utf8(line).is_ok()
 }
 
-/// The lowest kind of fault of an entry, or None.
+/// Returns the lowest kind of fault of an entry, or None if no kind applies.
 fn entry_kind(pool: &Pool, passed: Passed, entry: &Entry<'_>) -> Option<u8>
     ensures { result ≡ kind_in pool.now passed (said entry.now) }
 {
@@ -161,14 +162,14 @@ fn entry_kind(pool: &Pool, passed: Passed, entry: &Entry<'_>) -> Option<u8>
     }
 }
 
-/// True if a household line is due.
+/// True if a household line must come before the end: in version 2, if there was none yet.
 fn awaits_household(passed: Passed) -> bool
     ensures { result ≡ awaits passed }
 {
     passed.second && passed.households == 0
 }
 
-/// True if this is the id of a volunteer whom the lines haven't passed, which have passed `passed`.
+/// True if `id` is that of a volunteer whose number is at least `passed`, so that the lines haven't passed this volunteer.
 fn is_ahead(pool: &Pool, passed: usize, id: &[u8]) -> bool
     ensures { result ≡ is_number_ahead passed (number_in pool.now.volunteers id.now) }
 {
@@ -178,7 +179,7 @@ fn is_ahead(pool: &Pool, passed: usize, id: &[u8]) -> bool
     }
 }
 
-/// The number of the volunteer of this id.
+/// Returns the number of the volunteer of this id, if there is one.
 fn number_of(volunteers: &[Volunteer], id: &[u8]) -> Option<usize>
     ensures value { result ≡ number_in volunteers.now id.now }
     ensures inside { IfSome result (λ number. number < length volunteers.now) }
@@ -188,7 +189,7 @@ fn number_of(volunteers: &[Volunteer], id: &[u8]) -> Option<usize>
         .position(|volunteer| id == volunteer.id().as_bytes())
 }
 
-/// Adds a right entry, whose new name is text. Returns what `read_entry` returns.
+/// Adds what a right entry says to the pool; its new name is text. Returns what `read_entry` returns.
 fn add_entry(
     pool: &mut Pool,
     passed: Passed,
@@ -222,7 +223,7 @@ fn add_entry(
     Ok(Some(passed))
 }
 
-/// Sets the standing of the volunteer of this id. Returns how many volunteers standing lines have passed then.
+/// Sets the standing of the volunteer of this id. Returns how many volunteers the standing lines have then passed.
 fn add_standing(pool: &mut Pool, standing: Standing, id: &[u8]) -> usize
     requires { IsSome (number_in pool.old.volunteers id.now) }
     ensures set { pool.new ≡ standing_set pool.old (unwrap_or (number_in pool.old.volunteers id.now) 0) standing }
@@ -237,7 +238,7 @@ fn add_standing(pool: &mut Pool, standing: Standing, id: &[u8]) -> usize
     }
 }
 
-/// Sets the household of the volunteer of this id. Returns how many volunteers household lines have passed then.
+/// Sets the household of the volunteer of this id. Returns how many volunteers the household lines have then passed.
 fn add_household(pool: &mut Pool, id: &[u8], name: &str) -> Result<usize, AllocError>
     requires found { IsSome (number_in pool.old.volunteers id.now) }
     requires right { name_kind name.now ≡ None }

@@ -15,11 +15,11 @@ pub struct PoolFault {
     /// - 4 an earlier value of the category has this name
     /// - 5 a bound isn't a number from 0 to 999, or the lower is above the upper
     /// - 6 a field at the place of a category is none of its values
-    /// - 7 not one field for each category
+    /// - 7 there isn't exactly one field for each category
     /// - 8 an earlier volunteer has this id
-    /// - 9 the id of a household or standing line isn't that of a volunteer after the one of the last such line
-    /// - 10 a new name or a household's isn't 1 to 200 bytes or has a byte below 32 or 127, or there is one more than 20 categories, 50 values
-    ///   of a category or 400 volunteers
+    /// - 9 the id of a household or standing line isn't that of a volunteer who comes after the volunteer of the last line of this sort
+    /// - 10 a new name or a household's isn't 1 to 200 bytes or has a byte below 32 or the byte 127; or this is a category after the 20th, a
+    ///   value after the 50th of its category or a volunteer after the 400th
     /// - 11 the line isn't UTF-8
     /// - 12 the lines run out before the end
     pub kind: u8,

@@ -16,7 +16,7 @@ use text_lines::number_up_to;
 /// The greatest size of a panel.
 const MAX_SIZE: usize = 200;
 
-/// A number that is no size.
+/// What a line that gives no size is read as.
 const NO_SIZE: usize = 0;
 
 /// The first line, in version 1.
@@ -28,16 +28,16 @@ const SECOND_VERSION: &[u8] = b"pool\t2";
 /// How the second line begins.
 const SIZE: &[u8] = b"size\t";
 
-/// The progress of a pool's text after right lines.
+/// How far the text of a pool was read, and what its lines gave so far.
 #[derive(Debug, Drop)]
 pub enum Progress {
     /// Before the first line.
     Begun,
     /// After the first line: of version 2 if true, else of version 1.
     Versioned(bool),
-    /// After the size: the lines up to now make this pool, and have come this far.
+    /// After the size line: the pool that the lines read so far make, and how far they have come.
     Inside(Pool, Passed),
-    /// After the end.
+    /// After the end line.
     Ended(Pool),
 }
 
@@ -75,7 +75,7 @@ pub fn after(alloc: Global, progress: Progress, line: &[u8]) -> Result<Progress,
     }
 }
 
-/// The size that the second line gives, or a number that is no size.
+/// Returns the size that the second line gives, or 0 if it gives none.
 fn size_of(line: &[u8]) -> usize
     ensures { result ≡ size_in (fields_in line.now) }
 {

@@ -16,7 +16,7 @@ use pool_model::{BuildStop, Pool};
 use std::alloc::Global;
 use text_lines::next_line;
 
-/// The kind of a text whose lines run out before its end.
+/// The kind of fault of a text whose lines run out before its end.
 const MISSING_END: u8 = 12;
 
 /// Reads the bytes as the text of a pool. Fails exactly if they aren't the text of a pool, with the first faulty line and its lowest
@@ -26,9 +26,9 @@ pub fn read_pool(alloc: Global, bytes: &[u8]) -> Result<Pool, ReadPool>
     ensures spelled { IfOk result (λ pool. IsPool pool × (bytes.now ≡ spelling pool)) }
     // The text of each pool is read as this pool, unless memory runs out.
     ensures read { (pool : Words) → IsPool pool → bytes.now ≡ spelling pool → Reads (Ok pool) result }
-    // Which fault it is.
+    // The answer is this pool or this fault, as the definition of reading has it.
     ensures exact { Reads (read bytes.now) result }
-    // Memory is wanted only if the first two lines are right and a third one is finished.
+    // Memory runs out only if the first two lines are right and a third one is ended by LF.
     ensures memory { result ≡ Err OutOfMemory → IsRightBefore 3 (read bytes.now) × (3 < length (pieces_of bytes.now)) }
 {
     read_lines(alloc, bytes)
@@ -52,7 +52,7 @@ fn read_lines(alloc: Global, bytes: &[u8]) -> Result<Pool, ReadPool>
     last(progress, number, rest)
 }
 
-/// Turns a stop of the builder at this line into one of the reader.
+/// Returns the reader's stop for a stop of the builder at line `line`.
 fn stop_at(line: usize, stop: BuildStop) -> ReadPool
     ensures { result ≡ stopped line stop }
 {
@@ -62,7 +62,7 @@ fn stop_at(line: usize, stop: BuildStop) -> ReadPool
     }
 }
 
-/// Returns the pool or the fault of the whole text, where `rest` is the bytes after its last LF.
+/// Returns the pool if the end line was the last and nothing follows it, else the fault. `rest` is the bytes after the last LF.
 fn last(progress: Progress, line: usize, rest: &[u8]) -> Result<Pool, ReadPool>
     ensures exact { Reads (at_last line (seen progress) rest.now) result }
     ensures memory { result ≢ Err OutOfMemory }

@@ -38,7 +38,7 @@ fn push_pool(text: &mut Vec<u8>, pool: &Pool) -> Result<(), AllocError>
     push_line(text, b"end", &[])
 }
 
-/// How the version is spelled: 2 if `second` is true, else 1.
+/// Returns the field that spells the version: 2 if `second` is true, else 1.
 pub fn version(second: bool) -> &'static [u8]
     ensures { result.now ≡ version_words second }
 {
@@ -123,7 +123,7 @@ fn push_volunteer(
     end_line(text)
 }
 
-/// Appends for each category the name of the value in this place.
+/// Appends for each category a field with the name of its value at the place in `places`.
 fn push_names(
     text: &mut Vec<u8>,
     categories: &[Category],
@@ -138,7 +138,7 @@ fn push_names(
     Ok(())
 }
 
-/// The name of the value in this place.
+/// Returns the name of the value in this place.
 fn name_at(values: &[BoundedValue], place: usize) -> &[u8]
     requires { place < length values.now }
     ensures { result.now ≡ slice_index_or (value_names values.now) place [] }
@@ -155,7 +155,7 @@ fn push_households(text: &mut Vec<u8>, volunteers: &[Volunteer]) -> Result<(), A
     Ok(())
 }
 
-/// Appends the line of a volunteer who has a household.
+/// Appends a volunteer's household line, if the volunteer has a household.
 fn push_household(text: &mut Vec<u8>, volunteer: &Volunteer) -> Result<(), AllocError>
     ensures { OnOk result (text.new.items ≡ text.old.items ++ text_of (household_line volunteer.now.household volunteer.now.id)) }
 {
@@ -178,7 +178,7 @@ fn push_standings(text: &mut Vec<u8>, volunteers: &[Volunteer]) -> Result<(), Al
     Ok(())
 }
 
-/// Appends the line of a volunteer who isn't open.
+/// Appends a volunteer's standing line, unless the volunteer is open.
 fn push_standing(text: &mut Vec<u8>, volunteer: &Volunteer) -> Result<(), AllocError>
     ensures { OnOk result (text.new.items ≡ text.old.items ++ text_of (standing_line volunteer.now.standing volunteer.now.id)) }
 {

@@ -8,7 +8,7 @@ use Rattle.sealed_draw.specs.declared.drawn.Draw.{Draw}
 use Rattle.sealed_draw.specs.declared.drawn.DrawStop.{DrawStop}
 use Rattle.sealed_draw.specs.declared.drawn.DrawStop.TheVariants.{SealDiffers, BadDigit, MoreDigits, OutOfMemory}
 
--- the answer is what is drawn from the lottery, or why nothing is; want of memory may come at any time
+-- the answer is what the definition draws from the lottery, or why it draws nothing; running out of memory is allowed at any time
 abbrev pub DrawSays : Lottery → List ℕ → List ℕ → List ℕ → Result Draw DrawStop → Type 0
 DrawSays lottery kept given digits (Ok drawn) =
     (draw lottery kept given digits ≡ Ok (record { ticket = unsigned_abs drawn.ticket; used = drawn.used; panel = drawn.panel })) × (pos 0 ≤ℤ drawn.ticket)

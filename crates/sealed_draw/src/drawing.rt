@@ -31,7 +31,7 @@ pub fn draw(
     draw_from(alloc, bundle.answer().lottery(), kept, given, digits)
 }
 
-/// The same for a lottery.
+/// Does what `draw` does, for the lottery of a bundle.
 fn draw_from(
     alloc: Global,
     lottery: &Lottery,
@@ -60,7 +60,7 @@ fn draw_from(
     }
 }
 
-/// The panel whose range has the ticket.
+/// Returns the panel whose range has the ticket.
 fn panel_of(alloc: Global, lottery: &Lottery, ticket: i128) -> Result<Panel, AllocError>
     requires agrees { TotalAgrees lottery.now }
     requires from { pos 0 ≤ℤ ticket }

@@ -15,7 +15,7 @@ pub fn seal(alloc: Global, bytes: &[u8]) -> Result<String, AllocError>
     hex::encode(alloc, digest)
 }
 
-/// True if the seal that was given, with its capitals made small, is the one that is kept.
+/// True if the seal that was given, with its upper case letters made lower case, is the one that is kept.
 pub(crate) fn is_seal(alloc: Global, kept: &str, given: &str) -> Result<bool, AllocError>
     ensures { IfOk result (λ same. same ≡ words_of_is_seal kept.now given.now) }
 {

@@ -8,7 +8,7 @@ use Rattle.std.specs.List.{position_or_len}
 use Rattle.std.proofs.lemmas.List.Splits.{slice_split_first, slice_split_none}
 use Rattle.define_lines.specs.Lines.{pieces_of}
 
--- a text is cut at its first LF
+-- at its first LF a text is cut into a line and the rest
 pub cut_at : (bytes : List ℕ) (end : ℕ) → position (λ byte. eqb byte 10) bytes ≡ Some end →
     pieces_of bytes ≡ take end bytes ∷ pieces_of (take (length bytes - (end + 1)) (drop (end + 1) bytes))
 cut_at bytes end h =

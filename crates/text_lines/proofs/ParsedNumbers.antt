@@ -15,16 +15,16 @@ use Rattle.define_lines.proofs.NumberLemmas.{bytes_are, bytes_same, number_again
 pub found : (limit n : ℕ) (field : List ℕ) → n < 10 ^ 64 → n ≤ limit → bytes_eq (decimal n) field ≡ true → Some n ≡ number_up_to limit field
 found limit n field small h same = sym (subst (λ f. number_up_to limit f ≡ Some n) (bytes_are (decimal n) field same) (number_again limit n small h))
 
--- what is no text is no number
+-- a field that isn't UTF-8 spells no number
 pub not_text : (limit : ℕ) (field : List ℕ) → limit < 2 ^ 64 → (IsUtf8 field → ⊥) → None ≡ number_up_to limit field
 not_text limit field fits h =
     sym (no_number limit field (λ n l e. h (subst IsUtf8 e (IsUtf8-from_ascii (decimal n) (IsAscii-decimal_wide n (omega arith))))))
 
--- a number that is spelled so is parsed
+-- a number whose spelling is the field is parsed
 parsed : {E : Type 0} (n : ℕ) (field : List ℕ) (r : Result ℕ E) → n < 2 ^ 64 → decimal n ≡ field → ParsesUnsigned 64 10 field r → r ≡ Ok n
 parsed n field r fits e h = parse-decimal_wide 64 n field r fits (omega arith) (sym e) h
 
--- what is not parsed is no number
+-- a field that isn't parsed spells no number
 pub not_parsed : {E : Type 0} (limit : ℕ) (field : List ℕ) (error : E) → limit < 2 ^ 64 → ParsesUnsigned 64 10 field (Err error) → None ≡ number_up_to limit field
 not_parsed limit field error fits h = sym (no_number limit field (λ n l e. let is = parsed n field (Err error) (omega arith) e h in cc))
 
@@ -39,7 +39,7 @@ pub too_great : {E : Type 0} (limit m : ℕ) (field : List ℕ) (r : Result ℕ 
 too_great limit m field r fits h is above =
     sym (no_number limit field (λ n l e. let again = parsed n field r (omega arith) e h in let same : m ≡ n = cc in omega arith))
 
--- the same with a sign
+-- `not_text` and its like for numbers with a sign
 pub not_signed_text : (field : List ℕ) → (IsUtf8 field → ⊥) → None ≡ signed_up_to (2 ^ 127 - 1) field
 not_signed_text field h = sym (no_signed (2 ^ 127 - 1) field (λ z l e. h (subst IsUtf8 e (IsUtf8-from_ascii (signed_decimal z) (ascii z (omega arith))))))
   where

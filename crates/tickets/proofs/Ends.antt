@@ -8,12 +8,12 @@ use Rattle.define_draws.specs.Tickets.{HoldsTicket}
 use Rattle.define_draws.proofs.TicketLemmas.{holds_behind, sum-cons}
 use Rattle.tickets.specs.Ends.{Rise, gaps}
 
--- where the ranges of these weights end, of which the first begins at a number
+-- the ends of the ranges of these weights, the first of which begins at `from`
 abbrev pub ends_of : ℕ → List ℕ → List ℕ
 ends_of from [] = []
 ends_of from (weight ∷ weights) = (from + weight) ∷ ends_of (from + weight) weights
 
--- one more weight
+-- the ends with one more weight
 pub ends-more : (from : ℕ) (weights : List ℕ) (weight : ℕ) → ends_of from (weights ++ weight ∷ []) ≡ ends_of from weights ++ (from + sum weights + weight) ∷ []
 ends-more from [] weight = ap (λ end. end ∷ []) (let e : from + weight ≡ from + 0 + weight = omega arith in e)
 ends-more from (first ∷ weights) weight =
@@ -31,7 +31,7 @@ gaps-ends from (weight ∷ weights) =
     let e : (from + weight) - from ≡ weight = omega arith in
     ap (λ w. w ∷ gaps (from + weight) (ends_of (from + weight) weights)) e ∙ ap (λ ws. weight ∷ ws) (gaps-ends (from + weight) weights)
 
--- an end is no less than the ends before it
+-- each end is at least `from`, at which the first range begins
 pub rise-from : (from : ℕ) (ends : List ℕ) (j d : ℕ) → Rise from ends → j < length ends → from ≤ get_or ends j d
 rise-from from [] j d h l = absurd (omega arith)
 rise-from from (end ∷ ends) zero d h l = h.0
@@ -49,7 +49,7 @@ parted from ends ticket h i j d l m e =
     let below = leb-true (get_or ends j d) ticket e in
     le-leb (get_or ends i d) ticket (omega (arith, rises from ends i j d h l m))
 
--- the first range that ends behind the ticket holds it
+-- the first range that ends after the ticket holds it
 pub held : (from : ℕ) (ends : List ℕ) (i ticket : ℕ) → Rise from ends → from ≤ ticket → ticket < from + sum (gaps from ends) →
     ((k d : ℕ) → k < i → get_or ends k d ≤ ticket) → ((k d : ℕ) → i ≤ k → k < length ends → ticket < get_or ends k d) → HoldsTicket (gaps from ends) i (ticket - from)
 held from [] i ticket rise l h below above = absurd (omega arith)
@@ -71,7 +71,7 @@ held_at ends i ticket rise h point =
     (λ k d l. leb-true (get_or ends k d) ticket (point.0 k d (omega arith) l))
     (λ k d l m. leb-false (get_or ends k d) ticket (point.1 k d l m)))
 
--- one row more
+-- the ends with one more row
 pub end_pushed : (weights : List ℕ) (j weight : ℕ) → j < length weights → get_or weights j 0 ≡ weight → ends_of 0 (take (j + 1) weights) ≡ ends_of 0 (take j weights) ++ (sum (take j weights) + weight) ∷ []
 end_pushed weights j weight l e =
     let more : take (j + 1) weights ≡ take j weights ++ get_or weights j 0 ∷ [] = take_more weights j 0 l in

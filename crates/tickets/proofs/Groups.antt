@@ -25,12 +25,12 @@ is_group_size total size some enough smaller =
     (λ (least : size ≤ group_size total). le_antisymm least most)
     (cases_lt (group_size total) size)
 
--- a power of ten below 10^38 has a smaller exponent
+-- if a power of ten is below 10^38, its exponent is below 38
 pub exponent-below : (size : ℕ) → 10 ^ size < 10 ^ 38 → size < 38
 exponent-below size h =
     ⊎_elim (λ (less : size < 38). less) (λ (more : 38 ≤ size). let l = pow-le-pow_right {n = 10} (omega arith) more in absurd (omega arith)) (cases_lt size 38)
 
--- there are at most 10^38 groups
+-- at most 10^38 groups are accepted
 pub most_groups : (total : ℕ) (groups : Groups) → AreGroupsOf total groups → total * groups.groups_per_ticket ≤ 10 ^ 38
 most_groups total groups are =
     let few : group_size total ≤ 38 = omega (arith, are.size, are.few) in
@@ -45,14 +45,14 @@ some_digits total groups are = omega (arith, are.size, size-some total)
 pub digit_is : (byte : ℕ) → is_ascii_digit byte ≡ true → (digit_value byte ≡ byte - 48) × (48 ≤ byte) × (byte ≤ 57)
 digit_is byte h = (grind (arith, nat_tests), grind (arith, nat_tests), grind (arith, nat_tests))
 
--- one more digit
+-- the number with one more digit
 pub next_value : (digits : List ℕ) (i value : ℕ) → i < length digits → is_ascii_digit (get_or digits i 0) ≡ true → value ≡ digits_value 10 (take i digits) → value * 10 + (get_or digits i 0 - 48) ≡ digits_value 10 (take (i + 1) digits)
 next_value digits i value l digit is = omega (arith, digits_value_more 10 digits i l, (digit_is (get_or digits i 0) digit).0)
 
 pub next_small : (value i digit : ℕ) → value < 10 ^ i → digit ≤ 9 → value * 10 + digit < 10 ^ (i + 1)
 next_small value i digit small few = let e : i + 1 ≡ suc i = omega arith in rw e (omega (arith, pow-suc 10 i))
 
--- a power of ten with a smaller exponent than 38
+-- a power of ten with an exponent below 38 is at most 10^37
 pub small-power : (i : ℕ) → i < 38 → 10 ^ i ≤ 10 ^ 37
 small-power i l = pow-le-pow_right {n = 10} (omega arith) {i = i} {j = 37} (omega arith)
 
@@ -60,7 +60,7 @@ small-power i l = pow-le-pow_right {n = 10} (omega arith) {i = i} {j = 37} (omeg
 
 -- ---- what digits name
 
--- where no byte is another one, all are digits
+-- if no byte is found that isn't a digit, all are digits
 pub digits_alone : (digits : List ℕ) → position (λ byte. not (is_ascii_digit byte)) digits ≡ None → AreDigits digits
 digits_alone digits e = record { each = λ place l. not-false (is_ascii_digit (get_or digits place 0)) (position-None (λ byte. not (is_ascii_digit byte)) digits place 0 e l) }
 
@@ -82,7 +82,7 @@ module _ (total : ℕ) (groups : Groups) (digits : List ℕ) (are : AreGroupsOf 
       let used : (place + 1) * groups.size ≡ (place + 1) * group_size total = ap (λ size. (place + 1) * size) are.size in
       ap₂ (λ (t u : ℕ). let named : Named = record { ticket = pos t; used = u } in Ok named) ticket used ∙ sym (ap (named_at total digits) found)
 
-  -- where no group is accepted, more digits are wanted
+  -- if no group is accepted, the answer is that more digits are needed
   pub names_nothing : (places : ℕ) → length digits / groups.size ≤ places → ((place : ℕ) → place < places → is_accepted_at place ≡ false) →
       Err (MoreDigits (length digits)) ≡ named_at total digits (first_accepted total digits)
   names_nothing places l before =
@@ -90,7 +90,7 @@ module _ (total : ℕ) (groups : Groups) (digits : List ℕ) (are : AreGroupsOf 
       let nothing : first_accepted total digits ≡ None = find_range-none is_accepted_at 0 (length digits / group_size total) (λ place at_least below. before place (omega arith)) in
       sym (ap (named_at total digits) nothing)
 
--- what is named is a ticket of the total
+-- the ticket that an accepted group names is below the total
 pub named_below : (total group : ℕ) (groups : Groups) → AreGroupsOf total groups → 1 ≤ total → group < total * groups.groups_per_ticket → group / groups.groups_per_ticket < total
 named_below total group groups are some less =
     let shares : total * groups.groups_per_ticket ≡ total * groups_per_ticket total = ap (λ n. total * n) are.groups_per_ticket in

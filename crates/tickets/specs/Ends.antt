@@ -1,12 +1,12 @@
 -- Ranges that follow one another, by their ends. For `ranges`.
 use Rattle.std.specs.Prelude.{ℕ, ◌-◌, ◌≤◌, List, [], ◌∷◌, ⊤}
 
--- each range ends where it begins, or later
+-- no range ends before it begins
 abbrev pub Rise : ℕ → List ℕ → Type 0
 Rise from [] = ⊤
 Rise from (end ∷ ends) = (from ≤ end) × Rise end ends
 
--- the lengths of the ranges, the first of which begins at this number
+-- the lengths of the ranges, the first of which begins at `from`
 abbrev pub gaps : ℕ → List ℕ → List ℕ
 gaps from [] = []
 gaps from (end ∷ ends) = (end - from) ∷ gaps end ends

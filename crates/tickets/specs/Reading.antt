@@ -4,7 +4,7 @@ use Rattle.std.specs.Char.{is_ascii_digit}
 use Rattle.define_draws.specs.Dice.{group_size, groups_per_ticket}
 use Rattle.tickets.specs.declared.dice.Groups.{Groups}
 
--- '0' to '9' alone
+-- each byte is a digit, `0` to `9`
 pub record AreDigits (digits : List ℕ) : Type 0 where
   pub each : (place : ℕ) → place < length digits → is_ascii_digit (slice_index digits place) ≡ true
 

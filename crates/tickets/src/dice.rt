@@ -28,7 +28,7 @@ pub fn name_ticket(total: i128, digits: &[u8]) -> Result<Named, DiceStop>
     }
 }
 
-/// The place, from 0, of the first byte that is no digit.
+/// Returns the place, counted from 0, of the first byte that is no digit, if there is one.
 fn first_other(digits: &[u8]) -> Option<usize>
     ensures { result ≡ position (λ byte. not (is_ascii_digit byte)) digits.now }
 {
@@ -44,7 +44,7 @@ struct Groups {
     groups_per_ticket: u128,
 }
 
-/// The groups for a total from 1 to 10^38.
+/// Returns the groups for a total from 1 to 10^38.
 fn groups_of(total: u128) -> Groups
     requires some { 1 ≤ total }
     requires most { total ≤ 10 ^ 38 }
@@ -62,7 +62,7 @@ fn groups_of(total: u128) -> Groups
     }
 }
 
-/// What the first accepted group names, given digits alone.
+/// Returns the ticket that the first accepted group names. All bytes of `digits` are digits.
 fn first_named(total: u128, groups: Groups, digits: &[u8]) -> Result<Named, DiceStop>
     requires some { 1 ≤ total }
     requires most { total ≤ 10 ^ 38 }
@@ -84,7 +84,7 @@ fn first_named(total: u128, groups: Groups, digits: &[u8]) -> Result<Named, Dice
     Err(DiceStop::MoreDigits { read: digits.len() })
 }
 
-/// The group in this place, counted from 0.
+/// Returns the number of the group at `place`, counted from 0.
 fn group_at(size: usize, digits: &[u8], place: usize) -> u128
     requires few { size ≤ 38 }
     requires digits { AreDigits digits.now }
@@ -95,7 +95,7 @@ fn group_at(size: usize, digits: &[u8], place: usize) -> u128
     value_of(&digits[first..first + size])
 }
 
-/// The number of these digits, of which there are at most 38.
+/// Returns the number that these digits spell; there are at most 38.
 fn value_of(digits: &[u8]) -> u128
     requires few { length digits.now ≤ 38 }
     requires digits { AreDigits digits.now }

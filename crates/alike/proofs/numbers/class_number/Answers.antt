@@ -9,7 +9,7 @@ use Rattle.define_pools.specs.Lists.{includes}
 use Rattle.define_searches.specs.Classes.{Class}
 use Rattle.alike.proofs.numbers.class_number.Goals as goal
 
--- where none passes, the place is the length
+-- if no class passes, the answer is the number of classes
 past_all : (p : Class → Bool) (xs : List Class) → unwrap_or (cond (ltb (position_or_len p xs) (length xs)) (Some (position_or_len p xs)) None) (length xs) ≡ position_or_len p xs
 past_all p xs = by (ltb (position_or_len p xs) (length xs)) refl
   where

@@ -16,7 +16,7 @@ places-requires c =
     let sizes : c.deref.result.now ≡ partly_taken all.classes counts = c.deref.ensures.value ∙ (c.in_ok-sizes.ensures ∙ ap (λ classes. partly_taken classes counts) c.classes.ensures) in
     subst (λ xs. All (λ size. 0 < size) xs) (sym sizes) (sizes_positive all.classes counts)
 
--- the dial of a total's part is within the total
+-- if the dial's length times the denominator divides a total within the limit, the length is within the limit
 within : (den places total limit : ℕ) → 0 < den → 0 < total → den * places ∣ total → total ≤ limit → places ≤ limit
 within den places total limit over some h low =
     let product = le_of_dvd some h in

@@ -6,7 +6,7 @@ use Rattle.define_bundles.proofs.Spelled.{IsRight}
 use Rattle.bundle_text.specs.Progress.{seen}
 use Rattle.bundle_text.proofs.reading.read_lines.Given as goal
 
--- what the rest comes to is what the whole comes to, and what stands is right
+-- reading the rest gives the answer for the whole text, and the progress so far is right
 abbrev pub invariant-loop-line : goal.invariant-loop-line
 invariant-loop-line l = record {
   same : read_lines reader l.number (seen l.progress) (pieces_of l.rest) ≡ read_bundle l.fn.bytes;

@@ -6,7 +6,7 @@ use Rattle.define_checks.specs.Reasons.{first_repeated as first_again}
 use Rattle.check_reasons.proofs.InOrder.{came}
 use Rattle.check_reasons.proofs.lotteries.first_repeated.Given as goal
 
--- the panels up to now are kept, none of them twice
+-- the set has the panels read so far, and none of them came twice
 abbrev pub invariant-loop-row : goal.invariant-loop-row
 invariant-loop-row l = record {
   once : first_again [] (map (λ row. row.panel) (take l.row-index l.rows)) ≡ None;

@@ -7,14 +7,14 @@ use Rattle.define_pools.specs.Pool.{Category, Volunteer, is_within, members_with
 use Rattle.check_reasons.proofs.Enumerated.{one_fails}
 use Rattle.check_reasons.proofs.quotas.meet_quotas.Goals as goal
 
--- the values of a category are met
+-- the panel meets the bounds of a category's values
 abbrev met : List Volunteer → List ℕ → ℕ × Category → Bool
 met volunteers members (k, category) = list_all (λ (v, value). is_within value (members_with volunteers members k v)) (enumerate_from 0 category.values)
 
 abbrev none : Category
 none = record { name = []; values = [] }
 
--- what was tested of the category of a number
+-- the test of category `k`, read from the list at `k`
 at_index : (categories : List Category) (volunteers : List Volunteer) (members : List ℕ) (k : ℕ) (d category : Category) (said : Bool) → k < length categories → category ≡ get_or categories k category →
     said ≡ met volunteers members (k, category) → met volunteers members (k, get_or categories k d) ≡ said
 at_index categories volunteers members k d category said l e is =

@@ -4,7 +4,7 @@ use Rattle.define_pools.specs.Pool.{BoundedValue, Volunteer, is_within, members_
 use Rattle.check_reasons.proofs.Enumerated.{list_all-enumerated_same}
 use Rattle.check_reasons.proofs.quotas.meets_bounds.Goals as goal
 
--- what was tested by the numbers of the members with each value
+-- testing the counted numbers is testing how many members have each value
 tested : (volunteers : List Volunteer) (members : List ℕ) (c : ℕ) (values own : List BoundedValue) (numbers counted : List ℕ) (said : Bool) → values ≡ own → counted ≡ numbers →
     ((v : ℕ) → v < length values → get_or numbers v 0 ≡ members_with volunteers members c v) →
     said ≡ list_all (λ (v, value). is_within value (get_or counted v 0)) (enumerate_from 0 values) →

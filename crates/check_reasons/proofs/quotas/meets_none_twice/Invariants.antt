@@ -3,7 +3,7 @@ use Rattle.define_pools.specs.Lists.{includes}
 use Rattle.check_reasons.specs.Households.{none_twice}
 use Rattle.check_reasons.proofs.quotas.meets_none_twice.Given as goal
 
--- the households of the members up to now are met, none of them twice
+-- the households of the members read so far are marked, and none of them came twice
 abbrev pub invariant-loop-i : goal.invariant-loop-i
 invariant-loop-i l = record {
   once : none_twice (take l.i-index (map (λ i. get_or l.households i 0) l.members)) ≡ true;

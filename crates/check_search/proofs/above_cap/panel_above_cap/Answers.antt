@@ -9,7 +9,7 @@ pub new-requires : goal.new-requires
 new-requires c =
     turned_in_ranges (is_stage (length c.args.pool.now.volunteers)) c.args.earlier.now c.deref.result.now c.args.stage.now c.requires.earlier c.requires.stage (c.deref.ensures.value ∙ c.in_ok-latest_first.ensures)
 
--- the earlier stages stand the latest first, and the visits within the budget are those at the stage after them
+-- the search has the earlier stages with the latest first, and the visits within the budget are those of its search
 module _ (c : After-first_above) where
   same : c.deref.result.now ≡ reverse c.args.earlier.now
   same = c.deref.ensures.value ∙ c.in_ok-latest_first.ensures

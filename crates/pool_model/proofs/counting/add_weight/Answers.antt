@@ -12,7 +12,7 @@ use Rattle.define_pools.specs.Lists.{includes, is_increasing}
 use Rattle.pool_model.proofs.counting.add_weight.Goals as goal
 use Rattle.pool_model.proofs.counting.add_weight.Goals.{then-i-chances, else-i-chances}
 
--- a member of an increasing list is none of those before it
+-- a member of an increasing list is not among those before it
 not_before : (xs : List ℕ) (j : ℕ) → is_increasing xs ≡ true → j < length xs → includes (take j xs) (get_or xs j 0) ≡ false
 not_before [] j h l = absurd (omega arith)
 not_before (x ∷ xs) zero h l = refl
@@ -22,12 +22,12 @@ not_before (x ∷ xs) (suc j) h l =
     let other : eqb x (get_or xs j 0) ≡ false = ne_eqb x (get_or xs j 0) (λ e. omega arith) in
     let rest = not_before xs j parts.1 (omega arith) in rw (other, rest) refl
 
--- the sums with the members' weight
+-- the sums after the weight was added at each of the members
 abbrev AddedTo : List ℤ → List ℤ → List ℕ → ℤ → Type 0
 AddedTo before xs members weight =
     (k : ℕ) → k < length xs → get_or xs k (pos 0) ≡ cond (includes members k) (get_or before k (pos 0) +ℤ weight) (get_or before k (pos 0))
 
--- one more member, at whose number there is a sum
+-- the next member, at whose number there is a sum
 module _ (before xs : List ℤ) (members : List ℕ) (weight : ℤ) (j : ℕ) (up : is_increasing members ≡ true) (inside : j < length members) (added : AddedTo before xs (take j members) weight) where
   abbrev member : ℕ
   member = get_or members j 0
@@ -54,7 +54,7 @@ module _ (before xs : List ℤ) (members : List ℕ) (weight : ℤ) (j : ℕ) (u
       list_any_more (λ x. eqb x k) members j 0 inside ∙ (ap (λ b. includes (take j members) k || b) e ∙ or-true (includes (take j members) k)) in
       ap (λ b. cond b (get_or before k (pos 0) +ℤ weight) (get_or before k (pos 0))) (sym more)
 
-  -- the sum at the member is written
+  -- the weight was added to the sum at the member's number
   pub written : member < length xs → AddedTo before (set xs member (get_or xs member (pos 0) +ℤ weight)) (take (j + 1) members) weight
   written room k l =
       let m = get_or members j 0 in
@@ -66,7 +66,7 @@ module _ (before xs : List ℤ) (members : List ℕ) (weight : ℤ) (j : ℕ) (u
       (λ (apart : k ≡ m → ⊥). get_or-set_other xs m k (get_or xs m (pos 0) +ℤ weight) (pos 0) apart ∙ other_number k (omega (arith, size)) apart)
       (cases_eq k m)
 
--- a number as it is stored
+-- a number as 128 bits store it
 abbrev stored : ℤ → ℤ
 stored z = to_z w128 (of_z w128 z)
 

@@ -6,7 +6,7 @@ use Rattle.std.proofs.lemmas.Bool.{false_from_ne_true}
 use Rattle.std.proofs.lemmas.Str.{IsUtf8-from_is_utf8, is_utf8-from_IsUtf8}
 use Rattle.pool_text.proofs.entries.is_text.Goals as goal
 
--- reading succeeds exactly at text
+-- std reads a line as text exactly if it is UTF-8
 at_text : {T E : Type 0} (A : T → Type 0) (B : E → Type 0) (r : Result T E) (line : List ℕ) →
     MatchResult r (λ s. A s × IsUtf8 line) (λ e. (IsUtf8 line → ⊥) × B e) → is_ok r ≡ is_utf8 line
 at_text A B (Ok s) line h = sym (is_utf8-from_IsUtf8 line h.1)

@@ -4,7 +4,7 @@ use Rattle.std.proofs.lemmas.List.{length-map}
 use Rattle.define_pool_texts.specs.PoolReading.{OfValue, Unknown, ValueWord, bound_of, entry_of_word}
 use Rattle.pool_text.proofs.entries.value_entry.Goals as goal
 
--- other than three fields are no value
+-- if there aren't three fields, the entry is unknown
 not_three : (fields : List (List ℕ)) → (length fields ≡ 3 → ⊥) → Unknown ≡ entry_of_word ValueWord fields
 not_three [] h = refl
 not_three (name ∷ []) h = refl

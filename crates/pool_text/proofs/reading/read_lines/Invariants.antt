@@ -5,7 +5,7 @@ use Rattle.define_pool_texts.specs.PoolReading.{read, reader}
 use Rattle.pool_text.specs.Progress.{seen, line_due}
 use Rattle.pool_text.proofs.reading.read_lines.Given as goal
 
--- what the rest comes to is what the whole comes to
+-- reading the rest gives the answer for the whole text
 abbrev pub invariant-loop-line : goal.invariant-loop-line
 invariant-loop-line l = record {
   same : read_lines reader l.number (seen l.progress) (pieces_of l.rest) ≡ read l.fn.bytes;

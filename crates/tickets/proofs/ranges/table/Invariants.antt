@@ -4,7 +4,7 @@ use Rattle.define_draws.specs.Tickets.{weights_of}
 use Rattle.tickets.proofs.Ends.{ends_of}
 use Rattle.tickets.proofs.ranges.table.Given as goal
 
--- where the ranges of the rows so far end, the last of them here
+-- the ends of the ranges of the rows read so far; `end` is the last of them
 abbrev pub invariant-loop-row : goal.invariant-loop-row
 invariant-loop-row l = record {
   ends : l.ends.items ≡ ends_of 0 (take l.row-index (weights_of l.lottery));

@@ -147,11 +147,11 @@ go_on-returns t c =
     (lacking t here c.least_count-least.result c.least_count-least.ensures.lacking) in
     subst (λ d. Steps all closed row depth (drop (depth + 1) all.classes) d self c.children.result c.children.new.self) (sym due) c.children.ensures
 
--- the child that is entered is in reach
+-- the child that is entered is reachable
 live : (t : ℕ) (c : try_child-After-deref-2 t) → is_reachable c.args.terms.now.classes (take c.args.depth c.args.self.now.counts.items ++ c.args.count ∷ []) ≡ true
 live t c = ap (λ items. is_reachable c.args.terms.now.classes (take c.args.depth items ++ c.args.count ∷ [])) (sym c.deref.ensures.value) ∙ (sym c.allows.ensures ∙ c.if-not-allows.false)
 
--- the search went on to the child, found nothing, and stands at the child again
+-- the search went on to the child, found nothing, and is at the child again
 module _ (t : ℕ) (c : try_child-After-deref-3 t) where
   long : length (take c.args.depth c.args.self.now.counts.items) ≡ c.args.depth
   long = front_length c.args.depth c.args.self.now.counts.items (length c.args.terms.now.classes.classes) c.requires.stands.places c.requires.stands.within

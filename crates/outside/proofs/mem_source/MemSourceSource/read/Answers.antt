@@ -3,14 +3,14 @@ use Rattle.std.proofs.lemmas.List.{drop-drop, drop_all, length-drop, take-append
 use Rattle.outside.specs.Memory.{SourceState}
 use Rattle.outside.proofs.mem_source.MemSourceSource.read.Goals as goal
 
--- what stands at the front of the room, and then what is left, is what was left
+-- the bytes copied into the room, and then those that are left, are those that were left before
 front_and_rest : (bytes items room : List ℕ) (at count : ℕ) → bytes ≡ items → take count room ≡ take count (take (length bytes - at) (drop at bytes))
     → drop at items ≡ take count room ++ drop (at + count) items
 front_and_rest bytes items room at count same copied =
     let front : take count room ≡ take count (drop at items) = copied ∙ ap (take count) (take_rest bytes at) ∙ ap (λ xs. take count (drop at xs)) same in
     sym (take-append-drop count (drop at items)) ∙ ap (λ xs. xs ++ drop count (drop at items)) (sym front) ∙ ap (λ xs. take count room ++ xs) (drop-drop count at items)
 
--- nothing copied into a room that isn't empty: nothing was left
+-- if nothing was copied into a room that isn't empty, nothing was left
 none_left : (bytes items room : List ℕ) (at count size : ℕ) → bytes ≡ items → count ≡ min size (length (take (length bytes - at) (drop at bytes))) → length room ≡ size
     → count ≡ 0 → 0 < length room → drop (at + count) items ≡ []
 none_left bytes items room at count size same counted sized zero some =
