@@ -1,10 +1,10 @@
--- The least and the greatest of some numbers are among them, and none is less, or greater.
+-- The least and the greatest number of a list are in it, and no number of the list is less or greater.
 use Rattle.std.proofs.Common.{◌≡◌, ℕ, zero, suc, ◌<◌, ◌≤◌, min, max, List, [], ◌∷◌, length, get_or, All, Contains, fold, refl, sym, ◌∙◌, arith, ⊎_elim, ◌⊎◌}
 use Rattle.std.specs.List.{AllByRecursion}
 use Rattle.std.proofs.lemmas.List.Elements.{All-from_recursion}
 use Rattle.define_made_pools.specs.Summary.{least, greatest}
 
--- where each step keeps one of the two, what is left at the end is one of all
+-- if each step picks one of two numbers, the number at the end is one of the list
 one_is_kept : (pick : ℕ → ℕ → ℕ) → ((x y : ℕ) → (pick x y ≡ x) ⊎ (pick x y ≡ y)) → (x : ℕ) (xs : List ℕ) (d : ℕ) →
     (k : ℕ) × (k < suc (length xs)) × (get_or (x ∷ xs) k d ≡ fold pick x xs)
 one_is_kept pick keeps x [] d = (0, omega arith, refl)

@@ -52,7 +52,7 @@ same_id i j small less e =
     let digits : decimal (i + 1) ≡ decimal (j + 1) = cc in
     let more = decimal_injective (i + 1) (j + 1) (omega arith) (omega arith) digits in omega arith
 
--- a name that no number of a range has is not among theirs
+-- if f gives no number of a range this name, the name is not in the list of the range's names
 absent : (f : ℕ → List ℕ) (name : List ℕ) (first count : ℕ) → ((j : ℕ) → first ≤ j → j < first + count → name ≡ f j → ⊥) → includes_list (map f (range_with_len first count)) name ≡ false
 absent f name first zero h = refl
 absent f name first (suc count) h =
@@ -60,7 +60,7 @@ absent f name first (suc count) h =
     (false_from_ne_true (bytes_eq name (f first)) (λ e. h first (omega arith) (omega arith) ((bytes_eq-Decides name (f first)).0 e)))
     (absent f name (first + 1) count (λ j low high e. h j (omega arith) (omega arith) e))
 
--- where no two numbers of a range have one name, the names are different
+-- if f gives no two numbers of a range the same name, the names are all different
 different : (f : ℕ → List ℕ) (first count : ℕ) → ((i j : ℕ) → i < j → j < first + count → f i ≡ f j → ⊥) → all_different (map f (range_with_len first count)) ≡ true
 different f first zero h = refl
 different f first (suc count) h =
@@ -72,7 +72,7 @@ different f first (suc count) h =
 made_ids : (seed n : ℕ) → ids (made_volunteers seed n) ≡ map made_id (range_with_len 0 n)
 made_ids seed n = map-map (λ (v : Volunteer). v.id) (made_volunteer seed) (range_with_len 0 n)
 
--- the next id stands not among those of the volunteers before
+-- the id of volunteer i is not among the ids of the volunteers before
 pub next_id_is_new : (seed i : ℕ) → i < 400 → includes_list (ids (made_volunteers seed i)) (made_id i) ≡ false
 next_id_is_new seed i small =
     rw (made_ids seed i) (absent made_id (made_id i) 0 i (λ j low high e. let same = same_id i j small (omega arith) e in omega arith))
@@ -81,7 +81,7 @@ pub ids_are_different : (seed n : ℕ) → n ≤ 400 → all_different (ids (mad
 ids_are_different seed n few =
     rw (made_ids seed n) (different made_id 0 n (λ i j less high e. let same = same_id i j (omega arith) (omega arith) e in omega arith))
 
--- a test that each of so many volunteers passes
+-- if each made volunteer with a number below n passes a test, all n of them do
 pub each_volunteer : (test : Volunteer → Bool) (seed n : ℕ) → ((i : ℕ) → i < n → test (made_volunteer seed i) ≡ true) → list_all test (made_volunteers seed n) ≡ true
 each_volunteer test seed n passes =
     list_all-map test (made_volunteer seed) (range_with_len 0 n)
@@ -136,7 +136,7 @@ same_counts p q f first (suc count) same =
     (same_counts p q f (first + 1) count (λ i low high. same i (omega arith) (omega arith)))
     ∙ sym (sum_by-cons (λ (values : List ℕ). cond (q values) 1 0) (f first) (map f (range_with_len (first + 1) count)))
 
--- so many of the first volunteers have the value of a place as of the first lists of values
+-- how many of the first `size` volunteers have a value, counted in their lists of values
 pub members_are_counted : (seed n size place value_place : ℕ) → size ≤ n →
     members_with (made_volunteers seed n) (range_with_len 0 size) place value_place
     ≡ count_by (λ values. eqb (get_or values place 0) value_place) (map (made_values seed) (range_with_len 0 size))

@@ -5,15 +5,15 @@ use Rattle.std.specs.Prelude.{ℕ, zero, suc, ◌+◌, ◌*◌, ◌/◌, ◌%◌
 abbrev pub next_state : ℕ → ℕ
 next_state x = (x * 6364136223846793005 + 1442695040888963407) % 2 ^ 64
 
--- the number of a state
+-- the number that a state gives: its upper 31 bits
 abbrev pub upper_bits : ℕ → ℕ
 upper_bits x = x / 2 ^ 33
 
--- the state after `count` numbers
+-- the state after `count` numbers, which begins as the seed
 unfoldable pub state : ℕ → ℕ → ℕ
 state seed zero = seed
 state seed (suc count) = next_state (state seed count)
 
--- the number in this place, counted from 0
+-- the number in this place, counted from 0, of the generator with this seed
 abbrev pub number : ℕ → ℕ → ℕ
 number seed place = upper_bits (state seed (suc place))

@@ -7,30 +7,30 @@ use Rattle.define_pools.specs.declared.Standing.TheVariants.{Open}
 use Rattle.define_pools.specs.Pool.{BoundedValue, Category, Volunteer, Pool, members_with}
 use Rattle.define_made_pools.specs.Generator.{number}
 
--- a panel has a tenth of the volunteers, and at least one
+-- the size of a panel: a tenth of the volunteers, rounded down, and at least one
 abbrev pub made_size : ℕ → ℕ
 made_size n = max (n / 10) 1
 
--- the values of the volunteer of this number, by three numbers of the generator in turn
+-- the values of volunteer i: a gender, an age and an area, each by the next number of the generator
 abbrev pub made_values : ℕ → ℕ → List ℕ
 made_values seed i = number seed (3 * i) % 2 ∷ number seed (3 * i + 1) % 3 ∷ number seed (3 * i + 2) % 2 ∷ []
 
--- the ids are v1, v2 and so on
+-- the id of volunteer i, counted from 0: v1, v2 and so on
 abbrev pub made_id : ℕ → List ℕ
 made_id i = codes "v" ++ decimal (i + 1)
 
--- the volunteer of a number, open and without a household
+-- volunteer i, who is open and has no household
 abbrev pub made_volunteer : ℕ → ℕ → Volunteer
 made_volunteer seed i = record { id = made_id i; values = made_values seed i; standing = Open; household = None }
 
 abbrev pub made_volunteers : ℕ → ℕ → List Volunteer
 made_volunteers seed n = map (made_volunteer seed) (range_with_len 0 n)
 
--- a value that `members` of the first volunteers have: a panel may have one fewer with it, or one more
+-- the bounds of a value that `members` of the first volunteers have: a panel may have one fewer with it, or one more
 abbrev pub bounded_by : List ℕ → ℕ → BoundedValue
 bounded_by name members = record { name = name; lower = members - 1; upper = members + 1 }
 
--- a category with its bounds, which the values of the first volunteers in this place give, as many volunteers as a panel has
+-- a category, in the place of the volunteers' values, whose bounds are made from the first `size` volunteers
 abbrev pub made_category : List Volunteer → ℕ → ℕ → List ℕ → List (List ℕ) → Category
 made_category volunteers size place name value_names = record {
   name = name;

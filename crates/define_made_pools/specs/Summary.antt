@@ -11,11 +11,11 @@ use Rattle.define_lines.specs.Lines.{line_of, text_of}
 use Rattle.define_bundles.specs.BundleText.{bundle_text}
 use Rattle.define_draws.specs.Seal.{seal_of}
 
--- the least of some numbers
+-- the least number of a list, or 0 if the list is empty
 abbrev pub least : List ℕ → ℕ
 least xs = unwrap_or (reduce min xs) 0
 
--- the greatest of some numbers
+-- the greatest number of a list, or 0 if the list is empty
 abbrev pub greatest : List ℕ → ℕ
 greatest xs = unwrap_or (reduce max xs) 0
 
@@ -27,17 +27,17 @@ least_chance pool lottery = lowest_of (least (counts pool lottery)) lottery.tota
 abbrev pub greatest_chance : Pool → Lottery → Fraction
 greatest_chance pool lottery = lowest_of (greatest (counts pool lottery)) lottery.total
 
--- the sizes of a run's last table, and how many pivots the run made
+-- how many classes and columns the last table of a run has, and how many pivots the run made
 pub record Sizes : Type 0 where
   pub classes : ℕ
   pub columns : ℕ
   pub pivots : ℕ
 
--- the line of a word and a field
+-- the line that has a word and a field
 abbrev pub field_line : List ℕ → List ℕ → List ℕ
 field_line word field = line_of (word ∷ field ∷ [])
 
--- the line of a word and a number
+-- the line that has a word and a number
 abbrev pub number_line : List ℕ → ℕ → List ℕ
 number_line word number = field_line word (decimal number)
 

@@ -1,4 +1,4 @@
--- Small answers, on which the lines before the seal compute.
+-- Small answers, for which the lines before the seal are computed.
 use Rattle.std.specs.Prelude.{ℕ, List, [], ◌∷◌, codes, pos}
 use Rattle.define_pools.specs.Certificate.{Answer}
 use Rattle.define_pools.specs.WorkedExamples.{row, stage, dropout_lottery, dropout_stages}
@@ -19,7 +19,7 @@ single_summary =
 abbrev pub dropout_answer : Answer
 dropout_answer = record { lottery = dropout_lottery; stages = dropout_stages }
 
--- its summary, before the seal
+-- the summary of this answer, before the seal
 abbrev pub dropout_summary : List ℕ
 dropout_summary =
     codes "volunteers\t4\nclasses\t4\nsize\t2\npanels\t1\ncolumns\t1\npivots\t12\nstages\t4\ntotal\t1\nleast\t0/1\ngreatest\t1/1\n"

@@ -30,12 +30,13 @@ pub fn made_pool_has_a_panel()
     ensures { (seed n : ℕ) → 1 ≤ n → n ≤ 400 → Contains (panels (made_pool seed n)) (range_with_len 0 (made_size n)) }
 {}
 
-/// Each number has 31 bits.
+/// Each number of the generator has 31 bits.
 pub fn numbers_have_31_bits()
     ensures { (seed place : ℕ) → number seed place < 2 ^ 31 }
 {}
 
-/// The least and the greatest of some numbers are among them, and no number is less, or greater.
+/// The least and the greatest number of a list are in it, unless it is empty, and no number of the list is less than the least or greater
+/// than the greatest.
 pub fn least_and_greatest()
     ensures least { (xs : List ℕ) → 1 ≤ length xs → Contains xs (least xs) }
     ensures none_less { (xs : List ℕ) → All (λ x. least xs ≤ x) xs }
@@ -50,8 +51,9 @@ pub fn first_numbers()
     ensures greatest { map (number (2 ^ 63 - 1)) (0 ∷ 1 ∷ 2 ∷ 3 ∷ []) ≡ 500810664 ∷ 416590519 ∷ 133760853 ∷ 1974759426 ∷ [] }
 {}
 
-/// Made pools: the only volunteer of seed 0 is a young man from the country. The first volunteers of seed 7 have these values, and
-/// these are the bounds among 20 of them; the first two are an old woman and a man of middle age, both from the country.
+/// Made pools. In the pool of seed 0 and one volunteer, the volunteer is a young man from the country. In the pool of seed 7 and 20
+/// volunteers, the first three volunteers have these values, and the values have these bounds. The first two are an old woman and a man of
+/// middle age, both from the country.
 pub fn made_pools()
     ensures single { made_pool 0 1 ≡ record {
       size = 1;
@@ -69,7 +71,8 @@ pub fn made_pools()
         category (codes "area") (bounded (codes "town") 0 1 ∷ bounded (codes "country") 1 3 ∷ []) ∷ [] }
 {}
 
-/// Summaries before their seal: that of the only volunteer of seed 0; and one after a dropout, in which two of four have no chance.
+/// Summaries before their seal: of the pool of seed 0 and one volunteer; and of a pool after a dropout, in which two of four have no
+/// chance.
 pub fn summaries()
     ensures single { text_of (take 10 (summary_lines (made_pool 0 1) single_answer (record { classes = 1; columns = 1; pivots = 1 }))) ≡ single_summary }
     ensures dropout { text_of (take 10 (summary_lines after_dropout dropout_answer (record { classes = 4; columns = 1; pivots = 12 }))) ≡ dropout_summary }

@@ -20,7 +20,7 @@ use Rattle.define_rows.specs.InOrder.{IsKnown, IsUnsettled, IsInOrder}
 use Rattle.define_rows.proofs.CoefficientLaws.{coefficient-Stage}
 use Rattle.define_rows.proofs.Chosen.{each_variable}
 
--- factors that stand only where entries are 0
+-- if each marked class has the entry 0, the sum over the marked classes is 0
 products-none : (marks : List Bool) (sizes : List ℕ) (xs : List ℤ) → ((t : ℕ) → get_or marks t false ≡ true → get_or xs t (pos 0) ≡ pos 0) → sum_of_products (sizes_where marks sizes) xs ≡ pos 0
 products-none [] sizes xs h = refl
 products-none (mark ∷ marks) [] xs h = refl
@@ -29,7 +29,7 @@ products-none (true ∷ marks) (size ∷ sizes) (x ∷ xs) h =
     omega (arith, ints, ap (λ z. pos size *ℤ z) (h 0 refl), mul-zero (pos size), products-none marks sizes xs (λ t e. h (suc t) e))
 products-none (false ∷ marks) (size ∷ sizes) (x ∷ xs) h = omega (arith, ints, products-none marks sizes xs (λ t e. h (suc t) e))
 
--- fewer than all pass, so one does not
+-- if fewer than all elements are true, some element is false
 pub some_fails : (xs : List Bool) → count_by (λ s. s) xs < length xs → (t : ℕ) × (t < length xs) × (get_or xs t true ≡ false)
 some_fails [] l = absurd (omega arith)
 some_fails (true ∷ xs) l =
@@ -47,7 +47,7 @@ is_same-true (Column c) (Slack u) e = absurd cc
 is_same-true (Column c) (Stage s) e = absurd cc
 is_same-true (Column c) (Column d) e = ap Column (eqb-true c d e)
 
--- a place that is found holds what was looked for
+-- if a row is found for a variable, the variable is basic in it
 pub place_of : (table : Table) (v : Var) (i : ℕ) → basic_row table v ≡ Some i → (i < length table.basic) × (basic_at table i ≡ v)
 place_of table v i e =
     let found = position-Some (λ x. is_same x v) table.basic i (Slack (length table.sizes)) e in
@@ -57,7 +57,7 @@ module _ (table : Table) (h : IsInOrder table) (open_now : table.in_stage ≡ tr
   pub stages_are : length table.stages ≡ length table.closed + 1
   stages_are = h.stage_count ∙ ap (λ b. length table.closed + cond b 1 0) open_now
 
-  -- the open stage's marks: who is unsettled now
+  -- the marks of the open stage are those of the classes that are unsettled now
   pub marks_now : get_or table.stages (length table.stages - 1) [] ≡ map not table.settled
   marks_now = let n : length table.stages - 1 ≡ length table.closed = omega (arith, stages_are) in ap (λ k. get_or table.stages k []) n ∙ h.open_same open_now
 
@@ -99,13 +99,13 @@ module _ (table : Table) (h : IsInOrder table) (open_now : table.in_stage ≡ tr
     pub entered-known : IsKnown table v
     entered-known = ⊎_elim (λ e. subst (IsKnown table) (sym e) (omega (arith, stages_are))) (λ p. p.2) cases
 
-    -- its coefficient is 0 in each closed row
+    -- the entering variable has coefficient 0 in each closed row
     pub entered-closed : (k : ℕ) → k < length table.closed → coefficient_at table (slice_index table.closed k) v ≡ pos 0
     entered-closed k l =
         ⊎_elim (λ e. ap (coefficient_at table (slice_index table.closed k)) e ∙ stage_eligible k l)
         (λ p. eq-tested (coefficient_at table (slice_index table.closed k) v) (pos 0) (All-from_recursion (λ i. int_eq (coefficient_at table i v) (pos 0) ≡ true) table.closed (each_from_list_all (λ i. int_eq (coefficient_at table i v) (pos 0)) table.closed p.3) k 0 l)) cases
 
-    -- a stage variable that enters is the open stage's, at which some class was unsettled
+    -- if a stage's variable enters, it is the open stage's, and some class was unsettled when that stage was entered
     pub entered-stage : (r : ℕ) → v ≡ Stage r → (t : ℕ) × (t < length table.sizes) × (get_or (get_or table.stages r []) t false ≡ true)
     entered-stage r e = ⊎_elim (λ same. newest (ap stage_number (sym e ∙ same))) (λ p. absurd (older p.0 p.1 p.2 p.4)) cases
       where

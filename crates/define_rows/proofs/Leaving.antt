@@ -1,4 +1,4 @@
--- The row that is left: the best of the rows so far, and that there is one.
+-- The row that is left: the preferred one of the rows so far, and that there is one.
 use Rattle.std.proofs.Common.{◌≡◌, ◌≢◌, ℕ, zero, suc, ◌+◌, ◌<◌, ◌≤◌, Bool, true, false, not, ◌&&◌, ◌||◌, [], length, Option, Some, None, pos, ◌≤ℤ◌, refl, ap, ap₂, ◌∙◌, subst, arith, inl, inr, ◌⊎◌, ⊎_elim}
 use Rattle.std.specs.Prelude.{int_lt}
 use Rattle.std.specs.Option.{option_map, option_and_then}
@@ -16,7 +16,7 @@ use Rattle.define_rows.proofs.Chosen.{each_row, row_each}
 use Rattle.define_rows.proofs.Entered.{entered-known, entered-stage}
 use Rattle.define_rows.proofs.Bounded.{some_positive}
 
--- row b may be left, and none of the first n rows goes before it
+-- row b may be left, and none of the first n rows that may be left is preferred to it
 pub record IsBest (table : Table) (v : Var) (n b : ℕ) : Type 0 where
   pub before : b < n
   pub may : may_leave table v b ≡ true
@@ -26,7 +26,7 @@ module _ (table : Table) (v : Var) (sides : (i : ℕ) → i < length table.rows 
   candidate : (i : ℕ) → i < length table.rows → may_leave table v i ≡ true → IsCandidate (row_at table i).b (coefficient_at table i v)
   candidate i l e = record { side = sides i l; coefficient = lt-tested (pos 0) (coefficient_at table i v) e }
 
-  -- the next row takes the place of the best one, or leaves it
+  -- if row n is preferred to the best of the rows before it, it is the best from now on; else the best one stays
   pub IsBest-takes : (n b : ℕ) → n < length table.rows → IsBest table v n b → may_leave table v n ≡ true → leaves_before table v n b ≡ true → IsBest table v (n + 1) n
   IsBest-takes n b l h may before = record { before = omega arith; may = may; best = λ k m e. by k m e (cases_eq k n) }
     where
@@ -56,7 +56,7 @@ module _ (table : Table) (v : Var) (sides : (i : ℕ) → i < length table.rows 
       by k m e (inl s) = ap (λ j. leaves_before table v j n) s ∙ before-itself (row_at table n).b (coefficient_at table n v) (basic_at table n) (candidate n l may)
       by k m e (inr o) = let f = none k (omega arith) in absurd cc
 
-  -- of the first n rows none may be left, or one is the best
+  -- none of the first n rows may be left, or one of them is the best
   best_of : (n : ℕ) → n ≤ length table.rows → ((k : ℕ) → k < n → may_leave table v k ≡ false) ⊎ ((b : ℕ) × IsBest table v n b)
   best_of zero l = inl (λ k m. absurd (omega arith))
   best_of (suc n) l = by (best_of n (omega arith)) (may_leave table v n) refl
@@ -75,7 +75,7 @@ module _ (table : Table) (v : Var) (sides : (i : ℕ) → i < length table.rows 
           test false f = inr (b, more b (IsBest-keeps n b h (inr f)))
           test true f = inr (n, more n (IsBest-takes n b l h e f))
 
-  -- the best of all rows is least
+  -- the best of all rows is the one that `is_least` tests for
   pub best_is_least : (b : ℕ) → IsBest table v (length table.rows) b → is_least table v b ≡ true
   best_is_least b h =
       ap₂ (λ x y. x && y) h.may (list_all_from_each (λ j. not (may_leave table v j) || not (leaves_before table v j b)) (row_numbers table)
@@ -85,7 +85,7 @@ module _ (table : Table) (v : Var) (sides : (i : ℕ) → i < length table.rows 
       by j l true e = ap₂ (λ x y. not x || not y) e (h.best j l e)
       by j l false e = ap (λ x. not x || not (leaves_before table v j b)) e
 
--- in a table in order a variable that enters has a row to leave
+-- in a table in order with a stage open, a variable that enters has a row to leave
 pub leaving-some : (table : Table) → IsInOrder table → table.in_stage ≡ true → (v : Var) → entering table ≡ Some v → leaving table v ≡ None → ⊥
 unfolding leaving
 leaving-some table h open_now v entered none = ⊎_elim all_none some_best (best_of table v (λ i l. h.sides i (record { b = pos 0; a = [] }) l) (length table.rows) (omega arith))
@@ -98,7 +98,7 @@ leaving-some table h open_now v entered none = ⊎_elim all_none some_best (best
         let least = best_is_least table v (λ i l. h.sides i (record { b = pos 0; a = [] }) l) b best in
         let denied = row_each table (λ i. is_least table v i ≡ false) b (find-none (is_least table v) (row_numbers table) none) best.before in cc
 
--- so where nothing is chosen, nothing enters
+-- so if no pivot is chosen, no variable enters
 pub entering-none : (table : Table) → IsInOrder table → table.in_stage ≡ true → choice table ≡ None → entering table ≡ None
 unfolding choice
 entering-none table h open_now e = by (entering table) refl e

@@ -1,4 +1,4 @@
--- The unit row of a class says that its count is its size times its levels.
+-- The equation of a class's unit row says that the class's count is its size times the sum of its levels.
 use Rattle.std.proofs.Common.{◌≡◌, ◌≢◌, ℕ, zero, suc, ◌+◌, ◌*◌, ◌/◌, ◌<◌, Bool, true, false, cond, List, [], ◌∷◌, length, get_or, Option, Some, None, ℤ, pos, ◌+ℤ◌, ◌-ℤ◌, ◌*ℤ◌, neg_ℤ, refl, sym, ap, ap₂, ◌∙◌, subst, arith}
 use Rattle.std.specs.Prelude.{int_lt, unsigned_abs, slice_index, sum_by}
 use Rattle.std.specs.Int.{◌∣◌}
@@ -28,7 +28,7 @@ use Rattle.define_rows.proofs.Totals.{total, total-same, total-scaled, amount}
 use Rattle.define_rows.proofs.Solutions.{StandsAt, is_same_refl, stands-at, stands-value, stands-positive, solution-each, each-solution, found-basic}
 use Rattle.define_rows.proofs.Satisfied.{numerator-over, only, only-none, only-picks, in_row, satisfied, by-variable, solution-total, known-basic, solution-whole}
 
--- a product that each of its factors divides
+-- the product of the values of f below n, which each of them divides
 product_to : ℕ → (ℕ → ℕ) → ℕ
 product_to zero f = 1
 product_to (suc n) f = f 0 * product_to n (λ k. f (suc k))
@@ -44,7 +44,7 @@ factor-divides zero f k l = absurd (omega arith)
 factor-divides (suc n) f zero l = dvd-mul_right (f 0) (product_to n (λ k. f (suc k)))
 factor-divides (suc n) f (suc k) l = dvd_trans (f (suc k)) (factor-divides n (λ k. f (suc k)) k (omega arith)) (dvd-mul_left (product_to n (λ k. f (suc k))) (f 0))
 
--- a difference of sums, and a sum over the numbers below n
+-- the sum of differences is the difference of the sums; and a sum over a range is a `total`
 total-sub : (n : ℕ) (f g : ℕ → ℤ) → total n (λ k. f k -ℤ g k) ≡ total n f -ℤ total n g
 total-sub zero f g = refl
 total-sub (suc n) f g = omega (arith, ints, total-sub n (λ k. f (suc k)) (λ k. g (suc k)))
@@ -66,7 +66,7 @@ only-same x kind n f g h = total-same n (λ c. cond (is_same x (kind c)) (f c) (
     by c l true e = h c l (is_same-true x (kind c) e)
     by c l false e = refl
 
--- sums whose terms are the same but for two factors
+-- if x times each term of one sum is y times the same term of another, x times the one sum is y times the other
 sums-same : {X : Type 0} (x y : ℕ) (f g : X → ℕ) (xs : List X) → AllByRecursion (λ z. x * f z ≡ y * g z) xs → x * sum_by f xs ≡ y * sum_by g xs
 sums-same x y f g [] h = omega arith
 sums-same x y f g (z ∷ zs) h =
@@ -88,7 +88,7 @@ module _ (table : Table) (a : AllSettled table) where
   unfolding ones
   all_closed = let n : length table.stages ≡ length table.closed + 0 = a.in_order.stage_count ∙ ap (λ b. length table.closed + cond b 1 0) a.shut in omega arith
 
-  -- the own coefficient of each row, and the scale that each divides
+  -- each row's coefficient on its own basic variable, and the scale: the product of all of these
   own : ℕ → ℕ
   own i = unsigned_abs (coefficient_at table i (basic_at table i))
 
@@ -103,7 +103,7 @@ module _ (table : Table) (a : AllSettled table) where
   unfolding the_scale
   some_scale = product-positive (length table.rows) own some_own
 
-  -- the amount of each row's basic variable: right side over own coefficient, times the scale
+  -- the amount of each row's basic variable: the right side over the own coefficient, times the scale
   amount_of : ℕ → ℕ
   amount_of i = unsigned_abs (row_at table i).b * (the_scale / own i)
 
@@ -127,7 +127,7 @@ module _ (table : Table) (a : AllSettled table) where
       let none : unsigned_abs (row_at table i).b ≡ 0 = ap unsigned_abs (let z : (row_at table i).b ≡ pos 0 = omega (arith, ints, a.in_order.sides i (record { b = pos 0; a = [] }) l) in z) in
       ap (λ n. n * (the_scale / own i)) none ∙ (let z : 0 * (the_scale / own i) ≡ 0 = omega arith in z)
 
-  -- a stage's level, and a column's value
+  -- the level of a closed stage and the value of a column, each as an amount
   level_of : ℕ → ℕ
   level_of k = amount_of (slice_index table.closed k)
 
@@ -180,7 +180,7 @@ module _ (table : Table) (a : AllSettled table) where
               absurd (each-solution table a.in_order (λ there. there.column ≢ c) c (record { column = c; side = unsigned_abs (row_at table i).b; coefficient = unsigned_abs (coefficient_at table i (Column c)) }) none known given refl)
 
   module _ (t : ℕ) (l : t < length table.sizes) where
-    -- the slack of a settled class is not basic: it has a coefficient above 0 in a closed row
+    -- the slack of a settled class is not basic, as it has a coefficient above 0 in a closed row
     not_slack : (i : ℕ) → i < length table.rows → basic_at table i ≢ Slack t
     not_slack i m e =
         let settled : is_settled table t ≡ true = all_pass table.settled t (a.settled ∙ sym a.in_order.settled_each) (omega (arith, a.in_order.settled_each)) in
@@ -194,14 +194,14 @@ module _ (table : Table) (a : AllSettled table) where
         let above = s.above in
         omega (arith, ints, zero, coefficient-Slack table (row_at table j) t)
 
-    -- a stage's weight: the class's size where it was unsettled
+    -- a stage's weight for this class: the class's size if it was unsettled when the stage was entered, else 0
     weight : ℕ → ℕ
     weight r = cond (was_unsettled table r t) (slice_index table.sizes t) 0
 
     count : ℕ → ℕ
     count c = count_in table.columns c t
 
-    -- the coefficients of the class's unit row at basic variables
+    -- the coefficients of stages and columns in the class's unit row
     at_stage : (r : ℕ) → r < length table.stages → value table (Stage r) (unit (suc t)) ≡ pos (weight r)
     unfolding weight
     at_stage r m =
@@ -214,7 +214,7 @@ module _ (table : Table) (a : AllSettled table) where
         ap₂ (λ y z. y -ℤ z) (unit-other (suc t) 0 (λ e. omega (arith, e)))
         (dot-picks (get_or table.columns c []) t (λ k. unit (suc t) (suc k)) (λ k e. unit-same (suc t) (suc k) (ap suc e)) (λ k n. unit-other (suc t) (suc k) (λ e. n (omega (arith, e)))))
 
-    -- one row's term, by the kind of its basic variable
+    -- the term of a row in the class's equation, if its basic variable is a stage's, or a column's
     stage_terms : ℕ → ℤ
     stage_terms i = only (basic_at table i) Stage (length table.stages) (λ r. pos (weight r) *ℤ pos (amount_of i))
 
@@ -248,7 +248,7 @@ module _ (table : Table) (a : AllSettled table) where
             minus : (w : ℤ) → pos 0 -ℤ w ≡ neg_ℤ w
             minus w = omega (arith, ints)
 
-    -- so the sum of the stages' terms is that of the columns'
+    -- so the terms of the stages have the same sum as the terms of the columns
     balanced : total (length table.rows) stage_terms ≡ total (length table.rows) column_terms
     unfolding stage_terms column_terms
     balanced =
@@ -260,7 +260,7 @@ module _ (table : Table) (a : AllSettled table) where
         let apart = total-sub (length table.rows) stage_terms column_terms in
         omega (arith, ints, zero, apart)
 
-    -- the stages' terms are the class's size times its levels
+    -- the terms of the stages sum to the class's size times the sum of its levels
     stages_total : total (length table.rows) stage_terms ≡ pos (slice_index table.sizes t * class_levels table level_of t)
     unfolding stage_terms level_of weight
     stages_total =
@@ -278,7 +278,7 @@ module _ (table : Table) (a : AllSettled table) where
         weighed true size level = refl
         weighed false size level = mul_comm (pos 0) (pos level) ∙ mul-zero (pos level) ∙ sym (mul-zero (pos size))
 
-    -- the columns' terms are the class's count
+    -- the terms of the columns sum to the class's count
     columns_total : total (length table.rows) column_terms ≡ pos (count_of table value_of_column t)
     unfolding column_terms count
     columns_total =
@@ -300,7 +300,7 @@ module _ (table : Table) (a : AllSettled table) where
     class-counts : count_of table value_of_column t ≡ slice_index table.sizes t * class_levels table level_of t
     class-counts = same_pos (count_of table value_of_column t) (slice_index table.sizes t * class_levels table level_of t) (sym columns_total ∙ sym balanced ∙ stages_total)
 
-  -- over a common multiple each value is the same but for the scales
+  -- a column's numerator over `common`, times the scale, is its value times `common`; both times its count of the class
   numerator-same : (common c t : ℕ) (there : ColumnValue) → StandsAt table c there → (lowest_of there.side there.coefficient).den ∣ common →
       the_scale * (numerator_over common there * count_in table.columns there.column t) ≡ common * (value_of_column there.column * count_in table.columns there.column t)
   numerator-same common c t there s d =

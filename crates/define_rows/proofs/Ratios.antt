@@ -1,4 +1,4 @@
--- Of the rows that may be left one goes before all others.
+-- The rows that may be left are totally ordered by `goes_before`, so one of them is preferred to all others.
 use Rattle.std.proofs.Common.{◌≡◌, ◌≢◌, ℕ, suc, ◌*◌, ◌<◌, ◌≤◌, Bool, true, false, ◌&&◌, ◌||◌, ℤ, pos, negsuc, ◌*ℤ◌, ◌≤ℤ◌, ◌<ℤ◌, refl, ap, ap₂, ◌∙◌, arith, inl, inr, ◌⊎◌, ⊎_elim, mul-le-mul_right, le_of_mul-le-mul_right}
 use Rattle.std.specs.Prelude.{int_lt}
 use Rattle.std.specs.Ordering.{int_eq}
@@ -60,7 +60,7 @@ same_variable (Column c) (Slack u) e f = absurd (let k : 2 ≡ 0 = e in omega ar
 same_variable (Column c) (Stage s) e f = absurd (let k : 2 ≡ 1 = e in omega arith)
 same_variable (Column c) (Column d) e f = ap Column f
 
--- what `goes_before` says, at right sides and coefficients without their signs
+-- what `goes_before` says if right sides and coefficients are natural numbers
 record Goes (m n : ℕ) (x : Var) (m' n' : ℕ) (y : Var) : Type 0 where
   ratio : (m * n' < m' * n) ⊎ ((m * n' ≡ m' * n) × Before x y)
 
@@ -84,7 +84,7 @@ goes-in m n m' n' x y h = ⊎_elim less equal h.ratio
         ap₂ (λ b t. int_lt (pos m *ℤ pos n') (pos m' *ℤ pos n) || b && t) ((Decides-int_eq (pos m *ℤ pos n') (pos m' *ℤ pos n)).1 (ap pos p.0)) (before-in x y p.1)
         ∙ (elim (int_lt (pos m *ℤ pos n') (pos m' *ℤ pos n)) as (λ a. (a || true && true) ≡ true) [ true ↦ refl | false ↦ refl ])
 
--- products along three ratios
+-- the order of ratios is transitive: if m/n ≤ a/b and a/b ≤ p/q, then m/n ≤ p/q, by the products across
 chain : (m n a b p q : ℕ) → m * b ≤ a * n → a * q ≤ p * b → 0 < b → m * q ≤ p * n
 chain m n a b p q l k some =
     let first : m * b * q ≤ a * n * q = mul-le-mul_right q l in
@@ -159,7 +159,7 @@ goes-one m n a b x y o = by (cases_lt (m * b) (a * n)) (cases_lt (a * n) (m * b)
     by (inr l) (inr k) (inl d) = inl (record { ratio = inr (omega arith, d) })
     by (inr l) (inr k) (inr d) = inr (record { ratio = inr (omega arith, d) })
 
--- the same of whole numbers: right sides of at least 0, coefficients above 0
+-- the numbers of a row that may be left: a right side of at least 0, and a coefficient above 0
 pub record IsCandidate (b c : ℤ) : Type 0 where
   pub side : pos 0 ≤ℤ b
   pub coefficient : pos 0 <ℤ c

@@ -1,4 +1,4 @@
--- Amounts of the basic variables satisfy the equation of each unit row, and so the values of the solution sum to one.
+-- The amounts of the basic variables satisfy the equation of each unit row. So the values of the solution sum to one.
 use Rattle.std.proofs.Common.{◌≡◌, ◌≢◌, ℕ, zero, suc, ◌*◌, ◌/◌, ◌<◌, ◌≤◌, Bool, true, false, cond, [], length, get_or, Option, Some, None, ℤ, pos, negsuc, ◌*ℤ◌, ◌<ℤ◌, refl, sym, ap, ap₂, ◌∙◌, subst, arith}
 use Rattle.std.specs.Prelude.{int_lt, unsigned_abs, sum_by}
 use Rattle.std.specs.Int.{◌∣◌}
@@ -25,13 +25,13 @@ use Rattle.define_rows.proofs.Entered.{place_of, is_same-true}
 use Rattle.define_rows.proofs.Totals.{total, total-none, total-same, total-scaled, total-swap, total-picks, combination-total, coefficients-total, amount, filtered-total}
 use Rattle.define_rows.proofs.Solutions.{StandsAt, is_same_refl, solution-each, each-solution, solution-rises, stands-positive, found-basic}
 
--- a positive factor is cancelled
+-- a positive factor can be cancelled
 cancel : (a b c : ℤ) → pos 0 <ℤ c → c *ℤ a ≡ c *ℤ b → a ≡ b
 cancel a b (pos zero) l e = absurd (omega (arith, ints))
 cancel a b (pos (suc n)) l e = same-unscaled a b (suc n) (omega arith) e
 cancel a b (negsuc n) l e = absurd (omega (arith, ints))
 
--- what a function gives where the variable is one of a kind, numbered below n
+-- f c if the variable is `kind c` for some c below n, else 0
 abbrev pub only : Var → (ℕ → Var) → ℕ → (ℕ → ℤ) → ℤ
 only x kind n f = total n (λ c. cond (is_same x (kind c)) (f c) (pos 0))
 
@@ -45,13 +45,14 @@ only-picks x kind n c f l same one = total-picks n c (λ k. cond (is_same x (kin
     by k o true e = absurd (o (one k (is_same-true x (kind k) e)))
     by k o false e = refl
 
--- what a function gives of the row of a variable that may be basic
+-- f of the row in which a variable is basic, or 0 if it is not basic
 abbrev pub in_row : Option ℕ → (ℕ → ℤ) → ℤ
 in_row None f = pos 0
 in_row (Some i) f = f i
 
 module _ (table : Table) (h : IsInOrder table) where
-  -- at a basic variable, the combination that is a unit row's multiple is one factor times one coefficient
+  -- some combination of the rows is a multiple of the unit row: at a basic variable it is the factor of its own row times the own
+  -- coefficient
   factor_at : (place : ℕ) (s : IsSpanned table.rows (unit place)) (i : ℕ) → i < length table.rows →
       s.factors i *ℤ coefficient_at table i (basic_at table i) ≡ pos s.multiple *ℤ value table (basic_at table i) (unit place)
   factor_at place s i l =
@@ -59,7 +60,7 @@ module _ (table : Table) (h : IsInOrder table) where
       ∙ sym (coefficients-total table (basic_at table i) s.factors table.rows) ∙ sym (value-combination table (basic_at table i) s.factors table.rows)
       ∙ value-same table (basic_at table i) (combination s.factors table.rows) (λ l. pos s.multiple *ℤ unit place l) s.sums ∙ value-scaled table (basic_at table i) (pos s.multiple) (unit place)
 
-  -- amounts that are the right sides over the own coefficients, times a scale, satisfy a unit row's equation times that scale
+  -- amounts that are right side over own coefficient, times `scale`, satisfy the equation of each unit row, times `scale`
   pub satisfied : (place : ℕ) → place ≤ length table.sizes → (scale : ℤ) (amounts : ℕ → ℤ) →
       ((i : ℕ) → i < length table.rows →
       value table (basic_at table i) (unit place) *ℤ (amounts i *ℤ coefficient_at table i (basic_at table i)) ≡ value table (basic_at table i) (unit place) *ℤ (scale *ℤ (row_at table i).b)) →
@@ -82,7 +83,7 @@ module _ (table : Table) (h : IsInOrder table) where
           (λ i m. term (pos s.multiple) (value table (basic_at table i) (unit place)) (amounts i) (coefficient_at table i (basic_at table i)) scale (s.factors i) (row_at table i).b (h.basic_own i m) (own i m) (factor_at place s i m))
           ∙ total-scaled (length table.rows) scale (λ i. s.factors i *ℤ (row_at table i).b) ∙ ap (λ z. scale *ℤ z) (sym (combination-total s.factors table.rows 0) ∙ s.sums 0) ∙ mul-left_comm scale (pos s.multiple) (unit place 0)
 
-  -- a sum over the rows whose basic variable is of a kind, as a sum over the variables of that kind
+  -- a sum over the rows whose basic variable is of a kind, as a sum over the variables of this kind
   pub by-variable : (kind : ℕ → Var) (n : ℕ) (f : ℕ → ℕ → ℤ) → total (length table.rows) (λ i. only (basic_at table i) kind n (f i)) ≡ total n (λ c. in_row (basic_row table (kind c)) (λ i. f i c))
   by-variable kind n f =
       total-swap (length table.rows) n (λ i c. cond (is_same (basic_at table i) (kind c)) (f i c) (pos 0))
@@ -109,7 +110,7 @@ module _ (table : Table) (h : IsInOrder table) where
           other i l n true k = absurd (n (h.basic_different i j l in_rows (is_same-true (basic_at table i) (kind c) k ∙ sym place.1)))
           other i l n false k = refl
 
-  -- a sum over the solution, row by row
+  -- a sum over the solution, as a sum over the rows
   pub solution-total : (f : ColumnValue → ℕ) →
       pos (sum_by f (solution table)) ≡ total (length table.rows) (λ i. only (basic_at table i) Column (length table.columns) (λ c. amount f (value_in table c i)))
   unfolding solution
@@ -122,7 +123,7 @@ module _ (table : Table) (h : IsInOrder table) where
       by c None = refl
       by c (Some i) = refl
 
-  -- in the row where a column is basic, an amount of its value is the right side over the own coefficient, times a scale
+  -- if f is the column's value times `scale`, then f times the own coefficient is the right side times `scale`
   pub amount-own : (f : ColumnValue → ℕ) (scale i c : ℕ) → i < length table.rows → basic_at table i ≡ Column c → ((there : ColumnValue) → value_of table c ≡ Some there → f there * there.coefficient ≡ scale * there.side) →
       amount f (value_in table c i) *ℤ coefficient_at table i (basic_at table i) ≡ pos scale *ℤ (row_at table i).b
   amount-own f scale i c l e each = by (int_lt (pos 0) (row_at table i).b) refl
@@ -142,14 +143,14 @@ module _ (table : Table) (h : IsInOrder table) where
           let none : (row_at table i).b ≡ pos 0 = omega (arith, ints, h.sides i (record { b = pos 0; a = [] }) l) in
           mul_comm (pos 0) (coefficient_at table i (basic_at table i)) ∙ mul-zero (coefficient_at table i (basic_at table i)) ∙ sym (mul-zero (pos scale)) ∙ ap (λ z. pos scale *ℤ z) (sym none)
 
-  -- the first unit row has coefficient 1 at a column, and 0 at another variable
+  -- in the unit row of place 0, a column has coefficient 1 and any other variable 0
   first_of_column : (c : ℕ) → value table (Column c) (unit 0) ≡ pos 1
   first_of_column c = omega (arith, ints, unit-same 0 0 refl, dot-none (get_or table.columns c []) (λ t. unit 0 (suc t)) (λ k. unit-other 0 (suc k) (λ e. omega (arith, e))))
 
   first_of_stage : (r : ℕ) → value table (Stage r) (unit 0) ≡ pos 0
   first_of_stage r = dot-none (sizes_where (get_or table.stages r []) table.sizes) (λ t. unit 0 (suc t)) (λ k. unit-other 0 (suc k) (λ e. omega (arith, e)))
 
-  -- amounts of columns alone
+  -- so in that unit row the amounts of columns count alone
   first_counts : (x : Var) (f : ℕ → ℤ) → value table x (unit 0) *ℤ only x Column (length table.columns) f ≡ only x Column (length table.columns) f
   first_counts (Slack t) f = let none = only-none (Slack t) Column (length table.columns) f (λ c. refl) in ap (λ z. unit 0 (suc t) *ℤ z) none ∙ mul-zero (unit 0 (suc t)) ∙ sym none
   first_counts (Stage r) f =
@@ -162,7 +163,7 @@ module _ (table : Table) (h : IsInOrder table) where
   column_number (Stage r) = r
   column_number (Column c) = c
 
-  -- a column that is basic is picked
+  -- for the variable of column c, `only` picks f c
   pub only-column : (c : ℕ) (f : ℕ → ℤ) → c < length table.columns → only (Column c) Column (length table.columns) f ≡ f c
   unfolding column_number
   only-column c f l = only-picks (Column c) Column (length table.columns) c f l (is_same_refl (Column c)) (λ k e. sym (ap column_number e))
@@ -180,7 +181,7 @@ module _ (table : Table) (h : IsInOrder table) where
   pub known-basic : (i : ℕ) → i < length table.rows → IsKnown table (basic_at table i)
   known-basic i l = h.basic_known i (Slack (length table.sizes)) (omega (arith, h.basic_count, h.row_count))
 
-  -- amounts of the solution's values that are the values times a scale sum to that scale
+  -- if f is each column's value times `scale`, its sum over the solution is `scale`
   pub solution-whole : (f : ColumnValue → ℕ) (scale : ℕ) → ((c : ℕ) (there : ColumnValue) → c < length table.columns → value_of table c ≡ Some there → f there * there.coefficient ≡ scale * there.side) → sum_by f (solution table) ≡ scale
   solution-whole f scale each =
       same_pos (sum_by f (solution table)) scale
@@ -193,7 +194,7 @@ module _ (table : Table) (h : IsInOrder table) where
       amounts : ℕ → ℤ
       amounts i = only (basic_at table i) Column (length table.columns) (λ c. amount f (value_in table c i))
 
--- over a multiple of its denominator, a value's numerator is the value times that multiple
+-- the numerator over a common multiple is the value times that multiple
 pub numerator-over : (common : ℕ) (there : ColumnValue) → (lowest_of there.side there.coefficient).den ∣ common → numerator_over common there * there.coefficient ≡ common * there.side
 numerator-over common there d =
     let g = gcd_of there.side there.coefficient in
@@ -215,7 +216,7 @@ solution-stands table h = record {
   one = λ common all. solution-whole table h (numerator_over common) common (λ c there l e. numerator-over common there (each-solution table h (λ there. (lowest_of there.side there.coefficient).den ∣ common) c there all l e));
 }
 
--- a column of the solution is basic in another row than a closed one, so its coefficient there is 0
+-- a column of the solution is not basic in a closed row, so its coefficient there is 0
 pub solution-tight : (table : Table) → IsInOrder table → All (λ there. All (IsTight table there.column) table.closed) (solution table)
 solution-tight table h =
     solution-each table h (λ there. All (IsTight table there.column) table.closed) (λ c there l s. subst (λ k. All (IsTight table k) table.closed) (sym s.column_is) (All-from_get_or (IsTight table c) table.closed 0 (tight c there s)))

@@ -1,4 +1,4 @@
--- Each step keeps which classes the closed stages settled.
+-- Each step keeps the record of which classes the closed stages settled.
 use Rattle.std.proofs.Common.{◌≡◌, ℕ, zero, suc, ◌+◌, ◌<◌, ◌≤◌, Bool, true, false, cond, not, ◌||◌, List, [], ◌∷◌, ◌++◌, length, map, get_or, set, replicate, Ok, ℤ, pos, ◌≤ℤ◌, ◌<ℤ◌, refl, sym, ap, ◌∙◌, subst, arith, inl, inr, ◌⊎◌}
 use Rattle.std.specs.Prelude.{int_lt, slice_index, count_by}
 use Rattle.std.proofs.lemmas.Int.{ints}
@@ -94,7 +94,7 @@ pivot-keeps_stages table made r v p h =
     subst KeepsStages same (replaced-keeps table parts.0 r v (subst (HasClosedRowsOf table) (sym same) kept) h)
 
 -- ---- a stage is entered
--- who is unsettled now, by the marks
+-- a class that is marked as unsettled is unsettled
 unsettled_marks : (settled : List Bool) (t : ℕ) → get_or (map not settled) t false ≡ true → (t < length settled) × (get_or settled t false ≡ false)
 unsettled_marks settled t e = by (cases_lt t (length settled))
   where
@@ -156,7 +156,7 @@ settled-at [] (b ∷ was) t e l = absurd (omega arith)
 settled-at (x ∷ xs) (b ∷ was) zero e l = refl
 settled-at (x ∷ xs) (b ∷ was) (suc t) e l = settled-at xs was t (omega arith) (omega arith)
 
--- where more are settled, somebody is settled who was not
+-- if more classes are settled than before, some class is settled that was not
 somebody-settles : (xs : List ℤ) (was : List Bool) → count_by (λ s. s) was < count_by (λ s. s) (settled_by xs was) → (t : ℕ) × (t < length was) × (get_or was t false ≡ false) × (int_lt (pos 0) (get_or xs t (pos 0)) ≡ true)
 somebody-settles [] [] l = absurd (omega arith)
 somebody-settles (x ∷ xs) [] l = absurd (omega arith)

@@ -1,4 +1,4 @@
--- What each value of the solution is, and that the columns rise.
+-- What each value of the solution is, and that the numbers of its columns rise.
 use Rattle.std.proofs.Common.{◌≡◌, ◌≢◌, ℕ, zero, suc, ◌+◌, ◌<◌, ◌≤◌, Bool, true, false, cond, length, Option, Some, None, ℤ, pos, ◌<ℤ◌, refl, sym, ap, ◌∙◌, subst, arith, inl, inr, ◌⊎◌}
 use Rattle.std.specs.Prelude.{int_lt, unsigned_abs, filter_map}
 use Rattle.std.specs.List.{All, AllPairs, AllByRecursion, range_with_len, cons_option}
@@ -22,7 +22,7 @@ is_same_refl (Slack t) = eq-eqb t t refl
 is_same_refl (Stage r) = eq-eqb r r refl
 is_same_refl (Column c) = eq-eqb c c refl
 
--- what holds of what is kept of each number holds of all that is kept
+-- if Q holds of whatever g gives for a number of the range, it holds of each element of the filtered map
 pub filtered-each : {X : Type 0} (Q : X → Type 0) (g : ℕ → Option X) (a n : ℕ) → ((k : ℕ) (x : X) → a ≤ k → k < a + n → g k ≡ Some x → Q x) → AllByRecursion Q (filter_map g (range_with_len a n))
 filtered-each Q g a zero h = tt
 filtered-each {X} Q g a (suc n) h = by (g a) refl (filtered-each Q g (a + 1) n (λ k x l m e. h k x (omega arith) (omega arith) e))
@@ -31,7 +31,7 @@ filtered-each {X} Q g a (suc n) h = by (g a) refl (filtered-each Q g (a + 1) n (
     by None e rest = rest
     by (Some x) e rest = (h a x (omega arith) (omega arith) e, rest)
 
--- and the other way round
+-- conversely, if Q holds of each element of the filtered map, it holds of whatever g gives for a number of the range
 pub each-filtered : {X : Type 0} (Q : X → Type 0) (g : ℕ → Option X) (a n k : ℕ) (x : X) → AllByRecursion Q (filter_map g (range_with_len a n)) → a ≤ k → k < a + n → g k ≡ Some x → Q x
 each-filtered Q g a zero k x h l m e = absurd (omega arith)
 each-filtered {X} Q g a (suc n) k x h l m e = by (g a) refl (cases_eq k a) h (λ o r. each-filtered Q g (a + 1) n k x r (omega arith) (omega arith) e)
@@ -42,7 +42,7 @@ each-filtered {X} Q g a (suc n) k x h l m e = by (g a) refl (cases_eq k a) h (λ
     by (Some y) f (inl s) h later = let same : ◌≡◌ {A = Option X} (Some y) (Some x) = sym f ∙ ap g (sym s) ∙ e in (let z : y ≡ x = cc in subst Q z h.0)
     by (Some y) f (inr o) h later = later o h.1
 
--- what is kept of rising numbers rises, where each number can be told from what is kept of it
+-- the filtered map of a range rises, if `number` gives back the number that each of its elements was made of
 filtered_rises : {X : Type 0} (number : X → ℕ) (g : ℕ → Option X) (a n : ℕ) → ((k : ℕ) (x : X) → g k ≡ Some x → number x ≡ k) → AllPairs (λ x y. number x < number y) (filter_map g (range_with_len a n))
 filtered_rises number g a zero h = λ i j d l m. absurd (omega arith)
 filtered_rises {X} number g a (suc n) h = by (g a) refl (filtered_rises number g (a + 1) n h)
@@ -53,7 +53,7 @@ filtered_rises {X} number g a (suc n) h = by (g a) refl (filtered_rises number g
         AllPairs-cons (λ x y. number x < number y) x (filter_map g (range_with_len (a + 1) n))
         (All-from_recursion (λ y. number x < number y) (filter_map g (range_with_len (a + 1) n)) (filtered-each (λ y. number x < number y) g (a + 1) n (λ k y l m f. omega (arith, h a x e, h k y f)))) rest
 
--- a value of the solution is that of a column, which is basic in a row of right side above 0
+-- `there` is the value of column c, which is basic in a row whose right side is above 0
 pub record StandsAt (table : Table) (c : ℕ) (there : ColumnValue) : Type 0 where
   pub row : ℕ
   pub found : basic_row table (Column c) ≡ Some row
@@ -92,7 +92,7 @@ module _ (table : Table) (h : IsInOrder table) where
                 coefficient_is = sym (ap (λ v. v.coefficient) same);
               }
 
-  -- and the other way round
+  -- conversely, such a column has the value `there`
   pub stands-value : (c : ℕ) (there : ColumnValue) → StandsAt table c there → value_of table c ≡ Some there
   stands-value c there s =
       ap (option_and_then (value_in table c)) s.found ∙ ap (λ b. cond b (Some (record { column = c; side = unsigned_abs (row_at table s.row).b; coefficient = unsigned_abs (coefficient_at table s.row (Column c)) })) None) (tested-lt (pos 0) (row_at table s.row).b s.above)
@@ -101,7 +101,7 @@ module _ (table : Table) (h : IsInOrder table) where
       same : (c s k : ℕ) (there : ColumnValue) → there.column ≡ c → there.side ≡ s → there.coefficient ≡ k → record { column = c; side = s; coefficient = k } ≡ there
       same c s k there e f g = λ i. record { column = sym e i; side = sym f i; coefficient = sym g i }
 
-  -- what holds of each value that stands holds of the whole solution, and the other way round
+  -- what holds of the value of each such column holds of the whole solution, and conversely
   pub solution-each : (Q : ColumnValue → Type 0) → ((c : ℕ) (there : ColumnValue) → c < length table.columns → StandsAt table c there → Q there) → All Q (solution table)
   unfolding solution
   solution-each Q each = All-from_recursion Q (solution table) (filtered-each Q (value_of table) 0 (length table.columns) (λ k x l m e. each k x (omega arith) (stands-at k x e)))
@@ -114,7 +114,7 @@ module _ (table : Table) (h : IsInOrder table) where
   unfolding solution
   solution-rises = filtered_rises (λ v. v.column) (value_of table) 0 (length table.columns) (λ k x e. (stands-at k x e).column_is)
 
-  -- a value stands in a row of positive coefficient
+  -- the right side and the coefficient of a column's value are above 0
   pub stands-positive : (c : ℕ) (there : ColumnValue) → StandsAt table c there → (0 < there.side) × (0 < there.coefficient)
   stands-positive c there s =
       let own : pos 0 <ℤ coefficient_at table s.row (Column c) = subst (λ x. pos 0 <ℤ coefficient_at table s.row x) s.basic (h.basic_own s.row s.in_rows) in
@@ -123,7 +123,7 @@ module _ (table : Table) (h : IsInOrder table) where
       above_abs : (z : ℤ) (n : ℕ) → pos 0 <ℤ z → n ≡ unsigned_abs z → 0 < n
       above_abs z n l e = omega (arith, ints)
 
-  -- a basic variable's row is the one that is found
+  -- `basic_row` finds the row in which a variable is basic
   pub found-basic : (i : ℕ) (v : Var) → i < length table.rows → basic_at table i ≡ v → basic_row table v ≡ Some i
   found-basic i v l e = by (basic_row table v) refl
     where

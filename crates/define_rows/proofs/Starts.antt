@@ -26,7 +26,7 @@ use Rattle.define_rows.proofs.PivotLaws.{after-Ok_parts, all_in_turn-each}
 use Rattle.define_rows.proofs.Eliminations.{reach-within}
 use Rattle.define_rows.proofs.Spans.{span-member, span-same, span-two}
 
--- a list whose numbers include a 1 has the greatest common divisor 1
+-- a list that contains 1 has the greatest common divisor 1
 one_divides : (ns : List ℕ) (k : ℕ) → k < length ns → get_or ns k 0 ≡ 1 → gcd_of_list ns ≡ 1
 one_divides ns k l e = dvd_antisymm (subst (λ n. gcd_of_list ns ∣ n) e (gcd_of_list-divides ns k 0 l)) (dvd_of_mod-eq-zero 1 (omega arith))
 
@@ -54,7 +54,7 @@ module _ (sizes first : List ℕ) (bits : ℕ) (some : 0 < length sizes) (each :
   m : ℕ
   m = length first
 
-  -- the rows by number: row 0, and the row of each class
+  -- the rows of the first table by their numbers: row 0, then the row of each class
   row_of_class : (t : ℕ) → t < length first → get_or (first_rows first) (suc t) (record { b = pos 0; a = [] }) ≡ class_row (length first) (t, get_or first t 0)
   row_of_class t l =
       get_or-map (class_row (length first)) (enumerate_from 0 first) t (0, 0) (record { b = pos 0; a = [] }) (omega (arith, length-enumerate_from 0 first))
@@ -63,7 +63,7 @@ module _ (sizes first : List ℕ) (bits : ℕ) (some : 0 < length sizes) (each :
   rows_long : length (first_rows first) ≡ suc (length first)
   rows_long = ap suc (length-map (enumerate_from 0 first) (class_row (length first)) ∙ length-enumerate_from 0 first)
 
-  -- the numbers of these rows
+  -- the number at each place of these rows
   total_at : (l : ℕ) → number_at (total_row (length first)) l ≡ unit 0 l
   total_at zero = sym (unit-same 0 0 refl)
   total_at (suc t) = ⊎_elim (λ l. get_or-replicate (length first) t (pos 0) (pos 0) l) (λ l. get_or_past (replicate (length first) (pos 0)) t (pos 0) (omega (arith, length-replicate (length first) (pos 0)))) (cases_lt t (length first)) ∙ sym (unit-other 0 (suc t) (λ e. omega (arith, e)))
@@ -88,7 +88,7 @@ module _ (sizes first : List ℕ) (bits : ℕ) (some : 0 < length sizes) (each :
       class_entry t u k
       ∙ omega (arith, ints, ap (λ z. pos (get_or first t 0) *ℤ z) (unit-other 0 (suc u) (λ e. omega (arith, e))), mul-zero (pos (get_or first t 0)), one-mul (unit (suc t) (suc u)))
 
-  -- a slack's and the first column's coefficients
+  -- the coefficients of the slacks and of the first column in these rows
   slack_total : (t : ℕ) → coefficient table (total_row (length first)) (Slack t) ≡ pos 0
   slack_total t = coefficient-Slack table (total_row (length first)) t ∙ total_at (suc t) ∙ unit-other 0 (suc t) (λ e. omega (arith, e))
 
@@ -163,7 +163,7 @@ module _ (sizes first : List ℕ) (bits : ℕ) (some : 0 < length sizes) (each :
       (subst (λ r. IsSpanned (first_rows first) (number_at r)) (row_of_class t k) (span-member (first_rows first) (suc t) (record { b = pos 0; a = [] }) (omega (arith, rows_long))))
       spans_total)
 
-  -- the numbers of the rows are small
+  -- the lengths of these rows, and that their numbers are small
   pub first_entries : All (λ row. length row.a ≡ length sizes) (first_rows first)
   first_entries = all_rows (λ row. length row.a ≡ length sizes) (length-replicate (length first) (pos 0) ∙ long) (λ t l. length-set (replicate (length first) (pos 0)) t (pos 1) ∙ length-replicate (length first) (pos 0) ∙ long)
 

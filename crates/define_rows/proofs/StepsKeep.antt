@@ -81,7 +81,7 @@ length-settled_by (x ∷ xs) [] = refl
 length-settled_by [] (b ∷ was) = refl
 length-settled_by (x ∷ xs) (b ∷ was) = ap suc (length-settled_by xs was)
 
--- who is unsettled after was so before, and has no positive entry
+-- a class that is unsettled after the closing was so before, and its entry is not above 0
 still_unsettled : (xs : List ℤ) (was : List Bool) (t : ℕ) → length xs ≡ length was → get_or (settled_by xs was) t true ≡ false → (get_or was t true ≡ false) × (int_lt (pos 0) (get_or xs t (pos 0)) ≡ false)
 still_unsettled [] [] t e k = absurd cc
 still_unsettled (x ∷ xs) [] t e k = absurd (omega arith)
@@ -114,7 +114,7 @@ settled-lt (x ∷ xs) (true ∷ was) (suc t) u p = omega (arith, settled-lt xs w
 settled-lt (x ∷ xs) (false ∷ was) (suc t) u p =
     omega (arith, settled-lt xs was t u p, sum_by-cons (λ (b : Bool). cond b 1 0) false was, sum_by-cons (λ (b : Bool). cond b 1 0) (int_lt (pos 0) x) (settled_by xs was))
 
--- a sum above 0 has a term above 0
+-- if the sum over the marked classes is above 0, some marked class has an entry above 0
 some_term : (marks : List Bool) (sizes : List ℕ) (xs : List ℤ) → pos 0 <ℤ sum_of_products (sizes_where marks sizes) xs → (t : ℕ) × (get_or marks t false ≡ true) × (int_lt (pos 0) (get_or xs t (pos 0)) ≡ true)
 some_term [] sizes xs l = absurd (omega (arith, ints))
 some_term (mark ∷ marks) [] xs l = absurd (omega (arith, ints))
@@ -128,7 +128,7 @@ some_term (true ∷ marks) (size ∷ sizes) (x ∷ xs) l = by (int_lt (pos 0) x)
     by false e rest = let r = rest (omega (arith, ints, product-not_positive (pos size) x (omega (arith, ints)) (omega (arith, ints)))) in (suc r.0, r.1, r.2)
 
 module _ (table : Table) (h : IsInOrder table) (open_now : table.in_stage ≡ true) (none : choice table ≡ None) where
-  -- the stage's variable is basic, and nobody may enter
+  -- the stage's variable is basic, and no slack enters
   pub open_found : (r : ℕ) × (basic_row table (stage_variable table) ≡ Some r) × ((t : ℕ) → t < length table.sizes → (is_eligible table (Slack t) && int_lt (coefficient_at table r (Slack t)) (pos 0)) ≡ false)
   unfolding entering
   open_found = by (basic_row table (stage_variable table)) refl (entering-none table h open_now none)
@@ -168,7 +168,7 @@ module _ (table : Table) (h : IsInOrder table) (open_now : table.in_stage ≡ tr
           (Decides-int_eq (coefficient_at table (get_or table.closed k d) (Slack t)) (pos 0)).1
           (coefficient-Slack table (row_at table (get_or table.closed k d)) t ∙ ap (λ i. entry (row_at table i) t) (get_or_default table.closed k d 0 m) ∙ h.closed_entries k t m u)
 
-  -- somebody settles
+  -- some unsettled class has an entry above 0 in the open row, and so settles
   somebody : (t : ℕ) × (get_or (map not table.settled) t false ≡ true) × (int_lt (pos 0) (get_or (row_at table open_found.0).a t (pos 0)) ≡ true)
   somebody =
       let own = h.basic_own open_found.0 in_rows in
@@ -177,7 +177,7 @@ module _ (table : Table) (h : IsInOrder table) (open_now : table.in_stage ≡ tr
       ∙ ap (λ m. sum_of_products (sizes_where m table.sizes) (row_at table open_found.0).a) (marks_now table h open_now) in
       some_term (map not table.settled) table.sizes (row_at table open_found.0).a (subst (λ z. pos 0 <ℤ z) value own)
 
-  -- the class that settles was unsettled
+  -- a class that is marked as unsettled is unsettled
   was_unsettled : (t : ℕ) → get_or (map not table.settled) t false ≡ true → get_or table.settled t true ≡ false
   was_unsettled t e = ⊎_elim inside outside (cases_lt t (length table.settled))
     where

@@ -1,4 +1,4 @@
--- Sums of whole numbers with a sign over the numbers below a bound.
+-- Sums of integers over the numbers below a bound.
 use Rattle.std.proofs.Common.{◌≡◌, ◌≢◌, ℕ, zero, suc, ◌+◌, ◌<◌, List, [], ◌∷◌, length, get_or, Option, Some, None, ℤ, pos, ◌+ℤ◌, ◌*ℤ◌, refl, sym, ap, ap₂, ◌∙◌, arith}
 use Rattle.std.specs.Prelude.{sum_by, filter_map}
 use Rattle.std.specs.List.{range_with_len, cons_option}
@@ -11,7 +11,7 @@ use Rattle.define_rows.specs.Table.{Table, coefficient}
 use Rattle.define_rows.specs.InOrder.{number_at, combination}
 use Rattle.define_rows.proofs.Linear.{sum_of_coefficients}
 
--- the sum of what a function gives of the numbers below n
+-- the sum of f over the numbers below n
 abbrev pub total : ℕ → (ℕ → ℤ) → ℤ
 total zero f = pos 0
 total (suc n) f = f 0 +ℤ total n (λ k. f (suc k))
@@ -32,19 +32,19 @@ pub total-scaled : (n : ℕ) (a : ℤ) (f : ℕ → ℤ) → total n (λ k. a *�
 total-scaled zero a f = sym (mul-zero a)
 total-scaled (suc n) a f = omega (arith, ints, total-scaled n a (λ k. f (suc k)), mul-add a (f 0) (total n (λ k. f (suc k))))
 
--- the order of two sums does not matter
+-- two nested sums can be exchanged
 pub total-swap : (m n : ℕ) (f : ℕ → ℕ → ℤ) → total m (λ i. total n (f i)) ≡ total n (λ j. total m (λ i. f i j))
 total-swap zero n f = sym (total-none n (λ j. pos 0) (λ k l. refl))
 total-swap (suc m) n f = ap (λ z. total n (f 0) +ℤ z) (total-swap m n (λ i. f (suc i))) ∙ sym (total-add n (f 0) (λ j. total m (λ i. f (suc i) j)))
 
--- where one term alone may be other than 0, it is the sum
+-- if only the term of i can be other than 0, the sum is this term
 pub total-picks : (n i : ℕ) (f : ℕ → ℤ) → i < n → ((k : ℕ) → k < n → k ≢ i → f k ≡ pos 0) → total n f ≡ f i
 total-picks zero i f l h = absurd (omega arith)
 total-picks (suc n) zero f l h = omega (arith, ints, total-none n (λ k. f (suc k)) (λ k m. h (suc k) (omega arith) (λ e. omega (arith, e))))
 total-picks (suc n) (suc i) f l h =
     omega (arith, ints, h 0 (omega arith) (λ e. omega (arith, e)), total-picks n i (λ k. f (suc k)) (omega arith) (λ k m o. h (suc k) (omega arith) (λ e. o (omega (arith, e)))))
 
--- a combination and a sum of coefficients, row by row
+-- a combination at a place, as a sum over the rows; and the combination of a variable's coefficients
 pub combination-total : (factors : ℕ → ℤ) (rows : List Row) (place : ℕ) → combination factors rows place ≡ total (length rows) (λ i. factors i *ℤ number_at (get_or rows i (record { b = pos 0; a = [] })) place)
 combination-total factors [] place = refl
 combination-total factors (row ∷ rows) place = ap (λ z. factors 0 *ℤ number_at row place +ℤ z) (combination-total (λ i. factors (suc i)) rows place)
@@ -54,7 +54,7 @@ pub coefficients-total : (table : Table) (v : Var) (factors : ℕ → ℤ) (rows
 coefficients-total table v factors [] = refl
 coefficients-total table v factors (row ∷ rows) = ap (λ z. factors 0 *ℤ coefficient table row v +ℤ z) (coefficients-total table v (λ i. factors (suc i)) rows)
 
--- what a function gives of an element that may be there
+-- f of the element if there is one, else 0
 abbrev pub amount : {X : Type 0} → (X → ℕ) → Option X → ℤ
 amount f None = pos 0
 amount f (Some x) = pos (f x)
@@ -71,6 +71,6 @@ filtered_from f g a (suc n) at e =
     ∙ ap₂ (λ y z. y +ℤ z) (ap (amount f) (sym (e 0 ∙ ap g here)))
     (filtered_from f g (a + 1) n (λ k. at (suc k)) (λ k. e (suc k) ∙ (let next : a + suc k ≡ (a + 1) + k = omega arith in ap g next)))
 
--- the sum over what is kept of the numbers below n
+-- the sum of f over a filtered map of the numbers below n
 pub filtered-total : {X : Type 0} (f : X → ℕ) (g : ℕ → Option X) (n : ℕ) → pos (sum_by f (filter_map g (range_with_len 0 n))) ≡ total n (λ k. amount f (g k))
 filtered-total f g n = filtered_from f g 0 n g (λ k. let e : k ≡ 0 + k = omega arith in ap g e)

@@ -1,4 +1,5 @@
--- Laws of the steps: each keeps a table in order; and what a choice and a close bring about. The functions of this crate promise them.
+-- Laws of the steps: each keeps a table in order. And what the choice and the closing of a stage bring about. The functions of this crate
+-- promise them.
 use Rattle.std.specs.Prelude.{◌≡◌, ◌≢◌, ℕ, ◌<◌, ◌≤◌, true, false, List, [], length, sum, Some, None, Ok, slice_index, slice_index_or}
 use Rattle.std.specs.List.{All}
 use Rattle.define_rows.specs.declared.Var.{Var}
@@ -21,7 +22,7 @@ pub record MayStart (sizes first : List ℕ) (bits : ℕ) : Type 0 where
   pub some_bits : 1 ≤ bits
   pub few_bits : bits ≤ 127
 
--- a table that starts is in order
+-- the first table is in order
 abbrev pub StartKeepsOrder : Type 0
 StartKeepsOrder = (sizes first : List ℕ) (bits : ℕ) (made : Table) → MayStart sizes first bits → start sizes first bits ≡ Ok made → IsInOrder made
 
@@ -31,7 +32,7 @@ pub record MayEnter (table : Table) : Type 0 where
   pub shut : table.in_stage ≡ false
   pub unsettled : settled_count table < length table.sizes
 
--- a table in order in which a stage is entered is in order
+-- a table in order stays in order when a stage is entered
 abbrev pub EnterKeepsOrder : Type 0
 EnterKeepsOrder = (table : Table) → MayEnter table → IsInOrder (enter_stage table)
 
@@ -42,28 +43,28 @@ pub record MayAdd (table : Table) (counts : List ℕ) : Type 0 where
   pub bounds : (t : ℕ) → t < length table.sizes → slice_index counts t ≤ slice_index table.sizes t
   pub fresh : (c : ℕ) → c < length table.columns → slice_index_or table.columns c [] ≢ counts
 
--- a table in order to which a column is added is in order
+-- a table in order stays in order when a column is added
 abbrev pub AddKeepsOrder : Type 0
 AddKeepsOrder = (table : Table) (counts : List ℕ) → MayAdd table counts → IsInOrder (add_column table counts)
 
--- one table becomes another by the pivot that is chosen in the open stage
+-- `made` is the table after the pivot that is chosen in the open stage: at row r, where v enters
 pub record IsPivoted (table made : Table) (r : ℕ) (v : Var) : Type 0 where
   pub in_order : IsInOrder table
   pub open_now : table.in_stage ≡ true
   pub chosen : choice table ≡ Some (r, v)
   pub pivoted : pivot table r v ≡ Ok made
 
--- the pivot that is chosen keeps a table in order
+-- a table in order stays in order after the chosen pivot
 abbrev pub PivotKeepsOrder : Type 0
 PivotKeepsOrder = (table made : Table) (r : ℕ) (v : Var) → IsPivoted table made r v → IsInOrder made
 
--- the closed rows stay as they are, with their numbers and basic variables
+-- `made` has the closed rows of `table`, with their numbers and basic variables
 pub record HasClosedRowsOf (table made : Table) : Type 0 where
   pub closed : made.closed ≡ table.closed
   pub numbers : All (λ i. row_at made i ≡ row_at table i) table.closed
   pub basic : All (λ i. basic_at made i ≡ basic_at table i) table.closed
 
--- the pivot that is chosen leaves the closed rows as they are
+-- the chosen pivot leaves the closed rows as they are
 abbrev pub PivotKeepsClosedRows : Type 0
 PivotKeepsClosedRows = (table made : Table) (r : ℕ) (v : Var) → IsPivoted table made r v → HasClosedRowsOf table made
 
@@ -71,20 +72,20 @@ PivotKeepsClosedRows = (table made : Table) (r : ℕ) (v : Var) → IsPivoted ta
 abbrev pub SomeRowLeaves : Type 0
 SomeRowLeaves = (table : Table) (v : Var) → IsInOrder table → table.in_stage ≡ true → entering table ≡ Some v → leaving table v ≢ None
 
--- a stage may be closed: it is open, and nothing is chosen
+-- a stage may be closed: it is open, and no pivot is chosen
 pub record MayClose (table : Table) : Type 0 where
   pub in_order : IsInOrder table
   pub open_now : table.in_stage ≡ true
   pub done : choice table ≡ None
 
--- if nothing is chosen, no variable enters
+-- if no pivot is chosen, no variable enters
 abbrev pub NothingEnters : Type 0
 NothingEnters = (table : Table) → MayClose table → entering table ≡ None
 
--- a table in order whose stage is closed is in order
+-- a table in order stays in order when its stage is closed
 abbrev pub CloseKeepsOrder : Type 0
 CloseKeepsOrder = (table : Table) → MayClose table → IsInOrder (close_stage table)
 
--- some class settles as a stage is closed
+-- at least one class settles when a stage is closed
 abbrev pub SomeClassSettles : Type 0
 SomeClassSettles = (table : Table) → MayClose table → settled_count table < settled_count (close_stage table)

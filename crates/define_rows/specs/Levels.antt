@@ -15,11 +15,11 @@ use Rattle.define_rows.specs.Settled.{was_unsettled, KeepsStages}
 abbrev pub count_of : Table → (ℕ → ℕ) → ℕ → ℕ
 count_of table value t = sum_by (λ there. value there.column * count_in table.columns there.column t) (solution table)
 
--- the same over a common multiple of the values' denominators
+-- a class's count, with each column's value as its numerator over `common`, a common multiple of the values' denominators
 abbrev pub count_over : Table → ℕ → ℕ → ℕ
 count_over table common t = sum_by (λ there. numerator_over common there * count_in table.columns there.column t) (solution table)
 
--- the sum of the levels of the closed stages at whose entering a class was unsettled
+-- the sum of the levels of the closed stages that were entered while the class was unsettled
 abbrev pub class_levels : Table → (ℕ → ℕ) → ℕ → ℕ
 class_levels table level t = sum_by (λ k. if was_unsettled table k t then level k else 0) (range_with_len 0 (length table.closed))
 
@@ -42,12 +42,12 @@ pub record HasLevels (table : Table) : Type 0 where
   pub value_none : (c : ℕ) → All (λ there. there.column ≢ c) (solution table) → value c ≡ 0
   -- the values sum to the scale
   pub whole : sum_by (λ there. value there.column) (solution table) ≡ scale
-  -- a class's count is its size times its levels
+  -- a class's count is its size times the sum of its levels
   pub counts : (t : ℕ) → t < length table.sizes → count_of table value t ≡ slice_index table.sizes t * class_levels table level t
-  -- the same if the values are over a common multiple of their denominators
+  -- and so over any common multiple of the values' denominators, by cross-multiplication
   pub counts_over : (common t : ℕ) → All (λ there. (lowest_of there.side there.coefficient).den ∣ common) (solution table) → t < length table.sizes →
       scale * count_over table common t ≡ common * (slice_index table.sizes t * class_levels table level t)
 
--- such a table has levels
+-- each table whose stages are closed and whose classes are all settled has levels
 abbrev pub SettledHasLevels : Type 0
 SettledHasLevels = (table : Table) → AllSettled table → HasLevels table

@@ -1,5 +1,5 @@
--- Which classes each closed stage settled, and what each step keeps of it. Over InOrder. `laws_of_runs` makes the stages of the certificate
--- of it.
+-- Which classes each closed stage settled, and that each step keeps this record. Over InOrder. `laws_of_runs` makes the stages of the
+-- certificate of it.
 use Rattle.std.specs.Prelude.{◌≡◌, ℕ, ◌<◌, Bool, true, false, List, [], length, ℤ, pos, ◌≤ℤ◌, ◌<ℤ◌, slice_index, slice_index_or, Ok}
 use Rattle.define_rows.specs.declared.Var.{Var}
 use Rattle.define_rows.specs.Row.{entry}
@@ -16,7 +16,7 @@ was_unsettled table k t = slice_index_or (slice_index_or table.stages k []) t fa
 abbrev pub is_settled : Table → ℕ → Bool
 is_settled table t = slice_index_or table.settled t false
 
--- a class's entry in the row of a closed stage
+-- a class's entry in the row of the closed stage k
 abbrev pub closed_entry : Table → ℕ → ℕ → ℤ
 closed_entry table k t = entry (row_at table (slice_index table.closed k)) t
 
@@ -27,9 +27,9 @@ pub record Settles (table : Table) (k t : ℕ) : Type 0 where
   pub above : pos 0 <ℤ closed_entry table k t
 
 pub record KeepsStages (table : Table) : Type 0 where
-  -- in a closed row no class that was unsettled when the stage was entered has an entry below 0
+  -- in the row of a closed stage, no class that was unsettled when the stage was entered has an entry below 0
   pub none_below : (k t : ℕ) → k < length table.closed → was_unsettled table k t ≡ true → pos 0 ≤ℤ closed_entry table k t
-  -- and some class that was unsettled then has an entry above 0
+  -- in the row of a closed stage, some class that was unsettled when the stage was entered has an entry above 0
   pub some_above : (k : ℕ) → k < length table.closed → (t : ℕ) × Settles table k t
   -- a class is settled exactly if some closed stage settled it, and so exactly if its entry is above 0 in some closed row
   pub settled_by_row : (k t : ℕ) → k < length table.closed → pos 0 <ℤ closed_entry table k t → is_settled table t ≡ true
@@ -38,7 +38,7 @@ pub record KeepsStages (table : Table) : Type 0 where
   pub no_row_before : (j k t : ℕ) → j < length table.closed → j < k → k < length table.stages → was_unsettled table k t ≡ true → closed_entry table j t ≤ℤ pos 0
   pub some_stage_before : (k t : ℕ) → k < length table.stages → t < length table.sizes → was_unsettled table k t ≡ false → (j : ℕ) × (j < k) × Settles table j t
 
--- the first table keeps its stages, and each step keeps them
+-- the first table keeps the record of settled classes, and so does each step
 abbrev pub StartKeepsStages : Type 0
 StartKeepsStages = (sizes first : List ℕ) (bits : ℕ) (made : Table) → start sizes first bits ≡ Ok made → KeepsStages made
 

@@ -23,11 +23,11 @@ pub record SolutionStands (table : Table) : Type 0 where
   -- over each common multiple of the denominators, the numerators sum to this multiple: the values sum to one
   pub one : (common : ℕ) → All (λ there. (lowest_of there.side there.coefficient).den ∣ common) (solution table) → sum_by (numerator_over common) (solution table) ≡ common
 
--- the solution of each table in order is such a list
+-- the solution of each table in order meets this
 abbrev pub SolutionsStand : Type 0
 SolutionsStand = (table : Table) → IsInOrder table → SolutionStands table
 
--- a column is tight at a row: the sum of counts times entries is the right side
+-- column c is tight at row i: the sum of its counts times the row's entries is the row's right side
 abbrev pub IsTight : Table → ℕ → ℕ → Type 0
 IsTight table c i = sum_of_products (slice_index_or table.columns c []) (row_at table i).a ≡ (row_at table i).b
 

@@ -15,13 +15,13 @@ enter_stage table = record table { stages = table.stages ++ map not table.settle
 abbrev pub open_row : Table → ℕ
 open_row table = unwrap_or (basic_row table (stage_variable table)) 0
 
--- who is settled after a row closes: those who were, and the classes of positive entry
+-- the marks of the settled classes after a row with these entries closes: those marked before, and those whose entry is above 0
 abbrev pub settled_by : List ℤ → List Bool → List Bool
 settled_by xs [] = []
 settled_by [] (was ∷ settled) = was ∷ settled
 settled_by (x ∷ xs) (was ∷ settled) = (was || int_lt (pos 0) x) ∷ settled_by xs settled
 
--- the stage closes in this row, with these entries: the classes of positive entry are settled
+-- the stage closes in this row, with these entries: the classes whose entry is above 0 are settled
 unfoldable pub closed_by : ℕ → List ℤ → Table → Table
 closed_by row entries table = record table {
   closed = table.closed ++ row ∷ [];
@@ -60,6 +60,6 @@ value_in table c i =
 abbrev pub value_of : Table → ℕ → Option ColumnValue
 value_of table c = option_and_then (value_in table c) (basic_row table (Column c))
 
--- the columns of positive value, in rising order
+-- the columns of positive value, in rising order of their numbers
 unfoldable pub solution : Table → List ColumnValue
 solution table = filter_map (value_of table) (range_with_len 0 (length table.columns))

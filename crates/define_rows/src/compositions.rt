@@ -21,14 +21,14 @@ impl Model for Composition {
 }
 
 impl Composition {
-    /// Returns the composition of these counts.
+    /// Returns the composition of these counts, one for each class in class order.
     pub fn new(counts: Vec<usize>) -> Composition
         ensures { result ≡ counts.items }
     {
         Composition { counts }
     }
 
-    /// The count of each class.
+    /// Returns the count of each class, in class order.
     pub fn counts(&self) -> &[usize]
         ensures { result.now ≡ self.now }
     {

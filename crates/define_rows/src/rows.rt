@@ -31,14 +31,14 @@ impl Row {
         Row { b, a }
     }
 
-    /// The right side.
+    /// Returns the right side.
     pub fn side(&self) -> i128
         ensures { result ≡ self.now.b }
     {
         self.b
     }
 
-    /// The entries in class order.
+    /// Returns the entries, in class order.
     pub fn entries(&self) -> &[i128]
         ensures { result.now ≡ self.now.a }
     {
@@ -55,7 +55,7 @@ impl Row {
         })
     }
 
-    /// Copies the numbers of a row with the same number of entries.
+    /// Copies the numbers of `other`, a row with the same number of entries.
     pub fn copy_from(&mut self, other: &Row)
         requires { length self.old.a ≡ length other.now.a }
         ensures { self.new ≡ other.now }

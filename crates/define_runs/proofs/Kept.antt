@@ -1,4 +1,4 @@
--- Each step of a run keeps what its tables keep.
+-- Each step of a run keeps what all its tables keep.
 use Rattle.std.proofs.Common.{◌≡◌, ℕ, zero, suc, ◌+◌, ◌<◌, ◌≤◌, Bool, true, false, List, [], ◌∷◌, ◌++◌, length, length-append, map, take, Some, None, Result, Ok, refl, sym, ap, ap₂, ◌∙◌, subst, arith, inl, inr, ◌⊎◌}
 use Rattle.std.specs.Prelude.{slice_index, slice_set, sum, Contains}
 use Rattle.std.specs.List.{All}
@@ -125,7 +125,7 @@ module _ (all : Classes) (limits : RunLimits) (table : Table) (keeps : KeepsRun 
       more : (n : ℕ) → n < limits.pivots → n + 1 ≤ limits.pivots
       more n l = omega arith
 
-  -- a step that goes on
+  -- if the run goes on after a step, the table that was made keeps it
   pub step_kept : KeepsLimits all → (made : Table) → step all limits table ≡ GoOn made → KeepsRun all limits made
   step_kept limited made e = by (step all limits table) e (step_is all limits table)
     where
@@ -147,7 +147,7 @@ some_taken : (p : Class → Bool) (classes : List Class) (counts : List ℕ) →
 some_taken p [] counts l = absurd (omega arith)
 some_taken p (class ∷ classes) counts l = omega arith
 
--- what the first table needs
+-- the conditions under which the first table can be made
 pub record MayBegin (all : Classes) (first : List ℕ) : Type 0 where
   pub some : 0 < length (sizes_of all)
   pub each : All (λ size. 1 ≤ size) (sizes_of all)
@@ -169,7 +169,7 @@ may_begin all limited first there = record {
     composes = (each_contains (λ counts. Contains (all_counts all.classes) counts × (is_composition all counts ≡ true)) (compositions all) first
         (filtered (Contains (all_counts all.classes)) (is_composition all) (all_counts all.classes) (each_itself (all_counts all.classes))) there).1
 
--- the first table is the definition's
+-- a start that ends well gives the first table of the definition
 pub first_table_is : (sizes first : List ℕ) (bits : ℕ) (made : Table) → start sizes first bits ≡ Ok made → ◌≡◌ {A = Table} (first_table sizes first bits) made
 unfolding start
 first_table_is sizes first bits made e =

@@ -1,4 +1,4 @@
--- A run under greater limits that ended with an answer, or without a panel, ends so again.
+-- A run that ended with an answer, or without a panel, ends so again under greater limits.
 use Rattle.std.proofs.Common.{◌≡◌, ℕ, zero, suc, ◌≤◌, Bool, true, false, cond, leb, ltb, List, [], length, map, Option, Some, None, Result, Ok, Err, refl, sym, ap, ◌∙◌, subst, arith}
 use Rattle.std.specs.Prelude.{slice_index_or}
 use Rattle.define_pools.specs.Lottery.{Lottery}
@@ -20,14 +20,14 @@ use Rattle.define_runs.proofs.MoreBudget.{still_enough, still_within}
 use Rattle.define_runs.proofs.StepCases.{StepIs, Enters, Answers, NoPivot, Pivots, Passes, NoVisits, Widens, Closes, step_is}
 use Rattle.define_runs.proofs.Wider.{add_width, added_wider, choice_same, close_width, closed_wider, enter_width, entered_wider, pivot_lasts, pivot_width, solution_same, start_lasts, start_width, wider}
 
--- limits of a run that are at least as great
+-- each limit is at least as great
 pub record Allows (limits more : RunLimits) : Type 0 where
   pub bits : limits.bits ≤ more.bits
   pub pivots : limits.pivots ≤ more.pivots
   pub opening : limits.opening ≤ more.opening
   pub pricing : limits.pricing ≤ more.pricing
 
--- the run stops before it has an answer
+-- the run stops before it has an answer, or knows that there is no panel
 abbrev pub stops : Ending → Bool
 stops NoPanel = false
 stops (Found last answer) = false
@@ -40,7 +40,7 @@ abbrev stops_next : Next → Bool
 stops_next (GoOn table) = false
 stops_next (Ended ending) = stops ending
 
--- the same with tables of another width
+-- the same ending, with a last table of another width
 abbrev pub wider_ending : ℕ → Ending → Ending
 wider_ending bits NoPanel = NoPanel
 wider_ending bits (Found last answer) = Found (wider bits last) answer
@@ -53,7 +53,7 @@ abbrev wider_next : ℕ → Next → Next
 wider_next bits (GoOn table) = GoOn (wider bits table)
 wider_next bits (Ended ending) = Ended (wider_ending bits ending)
 
--- a table that the run goes on from is no wider
+-- a table that the run goes on from is at most this wide
 abbrev IsWithin : ℕ → Next → Type 0
 IsWithin bits (GoOn table) = table.bits ≤ bits
 IsWithin bits (Ended ending) = Unit {0}
@@ -122,7 +122,7 @@ module _ (all : Classes) (limits more : RunLimits) (allows : Allows limits more)
 
   -- ---- the width of the tables
 
-  -- no step changes it
+  -- no step changes the width
   within_next : (table : Table) → table.bits ≤ more.bits → IsWithin more.bits (step all limits table)
   within_next table within = by (step all limits table) (step_is all limits table)
     where

@@ -1,4 +1,4 @@
--- A composition that pricing finds is none of the table's columns, and is chosen once it is one.
+-- A composition that pricing finds isn't a column of the table, and once it is one, a pivot is chosen.
 use Rattle.std.proofs.Common.{◌≡◌, ◌≢◌, ℕ, zero, suc, ◌+◌, ◌<◌, ◌≤◌, Bool, true, false, ◌&&◌, List, [], ◌∷◌, ◌++◌, length, length-append, map, take, get_or, Option, Some, None, pos, ◌-ℤ◌, refl, sym, ap, ◌∙◌, subst, arith}
 use Rattle.std.specs.Prelude.{int_lt, int_le, slice_index, Contains}
 use Rattle.std.specs.Ordering.{int_eq}
@@ -62,11 +62,11 @@ each_from_index : (P : ℕ → Type 0) (xs : List ℕ) → ((k : ℕ) → k < le
 each_from_index P [] h = tt
 each_from_index P (x ∷ xs) h = (h 0 (omega arith), each_from_index P xs (λ k l. h (suc k) (omega arith)))
 
--- the composition weighs the right side in each closed row
+-- a composition is tight at the closed rows: it weighs the right side in each of them
 abbrev pub IsTight : Table → List ℕ → Type 0
 IsTight table counts = AllByRecursion (λ i. weight_in (row_at table i).a counts ≡ (row_at table i).b) table.closed
 
--- where nothing enters, no column that weighs the right side in each closed row weighs more than the open row's
+-- if no variable enters, no column that is tight at the closed rows weighs more in the open row than its right side
 no_better_column : (table : Table) → entering table ≡ None → (c : ℕ) → c < length table.columns → IsTight table (get_or table.columns c []) →
     int_lt (row_at table (open_row table)).b (weight_in (row_at table (open_row table)).a (get_or table.columns c [])) ≡ false
 no_better_column table e c l tight = by (int_lt (row_at table (open_row table)).b (weight_in (row_at table (open_row table)).a (get_or table.columns c []))) refl
@@ -129,7 +129,7 @@ as_long [] (c ∷ counts) g = absurd g
 as_long (class ∷ classes) [] g = absurd g
 as_long (class ∷ classes) (c ∷ counts) g = omega (arith, as_long classes counts g.1)
 
--- a composition has a count for each class, at most its size
+-- counts for all classes, each at most the size of its class
 pub record FitsSizes (all : Classes) (counts : List ℕ) : Type 0 where
   pub each : length counts ≡ length (sizes_of all)
   pub bounds : (t : ℕ) → slice_index counts t ≤ slice_index (sizes_of all) t

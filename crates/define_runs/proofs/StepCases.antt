@@ -1,4 +1,4 @@
--- What the opening of a run and each of its steps come to, case by case.
+-- The opening of a run and each of its steps, case by case.
 use Rattle.std.proofs.Common.{◌≡◌, ℕ, ◌<◌, ◌≤◌, Bool, true, false, cond, leb, ltb, List, length, Option, Some, None, Result, Ok, Err, refl}
 use Rattle.std.proofs.lemmas.Bool.{leb-false, leb-true, ltb-false, ltb-true}
 use Rattle.define_rows.specs.declared.Pass.{Pass}
@@ -15,16 +15,16 @@ use Rattle.define_searches.specs.Visits.{first_search}
 use Rattle.define_spreads.specs.Spreading.{spread}
 use Rattle.define_runs.specs.Run.{Next, GoOn, Ended, NoPanel, TooWide, NodesSpent, PivotsSpent, RunLimits, answered, closed_rows, opened, opening, parts_of, pivoted, priced, pricing_visits, started, step, step_in_stage}
 
--- the step from a table comes to what is next
+-- `next` is what the step from a table leads to, in one of these cases
 pub data StepIs (all : Classes) (limits : RunLimits) (table : Table) (next : Next) : Type 0 where
-  -- no stage is open: one is entered, or everybody is settled
+  -- no stage is open: one is entered, or everybody is settled and the run ends
   Enters : table.in_stage ≡ false → settled_count table < length table.sizes → next ≡ GoOn (enter_stage table) → StepIs all limits table next
   Answers : table.in_stage ≡ false → length table.sizes ≤ settled_count table → next ≡ Ended (answered all table (spread all (parts_of table))) → StepIs all limits table next
-  -- a pivot is chosen: it may not be made, or is made, or passes
+  -- a pivot is chosen: the budget of pivots is spent, or it is made, or it passes the width
   NoPivot : table.in_stage ≡ true → limits.pivots ≤ table.pivots → next ≡ Ended (PivotsSpent table) → StepIs all limits table next
   Pivots : table.in_stage ≡ true → (r : ℕ) (v : Var) (made : Table) → choice table ≡ Some (r, v) → table.pivots < limits.pivots → pivot table r v ≡ Ok made → next ≡ GoOn made → StepIs all limits table next
   Passes : table.in_stage ≡ true → (r : ℕ) (v : Var) (pass : Pass) → choice table ≡ Some (r, v) → table.pivots < limits.pivots → pivot table r v ≡ Err pass → next ≡ Ended (TooWide (Some table) pass) → StepIs all limits table next
-  -- none is chosen: the row may not be priced, or a composition is found, or none
+  -- no pivot is chosen: pricing needs more visits than its budget, or finds a composition, or finds none
   NoVisits : table.in_stage ≡ true → choice table ≡ None → limits.pricing < pricing_visits all (closed_rows table) (row_at table (open_row table)) → next ≡ Ended (NodesSpent (Some table)) → StepIs all limits table next
   Widens : table.in_stage ≡ true → choice table ≡ None → (counts : List ℕ) → price all (closed_rows table) (row_at table (open_row table)) ≡ Some counts → next ≡ GoOn (add_column table counts) → StepIs all limits table next
   Closes : table.in_stage ≡ true → choice table ≡ None → price all (closed_rows table) (row_at table (open_row table)) ≡ None → next ≡ GoOn (close_stage table) → StepIs all limits table next
@@ -64,7 +64,7 @@ step_is all limits table = by table.in_stage refl
     by true t = in_stage t (choice table) refl
     by false t = between t (ltb (settled_count table) (length table.sizes)) refl
 
--- the opening comes to what is next
+-- `next` is what the opening leads to, in one of these cases
 pub data OpeningIs (all : Classes) (limits : RunLimits) (next : Next) : Type 0 where
   Spends : limits.opening < (first_search all).visits → next ≡ Ended (NodesSpent None) → OpeningIs all limits next
   FindsNoPanel : (first_search all).visits ≤ limits.opening → first_composition all ≡ None → next ≡ Ended NoPanel → OpeningIs all limits next

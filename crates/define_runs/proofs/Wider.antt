@@ -1,4 +1,4 @@
--- Operations, pivots and choices under a greater width: what doesn't pass stays as it is.
+-- Operations, pivots and choices under a greater width: an outcome that doesn't pass stays the same.
 use Rattle.std.proofs.Common.{◌≡◌, ℕ, ◌+◌, ◌≤◌, Bool, true, false, cond, ◌&&◌, ◌||◌, eqb, List, [], ◌∷◌, Option, Some, None, Result, Ok, Err, ℤ, pos, refl, sym, ap, ap₂, ◌∙◌, arith}
 use Rattle.std.specs.Prelude.{int_div, int_lt, not, slice_set, unsigned_abs}
 use Rattle.std.specs.List.{find, zip}
@@ -23,7 +23,7 @@ use Rattle.define_rows.proofs.PivotLaws.{after-Ok_parts, operation-Ok_parts}
 
 -- ---- steps that don't pass
 
--- what the first gives, if it doesn't pass, the second gives
+-- if the first ends well, the second ends well with the same outcome
 abbrev pub Lasts : {A : Type 0} → Result A Pass → Result A Pass → Type 0
 Lasts {A} first second = (x : A) → first ≡ Ok x → second ≡ Ok x
 

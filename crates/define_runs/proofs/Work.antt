@@ -1,4 +1,4 @@
--- Each step of a run leaves less of it, so each run ends.
+-- Each step of a run leaves less to do, so each run ends.
 use Rattle.std.proofs.Common.{◌≡◌, ◌≢◌, ℕ, zero, suc, ◌+◌, ◌-◌, ◌*◌, ◌<◌, ◌≤◌, true, false, cond, List, length, Option, Some, None, Result, Ok, refl, sym, ap, ◌∙◌, subst, arith}
 use Rattle.std.specs.Prelude.{slice_set}
 use Rattle.define_pools.specs.Pool.{IsPool, Pool}
@@ -69,7 +69,7 @@ less_by_enter : (limits : RunLimits) (table : Table) → table.in_stage ≡ fals
 unfolding work_left enter_stage
 less_by_enter limits table shut = omega (arith, shut_turns table shut, turns_in_stage (choice (enter_stage table)))
 
--- a step that goes on
+-- a step after which the run goes on leaves less to do
 module _ (all : Classes) (limits : RunLimits) (table : Table) (limited : KeepsLimits all) (keeps : KeepsRun all limits table) where
   pub step_lessens : (made : Table) → step all limits table ≡ GoOn made → work_left limits made < work_left limits table
   step_lessens made e = by (step all limits table) e (step_is all limits table)
@@ -95,7 +95,7 @@ module _ (all : Classes) (limits : RunLimits) (table : Table) (limited : KeepsLi
 -- ---- the whole run
 
 module _ (all : Classes) (limits : RunLimits) (limited : KeepsLimits all) (ranges : AreRunLimits limits) where
-  -- where a run comes to from a table or an ending
+  -- the run that is at `next` ends after some number of steps
   record ComesTo (next : Next) : Type 0 where
     ending : Ending
     steps : ℕ

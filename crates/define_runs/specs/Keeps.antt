@@ -37,18 +37,18 @@ pub record KeepsRun (all : Classes) (limits : RunLimits) (table : Table) : Type 
   -- no composition that attains the rows closed earlier weighs more in a closed row than its right side
   pub priced_out : (k : ℕ) → k < length table.closed → price all (take k (closed_rows table)) (row_at table (slice_index table.closed k)) ≡ None
 
--- each table that a run over classes within a pool's limits reaches keeps this
+-- each table that a run reaches, over classes within the limits of a pool, keeps this
 abbrev pub ReachedIsKept : Type 0
 ReachedIsKept = (all : Classes) (limits : RunLimits) (table : Table) → KeepsLimits all → AreRunLimits limits → IsReached all limits table → KeepsRun all limits table
 
--- a stage is open, nothing is chosen, and pricing found a composition
+-- a stage is open, no pivot is chosen, and pricing found a composition
 pub record IsPriced (all : Classes) (limits : RunLimits) (table : Table) (counts : List ℕ) : Type 0 where
   pub keeps : KeepsRun all limits table
   pub open_now : table.in_stage ≡ true
   pub done : choice table ≡ None
   pub found : price all (closed_rows table) (row_at table (open_row table)) ≡ Some counts
 
--- then the composition may become a column, and with it something is chosen
+-- a composition that pricing found may become a column, and after that a pivot is chosen
 abbrev pub PricedMayBeAdded : Type 0
 PricedMayBeAdded = (all : Classes) (limits : RunLimits) (table : Table) (counts : List ℕ) → KeepsLimits all → IsPriced all limits table counts → MayAdd table counts
 

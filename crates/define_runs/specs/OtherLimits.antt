@@ -29,7 +29,7 @@ pub record AllowsMore (limits more : Limits) : Type 0 where
 abbrev pub BudgetsKeepEnding : Type 0
 BudgetsKeepEnding = (pool : Pool) (limits more : Limits) (ending : Ending) → HasMoreBudget limits more → RunEnds pool limits ending → IsFalse (is_spent ending) → RunEnds pool more ending
 
--- so each width has one ending that is no spent budget, whatever the budgets
+-- so under one width, all endings that are no spent budget are the same, whatever the budgets
 abbrev pub OneEndingOverBudgets : Type 0
 OneEndingOverBudgets = (pool : Pool) (limits other : Limits) (first second : Ending) → limits.bits ≡ other.bits → RunEnds pool limits first → RunEnds pool other second →
     IsFalse (is_spent first) → IsFalse (is_spent second) → first ≡ second

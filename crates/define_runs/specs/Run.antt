@@ -48,7 +48,7 @@ pub data Ending : Type 0 where
   Found : (last : Table) (answer : Answer) → Ending
   -- an operation passes the width
   TooWide : (stood : Option Table) (pass : Pass) → Ending
-  -- the lottery's total passes
+  -- the total of the lottery passes 10 ^ 38
   TotalPasses : (stood : Table) (pass : TotalPass) → Ending
   -- a pivot is due, and the budget of pivots is spent
   PivotsSpent : (stood : Table) → Ending
@@ -80,12 +80,12 @@ abbrev pub answered : Classes → Table → Result Lottery TotalPass → Ending
 answered all table (Ok lottery) = Found table (record { lottery = lottery; stages = map (stage_of all) (closed_rows table) })
 answered all table (Err pass) = TotalPasses table pass
 
--- the pivot was made, or an operation passes the width
+-- after a pivot: the run goes on from the table that was made, or ends as an operation passes the width
 abbrev pub pivoted : Table → Result Table Pass → Next
 pivoted table (Ok made) = GoOn made
 pivoted table (Err pass) = Ended (TooWide (Some table) pass)
 
--- pricing found a composition, which becomes a column; or it found none, and the stage closes
+-- after pricing: a composition that was found becomes a column; if none was found, the stage closes
 abbrev pub priced : Table → Option (List ℕ) → Next
 priced table (Some counts) = GoOn (add_column table counts)
 priced table None = GoOn (close_stage table)
@@ -102,14 +102,14 @@ step_in_stage all limits table None =
     if nat_lt limits.pricing (pricing_visits all (closed_rows table) row) then Ended (NodesSpent (Some table))
     else priced table (price all (closed_rows table) row)
 
--- a step from a table
+-- one step from a table. If no stage is open, the next one is entered, or the run ends with its answer once everybody is settled
 unfoldable pub step : Classes → RunLimits → Table → Next
 step all limits table =
     if table.in_stage then step_in_stage all limits table (choice table)
     else if nat_lt (settled_count table) (length table.sizes) then GoOn (enter_stage table)
     else Ended (answered all table (spread all (parts_of table)))
 
--- the first table
+-- after the start: the run goes on from the first table, or ends as an operation passes the width
 abbrev pub started : Result Table Pass → Next
 started (Ok table) = GoOn table
 started (Err pass) = Ended (TooWide None pass)
@@ -123,7 +123,7 @@ unfoldable pub opening : Classes → RunLimits → Next
 opening all limits =
     if nat_lt limits.opening (first_search all).visits then Ended (NodesSpent None) else opened all limits (first_composition all)
 
--- `steps` steps on
+-- where the run is after `steps` more steps
 abbrev pub follow : Classes → RunLimits → Next → ℕ → Next
 follow all limits next zero = next
 follow all limits (GoOn table) (suc more) = follow all limits (step all limits table) more
@@ -138,6 +138,6 @@ pub record Ends (all : Classes) (limits : RunLimits) (ending : Ending) : Type 0 
 abbrev pub RunEnds : Pool → Limits → Ending → Type 0
 RunEnds pool limits ending = Ends (classes_of pool) (run_limits limits) ending
 
--- it finds this answer
+-- the run over this pool under these limits finds this answer
 abbrev pub RunFinds : Pool → Limits → Answer → Type 0
 RunFinds pool limits answer = (last : Table) × RunEnds pool limits (Found last answer)

@@ -61,7 +61,7 @@ pub fn priced_may_be_added()
     ensures { PricedMayBeAdded }
 {}
 
-/// When it has become a column, a pivot is chosen.
+/// After such a composition has become a column, a pivot is chosen.
 pub fn priced_is_chosen()
     ensures { PricedIsChosen }
 {}

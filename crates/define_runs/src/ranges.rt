@@ -64,7 +64,7 @@ impl Limits {
         }
     }
 
-    /// The width in bits.
+    /// Returns the width in bits.
     pub fn bits(self) -> u32
         ensures value { result ≡ self.bits }
         ensures ranges { AreLimits self }
@@ -72,7 +72,7 @@ impl Limits {
         self.bits
     }
 
-    /// How many pivots the run may make.
+    /// Returns how many pivots the run may make.
     pub fn pivots(self) -> u64
         ensures value { result ≡ self.pivots }
         ensures ranges { AreLimits self }
@@ -80,7 +80,7 @@ impl Limits {
         self.pivots
     }
 
-    /// How many visits each of its searches may make.
+    /// Returns how many visits each of its searches may make.
     pub fn nodes(self) -> u64
         ensures value { result ≡ self.nodes }
         ensures few { self.nodes ≤ 1000000000000 }
@@ -120,7 +120,7 @@ impl Workers {
         }
     }
 
-    /// The number of workers.
+    /// Returns the number of workers.
     pub fn number(self) -> u32
         ensures value { result ≡ self }
         ensures some { 1 ≤ self }

@@ -5,7 +5,7 @@
 pub struct RunSizes {
     /// How many classes of alike volunteers the pool has.
     pub classes: usize,
-    /// How many compositions were found.
+    /// How many columns the last table has, each a composition that was found.
     pub columns: usize,
     /// How many pivots were made in all.
     pub pivots: u64,

@@ -32,7 +32,7 @@ module _ (pool : Pool) where
   abbrev shares : ℕ → Bool
   shares = shares_household pool
 
-  -- two who are alike are the same, or have the same values and standing and share no household
+  -- two volunteers who are alike are the same one, or have the same values and standing and share no household
   pub record Alike (i j : ℕ) : Type 0 where
     values : (at i).values ≡ (at j).values
     standing : (at i).standing ≡ (at j).standing

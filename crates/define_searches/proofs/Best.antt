@@ -1,4 +1,4 @@
--- Pricing finds the best composition, and none exactly where none qualifies.
+-- Pricing finds the best composition, and none exactly if no composition qualifies.
 use Rattle.std.proofs.Common.{◌≡◌, ℕ, Bool, true, false, cond, List, [], ◌∷◌, ◌++◌, filter, Option, Some, None, ℤ, refl, sym, ap, subst, arith}
 use Rattle.std.specs.Prelude.{int_le, int_lt, Contains, unwrap_or, ◌↔◌}
 use Rattle.std.specs.List.{AllByRecursion}
@@ -13,7 +13,7 @@ use Rattle.define_searches.proofs.Order.{Ordered, compositions_ordered, not_back
 
 -- ---- the first of greatest weight above a floor
 
--- where it stands: it weighs more than the floor and than those before it, and those after it don't weigh more
+-- the place of the first of greatest weight: it weighs more than the floor and than all before it, and none after it weighs more
 record StandsFirst (weight : List ℕ → ℤ) (floor : ℤ) (xs : List (List ℕ)) (counts : List ℕ) : Type 0 where
   before : List (List ℕ)
   after : List (List ℕ)
@@ -22,7 +22,7 @@ record StandsFirst (weight : List ℕ → ℤ) (floor : ℤ) (xs : List (List �
   lighter : AllByRecursion (λ x. int_lt (weight x) (weight counts) ≡ true) before
   no_heavier : AllByRecursion (λ x. int_lt (weight counts) (weight x) ≡ false) after
 
--- where nothing is found, nothing is above the floor
+-- if nothing is found, nothing weighs more than the floor
 pub none_above : (weight : List ℕ → ℤ) (floor : ℤ) (xs : List (List ℕ)) → first_greatest weight floor xs ≡ None → AllByRecursion (λ x. int_lt floor (weight x) ≡ false) xs
 none_above weight floor [] n = tt
 none_above weight floor (x ∷ xs) n = by (int_lt floor (weight x)) refl (λ s. none_above weight floor xs s) n
@@ -75,7 +75,7 @@ stands_first weight floor (x ∷ xs) counts e =
 
 -- ---- pricing
 
--- no more than the best one, and less before it
+-- x weighs at most as much as `counts`, and less if it comes before `counts`
 abbrev IsBehind : (List ℕ → ℤ) → List ℕ → List ℕ → Type 0
 IsBehind weight counts x = (int_lt (weight counts) (weight x) ≡ false) × (comes_before x counts ≡ true → int_lt (weight x) (weight counts) ≡ true)
 
@@ -107,7 +107,7 @@ behind weight floor xs counts ordered stands =
     later (y ∷ ys) h k = ((h.0, λ e. absurd (not_back counts y k.0 e)), later ys h.1 k.1)
 
 module _ (all : Classes) (closed : List Row) (row : Row) where
-  -- those that attain the closed rows
+  -- the compositions that attain the closed rows
   abbrev sought : List (List ℕ)
   sought = filter (attains closed) (compositions all)
 

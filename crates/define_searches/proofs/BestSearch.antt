@@ -18,7 +18,7 @@ use Rattle.define_searches.proofs.GreatestSum.{AtMost, weight_within_greatest, w
 
 -- ---- optimistic weights
 
--- a composition that a front goes on to weighs at most the front's optimistic weight
+-- a composition that begins with a front weighs at most the front's optimistic weight
 weight_within_optimistic : (all : Classes) (pre later : List Class) (front counts : List ℕ) (row : Row) → Split all pre later front → Gives later counts → length row.a ≡ length all.classes →
     is_composition all (front ++ counts) ≡ true → AtMost (weight_in row.a (front ++ counts)) (optimistic all row front)
 weight_within_optimistic all pre later front counts row split gives entries composes =
@@ -33,7 +33,7 @@ weight_within_optimistic all pre later front counts row split gives entries comp
     let greatest : AtMost (weight_in (drop (length front) row.a) counts) (greatest_sum (all.size - taken_by all front) (later_than front all.classes) (drop (length front) row.a)) = rw (after, ← lack) within in
     omega (arith, greatest, weight-append row.a front counts (omega (arith, length-append pre later)), sum_is_lem (weight_in row.a front) (greatest_sum (all.size - taken_by all front) (later_than front all.classes) (drop (length front) row.a)))
 
--- where no class is left the optimistic weight is the weight
+-- if no class comes after a front, its optimistic weight is its weight
 optimistic_of_all : (all : Classes) (pre : List Class) (front : List ℕ) (row : Row) → Split all pre [] front → optimistic all row front ≡ weight_in row.a front
 optimistic_of_all all pre front row split =
     let after = later_is all pre [] front split in
@@ -50,7 +50,7 @@ at_least_of b x y h e = sym (true_is_le b y (omega (arith, le-true b x e)))
 above_of : (b x y : ℤ) → AtMost x y → int_lt b x ≡ true → int_lt b y ≡ true
 above_of b x y h e = sym (true_is_lt b y (omega (arith, lt-true b x e)))
 
--- a front that goes on to a composition which attains the closed rows and weighs more than the floor is live
+-- a front is live if some composition begins with it, attains the closed rows and weighs more than the floor
 pub live_from_better : (all : Classes) (closed : List Row) (row : Row) (floor : ℤ) (pre later : List Class) (front counts : List ℕ) → Split all pre later front → Gives later counts → HaveEntries all (row ∷ closed) →
     is_composition all (front ++ counts) ≡ true → attains closed (front ++ counts) ≡ true → int_lt floor (weight_in row.a (front ++ counts)) ≡ true → is_live_above all closed row floor front ≡ true
 live_from_better all closed row floor pre later front counts split gives entries composes attained above =
@@ -67,7 +67,7 @@ live_from_better all closed row floor pre later front counts split gives entries
         (at_least_of r.b (weight_in r.a (front ++ counts)) (optimistic all r front) (weight_within_optimistic all pre later front counts r split gives h.0 composes) parts.0)
         (each_closed closed h.1 parts.1)
 
--- what is known of a front of all classes that is live: it is a composition that attains the closed rows and weighs more than the floor
+-- a live front of all classes is a composition that attains the closed rows and weighs more than the floor
 pub record Whole (all : Classes) (closed : List Row) (row : Row) (floor : ℤ) (front : List ℕ) : Type 0 where
   pub composes : is_composition all front ≡ true
   pub attained : attains closed front ≡ true
@@ -95,7 +95,7 @@ whole_from_live all closed row floor pre front split live =
 abbrev pub Kept : Type 0
 Kept = ℤ × Option (List ℕ)
 
--- a list is kept where it weighs more than the floor
+-- one step of keeping: a list is kept if it weighs more than the floor, and its weight is the floor from then on
 abbrev pub keep : (List ℕ → ℤ) → Kept → List ℕ → Kept
 keep weight now counts = cond (int_lt now.0 (weight counts)) (weight counts, Some counts) now
 
@@ -120,7 +120,7 @@ keeps_greatest weight floor kept (x ∷ xs) =
     later None = refl
     later (Some y) = refl
 
--- from nothing on, the first of greatest weight above the floor is kept
+-- if nothing is kept at first, what is kept at the end is the first of greatest weight above the floor
 pub keeps_first_greatest : (weight : List ℕ → ℤ) (floor : ℤ) (xs : List (List ℕ)) → (fold (keep weight) (floor, None) xs).1 ≡ first_greatest weight floor xs
 keeps_first_greatest weight floor xs = keeps_greatest weight floor None xs ∙ none_kept (first_greatest weight floor xs)
   where
@@ -130,7 +130,7 @@ keeps_first_greatest weight floor xs = keeps_greatest weight floor None xs ∙ n
 
 -- ---- the search
 
--- what a search has kept, with its floor
+-- the floor of a search, and what it has kept
 abbrev pub told : Pricing → Kept
 told now = (now.floor, now.kept)
 
@@ -157,11 +157,11 @@ children_keep enter live L weight enters dead (c ∷ cs) now =
     ]) refl in
     rest ∙ ap (λ begun. fold (keep weight) begun (flat_map L cs)) here ∙ sym (fold-append (keep weight) (told now) (L c) (flat_map L cs))
 
--- the compositions that a front goes on to, where these classes come after it, and that attain the closed rows
+-- the compositions that begin with a front, which these classes come after, and that attain the closed rows
 abbrev pub sought : Classes → List Row → List ℕ → List Class → List (List ℕ)
 sought all closed front later = filter (attains closed) (completions all front later)
 
--- where a front isn't live above a floor, none of them weighs more
+-- if a front isn't live above a floor, no such composition weighs more than the floor
 pub none_better : (all : Classes) (closed : List Row) (row : Row) (floor : ℤ) (pre later : List Class) (front : List ℕ) → Split all pre later front → InOrder later → HaveEntries all (row ∷ closed) →
     is_live_above all closed row floor front ≡ false → AllByRecursion (λ counts. int_lt floor (weight_in row.a counts) ≡ false) (sought all closed front later)
 none_better all closed row floor pre later front split order entries dead =
@@ -173,7 +173,7 @@ none_better all closed row floor pre later front split order entries dead =
     (λ above. false≢true (sym dead ∙ live_from_better all closed row floor pre later front counts split gives entries composes attained above)))
     (all_counts later) (all_counts_give later order))))
 
--- those of a front are those of its children, one after the other
+-- the compositions below a front are those below its children, one child after the other
 pub sought_by_child : (all : Classes) (closed : List Row) (front : List ℕ) (class : Class) (later : List Class) →
     flat_map (λ c. sought all closed (front ++ c ∷ []) later) (counts_of class) ≡ sought all closed front (class ∷ later)
 sought_by_child all closed front class later =

@@ -1,4 +1,4 @@
--- Sums over a panel, class by class.
+-- A sum over a panel, taken class by class.
 use Rattle.std.proofs.Common.{◌≡◌, ℕ, zero, suc, ◌+◌, ◌*◌, ◌≤◌, ◌<◌, Bool, true, false, cond, not, ◌||◌, eqb, List, [], ◌∷◌, refl, sym, ap, ◌∙◌, ⊎_elim, arith, subst, le_of_eq}
 use Rattle.std.specs.List.{list_any, AllByRecursion, range_with_len}
 use Rattle.std.proofs.lemmas.Bool.{cases_Bool, cases_lt, eqb-true, eq-eqb, false≢true}
@@ -7,7 +7,7 @@ use Rattle.laws_basic.proofs.Sums.{total, total_eq, total_ext, total-add, total-
 use Rattle.define_searches.specs.Classes.{leaders, IsEquivalenceTest}
 use Rattle.define_pools.proofs.Weights.{one_member}
 
--- the least number that passes
+-- the least number that passes a test; it is at most n
 pub record Least (p : ℕ → Bool) (n : ℕ) : Type 0 where
   pub at : ℕ
   pub within : at ≤ n
@@ -45,7 +45,7 @@ any_true q first (suc count) k l m e =
       | false ↦ λ f. any_true q (first + 1) count k (⊎_elim (λ (lt : first < k). omega arith) (λ (le : k ≤ first). let s : k ≡ first = omega arith in absurd (false≢true (sym f ∙ ap q (sym s) ∙ e))) (cases_lt first k)) (omega arith) e
     ]) refl
 
--- how many of a panel are alike a leader
+-- how many members of a panel are alike to a leader
 abbrev pub taken : (ℕ → ℕ → Bool) → ℕ → List ℕ → ℕ
 taken alike leader panel = total (λ i. one_if (alike leader i)) panel
 
@@ -82,7 +82,7 @@ module _ (alike : ℕ → ℕ → Bool) (same : IsEquivalenceTest alike) (count 
           both f true = rw (f, e) refl
           both f false = rw e refl
 
-  -- each volunteer is alike just one leader
+  -- each volunteer is alike to exactly one leader
   pub one_leader : (i : ℕ) → i < count → total (λ leader. one_if (alike leader i)) (leaders alike count) ≡ 1
   unfolding leads
   one_leader i below =
@@ -98,7 +98,7 @@ module _ (alike : ℕ → ℕ → Bool) (same : IsEquivalenceTest alike) (count 
   leaders_below =
       each_filter (λ leader. leader < count) leads (range_with_len 0 count) (each_range (λ leader. leads leader ≡ true → leader < count) 0 count (λ k low high t. omega arith))
 
-  -- a function that is the same on a class, summed over a panel
+  -- the sum over a panel of a function that is the same for all members of a class, taken class by class
   pub by_class : (f : ℕ → ℕ) → ((i j : ℕ) → i < count → j < count → alike i j ≡ true → f i ≡ f j) → (panel : List ℕ) → AllByRecursion (λ i. i < count) panel →
       total f panel ≡ total (λ leader. taken alike leader panel * f leader) (leaders alike count)
   by_class f respects [] below = sym (total-zero (λ leader. 0 * f leader) (λ leader. omega arith) (leaders alike count))

@@ -21,7 +21,7 @@ place p (x ∷ xs) = cond (p x) 0 (1 + place p xs)
 place_is : {X : Type 0} (p : X → Bool) (xs : List X) → position_or_len p xs ≡ place p xs
 place_is p xs = sym (is_position_or_len (place p) p refl (λ x xs. refl) xs)
 
--- where exactly one passes, the place is in the list, and the one that passes stands there
+-- if exactly one element passes, the first place that passes is in the list, and its element passes
 place_below : (p : ℕ → Bool) (xs : List ℕ) → total (λ x. one_if (p x)) xs ≡ 1 → place p xs < length xs
 place_below p [] one = absurd (omega arith)
 place_below p (x ∷ xs) one =
@@ -43,7 +43,7 @@ none_at p [] k d none l t = omega arith
 none_at p (x ∷ xs) zero d none l t = let one = ap one_if t in omega arith
 none_at p (x ∷ xs) (suc k) d none l t = none_at p xs k d (omega arith) (omega arith) t
 
--- where exactly one passes, its place is the one
+-- if exactly one element passes, the first place that passes is its place
 place_of : (p : ℕ → Bool) (xs : List ℕ) (k d : ℕ) → total (λ x. one_if (p x)) xs ≡ 1 → k < length xs → p (get_or xs k d) ≡ true → place p xs ≡ k
 place_of p [] k d one l t = absurd (omega arith)
 place_of p (x ∷ xs) zero d one l t = ap (λ b. cond b 0 (1 + place p xs)) t
@@ -80,19 +80,19 @@ module _ (pool : Pool) (alike : ℕ → ℕ → Bool) (makes : MakesClasses pool
   pub class_count : length (classes_by alike pool).classes ≡ length firsts
   class_count = length-map firsts (class_by alike pool)
 
-  -- it is in the list
+  -- a volunteer's class number is that of a class in the list
   pub number_below : (i : ℕ) → i < n → number i < length (classes_by alike pool).classes
   number_below i below = let low = place_below (λ l. alike l i) firsts (one i below) in omega (arith, number_is i below, class_count)
 
-  -- its leader is alike
+  -- a volunteer is alike to the leader of their class
   pub leader_alike : (i d : ℕ) → i < n → alike (get_or firsts (number i) d) i ≡ true
   leader_alike i d below = subst (λ k. alike (get_or firsts k d) i ≡ true) (sym (number_is i below)) (place_passes (λ l. alike l i) firsts d (one i below))
 
-  -- and it is the class of whom the leader is alike
+  -- a volunteer's class is the one to whose leader they are alike
   pub number_of : (k i d : ℕ) → k < length firsts → i < n → alike (get_or firsts k d) i ≡ true → number i ≡ k
   number_of k i d inside below t = number_is i below ∙ place_of (λ l. alike l i) firsts k d (one i below) inside t
 
-  -- who is alike has the same
+  -- alike volunteers have the same class number
   pub number_same : (i j : ℕ) → i < n → j < n → alike i j ≡ true → number i ≡ number j
   number_same i j a b t =
       let leader = get_or firsts (number j) 0 in
@@ -112,7 +112,7 @@ module _ (pool : Pool) (alike : ℕ → ℕ → Bool) (makes : MakesClasses pool
   pub class_is : (t : ℕ) (d : Class) → t < length firsts → get_or (classes_by alike pool).classes t d ≡ class_by alike pool (leader_at t)
   class_is t d inside = get_or-map (class_by alike pool) firsts t 0 d inside
 
-  -- a volunteer's class has the volunteer
+  -- the class with a volunteer's number contains the volunteer
   pub number_has : (i : ℕ) (d : Class) → i < n → includes (get_or (classes_by alike pool).classes (number i) d).members i ≡ true
   number_has i d below =
       let inside : number i < length firsts = omega (arith, number_below i below, class_count) in

@@ -11,12 +11,12 @@ contains_first x xs = (0, omega arith, refl)
 pub contains_later : {X : Type 0} (y x : X) (xs : List X) → Contains xs x → Contains (y ∷ xs) x
 contains_later y x xs h = Contains-append_right (y ∷ []) xs x h
 
--- the first element
+-- a list contains its first element
 pub first_there : {X : Type 0} (xs : List X) (first : X) → slice_get xs 0 ≡ Some first → Contains xs first
 first_there [] first e = absurd cc
 first_there (x ∷ xs) first e = let same : x ≡ first = cc in subst (Contains (x ∷ xs)) same (contains_first x xs)
 
--- what holds of each element holds of one
+-- what holds of each element of a list holds of an element that it contains
 pub each_contains : {X : Type 0} (P : X → Type 0) (xs : List X) (x : X) → AllByRecursion P xs → Contains xs x → P x
 each_contains P [] x h (k, l, e) = absurd (omega arith)
 each_contains P (y ∷ xs) x h (zero, l, e) = subst P e h.0
@@ -30,7 +30,7 @@ pub each_itself : {X : Type 0} (xs : List X) → AllByRecursion (Contains xs) xs
 each_itself [] = tt
 each_itself (x ∷ xs) = (contains_first x xs, contain_later x xs xs (each_itself xs))
 
--- the elements that pass a test
+-- an element that passes a test is in the filtered list
 pub contains_filter : {X : Type 0} (p : X → Bool) (xs : List X) (x : X) → Contains xs x → p x ≡ true → Contains (filter p xs) x
 contains_filter p [] x (k, l, e) passes = absurd (omega arith)
 contains_filter p (y ∷ xs) x (zero, l, e) passes =
@@ -49,7 +49,7 @@ filtered P p (x ∷ xs) h = by (p x) refl (filtered P p xs h.1)
     by true t rest = ((h.0, t), rest)
     by false t rest = rest
 
--- a test of all elements passes for the first ones
+-- if all elements pass a test, so do the first k of them
 pub first_pass : {X : Type 0} (p : X → Bool) (k : ℕ) (xs : List X) → list_all p xs ≡ true → list_all p (take k xs) ≡ true
 first_pass p zero xs h = refl
 first_pass p (suc k) [] h = refl

@@ -54,7 +54,7 @@ holds_before p i first (suc count) l =
       | false ↦ rest
     ]
 
--- a filter of a range holds what passes
+-- a filtered range contains the numbers of the range that pass
 pub holds_filter : (p : ℕ → Bool) (i first count : ℕ) → first ≤ i → i < first + count → includes (filter p (range_with_len first count)) i ≡ p i
 holds_filter p i first zero l m = absurd (omega arith)
 holds_filter p i first (suc count) l m =
@@ -74,7 +74,7 @@ holds_filter p i first (suc count) l m =
       | false ↦ rest
     ]) (cases_eq first i)
 
--- one more at the end of a range
+-- a range with one more number at its end has one more term
 total-range_more : (f : ℕ → ℕ) (first count : ℕ) → total f (range_with_len first (suc count)) ≡ total f (range_with_len first count) + f (first + count)
 total-range_more f first zero = let e : first + 0 ≡ first = omega arith in rw e (omega arith)
 total-range_more f first (suc count) =
@@ -84,7 +84,7 @@ total-range_more f first (suc count) =
 
 -- ---- the first c of a class
 
--- how many of a class stand before
+-- how many members of a class have a number below i
 abbrev pub rank : (ℕ → Bool) → ℕ → ℕ
 rank a i = total (λ j. one_if (a j)) (range_with_len 0 i)
 
@@ -137,7 +137,7 @@ module _ (alike : ℕ → ℕ → Bool) (same : IsEquivalenceTest alike) (count 
   abbrev panel : List ℕ
   panel = first_panel alike count (map g firsts)
 
-  -- how many are taken of a volunteer's class
+  -- how many members are taken of a volunteer's class: the count of the class's leader
   own : (i : ℕ) → i < count → taken_of (λ l. alike l i) firsts (map g firsts) ≡ g (leader_of i).at
   unfolding leads
   own i l =
@@ -149,7 +149,7 @@ module _ (alike : ℕ → ℕ → Bool) (same : IsEquivalenceTest alike) (count 
       (λ j. lift (leads alike same count j) (alike j i) (eqb first.at j) (g j) (is_first alike same count i first j)) (range_with_len 0 count)
       ∙ one_member g first.at 0 count (omega arith) inside
 
-  -- the leader of who is alike a leader
+  -- the leader of a volunteer who is alike to a leader is that leader
   leader_is : (l i : ℕ) → leads alike same count l ≡ true → alike l i ≡ true → (leader_of i).at ≡ l
   leader_is l i lead t =
       let e = is_first alike same count i (leader_of i) l in
@@ -164,7 +164,7 @@ module _ (alike : ℕ → ℕ → Bool) (same : IsEquivalenceTest alike) (count 
       (λ (p : alike i j ≡ false). ⊎_elim (λ (q : alike l j ≡ true). absurd (false≢true (sym p ∙ same.along i l j (same.back l i t) q))) (λ (q : alike l j ≡ false). p ∙ sym q) (cases_Bool (alike l j)))
       (cases_Bool (alike i j))
 
-  -- the test of the first panel, for a member of a leader's class
+  -- a volunteer is on the first panel if fewer members of the class come before than are taken of it
   abbrev in_panel : ℕ → Bool
   in_panel i = ltb (count_by (alike i) (range_with_len 0 i)) (taken_of (λ leader. alike leader i) firsts (map g firsts))
 
@@ -179,7 +179,7 @@ module _ (alike : ℕ → ℕ → Bool) (same : IsEquivalenceTest alike) (count 
       (λ (t : alike l i ≡ true). ap (λ b. cond b (one_if (alike l i)) 0) (in_class l i lead below t))
       (λ (t : alike l i ≡ false). rw t (cond_zero (in_panel i) ∙ sym (cond_zero (ltb (rank (alike l) i) (g l))))) (cases_Bool (alike l i))
 
-  -- as many of the class are taken as the composition says
+  -- the first panel takes as many members of a class as its count says
   takes : (l : ℕ) → leads alike same count l ≡ true → g l ≤ rank (alike l) count → count_by (alike l) panel ≡ g l
   takes l lead fits =
       let a = count_by-total (alike l) panel in
@@ -188,7 +188,7 @@ module _ (alike : ℕ → ℕ → Bool) (same : IsEquivalenceTest alike) (count 
       (each_range (λ i. cond (in_panel i) (one_if (alike l i)) 0 ≡ cond (ltb (rank (alike l) i) (g l)) (one_if (alike l i)) 0) 0 count (λ i f m. term l i lead (omega arith))) in
       let d = first_some (alike l) (g l) count in omega (arith, a, b, c, d)
 
-  -- so the panel's composition is this one
+  -- so the first panel's composition is the given one
   composition_is : ((l : ℕ) → l < count → leads alike same count l ≡ true → g l ≤ rank (alike l) count) → composition_of alike firsts panel ≡ map g firsts
   unfolding leads
   composition_is fits = map_same (λ l. count_by (alike l) panel) g firsts
@@ -205,7 +205,7 @@ module _ (alike : ℕ → ℕ → Bool) (same : IsEquivalenceTest alike) (count 
 
 -- ---- each composition in the list
 
--- the first members of counts are a quota panel, with these counts for its composition
+-- the first panel of these counts is a quota panel, and has these counts as its composition
 abbrev pub FitsAndComposes : Pool → (ℕ → ℕ → Bool) → List ℕ → Type 0
 FitsAndComposes pool alike counts =
     (is_quota_panel pool (first_panel alike (length pool.volunteers) counts) ≡ true)
@@ -215,7 +215,7 @@ pub leaders_rise : (pool : Pool) (alike : ℕ → ℕ → Bool) → MakesClasses
 unfolding leads
 leaders_rise pool alike makes = filter_increases (leads alike makes.same (length pool.volunteers)) 0 (length pool.volunteers)
 
--- the first members of each composition's classes
+-- this holds for each composition
 pub each_first_panel : (pool : Pool) (alike : ℕ → ℕ → Bool) → MakesClasses pool alike → AllByRecursion (FitsAndComposes pool alike) (compositions pool alike)
 unfolding leads
 each_first_panel pool alike makes =

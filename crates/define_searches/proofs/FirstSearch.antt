@@ -16,7 +16,7 @@ use Rattle.define_searches.proofs.Listed.{each_count}
 
 -- ---- counts that classes can give
 
--- a count for each class, at most what it can give
+-- a list has a count for each class, each at most the most that the class can give
 abbrev pub Gives : List Class → List ℕ → Type 0
 Gives [] [] = Unit {0}
 Gives [] (c ∷ counts) = ⊥
@@ -38,7 +38,7 @@ pub taken_none : (p : Class → Bool) (classes : List Class) → taken_of p clas
 taken_none p [] = refl
 taken_none p (class ∷ classes) = refl
 
--- what a front and the counts after it take
+-- a front with the counts after it takes what the front takes and what the counts take
 pub taken-append : (p : Class → Bool) (pre later : List Class) (front counts : List ℕ) → length front ≡ length pre →
     taken_of p (pre ++ later) (front ++ counts) ≡ taken_of p (pre ++ later) front + taken_of p later counts
 taken-append p [] later [] counts e = omega (arith, taken_none p later)
@@ -62,7 +62,7 @@ taken_within_most p later counts h = omega (arith, gives_most p later counts h, 
 
 -- ---- fronts of compositions are live
 
--- the first classes of all, with a front of counts for them, and the classes after
+-- all classes are `pre`, which `front` has counts for, followed by `later`
 pub record Split (all : Classes) (pre later : List Class) (front : List ℕ) : Type 0 where
   pub whole : all.classes ≡ pre ++ later
   pub fits : length front ≡ length pre
@@ -85,7 +85,7 @@ within_reach lower upper taken more most l e =
     let a = leb-true lower (taken + more) parts.0 in let b = leb-true (taken + more) upper parts.1 in
     and_from (leb taken upper) (leb lower (taken + most)) (le-leb taken upper (omega arith)) (le-leb lower (taken + most) (omega arith))
 
--- what is known of a composition
+-- the counts are a composition
 pub record Composes (all : Classes) (counts : List ℕ) : Type 0 where
   pub size : taken_of (λ class. true) all.classes counts ≡ all.size
   pub bounds : meets_bounds all.bounds all.classes counts ≡ true
@@ -98,7 +98,7 @@ composition_parts all counts composes =
     let parts = and_parts size bounds both.0 in
     record { size = eqb-true (taken_of (λ class. true) all.classes counts) all.size parts.0; bounds = parts.1; households = both.1 }
 
--- a front takes no more of a household than what it goes on to
+-- a front takes at most as many members of a household as a list that begins with it
 one_of_front : (all : Classes) (pre later : List Class) (front counts : List ℕ) → Split all pre later front → (household : Option ℕ) →
     takes_one_of all.classes (front ++ counts) household ≡ true → takes_one_of all.classes front household ≡ true
 one_of_front all pre later front counts split None one = refl
@@ -108,7 +108,7 @@ one_of_front all pre later front counts split (Some h) one =
     let parts = taken_split all pre later front counts split of in
     le-leb (taken_of of all.classes front) 1 (omega arith)
 
--- a front that goes on to a composition is live
+-- a front with which a composition begins is live
 pub live_from_composition : (all : Classes) (pre later : List Class) (front counts : List ℕ) → Split all pre later front → Gives later counts →
     is_composition all (front ++ counts) ≡ true → is_reachable all front ≡ true
 live_from_composition all pre later front counts split gives composes =
@@ -171,7 +171,7 @@ joined front c [] = refl
 joined front c (x ∷ xs) =
     let e : front ++ (c ∷ x) ≡ (front ++ c ∷ []) ++ x = sym (append_assoc front (c ∷ []) x) in let rest = joined front c xs in cc
 
--- a front's completions are those of its children, one after the other
+-- the compositions that begin with a front are those that begin with its children, one child after the other
 pub of_children : (all : Classes) (front : List ℕ) (later : List Class) (cs : List ℕ) →
     flat_map (λ child. completions all child later) (map (λ c. front ++ c ∷ []) cs)
     ≡ filter (is_composition all) (map (λ counts. front ++ counts) (flat_map (λ c. map (λ counts. c ∷ counts) (all_counts later)) cs))

@@ -1,4 +1,4 @@
--- The greatest sum of some units is at least the sum of any as many of them.
+-- The greatest sum of some number of units is at least the sum of any choice of as many units.
 use Rattle.std.proofs.Common.{◌≡◌, ℕ, zero, suc, ◌+◌, ◌*◌, ◌≤◌, true, false, cond, List, [], ◌∷◌, ◌++◌, length, take, drop, fold, ℤ, pos, ◌+ℤ◌, ◌*ℤ◌, refl, arith}
 use Rattle.std.specs.Prelude.{int_le, replicate}
 use Rattle.std.specs.List.{AllByRecursion}
@@ -13,7 +13,7 @@ use Rattle.define_searches.proofs.FirstSearch.{Gives}
 
 -- ---- whole numbers as differences
 
--- the first is at most the second
+-- the first integer is at most the second
 abbrev pub AtMost : ℤ → ℤ → Type 0
 AtMost x y = up x + down y ≤ up y + down x
 
@@ -102,7 +102,7 @@ put_left x (y ∷ ys) (suc k) f l =
       | false ↦ λ e. omega arith
     ]) refl
 
--- the parts of the greatest sum of k numbers
+-- the parts above 0 and below 0 of the greatest sum of k numbers
 abbrev high : ℕ → List ℤ → ℕ
 high k xs = total up (take k (falling xs))
 
@@ -113,7 +113,7 @@ pub length-replicate : (m : ℕ) (x : ℤ) (ys : List ℤ) → length (replicate
 length-replicate zero x ys = omega arith
 length-replicate (suc m) x ys = omega (arith, length-replicate m x ys)
 
--- j of m equal numbers, and the greatest k of the others
+-- j copies of x with the greatest k of the other numbers sum to at most the greatest sum of j + k of them all
 some_of : (m : ℕ) (x : ℤ) (ys : List ℤ) (j k n : ℕ) → j ≤ m → k ≤ length ys → n ≡ j + k →
     j * up x + high k ys + low n (replicate m x ++ ys) ≤ high n (replicate m x ++ ys) + j * down x + low k ys
 some_of zero x ys zero k n a b e = let s : n ≡ k = omega arith in rw s (omega arith)
@@ -150,14 +150,14 @@ weight_bound (class ∷ later) (x ∷ entries) (c ∷ counts) e g =
     let some = some_of class.most x (units later entries) c (taken_of (λ class. true) later counts) (c + taken_of (λ class. true) later counts) here (few_units later entries counts (omega arith) g.1) refl in
     omega (arith, rest, some, product-parts c x, sum_is_lem (pos c *ℤ x) (weight_in entries counts))
 
--- counts that the later classes can give weigh at most the greatest sum of as many units
+-- counts that the later classes can give weigh at most the greatest sum of as many units as they take
 pub weight_within_greatest : (later : List Class) (entries : List ℤ) (counts : List ℕ) → length entries ≡ length later → Gives later counts →
     AtMost (weight_in entries counts) (greatest_sum (taken_of (λ class. true) later counts) later entries)
 weight_within_greatest later entries counts e g =
     let n = taken_of (λ class. true) later counts in
     omega (arith, weight_bound later entries counts e g, sum_parts (take n (falling (units later entries))))
 
--- what a front and the counts after it weigh
+-- a front with the counts after it weighs what the front weighs and what the counts weigh
 pub weight-append : (entries : List ℤ) (front counts : List ℕ) → length front ≤ length entries →
     up (weight_in entries (front ++ counts)) + down (weight_in entries front) + down (weight_in (drop (length front) entries) counts)
     ≡ down (weight_in entries (front ++ counts)) + up (weight_in entries front) + up (weight_in (drop (length front) entries) counts)

@@ -1,4 +1,4 @@
--- The household rule on panels and on compositions: who shares a household is of one number.
+-- The household rule on panels and on compositions, by the numbers of households.
 use Rattle.std.proofs.Common.{◌≡◌, ℕ, ◌+◌, ◌≤◌, ◌<◌, Bool, true, false, cond, ◌&&◌, eqb, leb, ltb, List, [], ◌∷◌, length, count_by, Option, Some, None, refl, sym, ap, ◌∙◌, ◌⊎◌, inl, inr, ⊎_elim, arith, subst, le_of_eq}
 use Rattle.std.specs.Prelude.{is_some, bytes_eq}
 use Rattle.std.specs.List.{find, list_all, AllByRecursion, range_with_len}
@@ -15,7 +15,7 @@ use Rattle.define_searches.specs.Compositions.{is_of_household}
 
 -- ---- who shares a household
 
--- two who share one have the same
+-- volunteers who share a household have the same name of a household
 pub same_name : (a b : Option (List ℕ)) → is_same_household a b ≡ true → a ≡ b
 same_name None b h = absurd (false≢true h)
 same_name (Some name) None h = absurd (false≢true h)
@@ -50,7 +50,7 @@ module _ (volunteers : List Volunteer) where
   share_along : (i j k : ℕ) → share i j ≡ true → share i k ≡ share j k
   share_along i j k h = ap (λ name. is_same_household name (household k)) (same_household i j h)
 
-  -- and so the same number
+  -- and so they have the same household number
   pub share_number : (i j : ℕ) → share i j ≡ true → shared_household volunteers i ≡ shared_household volunteers j
   share_number i j h =
       let count = total_ext (λ k. one_if (share i k)) (λ k. one_if (share j k)) (λ k. ap one_if (share_along i j k h)) everybody in
@@ -58,7 +58,7 @@ module _ (volunteers : List Volunteer) where
       let found = find_agrees (share i) (share j) (λ k. share_along i j k h) everybody in
       rw (many, found) refl
 
-  -- what holds of each member of a household holds of the volunteer of its number
+  -- a household number is the first volunteer who shares the household
   number_is : (i h : ℕ) → shared_household volunteers i ≡ Some h → find (share i) everybody ≡ Some h
   number_is i h e =
       (elim (leb 2 (count_by (share i) everybody)) as (λ b. cond b (find (share i) everybody) None ≡ Some h → find (share i) everybody ≡ Some h) [
@@ -69,15 +69,15 @@ module _ (volunteers : List Volunteer) where
       none : None ≡ Some h → ⊥
       none e = cc
 
-  -- who has a number shares a household with the volunteer of the number
+  -- a volunteer with a household number shares the household with the volunteer of that number
   pub number_shares : (i h : ℕ) → shared_household volunteers i ≡ Some h → share i h ≡ true
   number_shares i h e = find-passes (share i) everybody h (number_is i h e)
 
-  -- which is one
+  -- a household number is the number of a volunteer
   pub number_below : (i h : ℕ) → shared_household volunteers i ≡ Some h → h < length volunteers
   number_below i h e = find-each (share i) (λ k. k < length volunteers) everybody h (each_range (λ k. k < length volunteers) 0 (length volunteers) (λ k low high. omega arith)) (number_is i h e)
 
-  -- who has none has a household alone, or none
+  -- a volunteer without a household number shares a household with nobody else
   pub alone_members : (i : ℕ) → shared_household volunteers i ≡ None → total (λ k. one_if (share i k)) everybody ≤ 1
   alone_members i e = ⊎_elim (λ (few : count_by (share i) everybody < 2). omega (arith, count_by-total (share i) everybody))
       (λ (many : 2 ≤ count_by (share i) everybody).
@@ -97,7 +97,7 @@ module _ (volunteers : List Volunteer) where
   implied_le true b f = let t = f refl in rw t (le_of_eq refl)
   implied_le false b f = omega arith
 
-  -- of those who pass, where each two of them are of one kind and each kind is held once at most, there is one at most
+  -- if any two of a list's elements that pass are of one kind, and at most one element of each kind is in the list, at most one passes
   one_at_most : (p : ℕ → Bool) (q : ℕ → ℕ → Bool) → ((i j : ℕ) → p i ≡ true → p j ≡ true → q i j ≡ true) → (whole xs : List ℕ) →
       AllByRecursion (λ i. total (λ j. one_if (q i j)) whole ≤ 1) xs → (total (λ j. one_if (p j)) xs ≡ 0) ⊎ (total (λ j. one_if (p j)) whole ≤ 1)
   one_at_most p q related whole [] once = inl refl
@@ -110,7 +110,7 @@ module _ (volunteers : List Volunteer) where
         | false ↦ λ f. ⊎_elim (λ (none : total (λ j. one_if (p j)) xs ≡ 0). inl (omega arith)) (λ (few : total (λ j. one_if (p j)) whole ≤ 1). inr few) rest
       ]) refl
 
-  -- a panel that keeps the households holds one at most of each number
+  -- a panel that keeps the household rule has at most one member with each household number
   pub one_of_number : (panel : List ℕ) (h : ℕ) → keeps_households volunteers panel ≡ true →
       count_by (λ i. is_of_household h (shared_household volunteers i)) panel ≤ 1
   one_of_number panel h keeps =
@@ -125,7 +125,7 @@ module _ (volunteers : List Volunteer) where
       let from_number = number_shares j h (of_number h (shared_household volunteers j) b) in
       sym (share_along h i j (share_back i h to_number)) ∙ share_back j h from_number) panel panel once)
 
-  -- a panel that holds one at most of each number keeps the households
+  -- a panel that has at most one member with each household number keeps the household rule
   pub households_kept : (panel : List ℕ) → is_increasing panel ≡ true → list_all (λ i. ltb i (length volunteers)) panel ≡ true →
       AllByRecursion (λ i. (h : ℕ) → shared_household volunteers i ≡ Some h → count_by (λ j. is_of_household h (shared_household volunteers j)) panel ≤ 1) panel →
       keeps_households volunteers panel ≡ true
@@ -154,7 +154,7 @@ module _ (volunteers : List Volunteer) where
           has_number : (j : ℕ) → shared_household volunteers j ≡ Some h → is_of_household h (shared_household volunteers j) ≡ true
           has_number j e = ap (is_of_household h) e ∙ eq-eqb h h refl
 
--- who is alike has the same number
+-- alike volunteers have the same household number
 pub alike_number : (pool : Pool) (alike : ℕ → ℕ → Bool) → MakesClasses pool alike → (i j : ℕ) → alike i j ≡ true →
     shared_household pool.volunteers i ≡ shared_household pool.volunteers j
 alike_number pool alike makes i j t = by (shared_household pool.volunteers i) (shared_household pool.volunteers j) refl refl

@@ -1,4 +1,4 @@
--- Compositions by the leaders of classes, over the pool itself: a form in which sums over a panel are taken class by class.
+-- Compositions over the pool itself, with each class given by its leader. In this form a sum over a panel can be taken class by class.
 use Rattle.std.specs.Prelude.{nat_lt, nat_le, ℕ, ◌+◌, ◌-◌, ◌==◌, if◌then◌else◌, Bool, true, ◌&&◌, List, [], ◌∷◌, map, length, count_by, filter, slice_index, ℤ, pos, ◌+ℤ◌, ◌*ℤ◌, int_le, Option, Some, None}
 use Rattle.std.specs.List.{list_all, flat_map, enumerate_from, range_with_len}
 use Rattle.define_pools.specs.Certificate.{Stage, weight_of}
@@ -54,7 +54,7 @@ compositions pool alike =
     (all_counts (λ leader. least_taken (volunteer pool.volunteers leader).standing (length (class_of alike n leader)))
     (λ leader. most_taken (volunteer pool.volunteers leader).standing (length (class_of alike n leader))) firsts)
 
--- those before whom fewer of the class stand than are taken of it
+-- the volunteers for whom fewer members of their class come before than are taken of it
 abbrev pub first_panel : (ℕ → ℕ → Bool) → ℕ → List ℕ → List ℕ
 first_panel alike count counts =
     filter (λ i. nat_lt (count_by (alike i) (range_with_len 0 i)) (taken_of (λ leader. alike leader i) (leaders alike count) counts)) (range_with_len 0 count)

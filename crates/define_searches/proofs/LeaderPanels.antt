@@ -21,7 +21,7 @@ use Rattle.define_searches.proofs.Contained.{filtered}
 use Rattle.define_searches.proofs.Listed.{each_count}
 use Rattle.define_searches.proofs.PanelCompositions.{passing, term_most}
 
--- two functions that give the same list are the same at each of its places
+-- two functions that give the same list are equal at each of its elements
 same_at_each : (f g : ℕ → ℕ) (xs : List ℕ) → map f xs ≡ map g xs → AllByRecursion (λ x. f x ≡ g x) xs
 same_at_each f g [] e = tt
 same_at_each f g (x ∷ xs) e = (cc, same_at_each f g xs cc)
@@ -49,7 +49,7 @@ module _ (pool : Pool) (alike : ℕ → ℕ → Bool) (makes : MakesClasses pool
   taken_here : (l : ℕ) → count_by (alike l) panel ≡ total (λ i. cond (includes panel i) (one_if (alike l i)) 0) (range_with_len 0 n)
   taken_here l = count_by-total (alike l) panel ∙ total_panel (λ i. one_if (alike l i)) n panel up below
 
-  -- where a whole class is on the panel, each of its members is
+  -- if a panel has as many members of a class as the class has, each member of the class is on it
   all_in : (l i : ℕ) → i < n → alike l i ≡ true → size_of l ≤ count_by (alike l) panel → includes panel i ≡ true
   all_in l i inside t whole =
       let same = total_same (λ i. cond (includes panel i) (one_if (alike l i)) 0) (λ i. one_if (alike l i)) (range_with_len 0 n)
@@ -62,7 +62,7 @@ module _ (pool : Pool) (alike : ℕ → ℕ → Bool) (makes : MakesClasses pool
       is_in true e = refl
       is_in false e = absurd (omega arith)
 
-  -- where nobody of a class is on the panel, no member is
+  -- if a panel has no member of a class, no member of the class is on it
   none_in : (l i : ℕ) → i < n → alike l i ≡ true → count_by (alike l) panel ≤ 0 → includes panel i ≡ false
   none_in l i inside t none =
       let same = total_same (λ i. 0) (λ i. cond (includes panel i) (one_if (alike l i)) 0) (range_with_len 0 n)
@@ -75,7 +75,7 @@ module _ (pool : Pool) (alike : ℕ → ℕ → Bool) (makes : MakesClasses pool
       is_out true e = absurd (omega arith)
       is_out false e = refl
 
-  -- a number that leads a class, in terms of the list of leaders
+  -- what holds of each element of the list of leaders holds of each number that is a leader
   at_leaders : (P : ℕ → Type 0) → AllByRecursion P firsts → (l : ℕ) → l < n → leads alike makes.same n l ≡ true → P l
   unfolding leads
   at_leaders P each l inside lead =
@@ -96,7 +96,7 @@ module _ (pool : Pool) (alike : ℕ → ℕ → Bool) (makes : MakesClasses pool
       leads_from true v h = refl
       leads_from false v h = absurd (omega arith)
 
-  -- who shares a household is a class alone, and so its leader
+  -- someone who shares a household is alone in a class, and so its leader
   leads_alone : (i h : ℕ) → shared_household pool.volunteers i ≡ Some h → leads alike makes.same n i ≡ true
   unfolding leads
   leads_alone i h e =
@@ -116,7 +116,7 @@ module _ (pool : Pool) (alike : ℕ → ℕ → Bool) (makes : MakesClasses pool
     parts : (eqb (taken_of (λ leader. true) firsts counts) pool.size ≡ true) × (meets_bounds pool firsts counts ≡ true)
     parts = and_parts (eqb (taken_of (λ leader. true) firsts counts) pool.size) (meets_bounds pool firsts counts) both.0
 
-    -- how many of the panel pass, by the composition
+    -- how many members of the panel pass, from its composition
     taken_by : (passes : ℕ → Bool) → ((i j : ℕ) → alike i j ≡ true → passes i ≡ passes j) → count_by passes panel ≡ taken_of passes firsts counts
     taken_by passes respects = sym (passing alike makes.same n passes respects panel each_below) ∙ ap (taken_of passes firsts) composed
 
@@ -177,7 +177,7 @@ module _ (pool : Pool) (alike : ℕ → ℕ → Bool) (makes : MakesClasses pool
 
 -- ---- each composition in the list
 
--- counts within their bounds, given by leaders
+-- the counts as a function of leaders, each from the least to the greatest of its class
 pub record ByLeader (low high : ℕ → ℕ) (firsts counts : List ℕ) : Type 0 where
   pub of : ℕ → ℕ
   pub is : counts ≡ map of firsts
@@ -215,7 +215,7 @@ least_to_most Open size = omega arith
 least_to_most Seated size = le_of_eq refl
 least_to_most Gone size = le_of_eq refl
 
--- the counts of each composition, by leaders
+-- the counts of each composition in this form
 pub each_by_leader : (pool : Pool) (alike : ℕ → ℕ → Bool) → is_increasing (leaders alike (length pool.volunteers)) ≡ true →
     AllByRecursion (λ counts. ByLeader (λ l. least_taken (volunteer pool.volunteers l).standing (length (class_of alike (length pool.volunteers) l)))
     (λ l. most_taken (volunteer pool.volunteers l).standing (length (class_of alike (length pool.volunteers) l))) (leaders alike (length pool.volunteers)) counts

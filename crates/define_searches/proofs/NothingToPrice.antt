@@ -1,4 +1,4 @@
--- Where pricing over the classes of a pool finds nothing, no quota panel that attains the earlier caps passes the cap.
+-- If pricing over the classes of a pool finds nothing, no quota panel that attains the earlier caps weighs more than the cap.
 use Rattle.std.proofs.Common.{◌≡◌, ℕ, Bool, true, List, [], ◌∷◌, map, length, filter, ℤ, pos, ◌+ℤ◌, ◌*ℤ◌, None, refl, sym, ap, ◌∙◌}
 use Rattle.std.proofs.lemmas.List.Elements.{filter_agree}
 use Rattle.define_pools.specs.Certificate.{Stage, weight_of, is_capped}

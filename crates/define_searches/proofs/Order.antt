@@ -8,14 +8,14 @@ use Rattle.define_searches.specs.Classes.{Class, Classes}
 use Rattle.define_searches.specs.Compositions.{all_counts, compositions, counts_down, is_composition}
 use Rattle.define_searches.proofs.Listed.{each_count}
 
--- each comes before all that follow
+-- each list comes before all that follow it
 abbrev pub Ordered : List (List ℕ) → Type 0
 Ordered [] = Unit {0}
 Ordered (x ∷ xs) = AllByRecursion (λ y. comes_before x y ≡ true) xs × Ordered xs
 
 -- ---- one before another
 
--- never the one before the other and the other before the one
+-- of two lists, it isn't so that each comes before the other
 pub not_back : (xs ys : List ℕ) → comes_before xs ys ≡ true → comes_before ys xs ≡ true → ⊥
 not_back [] ys e f = cc
 not_back (c ∷ xs) [] e f = cc
@@ -41,7 +41,7 @@ ordered_append : (xs ys : List (List ℕ)) → Ordered xs → Ordered ys → All
 ordered_append [] ys h k a = k
 ordered_append (x ∷ xs) ys h k a = (each_append (λ y. comes_before x y ≡ true) xs ys h.0 a.0, ordered_append xs ys h.1 k a.1)
 
--- what follows in a list in order
+-- in a list in order, each element comes before those that follow it
 pub ordered_after : (xs ys : List (List ℕ)) (y : List ℕ) → Ordered (xs ++ y ∷ ys) → AllByRecursion (λ z. comes_before y z ≡ true) ys
 ordered_after [] ys y h = h.0
 ordered_after (x ∷ xs) ys y h = ordered_after xs ys y h.1
@@ -80,6 +80,6 @@ all_ordered : (classes : List Class) → Ordered (all_counts classes)
 all_ordered [] = (tt, tt)
 all_ordered (class ∷ classes) = counted_down (all_counts classes) (all_ordered classes) class.least (class.most - class.least)
 
--- those of all compositions that pass a test are in order
+-- the compositions that pass a test are in order
 pub compositions_ordered : (all : Classes) (p : List ℕ → Bool) → Ordered (filter p (compositions all))
 compositions_ordered all p = ordered_filter p (compositions all) (ordered_filter (is_composition all) (all_counts all.classes) (all_ordered all.classes))

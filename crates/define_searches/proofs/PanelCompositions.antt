@@ -25,7 +25,7 @@ use Rattle.define_searches.proofs.Households.{alike_number, one_of_number}
 
 -- ---- lists with a count for each leader
 
--- one count of those that go down
+-- what holds of each element of the joined lists holds of those for one count
 at_count : (P : List ℕ → Type 0) (F : ℕ → List (List ℕ)) (least more c : ℕ) → least ≤ c → c ≤ least + more → AllByRecursion P (flat_map F (counts_down least more)) → AllByRecursion P (F c)
 at_count P F least zero c l m each =
     let s : least ≡ c = omega arith in
@@ -72,7 +72,7 @@ weight_is alike w panel (l ∷ firsts) =
     omega (arith, rest, parts, upper, lower, sum_is_lem (pos c *ℤ w l) (composition_weight w firsts (composition_of alike firsts panel)))
 
 module _ (alike : ℕ → ℕ → Bool) (same : IsEquivalenceTest alike) (count : ℕ) where
-  -- how many of a panel pass, by composition
+  -- how many members of a panel pass, from its composition
   pub passing : (passes : ℕ → Bool) → ((i j : ℕ) → alike i j ≡ true → passes i ≡ passes j) → (panel : List ℕ) → AllByRecursion (λ i. i < count) panel →
       taken_of passes (leaders alike count) (composition_of alike (leaders alike count) panel) ≡ count_by passes panel
   passing passes respects panel below =
@@ -80,7 +80,7 @@ module _ (alike : ℕ → ℕ → Bool) (same : IsEquivalenceTest alike) (count 
       ∙ sym (by_class alike same count (λ i. one_if (passes i)) (λ i j a b e. ap one_if (respects i j e)) panel below)
       ∙ sym (count_by-total passes panel)
 
-  -- a panel's weight, by composition
+  -- the weight of a panel, from its composition
   pub weighing : (stage : Stage) → ((i j : ℕ) → i < count → j < count → alike i j ≡ true → weight_of stage i ≡ weight_of stage j) → (panel : List ℕ) → AllByRecursion (λ i. i < count) panel →
       composition_weight (weight_of stage) (leaders alike count) (composition_of alike (leaders alike count) panel) ≡ panel_weight stage panel
   weighing stage respects panel below =
@@ -91,7 +91,7 @@ module _ (alike : ℕ → ℕ → Bool) (same : IsEquivalenceTest alike) (count 
 
 -- ---- a quota panel's composition
 
--- one volunteer: s is the standing, h says whether the panel holds the volunteer, a whether the volunteer is in the class
+-- what one volunteer adds to a class's count. `s` is the standing, `h` whether the volunteer is on the panel, `a` whether in the class
 term_seated : (s : Standing) (h a : Bool) → allows s h ≡ true → (a ≡ true → s ≡ Seated) → one_if a ≤ cond h (one_if a) 0
 term_seated s h false e f = omega arith
 term_seated s h true e f =
@@ -168,7 +168,7 @@ module _ (pool : Pool) (alike : ℕ → ℕ → Bool) (respects : MakesClasses p
       passing alike respects.same n (λ i. eqb (slice_index (volunteer pool.volunteers i).values c) v)
       (λ i j e. ap (λ values. eqb (slice_index values c) v) (respects.values i j e)) panel below
 
-  -- of a household it takes as many as the panel has
+  -- the composition takes at most one member of each household, since the panel has at most one
   household_is : (number : Option ℕ) → takes_one_of pool (leaders alike n) mine number ≡ true
   household_is None = refl
   household_is (Some h) =
@@ -191,7 +191,7 @@ module _ (pool : Pool) (alike : ℕ → ℕ → Bool) (respects : MakesClasses p
       (list_all_from_each (λ leader. takes_one_of pool (leaders alike n) mine (shared_household pool.volunteers leader)) (leaders alike n)
       (each_everywhere (λ leader. takes_one_of pool (leaders alike n) mine (shared_household pool.volunteers leader) ≡ true) (λ leader. household_is (shared_household pool.volunteers leader)) (leaders alike n)))
 
-  -- what holds of all compositions holds of the panel's
+  -- what holds of all compositions holds of this panel's
   pub of_compositions : (P : List ℕ → Type 0) → AllByRecursion P (compositions pool alike) → P mine
   of_compositions P each =
       let low : ℕ → ℕ = λ leader. least_taken (standing_of leader) (length (class_of alike n leader)) in
@@ -207,7 +207,7 @@ attains_same pool alike respects panel quota (stage ∷ stages) weigh =
     let here = weighing alike respects.same (length pool.volunteers) stage weigh.0 panel (below pool alike respects panel quota) in
     let rest = attains_same pool alike respects panel quota stages weigh.1 in rw (here, rest) refl
 
--- where no composition that attains the earlier caps weighs more than the cap, no quota panel does
+-- if no composition that attains the earlier caps weighs more than the cap, no such quota panel does
 pub capped_from_compositions : (pool : Pool) (alike : ℕ → ℕ → Bool) → MakesClasses pool alike → (earlier : List Stage) (stage : Stage) → WeighAlike alike (length pool.volunteers) (stage ∷ earlier) →
     list_all (λ counts. not (composition_attains earlier (leaders alike (length pool.volunteers)) counts) || int_le (composition_weight (weight_of stage) (leaders alike (length pool.volunteers)) counts) stage.cap) (compositions pool alike) ≡ true →
     list_all (λ panel. not (attains earlier panel) || int_le (panel_weight stage panel) stage.cap) (panels pool) ≡ true
@@ -224,7 +224,7 @@ capped_from_compositions pool alike respects earlier stage weigh capped =
     rw (attained, weight) at here)
     (choices pool.size (everybody pool)))
 
--- where nothing is above the floor, each weighs at most the floor
+-- if no list weighs more than the floor, each weighs at most the floor
 none_above_floor : (weight : List ℕ → ℤ) (floor : ℤ) (xs : List (List ℕ)) → first_greatest weight floor xs ≡ None → AllByRecursion (λ counts. int_le (weight counts) floor ≡ true) xs
 none_above_floor weight floor [] e = tt
 none_above_floor weight floor (counts ∷ rest) e =
@@ -234,7 +234,7 @@ none_above_floor weight floor (counts ∷ rest) e =
       | false ↦ λ t n. (sym (true_is_le (weight counts) floor (lt-false floor (weight counts) t)), none_above_floor weight floor rest n)
     ]) refl e
 
--- a price of none: no quota panel that attains the earlier caps weighs more than the cap
+-- if there is no price, no quota panel that attains the earlier caps weighs more than the cap
 pub is_capped-from_price : (pool : Pool) (alike : ℕ → ℕ → Bool) → MakesClasses pool alike → (earlier : List Stage) (stage : Stage) → WeighAlike alike (length pool.volunteers) (stage ∷ earlier) →
     first_greatest (composition_weight (weight_of stage) (leaders alike (length pool.volunteers))) stage.cap (filter (composition_attains earlier (leaders alike (length pool.volunteers))) (compositions pool alike)) ≡ None → is_capped pool earlier stage ≡ true
 is_capped-from_price pool alike makes earlier stage weigh none =

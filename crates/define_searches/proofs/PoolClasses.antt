@@ -1,4 +1,4 @@
--- The classes of a pool: compositions over them are those by leaders, and so are their first members.
+-- The classes of a pool have the same compositions and the same first panels as in the form by leaders.
 use Rattle.std.proofs.Common.{◌≡◌, ℕ, zero, suc, ◌+◌, ◌*◌, ◌≤◌, ◌<◌, Bool, true, false, cond, ◌&&◌, eqb, leb, ltb, List, [], ◌∷◌, map, length, filter, take, count_by, sum_by, slice_index, Option, None, Some, refl, sym, ap, ◌∙◌, ⊎_elim, arith, subst}
 use Rattle.std.specs.Prelude.{MatchOption, ◌↔◌, slice_get}
 use Rattle.std.specs.List.{flat_map, list_all, AllByRecursion, range_with_len, enumerate_from}
@@ -94,7 +94,7 @@ module _ (pool : Pool) (alike : ℕ → ℕ → Bool) where
 
 -- ---- first members
 
--- a number before a range is none of its elements
+-- a number below a range is not in it, however it is filtered
 not_before : (p : ℕ → Bool) (i c first count : ℕ) → i < first → includes (take c (filter p (range_with_len first count))) i ≡ false
 not_before p i c first zero l = nothing c
   where
@@ -113,7 +113,7 @@ not_before p i c first (suc count) l =
     with_first zero e rest = refl
     with_first (suc c) e rest = let r = rest c in rw (e, r) refl
 
--- the first c that pass hold who passes and has fewer than c before
+-- the first c numbers of a range that pass are those that pass and have fewer than c before them that pass
 first_holds : (p : ℕ → Bool) (c first count d : ℕ) → d < count →
     includes (take c (filter p (range_with_len first count))) (first + d) ≡ (p (first + d) && ltb (total (λ j. one_if (p j)) (range_with_len first d)) c)
 first_holds p c first zero d l = absurd (omega arith)
@@ -153,7 +153,7 @@ module _ (pool : Pool) (alike : ℕ → ℕ → Bool) (makes : MakesClasses pool
   abbrev class_at : ℕ → Class
   class_at = class_by alike pool
 
-  -- how many who are alike stand before
+  -- how many volunteers alike to volunteer i have a lower number
   abbrev before : ℕ → ℕ
   before i = count_by (alike i) (range_with_len 0 i)
 
@@ -209,7 +209,7 @@ module _ (pool : Pool) (alike : ℕ → ℕ → Bool) (makes : MakesClasses pool
             rw (h, f, s) rest
       ]) refl z
 
-  -- all classes have as many members as there are volunteers
+  -- the classes together have as many members as there are volunteers
   pub members_in_all : sum_by (λ class. length class.members) (map class_at (leaders alike many)) ≡ many
   members_in_all =
       sum_by-is-total (λ class. length class.members) (map class_at (leaders alike many))
@@ -237,7 +237,7 @@ module _ (pool : Pool) (alike : ℕ → ℕ → Bool) (makes : MakesClasses pool
       (each_map (FitsAndComposes pool alike) (λ counts. is_quota_panel pool (first_panel (classes_by alike pool) counts) ≡ true)
       (λ counts fits. let e = first_panel_same counts in rw e fits.0) (by_leader.compositions pool alike) (each_first_panel pool alike makes))
 
-  -- who is in a class is alike its leader
+  -- the members of a class are those alike to its leader, so a panel's composition is the same in both forms
   pub composition_of_same : (panel : List ℕ) → AllByRecursion (λ i. i < many) panel → (xs : List ℕ) → map (λ class. count_by (includes class.members) panel) (map class_at xs) ≡ by_leader.composition_of alike xs panel
   composition_of_same panel below [] = refl
   composition_of_same panel below (l ∷ xs) =
@@ -262,7 +262,7 @@ module _ (pool : Pool) (alike : ℕ → ℕ → Bool) (makes : MakesClasses pool
 pub first_panel_rises : (all : Classes) (counts : List ℕ) → is_increasing (first_panel all counts) ≡ true
 first_panel_rises all counts = filter_increases (is_taken all.classes counts) 0 (sum_by (λ class. length class.members) all.classes)
 
--- ---- what the search for the first composition tells
+-- ---- what the search for the first composition says of the pool
 
 from_first : (P : List ℕ → Type 0) (Q : Type 0) (xs : List (List ℕ)) → (xs ≡ [] → Q) → AllByRecursion P xs → MatchOption (slice_get xs 0) Q P
 from_first P Q [] f h = f refl

@@ -10,13 +10,13 @@ pub record Qualifies (all : Classes) (closed : List Row) (row : Row) (counts : L
   pub attained : IsTrue (attains closed counts)
   pub above : IsTrue (int_lt row.b (weight_in row.a counts))
 
--- in order of compositions: class by class, the greater count first
+-- the first counts come before the second: they have the greater count for the first class in which they differ
 abbrev pub comes_before : List ℕ → List ℕ → Bool
 comes_before [] others = false
 comes_before (c ∷ counts) [] = false
 comes_before (c ∷ counts) (d ∷ others) = nat_lt d c || (c == d && comes_before counts others)
 
--- a composition that qualifies; of those that qualify none weighs more, and none earlier in order weighs as much
+-- a composition that qualifies. Of all that qualify, none weighs more, and none that comes before it weighs as much
 pub record IsBest (all : Classes) (closed : List Row) (row : Row) (counts : List ℕ) : Type 0 where
   pub qualifies : Qualifies all closed row counts
   pub none_heavier : (other : List ℕ) → Qualifies all closed row other → IsTrue (int_le (weight_in row.a other) (weight_in row.a counts))

@@ -12,9 +12,9 @@ use Rattle.define_searches.specs.declared.Bounds.{Bounds}
 pub record Class : Type 0 where
   -- their numbers, in rising order
   pub members : List ℕ
-  -- for each category the place of their value
+  -- for each category, the place of the value that all of them have
   pub values : List ℕ
-  -- the least and the greatest number of them that a panel can have
+  -- the least and the greatest number of members that a panel can have
   pub least : ℕ
   pub most : ℕ
   -- the number of the household that the one member shares with a volunteer of another class
@@ -43,7 +43,7 @@ class_number classes i = position_or_len (λ class. includes class.members i) cl
 abbrev pub volunteer_count : Classes → ℕ
 volunteer_count all = sum_by (λ class. length class.members) all.classes
 
--- each number below the volunteers' count is in exactly one class, and no other number is in any
+-- each number below the count of volunteers is in exactly one class, and no other number is in any
 pub record PartVolunteers (all : Classes) : Type 0 where
   pub rising : AllByRecursion (λ class. IsTrue (is_increasing class.members)) all.classes
   pub known : AllByRecursion (λ class. AllByRecursion (λ i. i < volunteer_count all) class.members) all.classes
@@ -54,7 +54,7 @@ abbrev pub IsKnownHousehold : ℕ → Option ℕ → Type 0
 IsKnownHousehold count None = Unit {0}
 IsKnownHousehold count (Some h) = h < count
 
--- what holds of the classes of each pool: small numbers, so that sums over them stay small
+-- the limits that the classes of each pool keep: numbers so small that sums over them stay small
 pub record KeepsLimits (all : Classes) : Type 0 where
   -- a panel has 1 to 200 members
   pub size : (1 ≤ all.size) × (all.size ≤ 200)
@@ -84,21 +84,21 @@ most_taken Open size = size
 most_taken Seated size = size
 most_taken Gone size = 0
 
--- the number of a shared household is that of its first member; a household of one volunteer has no number
+-- the number of the household that a volunteer shares: the number of its first member. A household of one volunteer has no number
 abbrev pub shared_household : List Volunteer → ℕ → Option ℕ
 shared_household volunteers i =
     let everybody = range_with_len 0 (length volunteers) in
     if nat_le 2 (count_by (share_household volunteers i) everybody) then find (share_household volunteers i) everybody else None
 
--- the first member of each class: nobody before is alike
+-- the first member of each class, among the first `count` volunteers: those to whom nobody before them is alike
 abbrev pub leaders : (ℕ → ℕ → Bool) → ℕ → List ℕ
 leaders alike count = filter (λ i. not (list_any (λ j. alike j i) (range_with_len 0 i))) (range_with_len 0 count)
 
--- all who are alike to a leader, by rising number
+-- the volunteers who are alike to a leader, in rising order
 abbrev pub class_of : (ℕ → ℕ → Bool) → ℕ → ℕ → List ℕ
 class_of alike count leader = filter (alike leader) (range_with_len 0 count)
 
--- the class of a leader
+-- the class of a leader, by a test of who is alike
 abbrev pub class_by : (ℕ → ℕ → Bool) → Pool → ℕ → Class
 class_by alike pool leader =
     let members = class_of alike (length pool.volunteers) leader in

@@ -15,38 +15,38 @@ counts_down least (suc more) = (least + suc more) ∷ counts_down least more
 abbrev pub counts_of : Class → List ℕ
 counts_of class = counts_down class.least (class.most - class.least)
 
--- all lists with a count for each class, class by class, the greater count first
+-- all lists with a count for each class, in order: class by class, the greater count first
 abbrev pub all_counts : List Class → List (List ℕ)
 all_counts [] = [] ∷ []
 all_counts (class ∷ classes) = flat_map (λ c. map (λ counts. c ∷ counts) (all_counts classes)) (counts_of class)
 
--- the sum of the counts of the classes that pass a test
+-- the sum of the counts of those classes that pass a test
 abbrev pub taken_of : (Class → Bool) → List Class → List ℕ → ℕ
 taken_of passes [] counts = 0
 taken_of passes (class ∷ classes) [] = 0
 taken_of passes (class ∷ classes) (c ∷ counts) = (if passes class then c else 0) + taken_of passes classes counts
 
--- all members of a class have a value of a category
+-- the members of a class have this value of this category
 abbrev pub has_value : ℕ → ℕ → Class → Bool
 has_value category value class = slice_index class.values category == value
 
--- a number lies within bounds
+-- a count is within bounds
 abbrev pub lies_within : Bounds → ℕ → Bool
 lies_within bound count = nat_le bound.lower count && nat_le count bound.upper
 
--- each value's number lies within its bounds
+-- for each value, the count of members who have it is within its bounds
 abbrev pub meets_bounds : List (List Bounds) → List Class → List ℕ → Bool
 meets_bounds bounds classes counts =
     list_all (λ (c, values).
     list_all (λ (v, bound). lies_within bound (taken_of (has_value c v) classes counts)) (enumerate_from 0 values))
     (enumerate_from 0 bounds)
 
--- the one member of a class is of the household of this number
+-- the one member of a class is of the household with number h
 abbrev pub is_of_household : ℕ → Option ℕ → Bool
 is_of_household h None = false
 is_of_household h (Some number) = number == h
 
--- at most one is taken of a household
+-- at most one member is taken of a household, if there is one
 abbrev pub takes_one_of : List Class → List ℕ → Option ℕ → Bool
 takes_one_of classes counts None = true
 takes_one_of classes counts (Some h) = nat_le (taken_of (λ class. is_of_household h class.household) classes counts) 1
@@ -55,7 +55,7 @@ takes_one_of classes counts (Some h) = nat_le (taken_of (λ class. is_of_househo
 abbrev pub takes_one_a_household : List Class → List ℕ → Bool
 takes_one_a_household classes counts = list_all (λ class. takes_one_of classes counts class.household) classes
 
--- the counts sum to the size, each value's number is within its bounds, and no household has two members taken
+-- the counts sum to the size, the count of each value is within its bounds, and no household has two members taken
 abbrev pub is_composition : Classes → List ℕ → Bool
 is_composition all counts =
     taken_of (λ class. true) all.classes counts == all.size && meets_bounds all.bounds all.classes counts && takes_one_a_household all.classes counts
@@ -68,7 +68,7 @@ compositions all = filter (is_composition all) (all_counts all.classes)
 abbrev pub first_composition : Classes → Option (List ℕ)
 first_composition all = slice_get (compositions all) 0
 
--- a number is among the first members of a class, as many as the counts take of it
+-- volunteer i is taken: among the first members of a class, as many as the counts take of it
 abbrev pub is_taken : List Class → List ℕ → ℕ → Bool
 is_taken [] counts i = false
 is_taken (class ∷ classes) [] i = false
@@ -90,7 +90,7 @@ weight_in entries counts = sum_of_products counts entries
 abbrev pub attains : List Row → List ℕ → Bool
 attains closed counts = list_all (λ row. int_le row.b (weight_in row.a counts)) closed
 
--- the first list of greatest weight above a floor
+-- of the lists that weigh more than a floor, the first of greatest weight
 abbrev pub first_greatest : (List ℕ → ℤ) → ℤ → List (List ℕ) → Option (List ℕ)
 first_greatest weight floor [] = None
 first_greatest weight floor (counts ∷ rest) =

@@ -23,20 +23,20 @@ sizes_of all = map (λ class. length class.members) all.classes
 abbrev pub HaveReach : Classes → List Row → Type 0
 HaveReach all rows = AllByRecursion (λ row. reach (sizes_of all) row < 2 ^ 127) rows
 
--- the most that the later classes that pass a test can give
+-- how many members the later classes that pass a test can give at most
 abbrev pub most_given : (Class → Bool) → List Class → ℕ
 most_given passes later = sum_by (λ class. if passes class then class.most else 0) later
 
--- how many a front takes
+-- how many members a front takes in all
 abbrev pub taken_by : Classes → List ℕ → ℕ
 taken_by all front = taken_of (λ class. true) all.classes front
 
--- at most the size is taken, and at least the size with all that later classes can give
+-- a front takes at most the size, and with all that later classes can give at least the size
 abbrev pub size_reachable : Classes → List ℕ → Bool
 size_reachable all front =
     nat_le (taken_by all front) all.size && nat_le all.size (taken_by all front + most_given (λ class. true) (later_than front all.classes))
 
--- a value's number is at most its upper bound, and at least its lower bound with all that later classes can give
+-- the count of a value is at most its upper bound, and with all that later classes can give at least its lower bound
 abbrev pub value_reachable : Classes → List ℕ → ℕ → ℕ × Bounds → Bool
 value_reachable all front c (v, bound) =
     let count = taken_of (has_value c v) all.classes front in
@@ -73,7 +73,7 @@ sum_of xs = fold (λ total x. total +ℤ x) (pos 0) xs
 abbrev pub greatest_sum : ℕ → List Class → List ℤ → ℤ
 greatest_sum count classes entries = sum_of (take count (falling (units classes entries)))
 
--- the optimistic weight of a front: its weight in a row, and the greatest sum of later units, as many as the size lacks
+-- the optimistic weight of a front: its weight in a row, plus the greatest sum of as many units of later classes as it lacks members
 abbrev pub optimistic : Classes → Row → List ℕ → ℤ
 optimistic all row front =
     weight_in row.a front +ℤ greatest_sum (all.size - taken_by all front) (later_than front all.classes) (drop (length front) row.a)

@@ -6,7 +6,7 @@ use Rattle.define_pools.specs.Certificate.{Stage, weight_of}
 use Rattle.define_rows.specs.Row.{Row}
 use Rattle.define_searches.specs.Classes.{leaders}
 
--- each of the stages weighs alike volunteers alike, of those with numbers below `count`
+-- each of the stages gives alike volunteers the same weight, among the first `count` volunteers
 abbrev pub WeighAlike : (ℕ → ℕ → Bool) → ℕ → List Stage → Type 0
 WeighAlike alike count stages = AllByRecursion (λ stage. (i j : ℕ) → i < count → j < count → IsTrue (alike i j) → weight_of stage i ≡ weight_of stage j) stages
 

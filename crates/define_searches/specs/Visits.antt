@@ -12,14 +12,14 @@ pub record Search : Type 0 where
   pub visits : ℕ
   pub found : Option (List ℕ)
 
--- searches one after the other, up to the first that finds a composition
+-- searches one after the other, up to the first one that finds a composition
 abbrev pub one_by_one : List Search → Search
 one_by_one [] = record { visits = 0; found = None }
 one_by_one (search ∷ later) =
     if is_some search.found then search
     else record { visits = search.visits + (one_by_one later).visits; found = (one_by_one later).found }
 
--- a front is entered, and these classes come after it: a front of all classes is a composition
+-- the search from a front that is entered, with the classes that come after it. If none come after it, the front is a composition
 abbrev pub enter_first : Classes → List Class → List ℕ → Search
 enter_first all [] front = record { visits = 1; found = Some front }
 enter_first all (class ∷ later) front =
@@ -36,7 +36,8 @@ pub record Pricing : Type 0 where
   pub floor : ℤ
   pub kept : Option (List ℕ)
 
--- a front is entered, and these classes come after it: a front of all classes is kept, and its weight is the floor from then on
+-- the search from a front that is entered, with the classes that come after it. If none come after it, the front is kept, and its weight is
+-- the floor from then on
 abbrev pub enter_best : Classes → List Row → Row → List Class → List ℕ → Pricing → Pricing
 enter_best all closed row [] front so_far = record { visits = so_far.visits + 1; floor = weight_in row.a front; kept = Some front }
 enter_best all closed row (class ∷ later) front so_far =

@@ -4,7 +4,7 @@ use Rattle.define_pools.specs.Pool.{Pool}
 use Rattle.define_pools.specs.WorkedExamples.{person, bounded, category}
 use Rattle.define_rows.specs.Row.{Row}
 
--- one seat, for a of x or b of y
+-- one seat for one of two volunteers: a, who has the value x, or b, who has y
 abbrev pub either : Pool
 either = record {
   size = 1;
@@ -12,7 +12,7 @@ either = record {
   volunteers = person (codes "a") (0 ∷ []) ∷ person (codes "b") (1 ∷ []) ∷ [];
 }
 
--- two seats for four volunteers, each of another value, of which a panel may have one at most
+-- two seats for four volunteers, each with a value of their own
 abbrev pub apart : Pool
 apart = record {
   size = 2;

@@ -18,7 +18,7 @@ pub lcm_of-positive : (x y : ℕ) → 0 < x → 0 < y → 0 < lcm_of x y
 unfolding lcm_of
 lcm_of-positive x y some_x some_y = mul-pos (beyond-positive x y (gcd_of x y) refl some_x) some_y
 
--- a dial has a place
+-- a dial has at least one place
 pub dial-positive : (all : Classes) (counts : List ℕ) → 0 < dial all counts
 dial-positive all counts = fold_positive 1 (partly_taken all.classes counts) (omega arith) (each_size all.classes counts)
   where
@@ -41,7 +41,7 @@ dial-positive all counts = fold_positive 1 (partly_taken all.classes counts) (om
           | false ↦ λ e. rest
         ]) refl
 
--- what the total of some parts is, from the total of those before them
+-- what the total of some parts is, if the total before them is `before`
 pub record Grows (all : Classes) (parts : List (List ℕ × Fraction)) (before total : ℕ) : Type 0 where
   divided : before ∣ total
   positive : 0 < total
@@ -87,7 +87,7 @@ common_total all parts total are e =
       multiple = All-from_recursion (λ part. part.1.den * dial all part.0 ∣ total) parts grown.multiple;
     }
 
--- so it is a multiple of each denominator
+-- so a common total is a multiple of each denominator
 pub each_den : (all : Classes) (parts : List (List ℕ × Fraction)) (total : ℕ) → IsCommonTotal all parts total → AllByRecursion (λ part. part.1.den ∣ total) parts
 each_den all parts total common =
     each_map (λ part. part.1.den * dial all part.0 ∣ total) (λ part. part.1.den ∣ total) (λ part h. dvd_trans _ (dvd-mul_right part.1.den (dial all part.0)) h)

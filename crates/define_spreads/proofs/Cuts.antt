@@ -90,11 +90,11 @@ increases-once (x ∷ (y ∷ ys)) r =
 
 -- ---- cuts
 
--- numbers in rising order, each once
+-- the numbers of a list, sorted and each once, increase
 pub once_increases : (xs : List ℕ) → is_increasing (once_each (rising xs)) ≡ true
 once_increases xs = increases-once (rising xs) (Rises-rising xs)
 
--- are the same numbers
+-- they are the numbers of the list
 pub includes-once_rising : (xs : List ℕ) (z : ℕ) → includes (once_each (rising xs)) z ≡ includes xs z
 includes-once_rising xs z = includes-once z (rising xs) ∙ includes-rising z xs
 
@@ -108,12 +108,12 @@ pub each_cut : (P : ℕ → Type 0) (all : Classes) (counts : List ℕ) → AllB
 each_cut P all counts each =
     let xs = 0 ∷ flat_map (marks (dial all counts)) (partly_taken all.classes counts) in each_once P (rising xs) (each_rising P xs each)
 
--- two lists, one after the other, hold what one of them holds
+-- two joined lists contain a number if one of them does
 pub includes-append : (xs ys : List ℕ) (z : ℕ) → includes (xs ++ ys) z ≡ (includes xs z || includes ys z)
 includes-append [] ys z = refl
 includes-append (x ∷ xs) ys z = ap (λ b. eqb x z || b) (includes-append xs ys z) ∙ sym (or_assoc (eqb x z) (includes xs z) (includes ys z))
 
--- lists hold what one of them holds
+-- joined lists contain a number that one of them contains
 pub includes-flat_map : (f : ℕ → List ℕ) (xs : List ℕ) (x z : ℕ) → includes xs x ≡ true → includes (f x) z ≡ true → includes (flat_map f xs) z ≡ true
 includes-flat_map f [] x z h k = cc
 includes-flat_map f (y ∷ ys) x z h k =
@@ -123,7 +123,7 @@ includes-flat_map f (y ∷ ys) x z h k =
     by true e h rest = let s : y ≡ x = eqb-true y x e in let here : includes (f y) z ≡ true = ap (λ n. includes (f n) z) s ∙ k in rw here refl
     by false e h rest = let later = rest h in rw later (or-true (includes (f y) z))
 
--- an increasing list that holds 0 begins with it
+-- an increasing list that contains 0 begins with 0
 pub from_zero : (xs : List ℕ) → is_increasing xs ≡ true → includes xs 0 ≡ true → (rest : List ℕ) × (xs ≡ 0 ∷ rest)
 from_zero [] up h = absurd cc
 from_zero (x ∷ xs) up h = first (cases_eq x 0)
@@ -174,7 +174,7 @@ length-once (x ∷ (y ∷ ys)) =
       | false ↦ omega (arith, rest)
     ]
 
--- 0 put before a list that holds 0 adds no number
+-- if a list contains 0, then 0 put before it gives at most as many cuts as the list has numbers
 pub zero_again : (xs : List ℕ) → includes xs 0 ≡ true → length (once_each (rising (0 ∷ xs))) ≤ length xs
 zero_again xs h = by (rising xs) (Rises-rising xs) (includes-rising 0 xs ∙ h) (length-rising xs)
   where

@@ -15,7 +15,7 @@ use Rattle.define_spreads.specs.Spreading.{is_partly_taken, partly_taken, dial, 
 use Rattle.define_spreads.proofs.CommonTotals.{lcm_of-positive, dial-positive}
 use Rattle.define_spreads.proofs.Cuts.{each_cut, includes-cuts, includes-flat_map}
 
--- what holds of each element holds of one that a list includes
+-- what holds of each element of a list holds of a number that the list includes
 pub each_included : (P : ℕ → Type 0) (xs : List ℕ) (x : ℕ) → AllByRecursion P xs → includes xs x ≡ true → P x
 each_included P [] x each h = absurd cc
 each_included P (y ∷ ys) x each h = by (eqb y x) refl h (λ later. each_included P ys x each.1 later)
@@ -26,7 +26,7 @@ each_included P (y ∷ ys) x each h = by (eqb y x) refl h (λ later. each_includ
 
 -- ---- classes taken in part
 
--- a size is that of a class taken in part
+-- this is the size of a class that is taken in part
 pub record IsPartly (classes : List Class) (counts : List ℕ) (size : ℕ) : Type 0 where
   pub place : ℕ
   pub class : Class
@@ -94,7 +94,7 @@ fold_multiple a (x ∷ xs) some each =
     let rest = fold_multiple (lcm_of a x) xs (lcm_of-positive a x some each.0) each.1 in
     (dvd_trans _ least.0 rest.0, (dvd_trans _ least.1 rest.0, rest.1))
 
--- a length is so many times a size
+-- a length is a multiple of a size: the size times `step`
 pub record Divided (size len : ℕ) : Type 0 where
   pub step : ℕ
   pub some : 0 < step
@@ -110,7 +110,7 @@ divided size len has some h =
     positive zero e = absurd (omega arith)
     positive (suc q) e = omega arith
 
--- the dial is so many times the size of each class taken in part
+-- the dial's length is a multiple of the size of each class taken in part
 pub divided_dial : (all : Classes) (counts : List ℕ) → AllByRecursion (λ size. Divided size (dial all counts)) (partly_taken all.classes counts)
 divided_dial all counts =
     let sizes = partly_taken all.classes counts in
@@ -125,19 +125,19 @@ divided_dial all counts =
     both [] has multiple = tt
     both (size ∷ sizes) has multiple = (divided size (dial all counts) has.0 (dial-positive all counts) multiple.0, both sizes has.1 multiple.1)
 
--- a class's marks stand so many steps apart
+-- the marks of a class are `step` places apart
 pub mark_is : (size len j : ℕ) → (d : Divided size len) → j * len / size ≡ j * d.step
 mark_is size len j d =
     let e : j * len ≡ j * d.step * size = ap (λ n. j * n) (sym d.is) ∙ omega arith in
     ap (λ n. n / size) e ∙ mul-div_cancel (j * d.step) d.has
 
--- so the window of a place is that of the mark before it
+-- so at each place of the dial the class's window is that of the last mark up to the place
 pub turn_is : (size len z : ℕ) → (d : Divided size len) → z * size / len ≡ z / d.step
 turn_is size len z d = ap (λ n. z * size / n) (sym d.is) ∙ mul-div-mul_right z d.step d.has
 
 -- ---- marks
 
--- a place of the dial is a mark of a class taken in part
+-- a place of the dial is a mark of a class that is taken in part
 pub record IsMark (all : Classes) (counts : List ℕ) (z : ℕ) : Type 0 where
   pub size : ℕ
   pub partly : IsPartly all.classes counts size
@@ -146,7 +146,7 @@ pub record IsMark (all : Classes) (counts : List ℕ) (z : ℕ) : Type 0 where
   pub below : number < size
   pub is : z ≡ number * divided.step
 
--- each cut is on the dial, and 0 or a mark
+-- a cut is a place of the dial, and it is 0 or a mark
 abbrev pub Cut : Classes → List ℕ → ℕ → Type 0
 Cut all counts z = (z < dial all counts) × ((z ≡ 0) ⊎ IsMark all counts z)
 
@@ -180,7 +180,7 @@ includes-mapped f first (suc count) j low below = ⊎_elim
     (λ (s : first ≡ j). let e : eqb (f first) (f j) ≡ true = eq-eqb (f first) (f j) (ap f s) in rw e refl)
     (λ (ne : first ≡ j → ⊥). let rest = includes-mapped f (first + 1) count j (omega arith) (omega arith) in rw rest (or-true (eqb (f first) (f j)))) (cases_eq first j)
 
--- each mark of a class taken in part is a cut
+-- each mark of a class that is taken in part is a cut
 pub marks_cut : (all : Classes) (counts : List ℕ) (size j : ℕ) → includes (partly_taken all.classes counts) size ≡ true → (d : Divided size (dial all counts)) → j < size →
     includes (cuts all counts) (j * d.step) ≡ true
 marks_cut all counts size j there d below =

@@ -54,7 +54,7 @@ few_cuts all counts some = by (partly_taken all.classes counts) (each_partly all
         let again = zero_again (flat_map (marks (dial all counts)) (size ∷ sizes)) there in
         omega (arith, again, length-marks (dial all counts) (size ∷ sizes), few, sum_by-is-total (λ class. length class.members) all.classes)
 
--- a panel for each arc: at least one, and at most as many as there are volunteers
+-- a part has a row for each arc: at least one, and at most as many as there are volunteers
 pub few_rows : (all : Classes) (sum : ℕ) (part : List ℕ × Fraction) → 0 < volunteer_count all → (0 < length (rows_of all sum part)) × (length (rows_of all sum part) ≤ volunteer_count all)
 few_rows all sum part some = (
   some_rows all sum part,

@@ -1,4 +1,4 @@
--- What is spread over classes that part the volunteers: a lottery with even chances in each class.
+-- What is spread over classes that part the volunteers is a lottery, in which all members of a class have the same chance.
 use Rattle.std.proofs.Common.{◌≡◌, ℕ, zero, suc, ◌+◌, ◌*◌, ◌/◌, ◌≤◌, ◌<◌, Bool, true, false, cond, not, leb, ltb, List, [], ◌∷◌, ◌++◌, map, filter, length, get_or, slice_get, slice_index, Some, Result, Ok, Err, refl, sym, ap, ◌∙◌, ⊎_elim, arith, subst, length-append}
 use Rattle.std.specs.Int.{◌∣◌}
 use Rattle.std.specs.List.{flat_map, list_all, range_with_len, AllByRecursion, Contains}
@@ -79,7 +79,7 @@ apart_from_different (xs ∷ xss) h =
 
 -- ---- the weights of a part
 
--- what the weights of a part's rows are
+-- the weights of a part's rows: multiples of a unit
 record Weighed (all : Classes) (sum : ℕ) (part : List ℕ × Fraction) : Type 0 where
   unit : ℕ
   some : 0 < part.1.num * unit
@@ -112,7 +112,7 @@ all_weighed all sum parts are common =
 -- ---- rows
 
 module _ (all : Classes) (sum : ℕ) where
-  -- the row of an arc
+  -- the lottery row of an arc
   abbrev pub row_at : List ℕ × Fraction → ℕ × ℕ → LotteryRow
   row_at part a = record { panel = panel_at all part.0 a.0; weight = a.1 * part.1.num * sum / (part.1.den * dial all part.0) }
 
@@ -250,7 +250,7 @@ module _ (all : Classes) (sum : ℕ) where
 
 -- ---- what spreading gives
 
--- what is spread: the common total, and the rows for it
+-- the lottery that is spread has a common total, and the rows for it
 pub record IsSpread (all : Classes) (parts : List (List ℕ × Fraction)) (lottery : Lottery) : Type 0 where
   pub common : IsCommonTotal all parts lottery.total
   pub is : lottery ≡ (let made : Lottery = record { total = lottery.total; rows = flat_map (rows_of all lottery.total) parts } in made)
@@ -270,7 +270,7 @@ is_spread all parts lottery are e = by (total_from all 0 1 parts) refl e
 pub parts_within : (all : Classes) (parts : List (List ℕ × Fraction)) → CanGive all.classes → AreParts all parts → AllByRecursion (λ part. Within all.classes part.0) parts
 parts_within all parts can are = each_composition (Within all.classes) all parts are (compositions_within all can)
 
--- the members of a class have even chances
+-- all members of a class have the same chance
 pub even_chances : (all : Classes) (parts : List (List ℕ × Fraction)) (lottery : Lottery) → PartVolunteers all → CanGive all.classes → AreParts all parts → spread all parts ≡ Ok lottery → HasEvenChances all parts lottery
 even_chances all parts lottery parting can are e =
     let found = is_spread all parts lottery are e in
@@ -348,7 +348,7 @@ module _ (pool : Pool) (alike : ℕ → ℕ → Bool) (makes : MakesClasses pool
           let cons = ap length (flat_map-cons (rows_of of_pool sum) part parts) in
           omega (arith, cons, length-append (rows_of of_pool sum part) (flat_map (rows_of of_pool sum) parts), some_rows of_pool sum part)
 
-  -- it is a lottery over the pool
+  -- what is spread over a pool's classes is a lottery over the pool's quota panels
   pub pool_lottery : (parts : List (List ℕ × Fraction)) (lottery : Lottery) → AreParts of_pool parts → spread of_pool parts ≡ Ok lottery → IsLottery pool lottery
   pool_lottery parts lottery are e =
       let found = is_spread of_pool parts lottery are e in

@@ -1,5 +1,5 @@
--- The panels of a composition's arcs: each takes as many of each class as the composition says, no two are the same, and each member of
--- a class is on panels for the same length of the dial.
+-- The panels of a composition's arcs: each takes as many members of each class as the composition says, no two are the same, and each
+-- member of a class is on panels for the same length of the dial.
 use Rattle.std.proofs.Common.{◌≡◌, ◌⊎◌, inl, inr, ℕ, zero, suc, ◌+◌, ◌-◌, ◌*◌, ◌/◌, ◌≤◌, ◌<◌, Bool, true, false, cond, eqb, ltb, List, [], ◌∷◌, map, take, drop, ◌++◌, length, get_or, slice_get, Some, count_by, refl, sym, ap, ◌∙◌, ⊎_elim, arith, subst, mul-le-mul_right}
 use Rattle.std.specs.List.{range_with_len, AllByRecursion}
 use Rattle.std.proofs.lemmas.Bool.{and_from, cases_Bool, cases_lt, lt-ltb, ne_eqb, false≢true}
@@ -29,7 +29,7 @@ Within [] (c ∷ counts) = ⊥
 Within (class ∷ classes) [] = ⊥
 Within (class ∷ classes) (c ∷ counts) = (c ≤ length class.members) × Within classes counts
 
--- each class gives at least one number, and at most all its members
+-- each class can give a count from its least to its most, which is at most all its members
 abbrev pub CanGive : List Class → Type 0
 CanGive classes = AllByRecursion (λ class. (class.least ≤ class.most) × (class.most ≤ length class.members)) classes
 
@@ -60,7 +60,7 @@ same_length [] (c ∷ counts) within = absurd within
 same_length (class ∷ classes) [] within = absurd within
 same_length (class ∷ classes) (c ∷ counts) within = omega (arith, same_length classes counts within.1)
 
--- a list with a number for each class is told by these
+-- if f of each class is the count in the class's place, the list of these values is the list of counts
 told_by : (f : Class → ℕ) (classes : List Class) (counts : List ℕ) → length counts ≡ length classes →
     ((t : ℕ) (class : Class) → slice_get classes t ≡ Some class → f class ≡ get_or counts t 0) → map f classes ≡ counts
 told_by f [] [] e h = refl
@@ -89,7 +89,7 @@ given_none len at (class ∷ classes) (c ∷ counts) i none =
     later : (b : Bool) → one_if b + total (λ (class : Class). one_if (includes class.members i)) classes ≡ 0 → total (λ (class : Class). one_if (includes class.members i)) classes ≡ 0
     later b none = omega arith
 
--- a member of one class is given where its class gives it
+-- a member of class t is on the panel of a place exactly if the class gives this member there
 given_at : (len at : ℕ) (classes : List Class) (counts : List ℕ) (t : ℕ) (class : Class) (i : ℕ) → slice_get classes t ≡ Some class → t < length counts →
     includes class.members i ≡ true → total (λ (class : Class). one_if (includes class.members i)) classes ≤ 1 →
     is_given len at classes counts i ≡ includes (turned (at * length class.members / len) (get_or counts t 0) class.members) i
@@ -129,7 +129,7 @@ module _ (all : Classes) (parting : PartVolunteers all) (counts : List ℕ) (wit
   abbrev many : ℕ
   many = volunteer_count all
 
-  -- whom a class of a place gives on the arc that begins at a place of the dial
+  -- the members whom class t gives on the arc that begins at place `at` of the dial
   abbrev window : ℕ → Class → ℕ → List ℕ
   window t class at = turned (at * length class.members / len) (get_or counts t 0) class.members
 
@@ -208,13 +208,13 @@ module _ (all : Classes) (parting : PartVolunteers all) (counts : List ℕ) (wit
         each_window : (P : ℕ → Type 0) (j c : ℕ) (xs : List ℕ) → AllByRecursion P xs → AllByRecursion P (turned j c xs)
         each_window P j c xs h = each_take P c (drop j xs ++ take j xs) (each_append P (drop j xs) (take j xs) (each_drop P j xs h) (each_take P j xs h))
 
-  -- so each panel has this composition
+  -- so each panel of an arc has this composition
   pub panel_composes : (at : ℕ) → at < len → composition_of all (panel_at all counts at) ≡ counts
   panel_composes at below = told_by (λ class. count_by (includes class.members) (panel_at all counts at)) all.classes counts (same_length all.classes counts within) (λ t class is_at. takes t class is_at at below)
 
   -- ---- different panels
 
-  -- the panels of a place and of a later cut differ
+  -- the panel at a place and the panel at a later cut are different
   pub panels_apart : (x y : ℕ) → x < y → Cut all counts y → panel_at all counts x ≡ panel_at all counts y → ⊥
   panels_apart x y less cut same = by cut.1
     where
@@ -245,7 +245,7 @@ module _ (all : Classes) (parting : PartVolunteers all) (counts : List ℕ) (wit
 
   -- ---- even chances
 
-  -- the sum over the arcs of what stays the same up to each mark
+  -- if a function depends only on the mark before a place, its sum over the arcs is q times its sum over the marks
   over_arcs : (f : ℕ → ℕ) (q size : ℕ) → 0 < q → q * size ≡ len → ((j : ℕ) → j < size → includes (cuts all counts) (j * q) ≡ true) →
       total (λ a. a.1 * f (a.0 / q)) (arcs all counts) ≡ q * sum_below f size
   over_arcs f q size some whole marked = by (cuts_begin all counts)
@@ -261,7 +261,7 @@ module _ (all : Classes) (parting : PartVolunteers all) (counts : List ℕ) (wit
           let same : sum_below (λ z. f (z / q)) (size * q) ≡ sum_below (λ z. f (z / q)) len = ap (sum_below (λ z. f (z / q))) turned in
           ap (λ xs. total (λ a. a.1 * f (a.0 / q)) (arcs_between len xs)) e ∙ omega (arith, sum, turns, same)
 
-  -- the arcs are as long as the dial
+  -- the lengths of the arcs sum to the length of the dial
   pub arcs_length : total (λ a. a.1) (arcs all counts) ≡ len
   arcs_length =
       let some = dial-positive all counts in
@@ -310,7 +310,7 @@ module _ (all : Classes) (parting : PartVolunteers all) (counts : List ℕ) (wit
           (λ (m : length class.members ≤ get_or counts t 0). let f = fits t class is_at in inr (omega arith)) (cases_lt (get_or counts t 0) (length class.members)))
           (λ (l : get_or counts t 0 ≤ 0). inl (omega arith)) (cases_lt 0 (get_or counts t 0))
 
-      -- in each window, or in none
+      -- if all members are taken or none, each member is in every window or in none
       each_window_same : (count j : ℕ) → j ≤ length class.members → (count ≡ 0) ⊎ (count ≡ length class.members) → times (turned j count class.members) i * length class.members ≡ count
       each_window_same count j low (inl e) =
           let w = times-turned j 0 class.members i low (omega arith) in

@@ -15,7 +15,7 @@ use Rattle.define_searches.specs.Classes.{Classes}
 use Rattle.define_searches.specs.Compositions.{compositions}
 use Rattle.define_spreads.specs.Spreading.{AreParts, AreShares, with_fraction}
 
--- one share: its part of a common multiple, times the whole
+-- a share's numerator over a common multiple, times the whole, is the share times the multiple
 share_of : (share whole common : ℕ) → (lowest_of share whole).den ∣ common → (lowest_of share whole).num * (common / (lowest_of share whole).den) * whole ≡ share * common
 share_of share whole common h =
     over (lowest_of share whole).num (lowest_of share whole).den (common / (lowest_of share whole).den) share whole common

@@ -17,7 +17,7 @@ module _ (pool : Pool) (alike : ℕ → ℕ → Bool) (makes : MakesClasses pool
   abbrev all : Classes
   all = classes_by alike pool
 
-  -- a panel of the pool's volunteers with this composition
+  -- P holds of each panel of the pool's volunteers that has this composition
   abbrev pub OfComposition : List ℕ → Type 0
   OfComposition counts = (panel : List ℕ) → list_all (λ i. ltb i (length pool.volunteers)) panel ≡ true → composition_of all panel ≡ counts → P panel
 

@@ -1,4 +1,5 @@
--- How often a number stands in a list, and in so many members from a place on, turning round at the end.
+-- How often a number is in a list, and in its windows. A window is a part of the list from a place on, which goes on with the first members
+-- after the last.
 use Rattle.std.proofs.Common.{◌≡◌, ℕ, zero, suc, ◌+◌, ◌-◌, ◌*◌, ◌≤◌, ◌<◌, true, false, ◌||◌, eqb, ltb, List, [], ◌∷◌, ◌++◌, take, drop, length, get_or, refl, sym, ap, ◌∙◌, ⊎_elim, arith, length-append, length-drop}
 use Rattle.std.specs.List.{AllByRecursion, list_all, range_with_len}
 use Rattle.std.proofs.lemmas.Bool.{and_parts, cases_lt, eq-eqb, eqb-true, ne_eqb, lt-ltb, le-ltb, ltb-true}
@@ -11,12 +12,12 @@ use Rattle.define_spreads.specs.Spreading.{turned}
 
 -- ---- sums below a number
 
--- the sum of a function's values at the numbers below one
+-- the sum of f over the numbers below n
 abbrev pub sum_below : (ℕ → ℕ) → ℕ → ℕ
 sum_below f zero = 0
 sum_below f (suc k) = sum_below f k + f k
 
--- ---- how often a number stands in a list
+-- ---- how often a number is in a list
 
 abbrev pub times : List ℕ → ℕ → ℕ
 times xs i = total (λ x. one_if (eqb x i)) xs
@@ -34,7 +35,7 @@ includes-times (x ∷ xs) i =
       | false ↦ let e : 0 + times xs i ≡ times xs i = omega arith in rw e rest
     ]
 
--- at most once: the test is the number
+-- if a number is in a list at most once, it is there once if the list includes it, and else never
 pub one_if-includes : (xs : List ℕ) (i : ℕ) → times xs i ≤ 1 → one_if (includes xs i) ≡ times xs i
 one_if-includes xs i few = ap one_if (includes-times xs i) ∙ ⊎_elim
     (λ (l : 0 < times xs i). let e = lt-ltb 0 (times xs i) l in rw e (omega arith))
@@ -51,7 +52,7 @@ includes-none xs i h = includes-times xs i ∙ le-ltb 0 (times xs i) h
 pub times-some : (xs : List ℕ) (i : ℕ) → includes xs i ≡ true → 0 < times xs i
 times-some xs i h = ltb-true 0 (times xs i) (sym (includes-times xs i) ∙ h)
 
--- no number comes twice in an increasing list
+-- no number is in an increasing list twice
 pub at_most_once : (xs : List ℕ) → is_increasing xs ≡ true → (i : ℕ) → times xs i ≤ 1
 at_most_once [] h i = omega arith
 at_most_once (x ∷ xs) h i =
@@ -70,7 +71,7 @@ at_most_once (x ∷ xs) h i =
         let e : eqb y i ≡ false = ne_eqb y i (λ e. omega arith) in
         let rest = none_above xs x i parts.1 l in rw e (omega (arith, rest))
 
--- each element of a list is counted once in all
+-- each element of a list is counted once if all numbers are counted
 pub all_times : (n : ℕ) (xs : List ℕ) → AllByRecursion (λ i. i < n) xs → total (λ i. times xs i) (range_with_len 0 n) ≡ length xs
 all_times n [] each = total-zero (λ i. 0) (λ i. refl) (range_with_len 0 n)
 all_times n (x ∷ xs) each =
@@ -110,7 +111,7 @@ length-turned j c xs within few =
 
 -- ---- all windows of a class
 
--- the windows that begin at the first places hold a number as often as the places after them, and those round the end
+-- how often the windows that begin at the first m places contain number i, by how often the first members of the list do
 windows_below : (xs : List ℕ) (i c m : ℕ) → c ≤ length xs → m ≤ length xs →
     sum_below (λ j. times (turned j c xs) i) m + sum_below (λ k. times (take k xs) i) m + sum_below (λ k. times (take k xs) i) c
     ≡ sum_below (λ k. times (take k xs) i) (m + c) + sum_below (λ k. times (take k xs) i) (m + c - length xs)
@@ -140,7 +141,7 @@ beyond_end xs i (suc c) =
     let whole : times (take (length xs + c) xs) i ≡ times xs i = ap (λ zs. times zs i) (take_all (length xs + c) xs (omega arith)) in
     rw next (omega (arith, beyond_end xs i c, whole))
 
--- each member is in as many of a class's windows as a window has members
+-- the windows of c members, one from each place, contain a number c times as often as the list
 pub all_windows : (xs : List ℕ) (i c : ℕ) → c ≤ length xs → sum_below (λ j. times (turned j c xs) i) (length xs) ≡ c * times xs i
 all_windows xs i c few =
     let all = windows_below xs i c (length xs) few (omega arith) in
@@ -148,7 +149,7 @@ all_windows xs i c few =
     let all' : sum_below (λ j. times (turned j c xs) i) (length xs) + sum_below (λ k. times (take k xs) i) (length xs) + sum_below (λ k. times (take k xs) i) c ≡ sum_below (λ k. times (take k xs) i) (length xs + c) + sum_below (λ k. times (take k xs) i) c = all ∙ ap (λ z. sum_below (λ k. times (take k xs) i) (length xs + c) + sum_below (λ k. times (take k xs) i) z) e in
     omega (arith, all', beyond_end xs i c)
 
--- a window holds a number at most as often as the class
+-- a window contains a number at most as often as the list
 pub times-turned-le : (j c : ℕ) (xs : List ℕ) (i : ℕ) → times (turned j c xs) i ≤ times xs i
 times-turned-le j c xs i =
     let whole = ap (λ zs. times zs i) (take-append-drop c (drop j xs ++ take j xs)) in
@@ -157,7 +158,7 @@ times-turned-le j c xs i =
 
 -- ---- windows that begin at different places
 
--- the first ones with one more
+-- the first p + 1 members contain the member of place p once more than the first p
 one_more : (xs : List ℕ) (p : ℕ) → p < length xs → times (take (suc p) xs) (get_or xs p 0) ≡ 1 + times (take p xs) (get_or xs p 0)
 one_more [] p l = absurd (omega arith)
 one_more (x ∷ xs) zero l = let e : eqb x x ≡ true = eq-eqb x x refl in rw e refl
@@ -172,7 +173,7 @@ take_less (suc k) (suc l) (x ∷ xs) i h = omega (arith, take_less k l xs i (ome
 within_all : (k : ℕ) (xs : List ℕ) (i : ℕ) → times (take k xs) i ≤ times xs i
 within_all k xs i = let whole = ap (λ zs. times zs i) (take-append-drop k xs) in omega (arith, whole, times-append (take k xs) (drop k xs) i)
 
--- where no number comes twice, the first ones hold the member of a place where they go beyond it
+-- if no number comes twice, the first k members contain the member of place p exactly if p is below k
 at_place : (xs : List ℕ) (p k : ℕ) → ((i : ℕ) → times xs i ≤ 1) → p < length xs → times (take k xs) (get_or xs p 0) ≡ one_if (ltb p k)
 at_place xs p k once inside =
     let i = get_or xs p 0 in
@@ -181,7 +182,7 @@ at_place xs p k once inside =
     (λ (l : p < k). let e = lt-ltb p k l in rw e (omega (arith, more, take_less (suc p) k xs i (omega arith), within_all k xs i, once i)))
     (λ (l : k ≤ p). let e = le-ltb p k l in rw e (omega (arith, more, take_less k p xs i l, within_all (suc p) xs i, once i))) (cases_lt p k)
 
--- how often a window holds the member of a place
+-- how often a window contains the member of place p
 in_window : (xs : List ℕ) (p j c : ℕ) → ((i : ℕ) → times xs i ≤ 1) → p < length xs → j ≤ length xs → c ≤ length xs →
     times (turned j c xs) (get_or xs p 0) + one_if (ltb p j) ≡ one_if (ltb p (j + c)) + one_if (ltb p (j + c - length xs))
 in_window xs p j c once inside within few =
@@ -193,7 +194,7 @@ yes p k l = ap one_if (lt-ltb p k l)
 no : (p k : ℕ) → k ≤ p → one_if (ltb p k) ≡ 0
 no p k l = ap one_if (le-ltb p k l)
 
--- windows of some and not all members that begin at different places are different
+-- two windows of c members, some and not all, that begin at different places are different
 pub windows_apart : (xs : List ℕ) (a j c : ℕ) → ((i : ℕ) → times xs i ≤ 1) → a < j → j < length xs → 0 < c → c < length xs →
     ((i : ℕ) → times (turned a c xs) i ≡ times (turned j c xs) i) → ⊥
 windows_apart xs a j c once less inside some few same = ⊎_elim turns stays (cases_lt (length xs + a) (j + c))

@@ -1,4 +1,4 @@
--- Compositions with fractions, spread over panels so that all members of a class have one chance. Over Compositions of
+-- Compositions with fractions, spread over panels so that all members of a class have the same chance. Over Compositions of
 -- `define_searches`. `alike` spreads so.
 use Rattle.std.specs.Prelude.{◌≡◌, ℕ, ◌+◌, ◌-◌, ◌*◌, ◌/◌, ◌^◌, ◌<◌, ◌≤◌, ◌==◌, nat_lt, nat_le, if◌then◌else◌, Bool, false, ◌&&◌, ◌||◌, IsTrue, List, [], ◌∷◌, ◌++◌, drop, filter, fold, length, map, slice_get, slice_index, sum_by, take, Contains, Some, Result, Ok, Err}
 use Rattle.std.specs.Int.{◌∣◌}
@@ -10,7 +10,7 @@ use Rattle.define_pools.specs.Lottery.{LotteryRow, Lottery, count}
 use Rattle.define_searches.specs.Classes.{Class, Classes, volunteer_count}
 use Rattle.define_searches.specs.Compositions.{compositions}
 
--- a class is taken in part: some of its members are on a panel, and not all
+-- a class is taken in part: at least one of its members is taken, and not all
 abbrev pub is_partly_taken : Class → ℕ → Bool
 is_partly_taken class count = nat_lt 0 count && nat_lt count (length class.members)
 
@@ -25,7 +25,7 @@ partly_taken (class ∷ classes) (count ∷ counts) =
 abbrev pub dial : Classes → List ℕ → ℕ
 dial all counts = fold lcm_of 1 (partly_taken all.classes counts)
 
--- the marks of a class of this size, evenly along a dial of this length
+-- the marks of a class: as many as it has members, evenly along a dial of this length
 abbrev pub marks : ℕ → ℕ → List ℕ
 marks length_of_dial size = map (λ j. j * length_of_dial / size) (range_with_len 0 size)
 
@@ -39,7 +39,7 @@ once_each (x ∷ (y ∷ ys)) = if x == y then once_each (y ∷ ys) else x ∷ on
 abbrev pub cuts : Classes → List ℕ → List ℕ
 cuts all counts = once_each (rising (0 ∷ flat_map (marks (dial all counts)) (partly_taken all.classes counts)))
 
--- the arcs between these cuts of a dial of this length: where each begins, and its length
+-- the arcs between these cuts of a dial that ends at `end`: where each begins, and its length
 abbrev pub arcs_between : ℕ → List ℕ → List (ℕ × ℕ)
 arcs_between end [] = []
 arcs_between end (x ∷ []) = (x, end - x) ∷ []
@@ -49,23 +49,23 @@ arcs_between end (x ∷ (y ∷ ys)) = (x, y - x) ∷ arcs_between end (y ∷ ys)
 abbrev pub arcs : Classes → List ℕ → List (ℕ × ℕ)
 arcs all counts = arcs_between (dial all counts) (cuts all counts)
 
--- `count` members from a place on, turning round at the end
+-- `count` members from a place on; after the last member come the first ones
 abbrev pub turned : ℕ → ℕ → List ℕ → List ℕ
 turned place count members = take count (drop place members ++ take place members)
 
--- a number is among those whom the classes give on the arc that begins at this place of the dial
+-- volunteer i is among the members whom the classes give on the arc that begins at place `at` of the dial
 abbrev pub is_given : ℕ → ℕ → List Class → List ℕ → ℕ → Bool
 is_given length_of_dial at [] counts i = false
 is_given length_of_dial at (class ∷ classes) [] i = false
 is_given length_of_dial at (class ∷ classes) (count ∷ counts) i =
     includes (turned (at * length class.members / length_of_dial) count class.members) i || is_given length_of_dial at classes counts i
 
--- the panel of the arc that begins at a place
+-- the panel of the arc that begins at place `at` of the dial
 abbrev pub panel_at : Classes → List ℕ → ℕ → List ℕ
 panel_at all counts at = filter (is_given (dial all counts) at all.classes counts) (range_with_len 0 (volunteer_count all))
 
--- the panels of a composition with its fraction, along the dial: an arc's weight is its length times the fraction of the total, over the
--- dial's length
+-- the panels of a composition with its fraction, along the dial. The weight of an arc is the composition's fraction of the total, times the
+-- arc's length over the dial's length
 abbrev pub rows_of : Classes → ℕ → List ℕ × Fraction → List LotteryRow
 rows_of all total (counts, fraction) =
     map (λ (at, arc). record { panel = panel_at all counts at; weight = arc * fraction.num * total / (fraction.den * dial all counts) }) (arcs all counts)
@@ -74,13 +74,14 @@ rows_of all total (counts, fraction) =
 abbrev pub greatest_total : ℕ
 greatest_total = 10 ^ 38
 
--- the total passes 10 ^ 38 at a place of the list, given the total before it and the denominator of its fraction
+-- the part that makes the total pass 10 ^ 38: its place in the list, the total before it, and the denominator of its fraction
 pub record TotalPass : Type 0 where
   pub place : ℕ
   pub total : ℕ
   pub den : ℕ
 
--- the least common multiple of the total so far and each denominator times its dial's length, or where it passes first
+-- the least common multiple of the total so far and, for each part, its denominator times the length of its dial; or the first part at
+-- which it passes
 abbrev pub total_from : Classes → ℕ → ℕ → List (List ℕ × Fraction) → Result ℕ TotalPass
 total_from all place total [] = Ok total
 total_from all place total ((counts, fraction) ∷ parts) =
@@ -88,12 +89,12 @@ total_from all place total ((counts, fraction) ∷ parts) =
     then total_from all (place + 1) (lcm_of total (fraction.den * dial all counts)) parts
     else Err (record { place = place; total = total; den = fraction.den })
 
--- the lottery of these rows, for the total
+-- the lottery of all parts' rows for this total, or the pass
 abbrev pub lottery_of : Classes → List (List ℕ × Fraction) → Result ℕ TotalPass → Result Lottery TotalPass
 lottery_of all parts (Ok total) = Ok (record { total = total; rows = flat_map (rows_of all total) parts })
 lottery_of all parts (Err pass) = Err pass
 
--- compositions with their fractions, spread: panels in the order of compositions, then along the dial
+-- compositions with their fractions, spread over panels: in the order of the compositions, and for each along its dial
 unfoldable pub spread : Classes → List (List ℕ × Fraction) → Result Lottery TotalPass
 spread all parts = lottery_of all parts (total_from all 0 1 parts)
 
@@ -103,7 +104,7 @@ pub record AreParts (all : Classes) (parts : List (List ℕ × Fraction)) : Type
   pub different : IsTrue (all_different (map (λ part. part.0) parts))
   pub positive : All (λ part. 0 < part.1.num) parts
   pub over : All (λ part. 0 < part.1.den) parts
-  -- over each common denominator the upper numbers sum to it
+  -- over each common denominator the numerators sum to it: the fractions sum to one
   pub one : (common : ℕ) → All (λ part. part.1.den ∣ common) parts → sum_by (λ part. part.1.num * (common / part.1.den)) parts ≡ common
 
 -- different compositions of the classes, each with a share of a whole
@@ -118,17 +119,17 @@ pub record AreShares (all : Classes) (whole : ℕ) (shares : List (List ℕ × �
 abbrev pub with_fraction : ℕ → List ℕ × ℕ → List ℕ × Fraction
 with_fraction whole (counts, share) = (counts, lowest_of share whole)
 
--- a total of at most 10 ^ 38 that is a multiple of each denominator times its dial's length
+-- a total of at most 10 ^ 38 that is a multiple of each denominator times the length of its part's dial
 pub record IsCommonTotal (all : Classes) (parts : List (List ℕ × Fraction)) (total : ℕ) : Type 0 where
   pub positive : 0 < total
   pub within : total ≤ greatest_total
   pub multiple : All (λ part. part.1.den * dial all part.0 ∣ total) parts
 
--- how many members of a class are expected, times the total: the sum of each composition's count times its fraction of the total
+-- the number of members expected of class t, times the total: the sum of each composition's count times its fraction of the total
 abbrev pub expected : ℕ → List (List ℕ × Fraction) → ℕ → ℕ
 expected total parts t = sum_by (λ part. slice_index part.0 t * (part.1.num * (total / part.1.den))) parts
 
--- each member of a class has one chance: the member's count times the class's size is the number expected of the class, times the total
+-- all members of a class have the same chance: each one's count times the class's size is the number expected of the class, times the total
 abbrev pub HasEvenChances : Classes → List (List ℕ × Fraction) → Lottery → Type 0
 HasEvenChances all parts lottery = (t i : ℕ) (class : Class) → slice_get all.classes t ≡ Some class → IsTrue (includes class.members i) →
     count lottery i * length class.members ≡ expected lottery.total parts t

@@ -9,14 +9,14 @@ use Rattle.define_searches.specs.Classes.{Class, Classes}
 abbrev pub class : List ℕ → Class
 class members = record { members = members; values = []; least = 0; most = length members; household = None }
 
--- two seats: one of a class of three, and one of a class of two
+-- two seats for two classes, one of three members and one of two
 abbrev pub three_and_two : Classes
 three_and_two = record { size = 2; bounds = []; classes = class (0 ∷ 1 ∷ 2 ∷ []) ∷ class (3 ∷ 4 ∷ []) ∷ [] }
 
 abbrev pub over : ℕ → ℕ → Fraction
 over num den = record { num = num; den = den }
 
--- one seat, for one of three volunteers, each of another value
+-- one seat for three volunteers, each with a value of their own
 abbrev pub one_of_three : Pool
 one_of_three = record {
   size = 1;
@@ -24,7 +24,7 @@ one_of_three = record {
   volunteers = person (codes "a") (0 ∷ []) ∷ person (codes "b") (1 ∷ []) ∷ person (codes "c") (2 ∷ []) ∷ [];
 }
 
--- one seat, for one of two volunteers of a value and one of another
+-- one seat for three volunteers, of whom the first two are alike
 abbrev pub pair_and_one : Pool
 pair_and_one = record {
   size = 1;

@@ -19,13 +19,13 @@ pub fn shares_are_parts()
     ensures { (all : Classes) (whole : ℕ) (shares : List (List ℕ × ℕ)) → AreShares all whole shares → AreParts all (map (with_fraction whole) shares) }
 {}
 
-/// The total, if it passes at no part, is a multiple of each denominator times the length of its part's dial.
+/// If no part makes the total pass 10^38, the total is a multiple of each denominator times the length of its part's dial.
 pub fn total_is_common()
     ensures { (all : Classes) (parts : List (List ℕ × Fraction)) (total : ℕ) → AreParts all parts → total_from all 0 1 parts ≡ Ok total →
         IsCommonTotal all parts total }
 {}
 
-/// What is spread over the classes of a pool is a lottery over the pool's quota panels, of a total of at most 10^38.
+/// The lottery that is spread over the classes of a pool is a lottery over the pool's quota panels, of a total of at most 10^38.
 pub fn spread_is_lottery()
     ensures lottery { (pool : Pool) (alike : ℕ → ℕ → Bool) (parts : List (List ℕ × Fraction)) (lottery : Lottery) → MakesClasses pool alike →
         AreParts (classes_by alike pool) parts → spread (classes_by alike pool) parts ≡ Ok lottery → IsLottery pool lottery }
@@ -33,7 +33,7 @@ pub fn spread_is_lottery()
         lottery.total ≤ greatest_total }
 {}
 
-/// All members of a class have one chance: each member's count times the class's size is the number expected of the class, times the
+/// All members of a class have the same chance: each member's count times the class's size is the number expected of the class, times the
 /// total. It holds over any classes that part the volunteers, and so over the classes of a pool.
 pub fn spread_has_even_chances()
     ensures classes { (all : Classes) (parts : List (List ℕ × Fraction)) (lottery : Lottery) → KeepsLimits all → PartVolunteers all →
@@ -42,13 +42,13 @@ pub fn spread_has_even_chances()
         AreParts (classes_by alike pool) parts → spread (classes_by alike pool) parts ≡ Ok lottery → HasEvenChances (classes_by alike pool) parts lottery }
 {}
 
-/// Each composition has a panel, and at most as many panels as there are volunteers.
+/// Each composition is spread over at least one panel, and over at most as many panels as there are volunteers.
 pub fn few_panels()
     ensures { (pool : Pool) (alike : ℕ → ℕ → Bool) (total : ℕ) (part : List ℕ × Fraction) → MakesClasses pool alike → 0 < length pool.volunteers →
         (0 < length (rows_of (classes_by alike pool) total part)) × (length (rows_of (classes_by alike pool) total part) ≤ length pool.volunteers) }
 {}
 
-/// One of three and one of two: the dial has six places, cut at 0, 2, 3 and 4.
+/// One member of a class of three and one of a class of two: the dial has six places, cut at 0, 2, 3 and 4.
 pub fn worked_spread()
     ensures arcs { arcs three_and_two (1 ∷ 1 ∷ []) ≡ (0, 2) ∷ (2, 1) ∷ (3, 1) ∷ (4, 2) ∷ [] }
     ensures lottery { spread three_and_two ((1 ∷ 1 ∷ [], over 1 1) ∷ []) ≡ Ok (record {
@@ -59,7 +59,7 @@ pub fn worked_spread()
     }) }
 {}
 
-/// One seat for three volunteers of different values: each alone is a composition.
+/// One seat for three volunteers of different values: the three compositions take one volunteer each.
 pub fn worked_compositions()
     ensures { compositions (classes_of one_of_three) ≡ (1 ∷ 0 ∷ 0 ∷ []) ∷ (0 ∷ 1 ∷ 0 ∷ []) ∷ (0 ∷ 0 ∷ 1 ∷ []) ∷ [] }
 {}

@@ -76,7 +76,7 @@ filters_swap p q (x ∷ xs) =
       ])
     ]) refl
 
--- lists that begin with this count
+-- of lists that begin with d, those that begin with c and a front: none if c is not d
 with_first : (c d : ℕ) (front : List ℕ) (xs : List (List ℕ)) → filter (begins_with (c ∷ front)) (map (λ counts. d ∷ counts) xs) ≡ cond (eqb c d) (map (λ counts. d ∷ counts) (filter (begins_with front) xs)) []
 with_first c d front [] = by (eqb c d)
   where
@@ -97,7 +97,7 @@ with_first c d front (x ∷ xs) = by (eqb c d) (with_first c d front xs)
         ]
     by false rest = rest
 
--- of the counts that go down the lists with one alone pass
+-- if no list for another count than c passes, the lists that pass are those for c
 module _ (p : List ℕ → Bool) (lists : ℕ → List (List ℕ)) (c : ℕ) (others : (d : ℕ) → c ≢ d → filter p (lists d) ≡ []) where
   none_left : (least more : ℕ) → least + more < c → filter p (flat_map lists (counts_down least more)) ≡ []
   none_left least zero l = filter-append p (lists least) [] ∙ ap (λ xs. xs ++ []) (others least (λ e. absurd (omega arith)))
@@ -144,7 +144,7 @@ lists_begin (class ∷ classes) (c ∷ front) fits =
     differ : (c d : ℕ) → c ≢ d → eqb c d ≡ false
     differ c d other = false_from_ne_true (eqb c d) (λ e. other (eqb-true c d e))
 
--- they are what the front goes on to
+-- the compositions that begin with a front are those that it can be completed to
 pub below_goes_on : (all : Classes) (front : List ℕ) → IsFront all front → below all front ≡ completions all front (later_than front all.classes)
 below_goes_on all front is =
     filters_swap (begins_with front) (is_composition all) (all_counts all.classes) ∙ ap (filter (is_composition all)) (lists_begin all.classes front (front_fits all front is))
@@ -172,7 +172,7 @@ from_keeps all closed row front floor searchable entries few =
       | false ↦ λ dead. sym (keep_none (weight_in row.a) floor None (sought all closed front later) (none_better all closed row floor (take (length front) all.classes) later front split order entries dead))
     ]) refl
 
--- what it keeps of what a list of counts goes on to, be it a front or not
+-- the search below a list of counts keeps the first of greatest weight above the floor, even if the list is no front
 pub finds_greatest : (all : Classes) (closed : List Row) (row : Row) (front : List ℕ) (floor : ℤ) → IsSearchable all → HaveEntries all (row ∷ closed) → length front ≤ length all.classes →
     (search_from all closed row front floor).kept ≡ first_greatest (weight_in row.a) floor (sought all closed front (later_than front all.classes))
 finds_greatest all closed row front floor searchable entries few =
@@ -187,7 +187,7 @@ finds_best all closed row front floor searchable entries is =
 
 -- ---- what is found
 
--- the first of greatest weight is one of the lists, and above the floor
+-- if P holds of each list, it holds of the first of greatest weight above the floor, which weighs more than the floor
 pub greatest_is : (P : List ℕ → Type 0) (weight : List ℕ → ℤ) (floor : ℤ) (xs : List (List ℕ)) (counts : List ℕ) → AllByRecursion P xs → first_greatest weight floor xs ≡ Some counts →
     P counts × (int_lt floor (weight counts) ≡ true)
 greatest_is P weight floor [] counts each e = absurd cc

@@ -29,7 +29,7 @@ itself z = by (int_lt z z) refl
     by false e = refl
     by true e = absurd (omega (arith, lt-true z z e))
 
--- what was found is kept where it weighs more
+-- a composition that was found is kept if it weighs more than the floor
 abbrev keep_found : (List ℕ → ℤ) → Kept → Option (List ℕ) → Kept
 keep_found weight now None = now
 keep_found weight now (Some counts) = keep weight now counts
@@ -37,7 +37,7 @@ keep_found weight now (Some counts) = keep weight now counts
 greatest_above : (weight : List ℕ → ℤ) (floor : ℤ) (xs : List (List ℕ)) (counts : List ℕ) → first_greatest weight floor xs ≡ Some counts → int_lt floor (weight counts) ≡ true
 greatest_above weight floor xs counts e = (greatest_is (λ x. Unit {0}) weight floor xs counts (each_everywhere (λ x. Unit {0}) (λ x. tt) xs) e).1
 
--- a search with a lower floor finds what a search with the floor would have kept, or something no heavier than the floor
+-- what a search with a lower floor finds, once kept, is what would be kept with the higher floor all along
 found_keeps : (weight : List ℕ → ℤ) (base floor : ℤ) (kept : Option (List ℕ)) (xs : List (List ℕ)) → IsAtLeast floor base →
     keep_found weight (floor, kept) (first_greatest weight base xs) ≡ fold (keep weight) (floor, kept) xs
 found_keeps weight base floor kept [] h = refl
@@ -48,7 +48,7 @@ found_keeps weight base floor kept (x ∷ xs) h =
       | false ↦ λ low. let same = not_above floor base (weight x) h low in rw same (found_keeps weight base floor kept xs h)
     ]) refl
   where
-    -- the heavier of the two is the one that is kept
+    -- of x and the one found after it, the heavier is kept
     second : (o : Option (List ℕ)) → first_greatest weight (weight x) xs ≡ o → int_lt floor (weight x) ≡ true → keep_found weight (floor, kept) (Some (unwrap_or o x)) ≡ keep_found weight (weight x, Some x) o
     second None n t = rw t refl
     second (Some z) n t =
@@ -67,7 +67,7 @@ found_keeps weight base floor kept (x ∷ xs) h =
     higher false t mine theirs = first (first_greatest weight (weight x) xs) t ∙ theirs t ∙ rw t refl
 
 module _ (all : Classes) (closed : List Row) (row : Row) (searchable : IsSearchable all) (entries : HaveEntries all (row ∷ closed)) where
-  -- the compositions that a front goes on to and that attain the closed rows
+  -- the compositions that begin with a front and attain the closed rows
   abbrev attaining : List ℕ → List (List ℕ)
   attaining front = sought all closed front (later_than front all.classes)
 
@@ -92,7 +92,7 @@ module _ (all : Classes) (closed : List Row) (row : Row) (searchable : IsSearcha
             | false ↦ refl
           ]
 
-  -- the pieces of a wave, with the wave's floor
+  -- the outcomes of a wave's pieces, searched with the wave's floor, keep the same as the compositions below their fronts
   pieces_taken : (base : ℤ) (fronts : List (List ℕ)) (now : Pricing) → AllByRecursion IsShort fronts → IsAtLeast now.floor base →
       told (fold (take_piece row) now (map (λ front. search_from all closed row front base) fronts)) ≡ keeping (told now) (flat_map attaining fronts)
   pieces_taken base [] now short h = refl
@@ -117,7 +117,7 @@ module _ (all : Classes) (closed : List Row) (row : Row) (searchable : IsSearcha
 
   -- ---- all pieces
 
-  -- the compositions below each piece are those with all classes after it
+  -- if the same classes come after each front, the compositions below the fronts are those with these classes to come
   same_below : (later : List Class) (fronts : List (List ℕ)) → AllByRecursion (λ front. later_than front all.classes ≡ later) fronts → flat_map attaining fronts ≡ flat_map (λ front. sought all closed front later) fronts
   same_below later [] h = refl
   same_below later (front ∷ fronts) h =

@@ -8,13 +8,13 @@ use Rattle.define_searches.specs.Compositions.{attains, compositions, first_grea
 use Rattle.define_searches.specs.Fronts.{is_live_above, later_than}
 use Rattle.define_searches.specs.Visits.{Pricing, enter_best}
 
--- a front has at most one count for each class, from the class's least to its most
+-- a front: counts for the first classes, each from the class's least to its most
 pub record IsFront (all : Classes) (front : List ℕ) : Type 0 where
   pub few : length front ≤ length all.classes
   pub least : (t : ℕ) → t < length front → slice_index (map (λ class. class.least) all.classes) t ≤ slice_index front t
   pub most : (t : ℕ) → t < length front → slice_index front t ≤ slice_index (map (λ class. class.most) all.classes) t
 
--- the first counts are the front's
+-- a list of counts begins with a front
 abbrev pub begins_with : List ℕ → List ℕ → Bool
 begins_with front counts = starts_with (λ c d. c == d) counts front
 
@@ -22,7 +22,7 @@ begins_with front counts = starts_with (λ c d. c == d) counts front
 abbrev pub below : Classes → List ℕ → List (List ℕ)
 below all front = filter (begins_with front) (compositions all)
 
--- of those that attain the closed rows, the first of greatest weight in the row above a floor
+-- the best composition below a front: of those that attain the closed rows, the first of greatest weight in the row above a floor
 abbrev pub best_below : Classes → List Row → Row → List ℕ → ℤ → Option (List ℕ)
 best_below all closed row front floor = first_greatest (weight_in row.a) floor (filter (attains closed) (below all front))
 
@@ -33,7 +33,7 @@ pub record QualifiesBelow (all : Classes) (closed : List Row) (row : Row) (front
   pub attained : IsTrue (attains closed counts)
   pub above : IsTrue (int_lt floor (weight_in row.a counts))
 
--- the search of a child if it is live, else no visit
+-- the search goes on from a child if the child is live; else it makes no visit
 abbrev pub child_best : Classes → List Row → Row → List Class → List ℕ → Pricing → Pricing
 child_best all closed row later child now = if is_live_above all closed row now.floor child then enter_best all closed row later child now else now
 

@@ -28,8 +28,8 @@ abbrev pub together : List Pieces → Pieces
 together [] = record { visits = 0; fronts = [] }
 together (part ∷ later) = record { visits = part.visits + (together later).visits; fronts = part.fronts ++ (together later).fronts }
 
--- below a live front, with these classes still to come in a piece's front: if there are none, this front is a piece's; else it is
--- entered, by one visit
+-- the pieces below a live front, with the classes that a piece's front has beyond it. If there are none, this front is a piece's; else it
+-- is entered, by one visit
 abbrev pub pieces_below : Classes → List Row → Row → List Class → List ℕ → Pieces
 pieces_below all closed row [] front = record { visits = 0; fronts = front ∷ [] }
 pieces_below all closed row (class ∷ later) front =
@@ -47,7 +47,7 @@ keep_heavier row so_far None = so_far
 keep_heavier row so_far (Some counts) =
     if int_lt so_far.floor (weight_in row.a counts) then record so_far { floor = weight_in row.a counts; kept = Some counts } else so_far
 
--- the outcome of a piece is added: its visits, and what it kept
+-- the outcome of a piece is added: its visits, and what it kept if that weighs more than the floor
 abbrev pub take_piece : Row → Pricing → Pricing → Pricing
 take_piece row so_far piece = keep_heavier row (record so_far { visits = so_far.visits + piece.visits }) piece.kept
 
@@ -55,7 +55,7 @@ take_piece row so_far piece = keep_heavier row (record so_far { visits = so_far.
 abbrev pub wave : Classes → List Row → Row → Pricing → List (List ℕ) → Pricing
 wave all closed row so_far fronts = fold (take_piece row) so_far (map (λ front. search_from all closed row front so_far.floor) fronts)
 
--- the waves of pieces: 16 in each, and what is left in the last one
+-- the fronts of pieces as waves: 16 in each wave, and what is left in the last one
 abbrev pub waves : List (List ℕ) → List (List (List ℕ))
 waves fronts = map (λ number. take 16 (drop (16 * number) fronts)) (range_with_len 0 ((length fronts + 15) / 16))
 

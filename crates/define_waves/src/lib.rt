@@ -16,7 +16,8 @@ ghost use Rattle.define_waves.specs.Below.{IsFront, QualifiesBelow, below, best_
 ghost use Rattle.define_waves.specs.Waves.{best_in_waves, piece_depth, pieces};
 ghost use Rattle.define_waves.specs.WorkedFronts.{first_gone, first_seated};
 
-/// The compositions that begin with a front are exactly those among the lists that continue it with a count for each later class.
+/// The compositions that begin with a front are exactly the compositions among the lists that continue it with a count for each later
+/// class.
 pub fn below_goes_on()
     ensures { (all : Classes) (front : List ℕ) → IsFront all front →
         below all front ≡ filter (is_composition all) (map (λ counts. front ++ counts) (all_counts (later_than front all.classes))) }
@@ -64,7 +65,7 @@ pub fn worked_waves()
 {}
 
 /// One seat for one of two volunteers. If the first one is gone, counts that begin with 1 are no front, and no composition begins with
-/// them; if the first one is seated, the same of counts that begin with 0.
+/// them. If the first one is seated, counts that begin with 0 are no front, and no composition begins with them.
 pub fn worked_fronts()
     ensures gone { IsFront (classes_of first_gone) (1 ∷ []) → ⊥ }
     ensures below_gone { below (classes_of first_gone) (1 ∷ []) ≡ [] }

@@ -4,7 +4,7 @@ use Rattle.std.specs.List.{AllByRecursion, find, position, position_or_len, rang
 use Rattle.std.proofs.lemmas.Bool.{cases_eq, cases_lt, lt-ltb}
 use Rattle.std.proofs.lemmas.List.Sums.{fails_before_first}
 
--- what is found passes the test, and is as every element is
+-- an element that is found passes the test, and what holds of each element holds of it
 pub find-passes : {X : Type 0} (p : X → Bool) (xs : List X) (x : X) → find p xs ≡ Some x → p x ≡ true
 find-passes p [] x e = absurd cc
 find-passes p (y ∷ ys) x e = by (p y) refl e (λ f. find-passes p ys x f)
@@ -21,7 +21,7 @@ find-each p Q (y ∷ ys) x h e = by (p y) e (λ f. find-each p Q ys x h.1 f)
     by true f rest = let same : y ≡ x = cc in subst Q same h.0
     by false f rest = rest f
 
--- where nothing is found, no element passes
+-- if nothing is found, no element passes
 pub find-none : {X : Type 0} (p : X → Bool) (xs : List X) → find p xs ≡ None → AllByRecursion (λ x. p x ≡ false) xs
 find-none p [] e = tt
 find-none p (y ∷ ys) e = by (p y) refl e (λ f. find-none p ys f)
@@ -30,12 +30,12 @@ find-none p (y ∷ ys) e = by (p y) refl e (λ f. find-none p ys f)
     by true t f rest = absurd cc
     by false t f rest = (t, rest f)
 
--- tests that agree on each element find the same
+-- two tests that agree on each element find the same element
 pub find_same : {X : Type 0} (p q : X → Bool) (xs : List X) → AllByRecursion (λ x. p x ≡ q x) xs → find p xs ≡ find q xs
 find_same p q [] h = refl
 find_same p q (x ∷ xs) h = ap₂ (λ b found. cond b (Some x) found) h.0 (find_same p q xs h.1)
 
--- where no place is found, no element passes
+-- if no place is found, no element passes
 pub position-None : {X : Type 0} (p : X → Bool) (xs : List X) (k : ℕ) (d : X) → position p xs ≡ None → k < length xs → p (get_or xs k d) ≡ false
 position-None p xs k d e l = by (cases_lt (position_or_len p xs) (length xs))
   where
@@ -43,7 +43,7 @@ position-None p xs k d e l = by (cases_lt (position_or_len p xs) (length xs))
     by (inl m) = let found : position p xs ≡ Some (position_or_len p xs) = ap (λ b. cond b (Some (position_or_len p xs)) None) (lt-ltb (position_or_len p xs) (length xs) m) in absurd cc
     by (inr m) = fails_before_first p xs k d (omega arith)
 
--- the first number of a range that passes
+-- the search of a range: it finds nothing if no number passes, and else the first number that passes
 pub find_range-none : (p : ℕ → Bool) (a n : ℕ) → ((k : ℕ) → a ≤ k → k < a + n → p k ≡ false) → find p (range_with_len a n) ≡ None
 find_range-none p a zero h = refl
 find_range-none p a (suc n) h =

@@ -48,7 +48,7 @@ mul-zero a = omega (arith, ints)
 pub one-mul : (a : ℤ) → pos 1 *ℤ a ≡ a
 one-mul a = omega (arith, ints)
 
--- a positive factor tells equality and order
+-- a positive factor on both sides can be left out or put in, of an equality or of an order
 pub same-unscaled : (a b : ℤ) (k : ℕ) → 0 < k → pos k *ℤ a ≡ pos k *ℤ b → a ≡ b
 same-unscaled a b k p e =
     let l : (up a + down b) * k ≤ (up b + down a) * k = omega (arith, ints, e) in
@@ -63,7 +63,7 @@ le-unscaled a b k p h =
 pub le-scaled : (a b : ℤ) (k : ℕ) → a ≤ℤ b → (pos k *ℤ a) ≤ℤ (pos k *ℤ b)
 le-scaled a b k h = let l = mul-le-mul_right k (le_out a b h) in omega (arith, ints, l)
 
--- products by sign
+-- the sign of a product, by the signs of its factors
 pub product-positive : (a b : ℤ) → pos 0 <ℤ a → pos 0 <ℤ b → pos 0 <ℤ (a *ℤ b)
 product-positive (pos zero) b h k = absurd (omega (arith, ints))
 product-positive (pos (suc a)) (pos zero) h k = absurd (omega (arith, ints))
@@ -82,7 +82,7 @@ product-not_positive (pos a) (pos (suc b)) h k = absurd (omega (arith, ints))
 product-not_positive (pos a) (negsuc b) h k = omega (arith, ints)
 product-not_positive (negsuc a) b h k = absurd (omega (arith, ints))
 
--- a number whose product with a positive one is not negative is not negative, and likewise above 0
+-- if the product with a positive factor is at least 0, so is the other factor; and likewise above 0
 pub factor-not_negative : (a b : ℤ) → pos 0 <ℤ b → pos 0 ≤ℤ (a *ℤ b) → pos 0 ≤ℤ a
 factor-not_negative (pos a) b h k = omega (arith, ints)
 factor-not_negative (negsuc a) (pos zero) h k = absurd (omega (arith, ints))
@@ -96,7 +96,7 @@ factor-positive (negsuc a) (pos zero) h k = absurd (omega (arith, ints))
 factor-positive (negsuc a) (pos (suc b)) h k = absurd (omega (arith, ints))
 factor-positive (negsuc a) (negsuc b) h k = absurd (omega (arith, ints))
 
--- a product that is 0 with a positive factor
+-- if a product with a positive factor is 0, the other factor is 0
 pub other-zero : (a b : ℤ) → pos 0 <ℤ a → a *ℤ b ≡ pos 0 → b ≡ pos 0
 other-zero (pos zero) b h e = absurd (omega (arith, ints))
 other-zero (pos (suc a)) b h e = same-unscaled b (pos 0) (suc a) (omega arith) (e ∙ sym (mul-zero (pos (suc a))))
@@ -128,11 +128,11 @@ same_pos m n e = omega (arith, ints)
 pub zero-mul : (z : ℤ) → pos 0 *ℤ z ≡ pos 0
 zero-mul z = omega (arith, ints)
 
--- a product with a natural number, by the parts above and below 0
+-- the product of c and z, with the parts of integers above and below 0
 pub product-parts : (c : ℕ) (z : ℤ) → up (pos c *ℤ z) + c * down z ≡ c * up z + down (pos c *ℤ z)
 product-parts c z = omega (arith, ints, product_is (pos c) z)
 
--- the absolute value of a sum
+-- the absolute value of a sum or of a difference is at most the sum of the absolute values
 pub abs-add : (a b : ℤ) → unsigned_abs (a +ℤ b) ≤ unsigned_abs a + unsigned_abs b
 abs-add a b = omega (arith, ints)
 

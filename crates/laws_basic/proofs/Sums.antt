@@ -4,7 +4,7 @@ use Rattle.std.specs.List.{AllByRecursion}
 use Rattle.std.specs.Prelude.{count_by}
 use Rattle.std.proofs.lemmas.List.Recursion.{is_sum_by}
 
--- the sum of a function's values
+-- the sum of f over a list
 abbrev pub total : {X : Type 0} → (X → ℕ) → List X → ℕ
 total f [] = 0
 total f (x ∷ xs) = f x + total f xs
@@ -16,7 +16,7 @@ pub total_le : {X : Type 0} (f g : X → ℕ) (xs : List X) → AllByRecursion (
 total_le f g [] h = omega arith
 total_le f g (x ∷ xs) h = omega (arith, total_le f g xs h.1)
 
--- terms that are no greater, with a sum that is no smaller, are equal
+-- if each term of f is at most that of g, and the sum of f is at least that of g, the terms are equal
 pub total_same : {X : Type 0} (f g : X → ℕ) (xs : List X) → AllByRecursion (λ x. f x ≤ g x) xs → total g xs ≤ total f xs → AllByRecursion (λ x. f x ≡ g x) xs
 total_same f g [] h k = tt
 total_same f g (x ∷ xs) h k =
@@ -55,11 +55,11 @@ total-filter f p (x ∷ xs) =
       | false ↦ omega (arith, rest)
     ]
 
--- 1 where a test passes
+-- 1 if a test passes, else 0
 abbrev pub one_if : Bool → ℕ
 one_if b = cond b 1 0
 
--- how many pass, as a sum
+-- how many elements pass a test, as a sum
 pub length-filter-total : {X : Type 0} (p : X → Bool) (xs : List X) → length (filter p xs) ≡ total (λ x. one_if (p x)) xs
 length-filter-total p [] = refl
 length-filter-total p (x ∷ xs) =

@@ -1,9 +1,9 @@
--- Tests, and what follows from their answers.
+-- Tests, and what follows from their results.
 use Rattle.std.proofs.Common.{◌≡◌, ℕ, suc, ◌+◌, Bool, true, false, not, ◌||◌, ltb, refl, arith}
 use Rattle.std.proofs.lemmas.Bool.{false≢true}
 use Rattle.std.proofs.lemmas.Bool.Decides.{nat_tests}
 
--- where `not a || b` holds, so does b where a does, and the other way round
+-- `not a || b` holds exactly if b holds whenever a does
 pub implied : (a b : Bool) → (not a || b) ≡ true → a ≡ true → b ≡ true
 implied true b h e = h
 implied false b h e = absurd (false≢true e)
@@ -12,6 +12,6 @@ pub implies : (a b : Bool) → (a ≡ true → b ≡ true) → (not a || b) ≡ 
 implies true b h = h refl
 implies false b h = refl
 
--- one more on both sides
+-- adding one on both sides doesn't change a comparison
 pub ltb-more : (m n : ℕ) → ltb (1 + m) (suc n) ≡ ltb m n
 ltb-more m n = grind (arith, nat_tests)

@@ -1,9 +1,9 @@
--- Counts put in at the values of the first categories.
+-- Counts that are added to the cells of values, category by category.
 use Rattle.std.proofs.Common.{◌≡◌, ℕ, ◌+◌, ◌*◌, ◌≤◌, ◌<◌, List, length}
 use Rattle.std.specs.Prelude.{slice_index}
 use Rattle.laws_of_fronts.specs.Tallies.{cell, added_at}
 
--- the values of the first `done` categories have their added_at more, the others what they had
+-- the cells of the first `done` categories have got their share of `count` more members, and the others are as before
 pub record SharesUpTo (done : ℕ) (values : List ℕ) (count : ℕ) (before after : List ℕ) : Type 0 where
   pub same : length after ≡ length before
   pub more : (c v : ℕ) → c < done → v < 50 → slice_index after (cell c v) ≡ slice_index before (cell c v) + added_at values count c v

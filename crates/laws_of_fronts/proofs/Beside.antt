@@ -1,4 +1,4 @@
--- Elements of lists in their places, and lists beside each other.
+-- Elements of lists in their places, and two lists side by side.
 use Rattle.std.proofs.Common.{◌≡◌, ℕ, zero, suc, ◌+◌, ◌<◌, Bool, true, false, eqb, List, [], ◌∷◌, ◌++◌, length, set, Some, refl, sym, ap, ◌∙◌, arith, subst, length-append, ◌⊎◌, inl, inr}
 use Rattle.std.specs.Prelude.{slice_get}
 use Rattle.std.specs.List.{list_all}
@@ -26,7 +26,7 @@ pub each_passes : {X : Type 0} (p : X → Bool) (xs : List X) → ((i : ℕ) (x 
 each_passes p [] f = refl
 each_passes p (x ∷ xs) f = and_from (p x) (list_all p xs) (f 0 x refl) (each_passes p xs (λ i y e. f (suc i) y e))
 
--- one element more passes
+-- if the first k elements pass, and so does the next one, the first k + 1 elements pass
 pub each_next : {X : Type 0} (p : X → Bool) (xs : List X) (k : ℕ) (x : X) → slice_get xs k ≡ Some x → p x ≡ true → ((i : ℕ) (y : X) → i < k → slice_get xs i ≡ Some y → p y ≡ true) →
     (i : ℕ) (y : X) → i < k + 1 → slice_get xs i ≡ Some y → p y ≡ true
 each_next p xs k x here passes earlier i y l e =
@@ -44,7 +44,7 @@ get_pushed (z ∷ zs) x y (suc i) e = elim (get_pushed zs x y i e) [
   | inr h ↦ inr (omega (arith, h.0), h.1)
 ]
 
--- one element more has one
+-- one more element of `xs` has its element in `ys`
 pub first_more : {X Y : Type 0} {P : X → Y → Type 0} (xs : List X) (done : ℕ) (ys : List Y) (x : X) (y : Y) → FirstHave P xs done ys → slice_get xs done ≡ Some x → P x y → FirstHave P xs (done + 1) (ys ++ y ∷ [])
 first_more {P = P} xs done ys x y to here has = record {
   long = omega (arith, to.long, length-append ys (y ∷ []));

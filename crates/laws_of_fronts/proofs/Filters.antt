@@ -1,4 +1,4 @@
--- The numbers of a range that pass, with one number more.
+-- A filtered range of numbers with one number more.
 use Rattle.std.proofs.Common.{◌≡◌, ℕ, ◌+◌, Bool, true, false, ◌||◌, List, [], ◌∷◌, ◌++◌, map, filter, sym, ap, ◌∙◌}
 use Rattle.std.specs.List.{list_any, range_with_len}
 use Rattle.std.proofs.lemmas.List.{map-append}
@@ -9,7 +9,7 @@ use Rattle.laws_basic.proofs.Lists.{numbers_more, filter_taken, filter_passed}
 pub any_next : (p : ℕ → Bool) (i : ℕ) → list_any p (range_with_len 0 (i + 1)) ≡ (list_any p (range_with_len 0 i) || p i)
 any_next p i = ap (list_any p) (numbers_more i) ∙ list_any-append p (range_with_len 0 i) (i ∷ []) ∙ ap (λ b. list_any p (range_with_len 0 i) || b) (or-false (p i))
 
--- what is made of each that passes, with one number more
+-- a list made of the numbers that pass: one more number is added if it passes, else the list stays
 pub mapped_taken : {X : Type 0} (f : ℕ → X) (p : ℕ → Bool) (i : ℕ) (xs made : List X) (x : X) → p i ≡ true → x ≡ f i → xs ≡ map f (filter p (range_with_len 0 i)) → made ≡ xs ++ x ∷ [] →
     made ≡ map f (filter p (range_with_len 0 (i + 1)))
 mapped_taken {X} f p i xs made x t e g h =

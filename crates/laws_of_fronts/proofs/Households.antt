@@ -1,4 +1,4 @@
--- At most one is taken of each household.
+-- Of each household at most one member is taken.
 use Rattle.std.proofs.Common.{◌≡◌, ℕ, ◌+◌, ◌≤◌, Bool, true, false, cond, eqb, leb, List, [], ◌∷◌, ◌++◌, length, Option, Some, None, refl, sym, ap, ◌∙◌, arith, subst}
 use Rattle.std.specs.Prelude.{slice_index}
 use Rattle.std.proofs.lemmas.Bool.{eqb-true, eq-eqb, false≢true, false_from_ne_true}
@@ -25,7 +25,7 @@ small_homes all front rest tally small tracks = λ h l.
 pub few_homes : (all : Classes) (front : List ℕ) (rest : List Class) (tally : FrontTally) → KeepsLimits all → is_reachable all front ≡ true → Tracks all front rest tally → AreFew tally.homes
 few_homes all front rest tally limits live tracks = small_homes all front rest tally (omega (arith, few_taken all front (λ class. true) limits live)) tracks
 
--- the household of a class has no room left exactly where it has two taken
+-- the counter of a class's household says whether the front takes at most one member of it
 pub home_alive : (all : Classes) (front : List ℕ) (i : ℕ) (class : Class) (rest : List Class) (tally : FrontTally) → KeepsLimits all → Stands all i class → Tracks all front rest tally →
     (household : Option ℕ) → household ≡ class.household → has_room tally.homes household 0 ≡ takes_one_of all.classes front household
 home_alive all front i class rest tally limits stands tracks None same = refl
@@ -34,7 +34,7 @@ home_alive all front i class rest tally limits stands tracks (Some h) same =
     let taken : slice_index tally.homes h + 0 ≡ taken_of (λ class. is_of_household h class.household) all.classes front = omega (arith, tracks.homes h known) in
     ap (λ n. leb n 1) taken
 
--- what was taken of a class can be given back
+-- if a child takes `count` members of a class, the counter of the class's household is at least `count`
 pub home_gives : (all : Classes) (front : List ℕ) (class : Class) (count : ℕ) (rest : List Class) (tally : FrontTally) → KeepsLimits all → Stands all (length front) class → Tracks all (front ++ count ∷ []) rest tally →
     (household : Option ℕ) → household ≡ class.household → CanGiveAt household count tally.homes
 home_gives all front class count rest tally limits stands tracks None same = tt
@@ -45,13 +45,13 @@ home_gives all front class count rest tally limits stands tracks (Some h) same =
     let more = ap (λ b. taken_of (λ class. is_of_household h class.household) all.classes front + cond b count 0) own in
     omega (arith, tracks.homes h known, here, more)
 
--- ---- a child of a front that takes one of each household at most
+-- ---- a child of a front that takes at most one member of each household
 
 module _ (all : Classes) (front : List ℕ) (class : Class) (count : ℕ) (rest : List Class) (tally : FrontTally) (limits : KeepsLimits all) (stands : Stands all (length front) class) (tracks : Tracks all front rest tally) where
   abbrev of : ℕ → Class → Bool
   of h class = is_of_household h class.household
 
-  -- what the child takes of a household
+  -- how many members of a household the child takes
   more_of : (h : ℕ) → taken_of (of h) all.classes (front ++ count ∷ []) ≡ taken_of (of h) all.classes front + cond (is_of_household h class.household) count 0
   more_of h = taken_more all front class count stands (of h)
 
@@ -69,7 +69,7 @@ module _ (all : Classes) (front : List ℕ) (class : Class) (count : ℕ) (rest 
       let sum : taken_of (of k) all.classes (front ++ count ∷ []) ≡ taken_of (of k) all.classes front = omega (arith, more) in
       ap (λ n. leb n 1) sum
 
-  -- each household's test, by the household of the class
+  -- if the class's household has room, the child takes at most one member of each household of which the front does
   still_one : (own : Option ℕ) → own ≡ class.household → has_room tally.homes own count ≡ true → (household : Option ℕ) →
       takes_one_of all.classes front household ≡ true → takes_one_of all.classes (front ++ count ∷ []) household ≡ true
   still_one own same room None e = refl
@@ -100,7 +100,7 @@ module _ (all : Classes) (front : List ℕ) (class : Class) (count : ℕ) (rest 
         | false ↦ λ room. sym (two_taken own same room)
       ]) refl
 
--- ---- in the words of the code
+-- ---- the same laws for equal values, as the code has them
 
 pub few_same : (homes homes' : List ℕ) → homes ≡ homes' → AreFew homes' → AreFew homes
 few_same homes homes' e few = subst AreFew (sym e) few

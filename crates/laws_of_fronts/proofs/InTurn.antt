@@ -1,9 +1,9 @@
--- One search, and where it finds nothing another.
+-- Two searches in turn: the second is made if the first finds nothing.
 use Rattle.std.proofs.Common.{◌≡◌, ℕ, ◌+◌, ◌≤◌, true, false, cond, List, Some, None, ap, arith}
 use Rattle.std.specs.Prelude.{is_some}
 use Rattle.define_searches.specs.Visits.{Search as Due}
 
--- one search, and where it finds nothing another
+-- what two searches in turn find, and their visits: those of the first, and of the second if the first finds nothing
 abbrev pub then_next : Due → Due → Due
 then_next one rest = cond (is_some one.found) one (record { visits = one.visits + rest.visits; found = rest.found })
 
@@ -16,7 +16,7 @@ at_least_one one rest = elim (is_some one.found) as (λ b. one.visits ≤ (cond 
   | false ↦ omega arith
 ]
 
--- the first of two searches finds one
+-- if the first search finds something, the second is not made
 pub found_at_once : (one rest : Due) (found : List ℕ) → one.found ≡ Some found → then_next one rest ≡ one
 found_at_once one rest found e = ap (λ o. cond (is_some o) one (record { visits = one.visits + rest.visits; found = rest.found })) e
 

@@ -1,4 +1,4 @@
--- What a tally says about live fronts.
+-- What a tally says of whether fronts are live.
 use Rattle.std.proofs.Common.{◌≡◌, ℕ, zero, suc, ◌+◌, ◌<◌, Bool, true, false, cond, ◌&&◌, leb, List, [], ◌∷◌, ◌++◌, length, drop, Some, refl, sym, ap, ◌∙◌, arith, subst, length-append}
 use Rattle.std.specs.Prelude.{slice_get, slice_index, slice_index_or}
 use Rattle.std.specs.List.{list_all, enumerate_from}
@@ -55,7 +55,7 @@ later_of_child all front count = ap (λ n. drop n all.classes) (length-append fr
 reach_equal : (lower upper a a' m m' : ℕ) → a ≡ a' → m ≡ m' → (leb a upper && leb lower (a + m)) ≡ (leb a' upper && leb lower (a' + m'))
 reach_equal lower upper a a' m m' e f = rw (e, f) refl
 
--- the class's own values
+-- for a value of the class, the tally with `count` more says whether the child can meet the bounds
 own_reach : (all : Classes) (front : List ℕ) (class : Class) (count : ℕ) (tally : FrontTally) → Stands all (length front) class → Tracks all front (drop (length front + 1) all.classes) tally →
     (c v : ℕ) (bound : Bounds) → c < length all.bounds → v < 50 → has_value c v class ≡ true →
     value_reachable all (front ++ count ∷ []) c (v, bound) ≡ reaches bound tally.held tally.later count c v
@@ -67,7 +67,7 @@ own_reach all front class count tally stands tracks c v bound below within has =
     ap (most_given (has_value c v)) (later_of_child all front count) ∙ sym (tracks.later c v below within) in
     reach_equal bound.lower bound.upper _ _ _ _ (omega (arith, taken, held)) later
 
--- the values that others have
+-- for a value that the class doesn't have, the child can meet the bounds exactly if the front can
 other_reach : (all : Classes) (front : List ℕ) (class : Class) (count : ℕ) → Stands all (length front) class →
     (c v : ℕ) (bound : Bounds) → has_value c v class ≡ false → value_reachable all (front ++ count ∷ []) c (v, bound) ≡ value_reachable all front c (v, bound)
 other_reach all front class count stands c v bound has =

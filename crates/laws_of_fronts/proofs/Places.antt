@@ -1,4 +1,4 @@
--- What stands at a place of a list that is made place by place.
+-- The element at a place of a list that is made place by place.
 use Rattle.std.proofs.Common.{◌≡◌, ℕ, ◌<◌, true, ltb, List, map, length, get_or, Option, ap, ◌∙◌, arith}
 use Rattle.std.specs.List.{range_with_len}
 use Rattle.std.proofs.lemmas.Bool.{lt-ltb}

@@ -1,11 +1,11 @@
--- Who is taken, as a chain over classes and counts tests it.
+-- Whether a volunteer is taken, as a test over pairs of a class and its count.
 use Rattle.std.proofs.Common.{◌≡◌, ℕ, Bool, ◌||◌, List, [], ◌∷◌, take, filter, refl, ap, ◌∙◌}
 use Rattle.std.specs.List.{list_any, zip, range_with_len}
 use Rattle.define_pools.specs.Lists.{includes}
 use Rattle.define_searches.specs.Classes.{Class, Classes, volunteer_count}
 use Rattle.define_searches.specs.Compositions.{is_taken, first_panel}
 
--- the first members of the class, as many as the count beside it, hold the volunteer
+-- the volunteer is among the first members of the class, as many as the count beside it
 abbrev pub gives : ℕ → Class × ℕ → Bool
 gives volunteer pair = includes (take pair.1 pair.0.members) volunteer
 
@@ -14,7 +14,7 @@ is_taken-zip volunteer [] counts = refl
 is_taken-zip volunteer (class ∷ classes) [] = refl
 is_taken-zip volunteer (class ∷ classes) (c ∷ counts) = ap (λ b. includes (take c class.members) volunteer || b) (is_taken-zip volunteer classes counts)
 
--- who is taken of these classes, in number order, are the first panel
+-- the volunteers who are taken, in the order of their numbers, are the first panel
 pub members_are : (all : Classes) (composition : List ℕ) (classes : List Class) (counts : List ℕ) (volunteers : ℕ) → classes ≡ all.classes → counts ≡ composition →
     volunteers ≡ volunteer_count all → (members : List ℕ) → members ≡ filter (is_taken classes counts) (range_with_len 0 volunteers) → members ≡ first_panel all composition
 members_are all composition classes counts volunteers e f g members h =

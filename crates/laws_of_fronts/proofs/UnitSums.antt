@@ -1,4 +1,4 @@
--- The greatest sums of units: with one more unit, of one class more, and their width.
+-- The greatest sums of units: with one more unit, with the units of one more class, and how wide they are.
 use Rattle.std.proofs.Common.{◌≡◌, ℕ, zero, suc, ◌+◌, ◌*◌, ◌^◌, ◌≤◌, ◌<◌, true, false, cond, eqb, ltb, List, [], ◌∷◌, ◌++◌, length, take, drop, set, map, fold, replicate, ℤ, pos, ◌+ℤ◌, refl, sym, ap, ◌∙◌, arith, mul-le-mul_right, subst, length-append}
 use Rattle.std.specs.Prelude.{int_le, unsigned_abs}
 use Rattle.std.specs.Int.{int_max}
@@ -33,7 +33,7 @@ sum_more x xs = omega (arith, ints, fold_from (pos 0 +ℤ x) xs)
 
 -- ---- one more unit
 
--- the sum of the first n numbers
+-- the sum of the first n numbers of a list
 abbrev first : ℕ → List ℤ → ℤ
 first n xs = sum_of (take n xs)
 
@@ -84,7 +84,7 @@ greater_is some many count p q r p' q' r' d e f h k =
       | false ↦ λ t. let l = ltb-false some count t in h.some_left l ∙ ap (λ x. int_max x q) e ∙ ap (int_max p') f ∙ sym (k.some_left (omega arith))
     ]) refl
 
--- greatest sums with one more unit are greatest sums
+-- if `before` has the greatest sums of some units, `after` has those with one more unit
 pub greatest_more : (us : List ℤ) (weight : ℤ) (many : ℕ) (before after : List ℤ) → many ≡ length us → AreGreatest us before → HasUnit many weight before after → AreGreatest (weight ∷ us) after
 greatest_more us weight many before after e greatest has zero l = has.none ∙ greatest 0 (omega (arith, has.same))
 greatest_more us weight many before after e greatest has (suc n) l =
@@ -93,7 +93,7 @@ greatest_more us weight many before after e greatest has (suc n) l =
     greater_is many (length (falling us)) (suc n) _ _ _ _ _ _ (omega (arith, length-falling us)) (greatest (suc n) (omega (arith, has.same))) (ap (λ z. z +ℤ weight) (greatest n (omega (arith, has.same)))) has_next
     (put_sum weight (falling us) n (falling_falls us))
 
--- the sums that are made while the counts go down: those from a count on have the unit
+-- the sums while they are replaced in place, from the greatest count down: those of the greatest counts have the new unit already
 pub record PutFrom (many : ℕ) (weight : ℤ) (before : List ℤ) (done : ℕ) (sums : List ℤ) : Type 0 where
   pub same : length sums ≡ length before
   pub low : (n : ℕ) → n + done ≤ length before → at sums n ≡ at before n
@@ -136,7 +136,7 @@ put_all many weight (x ∷ before) done sums from l m = record { same = from.sam
 
 -- ---- how wide they are
 
--- the sum of numbers without their signs
+-- the sum of the absolute values of a list
 abbrev pub width : List ℤ → ℕ
 width xs = total unsigned_abs xs
 
@@ -162,7 +162,7 @@ falling_width : (xs : List ℤ) → width (falling xs) ≡ width xs
 falling_width [] = refl
 falling_width (x ∷ xs) = omega (arith, put_width x (falling xs), falling_width xs)
 
--- a greatest sum is no larger than all units without their signs
+-- the absolute value of a greatest sum is at most the sum of all units' absolute values
 pub greatest_width : (n : ℕ) (us : List ℤ) → unsigned_abs (sum_of (take n (falling us))) ≤ width us
 greatest_width n us = omega (arith, sum_width (take n (falling us)), take_width n (falling us), falling_width us)
 
@@ -170,7 +170,7 @@ pub same_units_width : (m : ℕ) (x : ℤ) (us : List ℤ) → width (replicate 
 same_units_width zero x us = omega arith
 same_units_width (suc m) x us = omega (arith, same_units_width m x us)
 
--- the units of classes that give at most their members are no larger than the sizes' products
+-- if no class gives more than its members, the absolute values of its units sum to at most size times absolute entry
 pub units_width : (classes : List Class) (entries : List ℤ) → AllByRecursion (λ class. class.most ≤ length class.members) classes → width (units classes entries) ≤ sum_of_sizes (map (λ class. length class.members) classes) entries
 units_width [] entries h = omega arith
 units_width (class ∷ classes) [] h = omega arith
@@ -180,7 +180,7 @@ units_width (class ∷ classes) (x ∷ entries) h =
 
 -- ---- the units of the classes from a place on
 
--- a class's units, and those of the classes after it
+-- the units from a place on are those of the class in this place and those of the classes after it
 pub units_next : (all : Classes) (entries : List ℤ) (place : ℕ) (class : Class) → Stands all place class → length entries ≡ length all.classes →
     units_from all entries place ≡ replicate class.most (at entries place) ++ units_from all entries (place + 1)
 units_next all entries place class stands e =
@@ -199,12 +199,12 @@ drop_units (suc i) (class ∷ classes) [] = omega (arith, no_units (drop i class
     no_units (class ∷ classes) = refl
 drop_units (suc i) (class ∷ classes) (x ∷ entries) = omega (arith, drop_units i classes entries, same_units_width class.most x (units classes entries))
 
--- the units of some classes fit 128 bits
+-- the absolute values of the units from a place on sum to below 2 ^ 127
 pub units_narrow : (all : Classes) (entries : List ℤ) (place : ℕ) → KeepsLimits all → AreNarrow all entries → width (units_from all entries place) < 2 ^ 127
 units_narrow all entries place limits narrow =
     omega (arith, drop_units place all.classes entries, units_width all.classes entries (recursion_from_All (λ (class : Class). class.most ≤ length class.members) all.classes limits.most), narrow.narrow)
 
--- one more unit of a class fits too
+-- one more unit of a class can be added, within 128 bits, to a greatest sum of its units so far and those of the classes after it
 pub unit_fits : (all : Classes) (entries : List ℤ) (place : ℕ) (class : Class) (done n : ℕ) → KeepsLimits all → AreNarrow all entries → Stands all place class → done < class.most →
     unsigned_abs (sum_of (take n (falling (replicate done (at entries place) ++ units_from all entries (place + 1))))) + unsigned_abs (at entries place) < 2 ^ 127
 unit_fits all entries place class done n limits narrow stands below =
@@ -232,7 +232,7 @@ pub greatest_same : (all : Classes) (entries : List ℤ) (p q : ℕ) (before aft
 greatest_same all entries p q before after e f greatest =
     subst (λ q. AreGreatest (units_from all entries q) after) e (subst (AreGreatest (units_from all entries p)) (sym f) greatest)
 
--- one line more
+-- the table with one more line, for one more class
 pub table_more : (all : Classes) (entries : List ℤ) (lines place : ℕ) (table sums : List ℤ) → lines + place ≡ length all.classes → HoldsSums all entries lines table → length sums ≡ all.size + 1 →
     AreGreatest (units_from all entries place) sums → HoldsSums all entries (lines + 1) (table ++ sums)
 table_more all entries lines place table sums e holds long greatest = record {

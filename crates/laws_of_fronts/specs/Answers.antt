@@ -2,7 +2,7 @@
 use Rattle.std.specs.Prelude.{◌≡◌, ◌≤◌, ◌<◌, ℕ, List, Option, Result, Ok, Err}
 use Rattle.define_searches.specs.Visits.{Search}
 
--- what the search finds if its visits are within the budget, else that the budget is spent
+-- the answer under a budget of `nodes` visits: what the search finds if it is within the budget, else that the budget is spent
 abbrev pub AnswersWithin : {Spent : Type 0} → Search → ℕ → Result (Option (List ℕ)) Spent → Type 0
 AnswersWithin search nodes (Ok found) = (search.visits ≤ nodes) × (found ≡ search.found)
 AnswersWithin search nodes (Err spent) = nodes < search.visits

@@ -1,12 +1,12 @@
 -- Two lists side by side, for tables and weights that are kept one per row.
 use Rattle.std.specs.Prelude.{◌≡◌, ℕ, List, length, slice_get, Some}
 
--- each element of the first list has one in the same place of the second, and the two are in the relation
+-- the two lists have the same length, and P holds of any two elements in the same place
 pub record EachHas {X Y : Type 0} (P : X → Y → Type 0) (xs : List X) (ys : List Y) : Type 0 where
   pub one_each : length ys ≡ length xs
   pub each : (i : ℕ) (x : X) (y : Y) → slice_get xs i ≡ Some x → slice_get ys i ≡ Some y → P x y
 
--- the same of the first `done` elements
+-- `ys` has an element for each of the first `done` elements of `xs`, and P holds of any two in the same place
 pub record FirstHave {X Y : Type 0} (P : X → Y → Type 0) (xs : List X) (done : ℕ) (ys : List Y) : Type 0 where
   pub long : length ys ≡ done
   pub each : (i : ℕ) (x : X) (y : Y) → slice_get xs i ≡ Some x → slice_get ys i ≡ Some y → P x y

@@ -1,12 +1,12 @@
--- What a search keeps of the front where it is. Over Tallies and Homes.
+-- What a search counts at the front that it has entered. Over Tallies and Homes.
 use Rattle.std.specs.Prelude.{◌≡◌, ℕ, ◌*◌, ◌≤◌, ◌<◌, true, List, length, slice_index, slice_get, get_or, Some}
 use Rattle.define_searches.specs.Classes.{Class, Classes, volunteer_count}
 use Rattle.define_searches.specs.Compositions.{taken_of, has_value, is_of_household}
 use Rattle.define_searches.specs.Fronts.{sizes_of, taken_by, most_given}
 use Rattle.laws_of_fronts.specs.Tallies.{cell}
 
--- how many are taken, and how many the later classes give at most, in all and for the cell of each value; and how many are taken of each
--- household
+-- what a search counts: the members taken, in all (`taken`), of each value (`held`) and of each household (`homes`); and the most that the
+-- later classes give, in all (`later_taken`) and of each value (`later`)
 pub record FrontTally : Type 0 where
   pub taken : ℕ
   pub held : List ℕ
@@ -14,8 +14,8 @@ pub record FrontTally : Type 0 where
   pub later : List ℕ
   pub homes : List ℕ
 
--- the tally is that of a front and the later classes: how many the front takes and these classes give at most, in all and of each value,
--- and how many the front takes of each household
+-- the tally is right for a front and the classes to come: how many the front takes in all, of each value and of each household, and how
+-- many these classes give at most, in all and of each value
 pub record Tracks (all : Classes) (front : List ℕ) (to_come : List Class) (tally : FrontTally) : Type 0 where
   pub taken : tally.taken ≡ taken_by all front
   pub later_taken : tally.later_taken ≡ most_given (λ class. true) to_come
@@ -26,7 +26,7 @@ pub record Tracks (all : Classes) (front : List ℕ) (to_come : List Class) (tal
   pub homes_cells : length tally.homes ≡ volunteer_count all
   pub homes : (h : ℕ) → h < volunteer_count all → slice_index tally.homes h ≡ taken_of (λ class. is_of_household h class.household) all.classes front
 
--- the most that these classes give, in all and of each value
+-- the most that these classes give, in all (`total`) and of each value (`cells`)
 pub record Gives (all : Classes) (classes : List Class) (total : ℕ) (cells : List ℕ) : Type 0 where
   pub in_all : total ≡ most_given (λ class. true) classes
   pub room : length cells ≡ 50 * length all.bounds
@@ -36,11 +36,11 @@ pub record Gives (all : Classes) (classes : List Class) (total : ℕ) (cells : L
 abbrev pub AreWithin : Classes → List ℕ → Type 0
 AreWithin all counts = (t : ℕ) → t < length counts → slice_index counts t ≤ slice_index (sizes_of all) t
 
--- at least `count` members of the class in this place can be taken
+-- the class in place `depth`, if there is one, has at least `count` members
 abbrev pub CanTake : Classes → ℕ → ℕ → Type 0
 CanTake all depth count = (class : Class) → slice_get all.classes depth ≡ Some class → count ≤ length class.members
 
--- the class in this place
+-- this is the class in place i
 pub record Stands (all : Classes) (i : ℕ) (class : Class) : Type 0 where
   pub below : i < length all.classes
   pub is : class ≡ get_or all.classes i class

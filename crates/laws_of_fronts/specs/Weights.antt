@@ -16,57 +16,57 @@ pub record AreNarrow (all : Classes) (entries : List ℤ) : Type 0 where
   pub one_each : length entries ≡ length all.classes
   pub narrow : sum_of_sizes (sizes_of all) entries < 2 ^ 127
 
--- the number can be added to each of these within 128 bits
+-- the weight can be added to each of the sums within 128 bits
 abbrev pub CanAdd : ℤ → List ℤ → Type 0
 CanAdd weight sums = (n : ℕ) → n < length sums → unsigned_abs (at sums n) + unsigned_abs weight < 2 ^ 127
 
--- the result for `count` units out of `units` others and one more: if all the others are taken, the sum with this one; else the greater
--- of the sums with and without it
+-- the greatest sum of `count` units, out of `units` units and one more. If there are fewer than `count` without this one, it is the sum
+-- with this one; else the greater of the sums with and without it
 pub record IsGreater (units count : ℕ) (without with_it result : ℤ) : Type 0 where
   pub all_taken : units < count → result ≡ with_it
   pub some_left : count ≤ units → result ≡ int_max without with_it
 
--- the greatest sums of 0, 1, 2 and more of `units` units, before and after one more unit of this weight
+-- `before` has the greatest sums of 0, 1, 2 and more of `units` units, and `after` those with one more unit of this weight
 pub record HasUnit (units : ℕ) (weight : ℤ) (before after : List ℤ) : Type 0 where
   pub same : length after ≡ length before
   pub none : at after 0 ≡ at before 0
   pub some : (n : ℕ) → n + 1 < length before → IsGreater units (n + 1) (at before (n + 1)) (at before n +ℤ weight) (at after (n + 1))
 
--- these are the greatest sums of 0, 1, 2 and more of these units
+-- `sums` has the greatest sums of 0, 1, 2 and more of these units
 abbrev pub AreGreatest : List ℤ → List ℤ → Type 0
 AreGreatest units sums = (n : ℕ) → n < length sums → at sums n ≡ sum_of (take n (falling units))
 
--- the units of the classes from this place on
+-- the units of the classes from a place on
 abbrev pub units_from : Classes → List ℤ → ℕ → List ℤ
 units_from all entries place = units (drop place all.classes) (drop place entries)
 
--- the cell of `count` units of the last `later` classes
+-- the place in the table for `count` units of the last `later` classes
 abbrev pub cell_of : Classes → ℕ → ℕ → ℕ
 cell_of all later count = later * (all.size + 1) + count
 
--- the table has the greatest sums for the last 0 to `lines` classes, each for 0 units up to the size
+-- the table has `lines` lines, the greatest sums for the last 0, 1, 2 and more classes, each for 0 units up to the size
 pub record HoldsSums (all : Classes) (entries : List ℤ) (lines : ℕ) (table : List ℤ) : Type 0 where
   pub room : length table ≡ lines * (all.size + 1)
   pub each : (later place count : ℕ) → later < lines → later + place ≡ length all.classes → count ≤ all.size →
       at table (cell_of all later count) ≡ greatest_sum count (drop place all.classes) (drop place entries)
 
--- the table of the greatest sums in a row
+-- the table has all the greatest sums in a row
 abbrev pub IsSummed : Classes → Row → List ℤ → Type 0
 IsSummed all row sums = HoldsSums all row.a (length all.classes + 1) sums
 
--- such a table for each of the rows; `S` keeps one, and the function reads it
+-- there is such a table for each of the rows; `read` reads it out of an `S`
 abbrev pub SumEach : {S : Type 0} → (S → List ℤ) → Classes → List Row → List S → Type 0
 SumEach read all rows sums = EachHas (λ row here. IsSummed all row (read here)) rows sums
 
--- the weights in a row of a front and of each front before it, by their lengths
+-- `weights` has, by length, the weight in a row of the front and of each front that it begins with
 pub record Weighs (all : Classes) (row : Row) (front : List ℕ) (weights : List ℤ) : Type 0 where
   pub room : length weights ≡ length all.classes + 1
   pub each : (depth : ℕ) → depth ≤ length front → at weights depth ≡ weight_in row.a (take depth front)
 
--- the same for each of the rows; `W` keeps one list, and the function reads it
+-- there are such weights for each of the rows; `read` reads them out of a `W`
 abbrev pub WeighEach : {W : Type 0} → (W → List ℤ) → Classes → List Row → List ℕ → List W → Type 0
 WeighEach read all rows front weights = EachHas (λ row here. Weighs all row front (read here)) rows weights
 
--- each of the rows is narrow
+-- the entries of each of the rows are narrow
 abbrev pub EachNarrow : Classes → List Row → Type 0
 EachNarrow all rows = (i : ℕ) (row : Row) → slice_get rows i ≡ Some row → AreNarrow all row.a

@@ -18,14 +18,14 @@ use Rattle.define_runs.specs.Keeps.{KeepsRun}
 use Rattle.define_runs.specs.Run.{RunLimits, closed_rows, stage_of}
 use Rattle.laws_of_runs.proofs.StageRows.{from_places, row_back, weighs_alike}
 
--- the row of a closed stage, and the stage
+-- the row of the closed stage k, and the stage that is made of it
 abbrev pub closed_row : Table → ℕ → Row
 closed_row table k = row_at table (slice_index table.closed k)
 
 abbrev pub stage_at : Classes → Table → ℕ → Stage
 stage_at all table k = stage_of all (closed_row table k)
 
--- the stages before a stage, and their rows, the last one first
+-- the stages before stage k and their rows, the last one first
 abbrev pub earlier : Classes → Table → ℕ → List Stage
 earlier all table zero = []
 earlier all table (suc k) = stage_at all table k ∷ earlier all table k

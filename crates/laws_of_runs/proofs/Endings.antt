@@ -1,4 +1,4 @@
--- From what step a run ends, and how the step tells.
+-- The step with which a run ends, and what it says of the ending.
 use Rattle.std.proofs.Common.{◌≡◌, ℕ, zero, suc, ◌≤◌, Bool, true, false, length, None, Some, refl, sym, ap, inl, inr, ◌⊎◌}
 use Rattle.define_rows.specs.InOrder.{settled_count}
 use Rattle.define_rows.specs.Table.{Table}
@@ -10,7 +10,7 @@ use Rattle.define_searches.specs.Visits.{first_search}
 use Rattle.define_spreads.specs.Spreading.{spread}
 use Rattle.define_runs.proofs.StepCases.{StepIs, Enters, Answers, NoPivot, Pivots, Passes, NoVisits, Widens, Closes, step_is, OpeningIs, Spends, FindsNoPanel, IsWide, Begins, opening_is}
 
--- a run is refused a step by the width, the pivots or the visits
+-- the run ended because the width, the budget of pivots or that of visits refused a step
 abbrev pub is_refused : Ending → Bool
 is_refused NoPanel = false
 is_refused (Found last answer) = false
@@ -19,7 +19,7 @@ is_refused (TotalPasses stood pass) = false
 is_refused (PivotsSpent stood) = true
 is_refused (NodesSpent stood) = true
 
--- a run that comes to a table ends with its next step
+-- a table that the run reaches and whose next step ends the run
 pub record EndsAt (all : Classes) (limits : RunLimits) (ending : Ending) : Type 0 where
   pub last : Table
   pub reached : IsReached all limits last
@@ -28,7 +28,7 @@ pub record EndsAt (all : Classes) (limits : RunLimits) (ending : Ending) : Type 
 -- ---- the step with which a run ends
 
 module _ (all : Classes) (limits : RunLimits) where
-  -- a table so many steps from a start, whose next step ends the run
+  -- a table after some number of steps from `next`, whose next step ends the run
   record LastStep (next : Next) (ending : Ending) : Type 0 where
     table : Table
     steps : ℕ
@@ -51,7 +51,7 @@ module _ (all : Classes) (limits : RunLimits) where
       by (inl now) = inl now
       by (inr last) = inr (record { last = last.table; reached = record { steps = last.steps; there = last.there }; step_is = last.step_is })
 
-  -- ---- what an opening that ends the run tells
+  -- ---- what an opening that ends the run says
 
   -- the opening finds no composition
   pub record FindsNone (ending : Ending) : Type 0 where
@@ -68,7 +68,7 @@ module _ (all : Classes) (limits : RunLimits) where
       by next f (IsWide first pass found p is) = let same : TooWide None pass ≡ ending = cc in inr (ap is_refused (sym same))
       by next f (Begins first table found p is) = absurd cc
 
-  -- ---- what a step that ends the run tells
+  -- ---- what a step that ends the run says
 
   -- no stage is open and everybody is settled, so the columns are spread
   pub record IsAnswered (table : Table) (ending : Ending) : Type 0 where

@@ -1,4 +1,4 @@
--- A run that finds an answer comes to a table with no stage open and everybody settled, whose columns it spreads.
+-- A run that finds an answer reaches a table with no stage open and everybody settled, and spreads its columns.
 use Rattle.std.proofs.Common.{◌≡◌, ℕ, ◌≤◌, Bool, true, false, length, map, Result, Ok, Err, refl, sym, ap, ◌∙◌, subst, inl, inr, ◌⊎◌}
 use Rattle.std.proofs.lemmas.Bool.{false≢true}
 use Rattle.define_pools.specs.Certificate.{Answer}

@@ -1,4 +1,4 @@
--- What the lottery that is spread from a table's columns weighs in its closed stages, and each volunteer's count as a sum of levels.
+-- What the panels of the spread lottery weigh in the closed stages, and each volunteer's count as a sum of levels.
 use Rattle.std.proofs.Common.{◌≡◌, ℕ, zero, suc, ◌+◌, ◌*◌, ◌/◌, ◌<◌, Bool, true, false, cond, not, ◌||◌, List, [], ◌∷◌, map, length, get_or, Ok, refl, sym, ap, ap₂, ◌∙◌, arith}
 use Rattle.std.specs.Int.{◌∣◌}
 use Rattle.std.specs.List.{All, AllByRecursion, range_with_len}
@@ -34,7 +34,7 @@ use Rattle.laws_of_runs.proofs.ClosedStages.{closed_row, earlier, entry_each, si
 use Rattle.laws_of_runs.proofs.Marks.{marked}
 use Rattle.laws_of_runs.proofs.PanelWeights.{panel_weighs}
 
--- what holds of each part, from each column of the solution
+-- what holds of each column of the solution, with its fraction, holds of each part
 each_part : (table : Table) (P : List ℕ × Fraction → Type 0) (theres : List ColumnValue) →
     AllByRecursion (λ there. P (get_or table.columns there.column [], lowest_of there.side there.coefficient)) theres →
     AllByRecursion P (map (λ (c, value). (get_or table.columns c [], value)) (map fraction_of theres))
@@ -47,7 +47,7 @@ each_column : (table : Table) (P : List ℕ × Fraction → Type 0) (theres : Li
 each_column table P [] h = tt
 each_column table P (there ∷ theres) h = (h.0, each_column table P theres h.1)
 
--- the number expected of a class is its count over the total
+-- the number expected of a class, times the total, is its count with the total as the common multiple
 expected_is : (table : Table) (common t : ℕ) (theres : List ColumnValue) →
     total (λ (part : List ℕ × Fraction). get_or part.0 t 0 * (part.1.num * (common / part.1.den))) (map (λ (c, value). (get_or table.columns c [], value)) (map fraction_of theres))
     ≡ total (λ there. numerator_over common there * count_in table.columns there.column t) theres
@@ -99,7 +99,7 @@ module _ (pool : Pool) (alike : ℕ → ℕ → Bool) (makes : MakesClasses pool
       ∙ expected_is table lottery.total t (solution table)
       ∙ sym (sum_by-is-total (λ there. numerator_over lottery.total there * count_in table.columns there.column t) (solution table))
 
-  -- a volunteer's count times the size of the volunteer's class is the class's count
+  -- a volunteer's count, times the size of the volunteer's class, is the class's count
   counted : (i : ℕ) → i < length pool.volunteers → count lottery i * get_or table.sizes (class_at i) 0 ≡ count_over table lottery.total (class_at i)
   counted i l =
       let class = get_or all.classes (class_at i) (class_by alike pool 0) in
@@ -114,7 +114,7 @@ module _ (pool : Pool) (alike : ℕ → ℕ → Bool) (makes : MakesClasses pool
   some_size : (i : ℕ) → i < length pool.volunteers → 0 < get_or table.sizes (class_at i) 0
   some_size i l = keeps.in_order.sizes (class_at i) 0 (omega (arith, size_count pool alike makes limits table keeps, number_below pool alike makes i l))
 
-  -- over the scale of the levels
+  -- a volunteer's count, times the scale of the levels, is the total times the sum of the levels of the volunteer's class
   pub counts_are : (levels : HasLevels table) (i : ℕ) → i < length pool.volunteers → count lottery i * levels.scale ≡ lottery.total * class_levels table levels.level (class_at i)
   counts_are levels i l =
       let told = levels.counts_over lottery.total (class_at i) divides (omega (arith, size_count pool alike makes limits table keeps, number_below pool alike makes i l)) in

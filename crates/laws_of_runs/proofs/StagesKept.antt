@@ -1,4 +1,4 @@
--- Each table of a run keeps which classes its closed stages settled.
+-- Each table of a run keeps the record of which classes its closed stages settled.
 use Rattle.std.proofs.Common.{◌≡◌, ℕ, zero, suc, Ok, refl, ap, ◌∙◌, subst}
 use Rattle.define_rows.specs.Settled.{KeepsStages}
 use Rattle.define_rows.specs.Steps.{add_column, close_stage, enter_stage}
@@ -12,7 +12,7 @@ use Rattle.define_runs.proofs.StepCases.{StepIs, Enters, Answers, NoPivot, Pivot
 use Rattle.define_runs.proofs.Kept.{step_kept, reached_kept}
 
 module _ (all : Classes) (limits : RunLimits) (table : Table) (keeps : KeepsRun all limits table) (stages : KeepsStages table) where
-  -- a step that goes on
+  -- if the run goes on after a step, the table that was made keeps the record
   pub step_stages : (made : Table) → step all limits table ≡ GoOn made → KeepsStages made
   step_stages made e = by (step all limits table) e (step_is all limits table)
     where

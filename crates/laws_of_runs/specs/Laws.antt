@@ -15,12 +15,12 @@ use Rattle.define_spreads.specs.Spreading.{greatest_total}
 abbrev pub NoPanelWhereNone : Type 0
 NoPanelWhereNone = (pool : Pool) (alike : ℕ → ℕ → Bool) → MakesClasses pool alike → (limits : RunLimits) → Ends (classes_by alike pool) limits NoPanel → panels pool ≡ []
 
--- then the opening search made no more visits than its budget
+-- if a run ends with no panel, the opening search made at most as many visits as its budget
 abbrev pub NoPanelIsWithin : Type 0
 NoPanelIsWithin = (pool : Pool) (alike : ℕ → ℕ → Bool) → MakesClasses pool alike → (limits : RunLimits) → Ends (classes_by alike pool) limits NoPanel →
     (first_search (classes_by alike pool)).visits ≤ limits.opening
 
--- if the pool has none, and the opening search is within its budget, the run ends so
+-- if a pool has no quota panel, and the opening search is within its budget, the run ends with no panel
 abbrev pub NoneEndsSo : Type 0
 NoneEndsSo = (pool : Pool) (alike : ℕ → ℕ → Bool) → MakesClasses pool alike → (limits : RunLimits) → panels pool ≡ [] →
     (first_search (classes_by alike pool)).visits ≤ limits.opening → Ends (classes_by alike pool) limits NoPanel
@@ -37,14 +37,14 @@ FoundIsLottery = OfFound (λ pool answer. IsLottery pool answer.lottery)
 abbrev pub FoundIsWithin : Type 0
 FoundIsWithin = OfFound (λ pool answer. answer.lottery.total ≤ greatest_total)
 
--- its stages certify it
+-- the stages that a run finds certify the lottery that it finds
 abbrev pub FoundIsCertified : Type 0
 FoundIsCertified = OfFound (λ pool answer. Certifies pool answer.lottery answer.stages)
 
--- so no lottery over the pool is above it
+-- so no lottery over the pool is above the one that a run finds
 abbrev pub FoundIsGreatest : Type 0
 FoundIsGreatest = OfFound (λ pool answer. LeximinGreatest pool answer.lottery)
 
--- and its numbers keep the ranges that they have in the text of a bundle
+-- the numbers of an answer that a run finds are in the ranges that they have in the text of a bundle
 abbrev pub FoundIsInRanges : Type 0
 FoundIsInRanges = OfFound IsInRanges

@@ -12,7 +12,7 @@ ghost use Rattle.laws_of_runs.specs.Laws.{FoundIsCertified, FoundIsGreatest, Fou
 
 use define_runs::worked_runs;
 
-/// A run ends with no panel only if the pool has no quota panel and the opening search is within its budget, and then it does so.
+/// A run ends with no panel exactly if the pool has no quota panel and the opening search is within its budget.
 pub fn no_panel_where_none()
     ensures none { NoPanelWhereNone }
     ensures within { NoPanelIsWithin }
@@ -25,13 +25,13 @@ pub fn found_is_lottery()
     ensures within { FoundIsWithin }
 {}
 
-/// If each volunteer's chance is the sum of the levels of the stages at which the volunteer was unsettled, and the stages have what
-/// else is asked of them, they hold.
+/// Stages hold if each of them meets the conditions that don't speak of counts, and each volunteer's chance is the sum of the levels of the
+/// stages at which the volunteer was unsettled.
 pub fn levels_make_stages()
     ensures { LevelsMakeStages }
 {}
 
-/// The stages that a run finds with a lottery certify it.
+/// The stages that a run finds with a lottery certify this lottery.
 pub fn found_is_certified()
     ensures { FoundIsCertified }
 {}
@@ -46,7 +46,7 @@ pub fn found_is_in_ranges()
     ensures { FoundIsInRanges }
 {}
 
-/// The lottery that the run finds over two women and two men is certified by the two stages that it finds.
+/// The lottery that the run finds for two women and two men is certified by the two stages that it finds.
 pub fn worked_certificate()
     ensures { Certifies four pairs.lottery pairs.stages }
 {

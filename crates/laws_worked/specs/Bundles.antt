@@ -10,7 +10,7 @@ use Rattle.laws_worked.specs.Pools.{drawn}
 abbrev pub printed_answer : Answer
 printed_answer = record { lottery = drawn 2 (row (1 ∷ 2 ∷ []) 1 ∷ row (0 ∷ 3 ∷ []) 1 ∷ []); stages = four_stages }
 
--- the lines of two women and two men up to their volunteers, in a text of a version
+-- the lines of two women and two men up to the last volunteer, in a text of this version
 abbrev pub lines_of_four : ℕ → List ℕ
 lines_of_four version =
     codes "pool\t" ++ decimal version ++ codes "\n" ++ codes "size\t2\n" ++ codes "category\tgender\n" ++ codes "value\tfemale\t1\t1\n" ++ codes "value\tmale\t1\t1\n"
@@ -20,17 +20,17 @@ lines_of_four version =
 abbrev pub four_text : List ℕ
 four_text = lines_of_four 1 ++ codes "end\n"
 
--- the text of the same with a and c in one household
+-- the text of the same four volunteers with a and c in one household
 abbrev pub housed_text : List ℕ
 housed_text = lines_of_four 2 ++ codes "household\ta\th\n" ++ codes "household\tc\th\n" ++ codes "end\n"
 
--- the text of the bundle
+-- the text of the bundle that the program prints for two women and two men
 abbrev pub printed_text : List ℕ
 printed_text =
     codes "bundle\t1\n" ++ four_text ++ codes "total\t2\n" ++ codes "panel\t1\t1\t2\n" ++ codes "panel\t1\t0\t3\n"
     ++ codes "stage\t1\t1\t1\t0\t0\n" ++ codes "stage\t0\t-1\t-1\t1\t1\n" ++ codes "done\n"
 
--- an answer for them: a with d, or b with c
+-- an answer for these four with a household: a with d, or b with c
 abbrev pub housed_answer : Answer
 housed_answer = record {
   lottery = drawn 2 (row (0 ∷ 3 ∷ []) 1 ∷ row (1 ∷ 2 ∷ []) 1 ∷ []);
@@ -53,7 +53,7 @@ single = codes "bundle\t1\npool\t1\nsize\t1\nvolunteer\ta\nend\n"
 abbrev pub answer_of : ℕ → List LotteryRow → List Stage → Answer
 answer_of total rows stages = record { lottery = drawn total rows; stages = stages }
 
--- lines that begin a text: the version and a size, and then a category of one value
+-- lines that begin a text: the version and the size. And below, a category of one value after them
 abbrev pub head : List ℕ
 head = codes "pool\t1\nsize\t1\n"
 

@@ -9,7 +9,7 @@ use Rattle.define_pools.specs.WorkedExamples.{person, bounded, category, row, st
 abbrev pub drawn : ℕ → List LotteryRow → Lottery
 drawn total rows = record { total = total; rows = rows }
 
--- one panel of the four
+-- a lottery of one panel of the four volunteers
 abbrev pub four_single : Lottery
 four_single = drawn 1 (row (0 ∷ 2 ∷ []) 1 ∷ [])
 
@@ -29,7 +29,7 @@ barred_stages =
     stage (pos 0) (pos 1 ∷ pos 0 ∷ pos 0 ∷ []) ∷
     stage (pos 1) (negsuc 1 ∷ pos 1 ∷ pos 1 ∷ []) ∷ []
 
--- b alone has the seat
+-- a lottery in which b alone has the seat
 abbrev pub barred_single : Lottery
 barred_single = drawn 1 (row (1 ∷ []) 1 ∷ [])
 
@@ -57,7 +57,7 @@ pair_stages =
     stage (pos 1) (pos 1 ∷ pos 0 ∷ []) ∷
     stage (pos 0) (negsuc 0 ∷ pos 1 ∷ []) ∷ []
 
--- a woman, w, and three men, x, y and z, for one seat each
+-- two seats: one for the woman w, and one for one of three men, x, y and z
 abbrev pub one_woman : Pool
 one_woman = record {
   size = 2;
@@ -89,11 +89,11 @@ three_and_two_stages =
     stage (pos 1) (pos 1 ∷ pos 1 ∷ pos 1 ∷ pos 0 ∷ pos 0 ∷ []) ∷
     stage (pos 1) (negsuc 1 ∷ negsuc 1 ∷ negsuc 1 ∷ pos 3 ∷ pos 3 ∷ []) ∷ []
 
--- a, b and c have their least chance of 1/3, and d has 2/3
+-- a lottery in which a, b and c have the chance 1/3, the least, and d has 2/3
 abbrev pub uneven_lottery : Lottery
 uneven_lottery = drawn 3 (row (0 ∷ 3 ∷ []) 1 ∷ row (1 ∷ 3 ∷ []) 1 ∷ row (2 ∷ 4 ∷ []) 1 ∷ [])
 
--- d goes with neither b nor c
+-- two seats for four volunteers, of whom d can be on a panel neither with b nor with c
 abbrev pub apart : Pool
 apart = record {
   size = 2;
@@ -104,7 +104,7 @@ apart = record {
 abbrev pub apart_lottery : Lottery
 apart_lottery = drawn 2 (row (0 ∷ 3 ∷ []) 1 ∷ row (1 ∷ 2 ∷ []) 1 ∷ [])
 
--- a and b weigh more than the second cap, and less than the first
+-- the panel of a and b weighs more than the second cap, and less than the first
 abbrev pub apart_stages : List Stage
 apart_stages =
     stage (pos 2) (pos 0 ∷ pos 1 ∷ pos 1 ∷ pos 2 ∷ []) ∷

@@ -5,7 +5,7 @@ ghost use Rattle.define_pools.specs.Lottery.{IsLottery, LeximinGreatest, counts,
 ghost use Rattle.define_pools.specs.WorkedExamples.{four, four_lottery, after_dropout, row};
 ghost use Rattle.laws_worked.specs.Pools.{barred, barred_lottery, barred_single, drawn, four_single, three_and_two, three_and_two_lottery, uneven_lottery};
 
-/// One panel of the four gives the least chance 0, and two panels can give 1/2.
+/// A lottery of one of the four's panels gives the least chance 0, and one of two panels gives 1/2.
 pub fn decided_at_the_lowest()
     ensures lottery { IsLottery four four_single }
     ensures counts { counts four four_single ≡ 1 ∷ 0 ∷ 1 ∷ 0 ∷ [] }
@@ -14,7 +14,7 @@ pub fn decided_at_the_lowest()
     ensures not_greatest { ¬ LeximinGreatest four four_single }
 {}
 
-/// One of three can't be chosen: the least chance is 0 in each lottery, and the second least decides.
+/// One of three volunteers can be on no panel, so the least chance is 0 in each lottery, and the second least decides.
 pub fn decided_at_the_second()
     ensures lottery { IsLottery barred barred_single }
     ensures counts { counts barred barred_single ≡ 0 ∷ 1 ∷ 0 ∷ [] }
@@ -23,7 +23,7 @@ pub fn decided_at_the_second()
     ensures not_greatest { ¬ LeximinGreatest barred barred_single }
 {}
 
-/// Three have 1/3 each in two lotteries of different totals, and the fourth place decides. No lottery is above itself.
+/// In two lotteries of different totals, a, b and c have the chance 1/3. The fourth least chance decides. No lottery is above itself.
 pub fn decided_at_the_fourth()
     ensures lottery { IsLottery three_and_two uneven_lottery }
     ensures counts { counts three_and_two uneven_lottery ≡ 1 ∷ 1 ∷ 1 ∷ 2 ∷ 1 ∷ [] }
@@ -33,7 +33,7 @@ pub fn decided_at_the_fourth()
     ensures not_greatest { ¬ LeximinGreatest three_and_two uneven_lottery }
 {}
 
-/// No lottery: no panel at all, a panel twice, a weight of 0, and totals that aren't the sum.
+/// Lists that are no lottery, for their weights: no panel at all, a panel twice, a weight of 0, and totals that aren't the sum.
 pub fn weights_that_refuse()
     ensures empty { ¬ IsLottery four (drawn 0 []) }
     ensures repeated { ¬ IsLottery four (drawn 2 (row (0 ∷ 2 ∷ []) 1 ∷ row (0 ∷ 2 ∷ []) 1 ∷ [])) }
@@ -42,8 +42,8 @@ pub fn weights_that_refuse()
     ensures total_too_high { ¬ IsLottery four (drawn 3 (row (0 ∷ 2 ∷ []) 1 ∷ row (1 ∷ 3 ∷ []) 1 ∷ [])) }
 {}
 
-/// No lottery: two women, one member, one member twice, members out of order, a number without a volunteer, the volunteer who is gone,
-/// and a panel without the one who is seated.
+/// Lists that are no lottery, for a panel: of two women, of one member, with one member twice, with members out of order, with a number
+/// that no volunteer has, with the volunteer who is gone, and without the one who is seated.
 pub fn panels_that_refuse()
     ensures two_women { ¬ IsLottery four (drawn 1 (row (0 ∷ 1 ∷ []) 1 ∷ [])) }
     ensures too_few { ¬ IsLottery four (drawn 1 (row (0 ∷ []) 1 ∷ [])) }

@@ -53,7 +53,7 @@ pub fn pair_of_volunteers()
     ensures certified { Certifies pair pair_lottery pair_stages }
 {}
 
-/// One woman, who is seated, and three men with 1/3 each. The last stage has weights below 0 for somebody settled, and the cap 2.
+/// One woman, who is on each panel, and three men with 1/3 each. The last stage has weights below 0 for men who are settled, and the cap 2.
 pub fn woman_and_three_men()
     ensures pool { IsPool one_woman }
     ensures panels { panels one_woman ≡ (0 ∷ 1 ∷ []) ∷ (0 ∷ 2 ∷ []) ∷ (0 ∷ 3 ∷ []) ∷ [] }
@@ -62,7 +62,7 @@ pub fn woman_and_three_men()
     ensures certified { Certifies one_woman one_woman_lottery one_woman_stages }
 {}
 
-/// Three volunteers for one seat, and two for another: 1/3 each and 1/2 each.
+/// Three volunteers for one seat, who have 1/3 each, and two for another, who have 1/2 each.
 pub fn three_and_two_volunteers()
     ensures pool { IsPool three_and_two }
     ensures panels { panels three_and_two ≡ (0 ∷ 3 ∷ []) ∷ (0 ∷ 4 ∷ []) ∷ (1 ∷ 3 ∷ []) ∷ (1 ∷ 4 ∷ []) ∷ (2 ∷ 3 ∷ []) ∷ (2 ∷ 4 ∷ []) ∷ [] }
@@ -71,7 +71,8 @@ pub fn three_and_two_volunteers()
     ensures certified { Certifies three_and_two three_and_two_lottery three_and_two_stages }
 {}
 
-/// A stage speaks only of the panels that attain the earlier caps: a with b weighs more than the second cap here.
+/// A stage speaks only of the panels that attain the earlier caps: here the panel of a and b weighs less than the first cap, and more than
+/// the second.
 pub fn panels_below_an_earlier_cap()
     ensures pool { IsPool apart }
     ensures panels { panels apart ≡ (0 ∷ 1 ∷ []) ∷ (0 ∷ 2 ∷ []) ∷ (0 ∷ 3 ∷ []) ∷ (1 ∷ 2 ∷ []) ∷ [] }
@@ -82,7 +83,7 @@ pub fn panels_below_an_earlier_cap()
     ensures certified { Certifies apart apart_lottery apart_stages }
 {}
 
-/// Pools with no quota panel: too few volunteers of a value, bounds that ask for different volunteers, nobody at all.
+/// Pools with no quota panel: too few volunteers of a value; two bounds that no one volunteer can meet; nobody at all.
 pub fn pools_without_panel()
     ensures short { IsPool short }
     ensures short_panels { panels short ≡ [] }

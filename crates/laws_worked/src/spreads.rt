@@ -7,9 +7,9 @@ ghost use Rattle.define_searches.specs.Classes.{classes_of};
 ghost use Rattle.define_spreads.specs.Spreading.{spread};
 ghost use Rattle.define_spreads.specs.WorkedSpreads.{one_of_three, pair_and_one, over};
 
-/// One seat for three volunteers of different values: two with shares of 1/10^38, and one with all that is left; the total is 10^38.
-/// With 10^38 + 1 as a denominator the total passes at once. If the first is one of two alike, the dial has two places, and 10^38
-/// passes too.
+/// One seat for three volunteers of different values: the first has a share of 1/10^38, the second all that is left, and the total is
+/// 10^38. With 10^38 + 1 as the denominator, the total passes at the first part. If the first volunteer is one of two alike, the dial has
+/// two places, and the denominator 10^38 passes too.
 pub fn widest_spreads()
     ensures greatest { spread (classes_of one_of_three) ((1 ∷ 0 ∷ 0 ∷ [], over 1 (10 ^ 38)) ∷ (0 ∷ 1 ∷ 0 ∷ [], over (10 ^ 38 - 1) (10 ^ 38)) ∷ []) ≡
         Ok (record { total = 10 ^ 38; rows = row (0 ∷ []) 1 ∷ row (1 ∷ []) (10 ^ 38 - 1) ∷ [] }) }
@@ -19,7 +19,7 @@ pub fn widest_spreads()
         Err (record { place = 0; total = 1; den = 10 ^ 38 }) }
 {}
 
-/// (10^38 - 1)/10^38 is less than 10^38/(10^38 + 1), by the products across; and 12 is the least common multiple of 4 and 6.
+/// (10^38 - 1)/10^38 is less than 10^38/(10^38 + 1), by the products across. And 12 is the least common multiple of 4 and 6.
 pub fn close_fractions()
     ensures less { (10 ^ 38 - 1) * (10 ^ 38 + 1) < 10 ^ 38 * 10 ^ 38 }
     ensures multiple { lcm_of 4 6 ≡ 12 }

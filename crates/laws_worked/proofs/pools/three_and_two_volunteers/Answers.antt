@@ -1,4 +1,4 @@
--- The tests of UTF-8 compute once they are opened.
+-- The tests of UTF-8 compute once they are unfolded.
 use Rattle.std.proofs.Common.{refl}
 use Rattle.std.specs.Str.{is_utf8, chars}
 use lib.Utf8.{encode}

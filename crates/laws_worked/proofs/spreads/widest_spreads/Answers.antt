@@ -6,7 +6,7 @@ use Rattle.frac128.proofs.DivisorLaws.{gcd_of_is, gcd_of-scale}
 use Rattle.define_spreads.specs.Spreading.{spread}
 use Rattle.laws_worked.proofs.spreads.widest_spreads.Goals as goal
 
--- the least common multiple of 1 and a number
+-- the least common multiple of 1 and n is n
 lcm_of-one : (n : ℕ) → lcm_of 1 n ≡ n
 unfolding lcm_of
 lcm_of-one n =
@@ -14,7 +14,7 @@ lcm_of-one n =
     let e : gcd_of 1 n ≡ 1 = gcd_of_is 1 n 1 (IsGcd-swap n 1 1 (IsGcd-from_mod n 1 1 (IsGcd-from_zero 1 (n % 1) rest))) in
     rw e (omega arith)
 
--- and that of 10^38 and itself
+-- the least common multiple of 10^38 and itself is 10^38
 lcm_of-greatest : lcm_of (10 ^ 38) (10 ^ 38) ≡ 10 ^ 38
 unfolding lcm_of
 lcm_of-greatest = rw (gcd_of_is (10 ^ 38) (10 ^ 38) (10 ^ 38) (IsGcd-from_mod (10 ^ 38) (10 ^ 38) (10 ^ 38) (IsGcd-from_zero (10 ^ 38) ((10 ^ 38) % (10 ^ 38)) refl))) refl
