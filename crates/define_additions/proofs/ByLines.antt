@@ -9,14 +9,14 @@ use Rattle.define_additions.specs.Trees.{AtLeaf, AtSplit, Tree, is_undecided, tr
 use Rattle.define_additions.specs.TreeLines.{AreOfTree, Decision, OfLeaf, OfSplit, TreeLine, fault, fault_from, lines_of, path_behind, standings_at, tree_fault}
 
 module _ (problem : Problem) (standings : List Standing) where
-  -- without and with a volunteer, behind a path
+  -- a path with one more decision: `i` is out, or `i` is in
   abbrev out_of : ℕ → List Decision → List Decision
   out_of i path = record { volunteer = i; is_in = false } ∷ path
 
   abbrev into : ℕ → List Decision → List Decision
   into i path = record { volunteer = i; is_in = true } ∷ path
 
-  -- where a path leads, lines begin with those of a tree that shows the cap, and none of those behind has a fault
+  -- at this path, the lines begin with those of a tree that shows the cap, and the lines after them have no fault
   record Begins (path : List Decision) (lines : List TreeLine) : Type 0 where
     tree : Tree
     behind : List TreeLine
@@ -70,7 +70,7 @@ module _ (problem : Problem) (standings : List Standing) where
 
   -- ---- the other way round
 
-  -- behind the lines of a tree that shows the cap it goes on behind its path
+  -- after the lines of a tree that shows the cap, the walk goes on with the path after this tree
   record GoesOn (path : List Decision) (number : ℕ) (tree : Tree) (behind : List TreeLine) : Type 0 where
     next : ℕ
     same : fault_from problem standings number (Some path) (lines_of tree ++ behind) ≡ fault_from problem standings next (path_behind path) behind

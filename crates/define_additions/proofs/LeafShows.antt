@@ -17,7 +17,7 @@ use Rattle.define_additions.specs.Leaves.{Leaf, Multiplier, Problem, charge, has
 use Rattle.define_additions.proofs.SignedSums.{exchanged, sum-is-total, total, total-add, total-panel, total-scaled, total_ext, total_le}
 use Rattle.define_additions.proofs.MetConstraints.{Meets, met_at}
 
--- a panel keeps standings
+-- a panel keeps these standings, the first of which is that of volunteer `first`
 abbrev pub keeps : List ℕ → ℕ → List Standing → Bool
 keeps panel first standings = list_all (λ (i, standing). allows standing (includes panel i)) (enumerate_from first standings)
 
@@ -31,7 +31,7 @@ charged (negsuc k) lower upper sum l m =
     let scaled = le-scaled lower sum (suc k) l in
     let one = neg-mul (pos (suc k)) sum in let other = neg-mul (pos (suc k)) lower in omega (arith, ints, scaled, one, other)
 
--- what a volunteer adds is at most the charge of the rest
+-- what a volunteer adds to a panel's sum of rests is at most the charge of the rest
 added : (standing : Standing) (is_in : Bool) (r : ℤ) → allows standing is_in ≡ true → (cond is_in r (pos 0)) ≤ℤ (rest_charge standing r)
 added Open true r h =
     (elim (int_lt (pos 0) r) as (λ b. int_lt (pos 0) r ≡ b → r ≤ℤ (cond b r (pos 0))) [
@@ -49,7 +49,7 @@ added Gone true r h = cc
 added Gone false r h = omega (arith, ints)
 
 module _ (panel : List ℕ) (r : ℕ → ℤ) where
-  -- and so are they all together
+  -- so the sum of a panel's rests is at most the charges of all rests
   all_added : (first : ℕ) (standings : List Standing) → keeps panel first standings ≡ true →
       total (λ i. cond (includes panel i) (r i) (pos 0)) (range_with_len first (length standings)) ≤ℤ total (λ (i, standing). rest_charge standing (r i)) (enumerate_from first standings)
   all_added first [] h = omega (arith, ints)
@@ -58,7 +58,7 @@ module _ (panel : List ℕ) (r : ℕ → ℤ) where
       let here = added standing (includes panel first) (r first) parts.0 in
       let later = all_added (first + 1) standings parts.1 in omega (arith, ints, here, later)
 
--- what is below one more, multiplied, is no more
+-- if `k` times `w` is below `k` times `cap + 1`, then `w` is at most `cap`
 unscaled : (k : ℕ) (w cap : ℤ) → (pos k *ℤ w) <ℤ (pos k *ℤ (cap +ℤ pos 1)) → w ≤ℤ cap
 unscaled k w cap h =
     (elim (int_lt cap w) as (λ b. int_lt cap w ≡ b → w ≤ℤ cap) [
@@ -79,7 +79,7 @@ module _ (problem : Problem) (standings : List Standing) (panel : List ℕ)
     abbrev times : ℕ → Multiplier → ℤ
     times i multiplier = multiplied problem.constraints i multiplier
 
-    -- a weight, multiplied, is the rest and the coefficients, multiplied
+    -- a volunteer's scaled weight is the rest and the sum of the multiplied coefficients
     one_weight : (i : ℕ) → pos leaf.scale *ℤ weight_of problem.stage i ≡ rest problem leaf i +ℤ total (times i) leaf.multipliers
     one_weight i = let same = sum-is-total (times i) leaf.multipliers in omega (arith, ints, same)
 
@@ -105,7 +105,7 @@ module _ (problem : Problem) (standings : List Standing) (panel : List ℕ)
         let second = sum-is-total (λ (i, standing). rest_charge standing (rest problem leaf i)) (enumerate_from 0 standings) in
         omega (arith, ints, scaled, split, apart, turned, charges, everybody, rests, first, second)
 
-    -- a leaf that shows the cap shows it of the panel
+    -- if a leaf shows the cap, the panel weighs at most the cap
     pub weight_below : leaf_shows problem standings leaf ≡ true → weight ≤ℤ problem.stage.cap
     weight_below shows =
         let parts = and_parts (has_constraints problem leaf) (is_below problem standings leaf) shows in

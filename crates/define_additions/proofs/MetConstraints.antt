@@ -1,4 +1,4 @@
--- A quota panel that attains the earlier caps, where these hold, meets the constraints of a stage.
+-- If the earlier caps hold, a quota panel that attains them meets the constraints of a stage.
 use Rattle.std.proofs.Common.{◌≡◌, ℕ, zero, suc, ◌<◌, ◌≤◌, Bool, true, cond, not, ◌||◌, eqb, ltb, leb, List, [], ◌∷◌, ◌++◌, map, reverse, length, get_or, count_by, ℤ, pos, ◌≤ℤ◌, refl, sym, ◌∙◌, arith}
 use Rattle.std.specs.Prelude.{int_le, slice_index}
 use Rattle.std.specs.List.{AllByRecursion, enumerate_from, flat_map, list_all}
@@ -19,7 +19,7 @@ use Rattle.define_additions.specs.CapsHold.{EarlierCapsHold}
 use Rattle.define_additions.specs.Constraints.{Constraint, coefficient, category_constraints, constraint_at, constraints, counting, first_members, household_constraint, size_constraint, stage_constraint, value_constraint}
 use Rattle.define_additions.proofs.SignedSums.{sum-is-total, total, total_eq, total-ones}
 
--- the sum of the members' coefficients lies within the bounds
+-- a panel meets a constraint: the sum of the members' coefficients is within the bounds
 pub record Meets (panel : List ℕ) (constraint : Constraint) : Type 0 where
   pub least : constraint.lower ≤ℤ total (coefficient constraint) panel
   pub most : total (coefficient constraint) panel ≤ℤ constraint.upper
@@ -43,7 +43,7 @@ module _ (pool : Pool) (panel : List ℕ) (quota : is_quota_panel pool panel ≡
   below : AllByRecursion (λ i. i < n) panel
   below = each_map (λ i. ltb i n ≡ true) (λ i. i < n) (λ i e. ltb-true i n e) panel (each_from_list_all (λ i. ltb i n) panel parts.below)
 
-  -- what is counted is how many members pass
+  -- in a constraint that counts, the sum of the members' coefficients is how many members pass
   counted : (passes : ℕ → Bool) (lower upper : ℕ) → total (coefficient (counting pool passes lower upper)) panel ≡ pos (count_by passes panel)
   counted passes lower upper =
       let one : ℕ → ℤ = λ i. cond (passes i) (pos 1) (pos 0) in
@@ -108,7 +108,7 @@ module _ (pool : Pool) (panel : List ℕ) (quota : is_quota_panel pool panel ≡
 
   -- ---- earlier stages
 
-  -- where a stage's cap holds, a panel that attains it and those before weighs just the cap
+  -- if a stage's cap holds, a panel that attains it and the caps before it weighs just this cap
   stage_met : (earlier : List Stage) (stage : Stage) → is_capped pool earlier stage ≡ true → attains earlier panel ≡ true → int_le stage.cap (panel_weight stage panel) ≡ true → Meets panel (stage_constraint stage)
   stage_met earlier stage capped attained reached =
       let within = each_panel (λ panel. (not (attains earlier panel) || int_le (panel_weight stage panel) stage.cap) ≡ true) pool
@@ -138,7 +138,7 @@ module _ (pool : Pool) (panel : List ℕ) (quota : is_quota_panel pool panel ≡
             households_met,
       )
 
--- of constraints that a panel meets, it meets each by its number, and one past the last too
+-- a panel that meets all constraints meets the constraint of each number, also past the last one
 pub met_at : (panel : List ℕ) (all : List Constraint) → AllByRecursion (Meets panel) all → (number : ℕ) → Meets panel (constraint_at all number)
 met_at panel [] each number = record { least = omega (arith, ints, none panel); most = omega (arith, ints, none panel) }
   where

@@ -25,14 +25,14 @@ abs-total : {X : Type 0} (f : X → ℤ) (xs : List X) → unsigned_abs (total f
 abs-total f [] = omega arith
 abs-total f (x ∷ xs) = let rest = abs-total f xs in omega (arith, abs-add (f x) (total f xs), rest)
 
--- a sum of fewer numbers is no greater
+-- the sum over the first `k` elements is at most the sum over all
 fewer : {X : Type 0} (f : X → ℕ) (k : ℕ) (xs : List X) → naturals.total f (take k xs) ≤ naturals.total f xs
 fewer f zero [] = omega arith
 fewer f (suc k) [] = omega arith
 fewer f zero (x ∷ xs) = omega arith
 fewer f (suc k) (x ∷ xs) = let rest = fewer f k xs in omega arith
 
--- numbers within a limit sum to as many limits at most
+-- if each number is at most `limit`, their sum is at most `limit` times how many there are
 within_limit : {X : Type 0} (f : X → ℕ) (limit : ℕ) (xs : List X) → AllByRecursion (λ x. f x ≤ limit) xs → naturals.total f xs ≤ length xs * limit
 within_limit f limit [] h = omega arith
 within_limit f limit (x ∷ xs) h = let here = h.0 in let rest = within_limit f limit xs h.1 in omega (arith, here, rest)
@@ -42,7 +42,7 @@ exchanged : {X Y : Type 0} (f : X → Y → ℕ) (xs : List X) (ys : List Y) →
 exchanged f [] ys = sym (naturals.total-zero (λ y. 0) (λ y. refl) ys)
 exchanged f (x ∷ xs) ys = let rest = exchanged f xs ys in let split = naturals.total-add (f x) (λ y. naturals.total (λ x. f x y) xs) ys in omega (arith, rest, split)
 
--- one number of a list is no greater than their sum, and so are those at different places together
+-- a number of a list, without its sign, is at most the sum of all without their signs, and so is the sum of those at different places
 one_at : (xs : List ℤ) (i : ℕ) → unsigned_abs (get_or xs i (pos 0)) ≤ naturals.total unsigned_abs xs
 one_at [] i = omega arith
 one_at (x ∷ xs) zero = omega arith
@@ -65,7 +65,7 @@ at_places g first (place ∷ places) (x ∷ xs) e =
 all_at_places : {X : Type 0} (places : List X) (xs : List ℤ) → naturals.total (λ pair. unsigned_abs (get_or xs pair.0 (pos 0))) (enumerate_from 0 places) ≤ naturals.total unsigned_abs xs
 all_at_places places xs = at_places (λ i. unsigned_abs (get_or xs i (pos 0))) 0 places xs (λ i. let here : 0 + i ≡ i = omega arith in ap (λ k. unsigned_abs (get_or xs k (pos 0))) here)
 
--- rising numbers up to one are at most one more
+-- there are at most `last + 1 - first` numbers in a rising list of numbers from `first` to `last`
 few_rising : (first last : ℕ) (xs : List ℕ) → is_increasing xs ≡ true → AllByRecursion (λ x. first ≤ x) xs → AllByRecursion (λ x. x ≤ last) xs → length xs ≤ (last + 1) - first
 few_rising first last [] up low high = omega arith
 few_rising first last (x ∷ xs) up low high =
@@ -104,7 +104,7 @@ reach_parts constraint h =
       upper = leb-true (unsigned_abs constraint.upper) number_limit parts.1;
     }
 
--- each constraint by its number, and past the last one too
+-- `ReachParts` holds of the constraint of each number, also past the last one
 parts_at : (all : List Constraint) → list_all is_in_reach all ≡ true → (number : ℕ) → ReachParts (constraint_at all number)
 parts_at [] h number = record { coefficients = omega arith; lower = omega arith; upper = omega arith }
 parts_at (constraint ∷ all) h zero = reach_parts constraint (and_parts (is_in_reach constraint) (list_all is_in_reach all) h).0
@@ -167,7 +167,7 @@ module _ (problem : Problem) (near : is_problem_in_reach problem ≡ true) (leaf
       let within = leb-true (reach problem.stage) number_limit (and_parts (list_all is_in_reach all) (is_stage_in_reach problem.stage) near).1 in
       omega (arith, within, naturals.sum_by-is-total unsigned_abs problem.stage.weights)
 
-  -- a coefficient, multiplied
+  -- a multiplied coefficient is at most the square
   pub one_product : (i : ℕ) (m : Multiplier) → IsSmall m → unsigned_abs (multiplied all i m) ≤ square
   one_product i m small =
       let constraint = constraint_at all m.number in
@@ -175,7 +175,7 @@ module _ (problem : Problem) (near : is_problem_in_reach problem ≡ true) (leaf
       let product = product_within (unsigned_abs m.factor) (unsigned_abs (coefficient constraint i)) small (omega (arith, one, sum)) in
       omega (arith, product, unsigned_abs-mul m.factor (coefficient constraint i))
 
-  -- a charge
+  -- a charge is at most the square
   pub one_charge : (m : Multiplier) → IsSmall m → unsigned_abs (charge all m) ≤ square
   one_charge m small =
       let constraint = constraint_at all m.number in
@@ -204,7 +204,7 @@ module _ (problem : Problem) (near : is_problem_in_reach problem ≡ true) (leaf
       let one = one_at problem.stage.weights i in let sum = of_stage in
       product_within leaf.scale (unsigned_abs (weight_of problem.stage i)) known.scale (omega (arith, one, sum))
 
-  -- how far a rest reaches, after so many multipliers
+  -- a rest after the first `k` multipliers is at most the scaled weight and all multiplied coefficients, without their signs
   rest_apart : (k i : ℕ) → unsigned_abs (rest problem (first_multipliers k leaf) i) ≤ leaf.scale * unsigned_abs (weight_of problem.stage i) + naturals.total (λ m. unsigned_abs (multiplied all i m)) ms
   rest_apart k i =
       let weight = pos leaf.scale *ℤ weight_of problem.stage i in
@@ -236,7 +236,7 @@ module _ (problem : Problem) (near : is_problem_in_reach problem ≡ true) (leaf
     abbrev places : List (ℕ × Standing)
     places = enumerate_from 0 standings
 
-    -- a constraint's coefficients, multiplied, over all volunteers
+    -- the multiplied coefficients of a constraint, without their signs, sum to at most the square over all volunteers
     one_constraint : (m : Multiplier) → IsSmall m → naturals.total (λ pair. unsigned_abs (multiplied all pair.0 m)) places ≤ square
     one_constraint m small =
         let constraint = constraint_at all m.number in
@@ -248,7 +248,7 @@ module _ (problem : Problem) (near : is_problem_in_reach problem ≡ true) (leaf
         let product = product_within (naturals.total (λ pair. unsigned_abs (coefficient constraint pair.0)) places) (unsigned_abs m.factor) (omega (arith, sum, within)) small in
         omega (arith, scaled, each, product)
 
-    -- the weights, multiplied, over all volunteers
+    -- the scaled weights, without their signs, sum to at most the square over all volunteers
     all_weights : naturals.total (λ pair. leaf.scale * unsigned_abs (weight_of problem.stage pair.0)) places ≤ square
     all_weights =
         let sum = all_at_places standings problem.stage.weights in

@@ -50,7 +50,7 @@ pub exchanged : {X Y : Type 0} (f : X → Y → ℤ) (xs : List X) (ys : List Y)
 exchanged f [] ys = sym (total-zero (λ y. pos 0) (λ y. refl) ys)
 exchanged f (x ∷ xs) ys = ap (λ z. total (f x) ys +ℤ z) (exchanged f xs ys) ∙ sym (total-add (f x) (λ y. total (λ x. f x y) xs) ys)
 
--- how many pass is a sum
+-- a sum of 1 for each element that passes is how many pass
 ones : {X : Type 0} (p : X → Bool) (xs : List X) → total (λ x. cond (p x) (pos 1) (pos 0)) xs ≡ pos (naturals.total (λ x. naturals.one_if (p x)) xs)
 ones p [] = refl
 ones p (x ∷ xs) =
@@ -63,7 +63,7 @@ ones p (x ∷ xs) =
 pub total-ones : {X : Type 0} (p : X → Bool) (xs : List X) → total (λ x. cond (p x) (pos 1) (pos 0)) xs ≡ pos (count_by p xs)
 total-ones p xs = ones p xs ∙ ap pos (sym (naturals.count_by-total p xs))
 
--- ---- a sum over a panel is a sum over everybody
+-- ---- a sum over a panel, as a sum over everybody
 
 no_member : (f : ℕ → ℤ) (x first count : ℕ) → x < first → total (λ i. cond (eqb x i) (f i) (pos 0)) (range_with_len first count) ≡ pos 0
 no_member f x first zero h = refl

@@ -39,7 +39,7 @@ goes_on_by_stages pool lottery earlier later stage line trees =
 
 -- ---- decisions
 
--- a decision on a volunteer who was undecided is undone
+-- if an undecided volunteer's standing is set, and then set to open again, nothing has changed
 pub undone : (all : List Standing) (i : ℕ) (standing : Standing) → is_undecided all i ≡ true → set (set all i standing) i Open ≡ all
 undone [] i standing h = refl
 undone (Open ∷ all) zero standing h = refl
@@ -49,7 +49,7 @@ undone (one ∷ all) (suc i) standing h = ap (λ rest. one ∷ rest) (undone all
 
 -- ---- lines
 
--- a fault is in one of the lines or behind them, for one of two reasons
+-- a fault is in one of `count` lines from `number` on, or just after them, and its reason is 11 or 12
 pub record IsWithin (number count : ℕ) (fault : TreeFault) : Type 0 where
   pub from : number ≤ fault.line
   pub to : fault.line ≤ number + count

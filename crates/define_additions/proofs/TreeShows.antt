@@ -1,4 +1,4 @@
--- What a tree shows of each panel: the cap of a stage, or that there is none.
+-- What a tree shows: that no quota panel passes a stage's cap, or that there is no quota panel.
 use Rattle.std.proofs.Common.{◌≡◌, ℕ, zero, suc, ◌+◌, Bool, true, false, not, ◌&&◌, ◌||◌, ltb, List, [], ◌∷◌, map, set, length, get_or, pos, ◌≤ℤ◌, refl, sym, ap, ◌∙◌, subst, arith, ◌⊎◌, inl, inr}
 use Rattle.std.specs.Prelude.{int_le}
 use Rattle.std.specs.List.{AllByRecursion, enumerate_from, list_all}
@@ -24,7 +24,7 @@ use Rattle.define_additions.proofs.SignedSums.{sum-is-total, total}
 -- ---- splits
 
 module _ (panel : List ℕ) where
-  -- a panel keeps a standing that is changed, where the new one allows what it is
+  -- a panel keeps the standings with one of them changed, if the new standing allows that the volunteer is in the panel, or isn't
   keeps_set : (first i : ℕ) (all : List Standing) (standing : Standing) → keeps panel first all ≡ true → allows standing (includes panel (first + i)) ≡ true → keeps panel first (set all i standing) ≡ true
   keeps_set first i [] standing h k = refl
   keeps_set first zero (one ∷ all) standing h k =
@@ -37,7 +37,7 @@ module _ (panel : List ℕ) where
       and_from (allows one (includes panel first)) (keeps panel (first + 1) (set all i standing)) parts.0
       (keeps_set (first + 1) i all standing parts.1 (subst (λ j. allows standing (includes panel j) ≡ true) next k))
 
-  -- so it keeps the standings of the one subtree of a split or of the other
+  -- a panel that keeps the standings before a split keeps those of one of its two subtrees
   keeps_one : (i : ℕ) (all : List Standing) → keeps panel 0 all ≡ true → (keeps panel 0 (set all i Gone) ≡ true) ⊎ (keeps panel 0 (set all i Seated) ≡ true)
   keeps_one i all h = by (includes panel i) refl
     where
@@ -49,7 +49,7 @@ module _ (panel : List ℕ) where
       by true e = inr (keeps_set 0 i all Seated h (ap (allows Seated) (ap (includes panel) here ∙ e)))
 
   module _ (problem : Problem) (up : is_increasing panel ≡ true) (met : AllByRecursion (Meets panel) problem.constraints) where
-    -- a tree that shows the cap shows it of the panel
+    -- if a tree shows the cap, the panel weighs at most the cap
     pub tree_weight_below : (tree : Tree) (all : List Standing) → list_all (λ i. ltb i (length all)) panel ≡ true → keeps panel 0 all ≡ true → tree_shows problem all tree ≡ true →
         total (weight_of problem.stage) panel ≤ℤ problem.stage.cap
     tree_weight_below (AtLeaf leaf) all below kept shows = weight_below problem all panel up below kept met leaf shows
@@ -84,7 +84,7 @@ listed_standings panel first (volunteer ∷ volunteers) h =
     and_from A (keeps panel (first + 1) (map (λ volunteer. volunteer.standing) volunteers)) parts.0 (listed_standings panel (first + 1) volunteers parts.1)
 
 module _ (pool : Pool) (earlier : List Stage) (stage : Stage) (tree : Tree) (hold : EarlierCapsHold pool earlier) (shows : tree_shows (stage_problem pool earlier stage) (standings pool) tree ≡ true) where
-  -- each quota panel that attains the earlier caps weighs the stage's cap at most
+  -- each quota panel that attains the earlier caps weighs at most the stage's cap
   pub weighs_at_most : (panel : List ℕ) → is_quota_panel pool panel ≡ true → attains earlier panel ≡ true → (panel_weight stage panel) ≤ℤ stage.cap
   weighs_at_most panel quota attained =
       let parts = quota_parts pool panel quota in

@@ -1,4 +1,4 @@
--- A proof is valid exactly where its certificate holds and its trees show the caps.
+-- A proof is valid exactly if its certificate holds and its trees show the caps.
 use Rattle.std.proofs.Common.{◌≡◌, ℕ, ◌+◌, true, leb, List, [], ◌∷◌, ◌++◌, length, Option, Some, None, refl, ap}
 use Rattle.laws_basic.proofs.Each.{each_append, each_left, each_right}
 use Rattle.define_bundles.specs.Ranges.{IsInRanges, reach}
@@ -35,7 +35,7 @@ line_none stage None e = refl
 line_none stage (Some fault) e = absurd cc
 
 module _ (pool : Pool) (lottery : Lottery) where
-  -- the reasons of stages stand none by none with those of a check
+  -- no reason of a check applies to the later stages, and their trees show the caps
   record BothNone (earlier later : List Stage) (trees : List (List TreeLine)) : Type 0 where
     check : NoneStands (check.reasons_from pool lottery earlier later)
     trees_show : TreesShow pool earlier later trees

@@ -21,37 +21,38 @@ pub record Constraint : Type 0 where
 abbrev pub coefficient : Constraint → ℕ → ℤ
 coefficient constraint i = slice_index_or constraint.coefficients i (pos 0)
 
--- the constraint of a number; past the last one, a constraint in which nobody counts
+-- the constraint of this number; if there is none, one whose coefficients and bounds are 0
 abbrev pub constraint_at : List Constraint → ℕ → Constraint
 constraint_at constraints number = slice_index_or constraints number (record { coefficients = []; lower = pos 0; upper = pos 0 })
 
--- how many members pass a test is within bounds: 1 for each volunteer who passes, 0 for the others
+-- the constraint that the number of members who pass a test is within bounds: the coefficient is 1 for each volunteer who passes, else 0
 abbrev pub counting : Pool → (ℕ → Bool) → ℕ → ℕ → Constraint
 counting pool passes lower upper =
     record { coefficients = map (λ i. if passes i then pos 1 else pos 0) (everybody pool); lower = pos lower; upper = pos upper }
 
--- a panel has the pool's size
+-- the constraint that a panel has the pool's size
 abbrev pub size_constraint : Pool → Constraint
 size_constraint pool = counting pool (λ i. true) pool.size pool.size
 
--- a value's number is within its bounds, for the category in this place
+-- the constraint that the number of members with a value is within the value's bounds; the value's category is at `category_place`
 abbrev pub value_constraint : Pool → ℕ → ℕ × BoundedValue → Constraint
 value_constraint pool category_place (value_place, value) =
     counting pool (λ i. slice_index (volunteer pool.volunteers i).values category_place == value_place) value.lower value.upper
 
--- the values of a category
+-- the constraints of a category's values
 abbrev pub category_constraints : Pool → ℕ × Category → List Constraint
 category_constraints pool (category_place, category) = map (value_constraint pool category_place) (enumerate_from 0 category.values)
 
--- a panel weighs an earlier stage's cap: it attains the cap, and no panel that attains the caps before it weighs more
+-- the constraint that a panel weighs just an earlier stage's cap: it attains the cap, and no panel that attains the caps before it weighs
+-- more
 abbrev pub stage_constraint : Stage → Constraint
 stage_constraint stage = record { coefficients = stage.weights; lower = stage.cap; upper = stage.cap }
 
--- at most one member is of the household of this number
+-- the constraint that at most one member is of the household of this number
 abbrev pub household_constraint : Pool → ℕ → Constraint
 household_constraint pool number = counting pool (λ i. is_of_household number (shared_household pool.volunteers i)) 0 1
 
--- the first member of each shared household, whose number is the household's
+-- the first member of each shared household; this volunteer's number is the household's
 abbrev pub first_members : Pool → List ℕ
 first_members pool = filter (λ i. is_of_household i (shared_household pool.volunteers i)) (everybody pool)
 

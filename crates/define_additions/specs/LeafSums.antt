@@ -22,7 +22,7 @@ is_stage_in_reach stage = nat_le (reach stage) number_limit
 abbrev pub is_problem_in_reach : Problem → Bool
 is_problem_in_reach problem = list_all is_in_reach problem.constraints && is_stage_in_reach problem.stage
 
--- a leaf with the first `many` of its multipliers alone
+-- the leaf with only the first `many` of its multipliers
 abbrev pub first_multipliers : ℕ → Leaf → Leaf
 first_multipliers many leaf = record leaf { multipliers = take many leaf.multipliers }
 
@@ -30,7 +30,7 @@ first_multipliers many leaf = record leaf { multipliers = take many leaf.multipl
 abbrev pub first_charges : Problem → ℕ → Leaf → ℤ
 first_charges problem many leaf = signed_sum (charge problem.constraints) (take many leaf.multipliers)
 
--- all charges of multipliers, and those of the first `many` volunteers' rests
+-- the charges of all multipliers, and those of the first `many` volunteers' rests
 abbrev pub charges_and_rests : Problem → List Standing → ℕ → Leaf → ℤ
 charges_and_rests problem standings many leaf =
     signed_sum (charge problem.constraints) leaf.multipliers

@@ -1,4 +1,4 @@
--- Leaves: multipliers of constraints, by whose sum no panel weighs more than a cap. Over Constraints. `proof_verify` checks them.
+-- Leaves: multipliers of constraints, whose sum shows that no panel weighs more than a cap. Over Constraints. `proof_verify` checks them.
 use Rattle.std.specs.Prelude.{ℕ, nat_lt, if◌then◌else◌, Bool, ◌&&◌, List, [], map, length, ℤ, pos, negsuc, ◌+ℤ◌, ◌-ℤ◌, ◌*ℤ◌, int_lt}
 use Rattle.std.specs.List.{enumerate_from, list_all}
 use Rattle.define_pools.specs.declared.Standing.{Standing}
@@ -38,7 +38,7 @@ pub record Leaf : Type 0 where
 abbrev pub standings : Pool → List Standing
 standings pool = map (λ volunteer. volunteer.standing) pool.volunteers
 
--- a multiplier's charge: the most that the multiplied sum of a panel can be
+-- a multiplier's charge: the most that the factor times a panel's sum of coefficients can be
 abbrev pub charge : List Constraint → Multiplier → ℤ
 charge all multiplier =
     let constraint = constraint_at all multiplier.number in
@@ -58,7 +58,7 @@ rest_charge Open rest = if int_lt (pos 0) rest then rest else pos 0
 rest_charge Seated rest = rest
 rest_charge Gone rest = pos 0
 
--- all charges: the weight of a panel, times the scale, is at most their sum
+-- the sum of all charges; a panel's weight, times the scale, is at most this
 abbrev pub total_charge : Problem → List Standing → Leaf → ℤ
 total_charge problem standings leaf =
     signed_sum (charge problem.constraints) leaf.multipliers

@@ -16,7 +16,7 @@ RefusalMeans (OfNoPanel pool lines) refusal = 11 ≤ refusal.reason
 
 -- ---- lines
 
--- how many lines these trees have in a proof's text, each with the line that begins the next tree
+-- how many lines these trees have in a proof's text, if after each tree the line that begins the next one is counted too
 abbrev pub lines_of_trees : List (List TreeLine) → ℕ
 lines_of_trees [] = 0
 lines_of_trees (lines ∷ later) = length lines + 1 + lines_of_trees later
@@ -26,7 +26,7 @@ abbrev pub tree_of : Proof → ℕ → List TreeLine
 tree_of (OfLottery pool answer trees) stage = slice_index_or trees (stage - 1) []
 tree_of (OfNoPanel pool lines) stage = lines
 
--- how many lines of the text come before the first line of that tree
+-- how many lines of the text come before the first line of the tree of `stage`
 abbrev pub lines_before : Proof → ℕ → ℕ
 lines_before (OfLottery pool answer trees) stage = lines_before_tree (OfLottery pool answer trees) + lines_of_trees (take (stage - 1) trees)
 lines_before (OfNoPanel pool lines) stage = lines_before_tree (OfNoPanel pool lines)
@@ -45,7 +45,7 @@ pub record NamesLineOfStage (pool : Pool) (answer : Answer) (trees : List (List 
   pub first_fault : tree_fault (stage_problem pool earlier stage) (standings pool)
       (lines_before (OfLottery pool answer trees) refusal.stage + 1) (tree_of (OfLottery pool answer trees) refusal.stage) ≡ fault line refusal.reason
 
--- the same for a proof that there is no quota panel, whose tree has stage 0
+-- a refusal of a proof that there is no quota panel, whose tree has stage 0, names the tree's first fault in the same way
 pub record NamesLineOfNone (pool : Pool) (lines : List TreeLine) (refusal : Refusal) : Type 0 where
   pub number : refusal.stage ≡ 0
   pub line : ℕ
@@ -56,7 +56,7 @@ abbrev pub NamesLine : Proof → Refusal → Type 0
 NamesLine (OfLottery pool answer trees) refusal = NamesLineOfStage pool answer trees refusal
 NamesLine (OfNoPanel pool lines) refusal = NamesLineOfNone pool lines refusal
 
--- a tree for each stage
+-- the proof has a tree for each stage
 abbrev pub HasTrees : Proof → Type 0
 HasTrees (OfLottery pool answer trees) = length trees ≡ length answer.stages
 HasTrees (OfNoPanel pool lines) = Unit {0}

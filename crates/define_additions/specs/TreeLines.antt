@@ -1,4 +1,4 @@
--- Trees as lists of lines, and the first line that isn't one of a tree that shows a cap. Over Trees. `proof_verify` walks them.
+-- Trees as lists of lines, and the first line at which lines are no tree that shows a cap. Over Trees. `proof_verify` walks them.
 use Rattle.std.specs.Prelude.{◌≡◌, ℕ, ◌+◌, if◌then◌else◌, Bool, true, false, IsTrue, List, [], ◌∷◌, ◌++◌, slice_set, Option, Some, None}
 use Rattle.define_pools.specs.declared.Standing.{Standing}
 use Rattle.define_pools.specs.declared.Standing.TheVariants.{Seated, Gone}
@@ -32,12 +32,12 @@ pub record Decision : Type 0 where
 abbrev pub decided_standing : Bool → Standing
 decided_standing is_in = if is_in then Seated else Gone
 
--- the standings at the end of a path of decisions, the latest first
+-- the standings after a path's decisions, of which the latest comes first
 abbrev pub standings_at : List Standing → List Decision → List Standing
 standings_at standings [] = standings
 standings_at standings (decision ∷ path) = slice_set (standings_at standings path) decision.volunteer (decided_standing decision.is_in)
 
--- the path of the line after a leaf: back to the latest volunteer who was out, who is in from here on. There is none after the last leaf
+-- the path of the line after a leaf: back to the latest volunteer who was out, who is in from here on. After the last leaf there is none
 abbrev pub path_behind : List Decision → Option (List Decision)
 path_behind [] = None
 path_behind (decision ∷ path) = if decision.is_in then path_behind path else Some (record decision { is_in = true } ∷ path)
@@ -50,8 +50,8 @@ pub record TreeFault : Type 0 where
 abbrev pub fault : ℕ → ℕ → Option TreeFault
 fault line reason = Some (record { line = line; reason = reason })
 
--- the first fault of the lines from this number on, at this path, or None if the tree is complete. 11: it isn't the next line of a tree:
--- a split on a volunteer who is decided, no line though the tree goes on, or a line after its end; 12: the multipliers don't show the
+-- the first fault of lines that begin at this path with line `number`, or None if they complete the tree. 11: it isn't the next line of a
+-- tree: a split on a volunteer who is decided, no line though the tree goes on, or a line after its end; 12: the multipliers don't show the
 -- cap
 abbrev pub fault_from : Problem → List Standing → ℕ → Option (List Decision) → List TreeLine → Option TreeFault
 fault_from problem standings number None [] = None

@@ -1,5 +1,5 @@
--- The ranges of the numbers of a tree's lines, in which they have a text and no sum of them passes 128 bits. Over TreeLines. The text of
--- proofs keeps them.
+-- The ranges of the numbers in a tree's lines. Within them a line has a text, and no sum of a check passes 128 bits. Over TreeLines. The
+-- text of proofs keeps them.
 use Rattle.std.specs.Prelude.{ℕ, ◌^◌, nat_lt, nat_le, Bool, ◌&&◌, map, unsigned_abs}
 use Rattle.std.specs.List.{list_all}
 use Rattle.define_pools.specs.Lists.{is_increasing}

@@ -15,11 +15,11 @@ leaf scale multipliers = record { scale = scale; multipliers = multipliers }
 
 -- ---- over two women, a and b, and two men, c and d: constraint 0 is the size, 1 the women, 2 the men, and 3 the first stage
 
--- one woman at most
+-- the women's constraint, times 1
 abbrev pub women_leaf : Leaf
 women_leaf = leaf 1 (times 1 (pos 1) ∷ [])
 
--- the men, less the women of the first stage
+-- the men's constraint, less that of the first stage
 abbrev pub men_leaf : Leaf
 men_leaf = leaf 1 (times 2 (pos 1) ∷ times 3 (negsuc 0) ∷ [])
 
@@ -30,11 +30,11 @@ four_trees = (OfLeaf women_leaf ∷ []) ∷ (OfLeaf men_leaf ∷ []) ∷ []
 abbrev pub four_proof : List (List TreeLine) → Proof
 four_proof trees = OfLottery four (record { lottery = four_lottery; stages = four_stages }) trees
 
--- constraints of all four
+-- a constraint with a coefficient for each of the four
 abbrev pub constraint : List ℤ → ℤ → ℤ → Constraint
 constraint coefficients lower upper = record { coefficients = coefficients; lower = lower; upper = upper }
 
--- the women are taken twice
+-- the women's constraint, times 2
 abbrev pub double_leaf : Leaf
 double_leaf = leaf 1 (times 1 (pos 2) ∷ [])
 
@@ -42,7 +42,7 @@ double_leaf = leaf 1 (times 1 (pos 2) ∷ [])
 abbrev pub unknown_leaf : Leaf
 unknown_leaf = leaf 1 (times 1 (pos 1) ∷ times 3 (pos 1) ∷ [])
 
--- without a, b alone weighs 1; with a, the women's constraint shows it
+-- a split on a: without a, only b weighs 1, and no constraint is needed; with a, the women's constraint shows the cap
 abbrev pub split_tree : Tree
 split_tree = AtSplit 0 (AtLeaf (leaf 1 [])) (AtLeaf women_leaf)
 
@@ -53,7 +53,7 @@ split_lines = OfSplit 0 ∷ OfLeaf (leaf 1 []) ∷ OfLeaf women_leaf ∷ []
 abbrev pub one_stage_proof : ℤ → Leaf → Proof
 one_stage_proof cap all = OfLottery four (record { lottery = four_lottery; stages = stage cap (pos 1 ∷ pos 1 ∷ pos 1 ∷ pos 1 ∷ []) ∷ [] }) ((OfLeaf all ∷ []) ∷ [])
 
--- the size, as a leaf for a stage of weight 1 for each
+-- the constraint of the size, as a leaf for a stage of weight 1 for each
 abbrev pub size_leaf : Leaf
 size_leaf = leaf 1 (times 0 (pos 1) ∷ [])
 

@@ -54,7 +54,8 @@ pub fn fault_is_within_lines()
         (number ≤ found.line) × (found.line ≤ number + length lines) × ((found.reason ≡ 11) ⊎ (found.reason ≡ 12)) }
 {}
 
-/// If a path goes back, it undoes a decision on a volunteer who was undecided.
+/// If an undecided volunteer's standing is set, and then set to open again, the standings are as before. So a path that goes back can undo
+/// its decisions.
 pub fn decision_is_undone()
     ensures { (all : List Standing) (i : ℕ) (standing : Standing) → IsTrue (is_undecided all i) → slice_set (slice_set all i standing) i Open ≡ all }
 {}

@@ -1,4 +1,4 @@
--- What a line behind the pool says, and how a right one is spelled.
+-- What a line after the pool says, and how a right one is spelled.
 use Rattle.std.proofs.Common.{◌≡◌, ℕ, zero, suc, ◌+◌, ◌<◌, ◌≤◌, ◌^◌, true, false, ◌&&◌, cond, eqb, leb, ltb, List, [], ◌∷◌, length, get_or, map, sum_by, refl, sym, ◌∙◌, ap, subst, arith, lit<, Option, Some, None}
 use Rattle.std.specs.Prelude.{bytes_eq, codes, ℤ, pos, negsuc, unsigned_abs}
 use Rattle.std.specs.Fmt.{decimal, signed_decimal}
@@ -20,9 +20,9 @@ use Rattle.define_bundles.specs.Ranges.{is_weight, is_group, is_row, is_stage, r
 use Rattle.define_bundles.specs.BundleText.{total_line, panel_line, stage_line, done_line}
 use Rattle.define_bundles.specs.BundleReading.{AnswerLine, OfRow, OfStage, FaultyStage, TheDone, Unknown, weight_in_range, weight_of, with_number, numbers_up_to, stage_limit, signed_of, row_of, stage_of, panel_said, stage_said, done_said, answer_line, total_of}
 
--- ---- what is said is spelled so
+-- ---- a line has the spelling of what it says
 
--- how a line is spelled that says this
+-- the line has the spelling of what it says, whose numbers are in range
 abbrev pub IsSpelled : ℕ → List ℕ → AnswerLine → Type 0
 IsSpelled volunteers line (OfRow row) = (line ≡ panel_line row) × (is_row volunteers row ≡ true)
 IsSpelled volunteers line (OfStage stage) = (line ≡ stage_line stage) × (is_stage volunteers stage ≡ true)
@@ -103,11 +103,11 @@ fields_spelled volunteers (first ∷ fields) =
     (λ e. stage_spelled volunteers first fields (bytes_are first (codes "stage") e))
     (λ _. cond_both (bytes_eq first (codes "done")) (done_said fields) Unknown P (λ e. done_spelled volunteers first fields (bytes_are first (codes "done") e)) (λ _. tt)))
 
--- a line is spelled as what it says
+-- each line has the spelling of what it says
 pub answer_spelled : (volunteers : ℕ) (line : List ℕ) → IsSpelled volunteers line (answer_line volunteers (fields_of line))
 answer_spelled volunteers line = subst (λ l. IsSpelled volunteers l (answer_line volunteers (fields_of line))) (line_of-fields_of line) (fields_spelled volunteers (fields_of line))
 
--- a weight in range is a number that is spelled so
+-- a field that is read as a weight is its digits, and the weight is in range
 weight_spelled : (field : List ℕ) (weight : ℕ) → weight_of field ≡ Some weight → (field ≡ decimal weight) × (is_weight weight ≡ true)
 weight_spelled field weight h = known (number_up_to (10 ^ 38) field) refl h
   where
@@ -128,11 +128,11 @@ total_in_fields (first ∷ field ∷ []) total h =
     (ap (λ word. line_of (word ∷ field ∷ [])) (bytes_are first (codes "total") e) ∙ ap (λ digits. line_of (codes "total" ∷ digits ∷ [])) spelled.0, spelled.1))
     (λ _ k. cc) h
 
--- a total is spelled by its line
+-- a line that is read as that of a total is its line, and the total is in range
 pub total_spelled : (line : List ℕ) (total : ℕ) → total_of (fields_of line) ≡ Some total → (line ≡ total_line total) × (is_weight total ≡ true)
 total_spelled line total h = let known = total_in_fields (fields_of line) total h in (sym (line_of-fields_of line) ∙ known.0, known.1)
 
--- ---- what is spelled is said again
+-- ---- the spelling of a value is read as this value
 
 weight_at_most : (weight : ℕ) → is_weight weight ≡ true → weight ≤ 10 ^ 38
 weight_at_most weight is = leb-true weight (10 ^ 38) (and_parts (leb 1 weight) (leb weight (10 ^ 38)) is).1
@@ -141,7 +141,7 @@ minus_is_ascii : (i : ℕ) → get_or (45 ∷ []) i 0 < 128
 minus_is_ascii zero = lit< tt
 minus_is_ascii (suc i) = lit< tt
 
--- a number with a sign is a field
+-- the spelling of a number with a sign is a field
 signed_field : (z : ℤ) → unsigned_abs z < 10 ^ 64 → IsField (signed_decimal z)
 signed_field (pos n) small = decimal_field n small
 signed_field (negsuc n) small =
@@ -152,7 +152,7 @@ signed_field (negsuc n) small =
       utf8 = is_utf8-from_IsUtf8 (45 ∷ decimal (suc n)) (IsUtf8-append (45 ∷ []) (decimal (suc n)) (IsUtf8-from_ascii (45 ∷ []) minus_is_ascii) (IsUtf8-from_is_utf8 (decimal (suc n)) digits.utf8));
     }
 
--- numbers below a limit are fields, and are read again
+-- the digits of numbers below a limit are fields, and are read as these numbers
 numbers_are_fields : (limit : ℕ) → limit ≤ 400 → (numbers : List ℕ) → list_all (λ i. ltb i limit) numbers ≡ true → AllByRecursion IsField (map decimal numbers)
 numbers_are_fields limit small [] h = tt
 numbers_are_fields limit small (number ∷ numbers) h =
@@ -171,7 +171,8 @@ numbers_again limit small (number ∷ numbers) h =
 stage_limit_small : stage_limit < 10 ^ 64
 stage_limit_small = lit< tt
 
--- and so are those with a sign, in a stage's range
+-- the spellings of numbers with a sign are fields, and are read as these numbers, if their absolute values sum to at most the limit of a
+-- stage
 signed_are_fields : (numbers : List ℤ) → sum_by unsigned_abs numbers ≤ stage_limit → AllByRecursion IsField (map signed_decimal numbers)
 signed_are_fields [] h = tt
 signed_are_fields (number ∷ numbers) h =
@@ -203,7 +204,7 @@ row_fields volunteers small row is =
     let most = weight_at_most row.weight parts.weight in
     (plain_field (codes "panel") refl, (decimal_field row.weight (omega arith), numbers_are_fields volunteers small row.panel parts.below))
 
--- a right row's line says it
+-- the line of a right row is read as this row
 pub row_again : (volunteers : ℕ) → volunteers ≤ 400 → (row : LotteryRow) → is_row volunteers row ≡ true → answer_line volunteers (fields_of (panel_line row)) ≡ OfRow row
 row_again volunteers small row is =
     let parts = row_parts volunteers row is in
@@ -223,7 +224,7 @@ stage_fields volunteers stage is =
     let wide = stage_limit_small in
     (plain_field (codes "stage") refl, (signed_field stage.cap (omega arith), signed_are_fields stage.weights (omega arith)))
 
--- a right stage's line says it
+-- the line of a right stage is read as this stage
 pub stage_again : (volunteers : ℕ) (stage : Stage) → is_stage volunteers stage ≡ true → answer_line volunteers (fields_of (stage_line stage)) ≡ OfStage stage
 stage_again volunteers stage is =
     let most = stage_reach volunteers stage is in
@@ -234,14 +235,14 @@ stage_again volunteers stage is =
     ∙ (ap (stage_of volunteers (Some stage.cap)) (signed_are_again stage.weights (omega arith))
     ∙ ap (λ test. cond test (OfStage stage) FaultyStage) is))
 
--- the last line says so
+-- the line `done` is read as the last line
 pub done_again : (volunteers : ℕ) → answer_line volunteers (fields_of done_line) ≡ TheDone
 done_again volunteers = ap (answer_line volunteers) (fields_of-line_of (codes "done") [] ((plain_field (codes "done") refl).no_tab, tt))
 
 pub total_fields : (total : ℕ) → is_weight total ≡ true → AllByRecursion IsField (codes "total" ∷ decimal total ∷ [])
 total_fields total is = let most = weight_at_most total is in (plain_field (codes "total") refl, (decimal_field total (omega arith), tt))
 
--- a total's line gives it
+-- the line of a total is read as this total
 pub total_again : (total : ℕ) → is_weight total ≡ true → total_of (fields_of (total_line total)) ≡ Some total
 total_again total is =
     let most = weight_at_most total is in

@@ -1,4 +1,4 @@
--- The text of a bundle is read again, and gives that bundle.
+-- The text of a bundle is read as this bundle.
 use Rattle.std.proofs.Common.{◌≡◌, ℕ, ◌≤◌, Bool, true, false, not, cond, ltb, List, [], ◌∷◌, ◌++◌, length, drop, map, refl, sym, ◌∙◌, ap, subst, append_assoc, Some, None, unwrap_or}
 use Rattle.std.specs.Prelude.{codes, Ok, is_some}
 use Rattle.std.specs.Fmt.{decimal, signed_decimal}
@@ -23,7 +23,7 @@ use Rattle.define_bundles.specs.BundleText.{Bundle, IsBundle, bundle_line, pool_
 use Rattle.define_bundles.specs.BundleReading.{Progress, Begun, InPool, InRows, InStages, Done, AnswerLine, OfRow, OfStage, TheDone, said_of, row_kinds, stage_kinds, after_row, after_stage, read_bundle, reader}
 use Rattle.define_bundles.proofs.AnswerLines.{row_fields, row_again, stage_fields, stage_again, done_again, total_fields, total_again}
 
--- lines without LF lead from one progress to another with no fault
+-- none of these lines has an LF or a fault, and they lead from one progress to another
 abbrev pub Runs : Progress → List (List ℕ) → Progress → Type 0
 Runs = reading.Runs reader
 
@@ -44,7 +44,7 @@ behind_entry pool passed (pools.OfStanding standing id) = tt
 behind_entry pool passed pools.TheEnd = tt
 behind_entry pool passed pools.Unknown = tt
 
--- lines behind the first that lead to the pool's end do so in a bundle
+-- if lines after a pool's first line lead to the pool's end, they do so in a bundle too
 inside_runs : (second : Bool) (progress : pools.Progress) (lines : List (List ℕ)) (pool : Pool) → IsBehindFirst progress → pool_again.Runs progress lines (pools.Ended pool) →
     Runs (InPool second progress) lines (InPool second (pools.Ended pool))
 inside_runs second progress [] pool behind h = ap (InPool second) h
@@ -54,7 +54,7 @@ inside_runs second (pools.Inside other passed) (line ∷ lines) pool behind h =
     (h.0, h.1, inside_runs second (pools.after_line (pools.Inside other passed) line) lines pool (behind_entry other passed (pools.entry_of (fields_of line))) h.2)
 inside_runs second (pools.Ended other) (line ∷ lines) pool behind h = let e = h.1 in cc
 
--- and so does the first, of the bundle's version
+-- in a bundle, all lines of its pool lead to the pool's end
 pool_runs : (pool : Pool) → IsPool pool → Runs (InPool (has_households pool) pools.Begun) (pool_lines pool) (InPool (has_households pool) (pools.Ended pool))
 pool_runs pool is =
     let second = has_households pool in
@@ -64,7 +64,7 @@ pool_runs pool is =
       inside_runs second (pools.after_line pools.Begun (version_line second)) (drop 1 (pool_lines pool)) pool tt runs.2,
     )
 
--- the first line of a version leads to it
+-- the first line of a bundle leads to the lines of its pool, in the same version
 bundle_runs : (second : Bool) (lines : List (List ℕ)) (after : Progress) → Runs (InPool second pools.Begun) lines after → Runs Begun (bundle_line second ∷ lines) after
 bundle_runs true lines after runs = (line_lacks_feed (codes "bundle" ∷ codes "2" ∷ []) (plain_field (codes "bundle") refl, (plain_field (codes "2") refl, tt)), refl, runs)
 bundle_runs false lines after runs = (line_lacks_feed (codes "bundle" ∷ codes "1" ∷ []) (plain_field (codes "bundle") refl, (plain_field (codes "1") refl, tt)), refl, runs)
@@ -72,7 +72,7 @@ bundle_runs false lines after runs = (line_lacks_feed (codes "bundle" ∷ codes 
 -- ---- the answer's lines
 
 module _ (pool : Pool) (few : length pool.volunteers ≤ 400) where
-  -- a line that says something behind the total
+  -- a line after the total that says `said`, without a fault, leads on
   run_row : (lottery : Lottery) (line : List ℕ) (said : AnswerLine) (lines : List (List ℕ)) (after : Progress) → Lacks line_feed line → said_of pool line ≡ said →
       lowest_kind (row_kinds (ltb 0 (length lottery.rows)) said) ≡ None → Runs (after_row pool lottery said) lines after → Runs (InRows pool lottery) (line ∷ lines) after
   run_row lottery line said lines after lacks e none rest =
@@ -115,7 +115,7 @@ module _ (pool : Pool) (few : length pool.volunteers ≤ 400) where
       (stage_again (length pool.volunteers) stage parts.0) refl
       (subst (λ stages. Runs (InStages pool (record { lottery = lottery; stages = done ++ stage ∷ [] })) (map stage_line todo) (InStages pool (record { lottery = lottery; stages = stages }))) regrouped rest)
 
-  -- the first stage's line, and those behind it
+  -- the lines of all stages lead on to the last stage
   all_stages_run : (lottery : Lottery) (stages : List Stage) → ltb 0 (length lottery.rows) ≡ true → ltb 0 (length stages) ≡ true → list_all (is_stage (length pool.volunteers)) stages ≡ true →
       Runs (InRows pool lottery) (map stage_line stages) (InStages pool (record { lottery = lottery; stages = stages }))
   all_stages_run lottery [] some_row some are = absurd (false≢true some)
@@ -134,7 +134,7 @@ module _ (pool : Pool) (few : length pool.volunteers ≤ 400) where
         subst (λ o. Runs (InRows pool (record { total = unwrap_or o 0; rows = [] })) lines after) (sym again) rest,
       )
 
-  -- the lines of an answer lead to the bundle
+  -- the lines of an answer lead to the bundle's end
   answer_runs : (answer : Answer) → IsInRanges pool answer →
       Runs (InPool (has_households pool) (pools.Ended pool)) (answer_lines answer ++ done_line ∷ []) (Done (record { pool = pool; answer = answer }))
   answer_runs answer is =
@@ -158,7 +158,7 @@ runs bundle is =
     bundle_runs second ((pool_lines pool ++ answer_lines bundle.answer) ++ done_line ∷ []) (Done bundle)
     (subst (λ lines. Runs (InPool second pools.Begun) lines (Done bundle)) (sym (append_assoc (pool_lines pool) (answer_lines bundle.answer) (done_line ∷ []))) all)
 
--- what is spelled is read
+-- the spelling of a bundle is read as this bundle
 pub spelled_is_read : (bundle : Bundle) → IsBundle bundle → read_bundle (bundle_spelling bundle) ≡ Ok bundle
 spelled_is_read bundle is =
     let lines = lines_before_done bundle.pool bundle.answer ++ done_line ∷ [] in

@@ -24,20 +24,20 @@ use Rattle.define_bundles.specs.BundleText.{Bundle, IsBundle, bundle_line, pool_
 use Rattle.define_bundles.specs.BundleReading.{Progress, Begun, InPool, InRows, InStages, Done, AnswerLine, OfRow, OfStage, FaultyStage, TheDone, Unknown, total_of, said_of, row_kinds, stage_kinds, line_kind, after_row, after_stage, after_line, at_last, read_bundle, reader}
 use Rattle.define_bundles.proofs.AnswerLines.{IsSpelled, answer_spelled, total_spelled}
 
--- the pool's lines are those of a version
+-- the pool's lines so far are of version 2 if `second` is true, else of version 1
 abbrev pub IsOfVersion : Bool → pools.Progress → Type 0
 IsOfVersion second pools.Begun = Unit {0}
 IsOfVersion second (pools.Versioned version) = version ≡ second
 IsOfVersion second (pools.Inside pool passed) = passed.second ≡ second
 IsOfVersion second (pools.Ended pool) = has_households pool ≡ second
 
--- the rows so far, and their total
+-- the pool, the total and the rows so far keep their ranges
 pub record AreRightRows (pool : Pool) (lottery : Lottery) : Type 0 where
   pub is_pool : IsPool pool
   pub total : is_weight lottery.total ≡ true
   pub rows : list_all (is_row (length pool.volunteers)) lottery.rows ≡ true
 
--- what stands is right: the pool so far, the rows, the answer, the bundle
+-- a progress is right: the pool so far is right, and the rows so far, the answer or the bundle keep their ranges
 abbrev pub IsRight : Progress → Type 0
 IsRight Begun = Unit {0}
 IsRight (InPool second progress) = pool_lines_read.IsRight progress × IsOfVersion second progress
@@ -45,7 +45,7 @@ IsRight (InRows pool lottery) = AreRightRows pool lottery
 IsRight (InStages pool answer) = IsBundle (record { pool = pool; answer = answer })
 IsRight (Done bundle) = IsBundle bundle
 
--- the lines that stood
+-- the lines that led to a progress
 abbrev pub lines_so_far : Progress → List (List ℕ)
 lines_so_far Begun = []
 lines_so_far (InPool second progress) = bundle_line second ∷ pool_lines_read.lines_so_far progress
@@ -53,11 +53,11 @@ lines_so_far (InRows pool lottery) = bundle_line (has_households pool) ∷ (pool
 lines_so_far (InStages pool answer) = lines_before_done pool answer
 lines_so_far (Done bundle) = lines_before_done bundle.pool bundle.answer ++ done_line ∷ []
 
--- one line more, and what stands is right again
+-- the line leads to a right progress, and adds itself to the lines so far
 abbrev Adds : Progress → List ℕ → Progress → Type 0
 Adds progress line after = IsRight after × (lines_so_far after ≡ lines_so_far progress ++ line ∷ [])
 
--- the version stays
+-- an entry doesn't change the version
 version_stays : (pool : Pool) (passed : Passed) (entry : pools.Entry) → pool_lines_read.IsRightInside pool passed → pools.entry_kind pool passed entry ≡ None → (second : Bool) → passed.second ≡ second →
     IsOfVersion second (pools.after_entry pool passed entry)
 version_stays pool passed (pools.OfCategory name) right h second e = e
@@ -68,7 +68,7 @@ version_stays pool passed (pools.OfStanding standing id) right h second e = e
 version_stays pool passed pools.TheEnd right h second e = own_version pool passed right (no_kind (pools.awaits_household passed) 1 None h).0 ∙ e
 version_stays pool passed pools.Unknown right h second e = e
 
--- a line of the pool
+-- a line of the pool adds itself
 in_pool : (second : Bool) (progress : pools.Progress) (line : List ℕ) → IsRight (InPool second progress) → pools.line_kind progress line ≡ None → IsOfVersion second (pools.after_line progress line) →
     Adds (InPool second progress) line (InPool second (pools.after_line progress line))
 in_pool second progress line right h version =
@@ -103,7 +103,7 @@ pool_adds second (pools.Ended pool) line right h = given (total_of (fields_of li
         ap (λ version. bundle_line version ∷ (pool_lines pool ++ total_line total ∷ [])) right.1 ∙ ap (λ l. bundle_line second ∷ (pool_lines pool ++ l ∷ [])) (sym spelled.0) in
         subst (λ t. Adds (InPool second (pools.Ended pool)) line (InRows pool (record { total = t; rows = [] }))) (sym known) (right_rows, lines)
 
--- a line behind the total, or behind a panel's
+-- a line after that of the total or of a panel adds itself
 row_adds : (pool : Pool) (lottery : Lottery) (line : List ℕ) (said : AnswerLine) → IsRight (InRows pool lottery) → IsSpelled (length pool.volunteers) line said →
     lowest_kind (row_kinds (ltb 0 (length lottery.rows)) said) ≡ None → Adds (InRows pool lottery) line (after_row pool lottery said)
 row_adds pool lottery line (OfRow row) right spelled h =
@@ -133,7 +133,7 @@ row_adds pool lottery line FaultyStage right spelled h = absurd (no_way (ltb 0 (
 row_adds pool lottery line TheDone right spelled h = cc
 row_adds pool lottery line Unknown right spelled h = cc
 
--- a line behind a stage's
+-- a line after that of a stage adds itself
 stage_adds : (pool : Pool) (answer : Answer) (line : List ℕ) (said : AnswerLine) → IsRight (InStages pool answer) → IsSpelled (length pool.volunteers) line said →
     lowest_kind (stage_kinds said) ≡ None → Adds (InStages pool answer) line (after_stage pool answer said)
 stage_adds pool answer line (OfRow row) right spelled h = cc
@@ -165,7 +165,7 @@ stage_adds pool answer line FaultyStage right spelled h = cc
 stage_adds pool answer line TheDone right spelled h = (right, ap (λ l. lines_before_done pool answer ++ l ∷ []) (sym spelled))
 stage_adds pool answer line Unknown right spelled h = cc
 
--- a right line is one line more, and what stands stays right
+-- a line without a fault keeps the progress right, and adds itself to the lines so far
 pub line_adds : (progress : Progress) (line : List ℕ) → IsRight progress → line_kind progress line ≡ None → IsRight (after_line progress line) × (lines_so_far (after_line progress line) ≡ lines_so_far progress ++ line ∷ [])
 line_adds Begun line right h =
     let fails = no_kind (not (bytes_eq line (bundle_line false) || bytes_eq line (bundle_line true))) 13 None h in
@@ -181,7 +181,7 @@ line_adds (InRows pool lottery) line right h = row_adds pool lottery line (said_
 line_adds (InStages pool answer) line right h = stage_adds pool answer line (said_of pool line) right (answer_spelled (length pool.volunteers) line) h
 line_adds (Done bundle) line right h = cc
 
--- a text that ends with its last line is the text of the bundle that is read
+-- if the text ends with a bundle, the lines so far and the last bytes are the spelling of this bundle
 last_is_spelled : (number : ℕ) (progress : Progress) (bytes : List ℕ) (bundle : Bundle) → IsRight progress → at_last number progress bytes ≡ Ok bundle →
     IsBundle bundle × (text_of (lines_so_far progress) ++ bytes ≡ bundle_spelling bundle)
 last_is_spelled number Begun bytes bundle right h = cc
@@ -193,6 +193,6 @@ last_is_spelled number (Done other) [] bundle right h =
     let same : other ≡ bundle = cc in
     (subst IsBundle same right, append-nil (bundle_spelling other) ∙ ap bundle_spelling same)
 
--- what is read is spelled so, each byte of it
+-- if bytes are read as a bundle, they are its spelling
 pub read_is_spelled : (bytes : List ℕ) (bundle : Bundle) → read_bundle bytes ≡ Ok bundle → IsBundle bundle × (bytes ≡ bundle_spelling bundle)
 read_is_spelled bytes bundle h = reading.read_is_spelled reader IsRight lines_so_far IsBundle bundle_spelling line_adds last_is_spelled 1 Begun tt refl bytes bundle h

@@ -26,11 +26,11 @@ pub data Progress : Type 0 where
   -- after the last line
   Done : (bundle : Bundle) → Progress
 
--- a line after the total
+-- what a line after the total says
 pub data AnswerLine : Type 0 where
   OfRow : (row : LotteryRow) → AnswerLine
   OfStage : (stage : Stage) → AnswerLine
-  -- it begins as a stage line, and isn't one
+  -- it begins with `stage`, and isn't a right stage line
   FaultyStage : AnswerLine
   TheDone : AnswerLine
   Unknown : AnswerLine
@@ -44,7 +44,7 @@ weight_in_range (Some weight) = if is_weight weight then Some weight else None
 abbrev pub weight_of : List ℕ → Option ℕ
 weight_of field = weight_in_range (number_up_to (10 ^ 38) field)
 
--- the first number before the others, if all are there
+-- a number and those after it as one list, if all are there
 abbrev pub with_number : {A : Type 0} → Option A → Option (List A) → Option (List A)
 with_number (Some number) (Some numbers) = Some (number ∷ numbers)
 with_number _ _ = None
@@ -63,19 +63,19 @@ abbrev pub signed_of : List (List ℕ) → Option (List ℤ)
 signed_of [] = Some []
 signed_of (field ∷ fields) = with_number (signed_up_to stage_limit field) (signed_of fields)
 
--- the row of a weight and members, if they are right, for a pool of this number of volunteers
+-- the panel line of a weight and members, if both are there and in range, for a pool of this number of volunteers
 abbrev pub row_of : ℕ → Option ℕ → Option (List ℕ) → AnswerLine
 row_of volunteers (Some weight) (Some panel) =
     let row : LotteryRow = record { panel = panel; weight = weight } in if is_row volunteers row then OfRow row else Unknown
 row_of volunteers _ _ = Unknown
 
--- the stage of a cap and weights, if they are right, for a pool of this number of volunteers
+-- the stage line of a cap and weights, if both are there and in range, for a pool of this number of volunteers
 abbrev pub stage_of : ℕ → Option ℤ → Option (List ℤ) → AnswerLine
 stage_of volunteers (Some most) (Some weights) =
     let stage : Stage = record { weights = weights; cap = most } in if is_stage volunteers stage then OfStage stage else FaultyStage
 stage_of volunteers _ _ = FaultyStage
 
--- what the fields after each word say, for a pool of this number of volunteers
+-- what a line says by the fields after its word, for a pool of this number of volunteers
 abbrev pub panel_said : ℕ → List (List ℕ) → AnswerLine
 panel_said volunteers [] = Unknown
 panel_said volunteers (weight ∷ members) = row_of volunteers (number_up_to (10 ^ 38) weight) (numbers_up_to volunteers members)
@@ -88,7 +88,7 @@ abbrev pub done_said : List (List ℕ) → AnswerLine
 done_said [] = TheDone
 done_said (field ∷ fields) = Unknown
 
--- what the fields of a line say
+-- what a line says by its fields
 abbrev pub answer_line : ℕ → List (List ℕ) → AnswerLine
 answer_line volunteers [] = Unknown
 answer_line volunteers (first ∷ fields) =

@@ -19,11 +19,11 @@ pub record IsBundle (bundle : Bundle) : Type 0 where
   pub is_pool : IsPool bundle.pool
   pub in_ranges : IsInRanges bundle.pool bundle.answer
 
--- the first line, in a text of a version
+-- the first line, of version 2 if `second` is true, else of version 1
 abbrev pub bundle_line : Bool → List ℕ
 bundle_line second = line_of (codes "bundle" ∷ version second ∷ [])
 
--- the lines of a pool
+-- the lines of a pool, with its end
 abbrev pub pool_lines : Pool → List (List ℕ)
 pool_lines pool = lines_before_end pool ++ end_line ∷ []
 

@@ -1,5 +1,5 @@
--- The ranges of an answer's numbers, in which it has a text. `bundle_text` tests them, and the run and the checks keep sums within 128
--- bits by them.
+-- The ranges that the numbers of an answer must keep to have a text. `bundle_text` tests them, and the run and the checks keep sums within
+-- 128 bits by them.
 use Rattle.std.specs.Prelude.{ℕ, ◌+◌, ◌-◌, ◌^◌, ◌==◌, nat_lt, nat_le, Bool, ◌&&◌, IsTrue, List, length, sum_by, unsigned_abs}
 use Rattle.std.specs.List.{list_all}
 use Rattle.define_pools.specs.Lists.{is_increasing}
@@ -7,11 +7,11 @@ use Rattle.define_pools.specs.Pool.{Pool}
 use Rattle.define_pools.specs.Lottery.{LotteryRow}
 use Rattle.define_pools.specs.Certificate.{Stage, Answer}
 
--- a panel's weight, or their total: from 1 to 10^38
+-- a panel's weight, or the total: from 1 to 10^38
 abbrev pub is_weight : ℕ → Bool
 is_weight weight = nat_le 1 weight && nat_le weight (10 ^ 38)
 
--- at least one volunteer's number, in increasing order, each below the number of volunteers
+-- numbers of volunteers in increasing order, at least one, each below `volunteers`
 abbrev pub is_group : ℕ → List ℕ → Bool
 is_group volunteers panel = nat_lt 0 (length panel) && is_increasing panel && list_all (λ i. nat_lt i volunteers) panel
 

@@ -1,4 +1,4 @@
--- What a check answers that may take so many visits at each stage.
+-- What a check answers under a budget of visits at each stage.
 use Rattle.std.proofs.Common.{◌≡◌, ℕ, true, false, cond, Option, Some, None, Result, Ok, Err, [], refl, ap, ◌∙◌}
 use Rattle.std.specs.Prelude.{MatchResult}
 use Rattle.define_pools.specs.Certificate.{Answer, Certifies}
@@ -7,7 +7,7 @@ use Rattle.define_checks.specs.Reasons.{Valid, Verdict, verdict}
 use Rattle.define_checks.specs.Visits.{check_answer, first_spent, is_ahead, unless_spent}
 use Rattle.define_checks.proofs.ReasonsStand.{valid_where_certified}
 
--- a verdict comes as it is, or the visits are spent before its reason is tried
+-- the answer is the verdict, or the visits are spent before its reason is tried
 unless_cases : (spent : Option ℕ) (verdict : Verdict) → MatchResult (unless_spent spent verdict) (λ said. said ≡ verdict) (λ stage. (spent ≡ Some stage) × (is_ahead stage verdict ≡ false))
 unless_cases None verdict = refl
 unless_cases (Some stage) verdict =

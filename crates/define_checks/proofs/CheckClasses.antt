@@ -37,7 +37,7 @@ equal_along : (stages : List Stage) (i j k : ℕ) → Equal stages i j → Equal
 equal_along [] i j k h g = tt
 equal_along (stage ∷ stages) i j k h g = (h.0 ∙ g.0, equal_along stages i j k h.1 g.1)
 
--- what holds for each stage of two for whom something holds
+-- if `P i j` implies that `i` and `j` have equal weights in all stages, it implies so in each stage
 each_turned : (n : ℕ) (P : ℕ → ℕ → Type 0) (stages : List Stage) → ((i j : ℕ) → P i j → Equal stages i j) →
     AllByRecursion (λ stage. (i j : ℕ) → i < n → j < n → P i j → weight_of stage i ≡ weight_of stage j) stages
 each_turned n P [] f = tt

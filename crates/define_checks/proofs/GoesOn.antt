@@ -1,4 +1,5 @@
--- A check goes on from stage to stage: reasons bear the numbers of their stages, so that the first one is ahead of a later search.
+-- A check goes on from stage to stage. Each reason has the number of its stage, so that reasons of earlier stages come before a later
+-- search.
 use Rattle.std.proofs.Common.{◌≡◌, ℕ, suc, ◌+◌, ◌≤◌, ◌<◌, Bool, true, false, cond, not, ◌&&◌, ◌||◌, eqb, ltb, List, [], ◌∷◌, ◌++◌, length, pos, Option, Some, None, Ok, Err, refl, ap, ◌∙◌, arith, le_of_eq}
 use Rattle.std.specs.Prelude.{int_lt, sum_by}
 use Rattle.std.specs.List.{AllByRecursion, find}
@@ -26,7 +27,7 @@ first_joined (Some refusal ∷ xs) ys = refl
 
 -- ---- numbers of stages and reasons
 
--- what holds of a reason that stands
+-- `P` holds of the reason, if it applies
 abbrev IfStands : (Refusal → Type 0) → Option Refusal → Type 0
 IfStands P None = Unit {0}
 IfStands P (Some refusal) = P refusal
@@ -72,7 +73,7 @@ module _ (pool : Pool) (lottery : Lottery) where
       let lower = numbered (Ahead n) n 7 (one (find (λ i. ltb (count lottery i) T) (unsettled pool earlier))) (λ who. record { here = refl; early = omega arith }) in
       (negative, (positive, (other, (lower, tt))))
 
-  -- a reason of the cap stands at its stage
+  -- a reason of the cap has the number of its stage, and isn't tried before the search
   record AtCap (stage : ℕ) (refusal : Refusal) : Type 0 where
     here : refusal.stage ≡ stage
     late : 8 ≤ refusal.reason
@@ -121,7 +122,8 @@ spent_after pool nodes earlier (stage ∷ later) =
     less None h = tt
     less (Some s) h = omega arith
 
--- a reason of an earlier stage than that at which they are spent, or one that is tried before the search there, comes
+-- a refusal is the answer if its stage is before the one at which the visits are spent; so it is, below, if it is tried there before the
+-- search
 earlier_comes : (spent : Option ℕ) (refusal : Refusal) → SpentAfter refusal.stage spent → unless_spent spent (Refused refusal) ≡ Ok (Refused refusal)
 earlier_comes None refusal h = refl
 earlier_comes (Some s) refusal h =

@@ -1,4 +1,4 @@
--- A composition above the cap is found exactly where a quota panel that attains the earlier caps passes it.
+-- A composition above the cap is found exactly if a quota panel that attains the earlier caps passes the cap.
 use Rattle.std.proofs.Common.{◌≡◌, ℕ, ◌<◌, Bool, true, false, not, ◌&&◌, ◌||◌, ltb, List, [], ◌∷◌, map, length, ℤ, Option, Some, None, refl, sym, ap, ap₂, ◌∙◌, subst, arith}
 use Rattle.std.specs.Prelude.{int_le, int_lt}
 use Rattle.std.specs.List.{AllByRecursion}
@@ -83,7 +83,7 @@ module _ (pool : Pool) (earlier : List Stage) (stage : Stage) where
 
   -- ---- where one is found
 
-  -- the panel of a composition that qualifies
+  -- a quota panel that attains the earlier caps and weighs more than the stage's cap
   pub record Passes (panel : List ℕ) : Type 0 where
     pub quota : is_quota_panel pool panel ≡ true
     pub attained : certificate.attains earlier panel ≡ true

@@ -1,4 +1,4 @@
--- No reason stands exactly where the certificate holds.
+-- No reason applies exactly if the certificate holds.
 use Rattle.std.proofs.Common.{◌≡◌, ℕ, ◌+◌, ◌-◌, ◌^◌, Bool, true, false, cond, not, eqb, leb, ltb, List, [], ◌∷◌, length, ℤ, pos, Option, Some, None, refl, sym, ap, ◌∙◌, arith}
 use Rattle.std.specs.Prelude.{int_le, int_lt, sum_by}
 use Rattle.std.specs.List.{AllByRecursion, find, list_all}
@@ -90,7 +90,7 @@ lottery_holds pool answer ranges none =
       };
     }
 
--- where the verdict on the lottery is valid, its weights sum to the total
+-- if no reason of the lottery applies, its weights sum to the total
 pub total_agrees : (pool : Pool) (answer : Answer) (lottery : Lottery) → IsInRanges pool answer → lottery ≡ answer.lottery → first_reason (lottery_reasons pool lottery) ≡ Valid → TotalAgrees answer.lottery
 total_agrees pool answer lottery ranges same valid =
     (lottery_holds pool answer ranges (none_from_valid (lottery_reasons pool answer.lottery) (ap (λ lottery. first_reason (lottery_reasons pool lottery)) (sym same) ∙ valid))).total_agrees
@@ -104,7 +104,7 @@ lottery_stands pool lottery is =
 
 -- ---- a stage
 
--- where some volunteers have one count, it is that of the first
+-- if all volunteers of a list have one count, it is that of the first
 first_shares : (lottery : Lottery) (T : ℕ) (xs : List ℕ) → ltb 0 (length xs) ≡ true → list_all (λ i. eqb (count lottery i) T) xs ≡ true → first_count lottery xs ≡ T
 first_shares lottery T [] some h = absurd (false≢true some)
 first_shares lottery T (i ∷ rest) some h = eqb-true (count lottery i) T (and_parts (eqb (count lottery i) T) (list_all (λ i. eqb (count lottery i) T) rest) h).0

@@ -1,4 +1,4 @@
--- No list is repeated exactly where all are different.
+-- No list is repeated exactly if all are different.
 use Rattle.std.proofs.Common.{◌≡◌, ℕ, Bool, true, false, cond, not, ◌||◌, List, [], ◌∷◌, Some, None, refl, sym, ap, ◌∙◌}
 use Rattle.std.specs.Prelude.{bytes_eq}
 use Rattle.std.specs.List.{AllByRecursion}
@@ -15,7 +15,7 @@ New earlier xss = AllByRecursion (λ xs. includes_list earlier xs ≡ false) xss
 turned : (xs ys : List ℕ) → bytes_eq xs ys ≡ false → bytes_eq ys xs ≡ false
 turned xs ys e = false_from_ne_true (bytes_eq ys xs) (λ t. false≢true (sym e ∙ (bytes_eq-Decides xs ys).1 (sym ((bytes_eq-Decides ys xs).0 t))))
 
--- a list that no other one equals is not among them, and the other way round
+-- a list isn't among later ones exactly if none of them equals it
 not_among : (xs : List ℕ) (later : List (List ℕ)) → AllByRecursion (λ ys. bytes_eq ys xs ≡ false) later → includes_list later xs ≡ false
 not_among xs [] h = refl
 not_among xs (ys ∷ later) h = or_from (bytes_eq xs ys) (includes_list later xs) (turned ys xs h.0) (not_among xs later h.1)

@@ -27,7 +27,7 @@ rows_have_entries pool stages rows =
 
 -- ---- reach
 
--- a sum over a list is one over its places
+-- a sum over a list, as a sum over its places
 total_places : {X : Type 0} (g : X → ℕ) (d : X) (f : ℕ → ℕ) (first : ℕ) (xs : List X) → ((i : ℕ) → i < length xs → f (first + i) ≡ g (get_or xs i d)) → total f (range_with_len first (length xs)) ≡ total g xs
 total_places g d f first [] e = refl
 total_places g d f first (x ∷ xs) e =

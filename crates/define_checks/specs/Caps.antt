@@ -1,5 +1,5 @@
--- How a check finds that a quota panel passes the cap of a stage: by classes of its own. The list of earlier stages has the latest
--- first. Over Compositions and Stages of `define_searches`. `check_search` searches so.
+-- How a check finds a quota panel that passes the cap of a stage: it searches compositions over classes of its own. The list of earlier
+-- stages has the latest first. Over Compositions and Stages of `define_searches`. `check_search` searches so.
 use Rattle.std.specs.Prelude.{ℕ, Bool, ◌&&◌, List, ◌∷◌, map, Option, int_lt}
 use Rattle.std.specs.List.{find, list_all}
 use Rattle.std.specs.Option.{option_map}
@@ -15,8 +15,8 @@ use Rattle.define_searches.specs.Stages.{row_of}
 abbrev pub weigh_equal : List Stage → ℕ → ℕ → Bool
 weigh_equal stages i j = list_all (λ stage. int_eq (weight_of stage i) (weight_of stage j)) stages
 
--- two volunteers are alike at the first of these stages, the latest: they are one, or have equal values, equal standing and equal
--- weights in all these stages, and neither shares a household
+-- two volunteers are alike at the latest of these stages, which is the first in the list: they are one, or have equal values, equal
+-- standing and equal weights in all these stages, and neither shares a household
 abbrev pub alike_at : Pool → List Stage → ℕ → ℕ → Bool
 alike_at pool stages i j = are_alike pool i j && weigh_equal stages i j
 
@@ -28,15 +28,16 @@ classes_at pool stages = classes_by (alike_at pool stages) pool
 abbrev pub stage_row : Pool → List Stage → Stage → Row
 stage_row pool stages stage = row_of (alike_at pool stages) pool stage
 
--- the first composition in order that attains the closed rows and weighs more in a row than its right side
+-- the first composition, in order, that attains the closed rows and weighs more in a row than the row's right side
 abbrev pub first_above : Classes → List Row → Row → Option (List ℕ)
 first_above all closed row = find (λ counts. attains closed counts && int_lt row.b (weight_in row.a counts)) (compositions all)
 
--- the first composition in order that attains each earlier cap and weighs more than the cap of a stage
+-- the first composition, in order, that attains each earlier cap and weighs more than the stage's cap
 abbrev pub composition_above : Pool → List Stage → Stage → Option (List ℕ)
 composition_above pool earlier stage =
     first_above (classes_at pool (stage ∷ earlier)) (map (stage_row pool (stage ∷ earlier)) earlier) (stage_row pool (stage ∷ earlier) stage)
 
--- the first members of its classes: a quota panel that attains each earlier cap and weighs more than the cap of a stage
+-- the panel of this composition, with the first members of each class: a quota panel that attains each earlier cap and weighs more than the
+-- stage's cap
 abbrev pub first_above_cap : Pool → List Stage → Stage → Option (List ℕ)
 first_above_cap pool earlier stage = option_map (first_panel (classes_at pool (stage ∷ earlier))) (composition_above pool earlier stage)

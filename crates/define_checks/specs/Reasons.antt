@@ -22,12 +22,12 @@ pub data Verdict : Type 0 where
   Valid : Verdict
   Refused : (refusal : Refusal) → Verdict
 
--- this reason at this stage, if there is somebody who shows it
+-- the reason of this number at this stage, if it holds: `who` are those who show it, or None if it doesn't hold
 abbrev pub reason : ℕ → ℕ → Option (List ℕ) → Option Refusal
 reason stage number None = None
 reason stage number (Some who) = Some (record { stage = stage; reason = number; who = who })
 
--- one volunteer shows a reason
+-- a volunteer, if there is one, as those who show a reason
 abbrev pub one : Option ℕ → Option (List ℕ)
 one volunteer = option_map (λ i. i ∷ []) volunteer
 
@@ -49,7 +49,7 @@ abbrev pub first_count : Lottery → List ℕ → ℕ
 first_count lottery [] = 0
 first_count lottery (i ∷ rest) = count lottery i
 
--- the count that all whom a stage settles must have: that of the least of them
+-- the count that all whom a stage settles must have: that of the first of them
 abbrev pub shared_count : Pool → Lottery → List Stage → Stage → ℕ
 shared_count pool lottery earlier stage = first_count lottery (settling pool earlier stage)
 
@@ -71,12 +71,12 @@ reasons_before_cap pool lottery earlier stage =
     reason number 4 (one (find (λ i. int_lt (weight_of stage i) (pos 0)) (unsettled pool earlier))) ∷
     -- 5: nobody who is unsettled has a weight above 0
     reason number 5 (nobody_unless (nat_lt 0 (length (settling pool earlier stage)))) ∷
-    -- 6: somebody whom the stage settles has another count than the least of them
+    -- 6: somebody whom the stage settles has another count than the first of them
     reason number 6 (one (find (λ i. not (count lottery i == shared_count pool lottery earlier stage)) (settling pool earlier stage))) ∷
     -- 7: somebody who is unsettled has a lower count
     reason number 7 (one (find (λ i. nat_lt (count lottery i) (shared_count pool lottery earlier stage)) (unsettled pool earlier))) ∷ []
 
--- the reasons of its cap
+-- the reasons of a stage's cap
 abbrev pub cap_reasons : Pool → Lottery → List Stage → Stage → List (Option Refusal)
 cap_reasons pool lottery earlier stage =
     let number = length earlier + 1 in

@@ -11,7 +11,8 @@ use Rattle.define_searches.specs.Visits.{Search, one_by_one}
 use Rattle.define_checks.specs.Caps.{classes_at, stage_row}
 use Rattle.define_checks.specs.Reasons.{Refused, Valid, Verdict, verdict}
 
--- a front is entered, and these classes come after it: a front of all classes is a composition. The row's right side is the floor
+-- the search from a front that is entered; `later` are the classes after it. A front of all classes is a composition. The row's right side
+-- is the floor
 abbrev pub enter_above : Classes → List Row → Row → List Class → List ℕ → Search
 enter_above all closed row [] front = record { visits = 1; found = Some front }
 enter_above all closed row (class ∷ later) front =

@@ -27,7 +27,7 @@ refused stage reason who = Refused (refusal stage reason who)
 abbrev pub reasons_that_stand : Pool → Answer → List (Option Refusal)
 reasons_that_stand pool answer = filter is_some (reasons pool answer)
 
--- one reason and no other
+-- a reason, as the only one that holds
 abbrev pub alone : ℕ → ℕ → List ℕ → List (Option Refusal)
 alone stage reason who = Some (refusal stage reason who) ∷ []
 
@@ -45,7 +45,7 @@ two_women = answer (drawn 2 (row (0 ∷ 1 ∷ []) 1 ∷ row (2 ∷ 3 ∷ []) 1 �
 abbrev pub twice : Answer
 twice = answer (drawn 4 (row (0 ∷ 2 ∷ []) 1 ∷ row (1 ∷ 3 ∷ []) 1 ∷ row (1 ∷ 3 ∷ []) 1 ∷ row (0 ∷ 2 ∷ []) 1 ∷ [])) four_stages
 
--- two weights of 1
+-- a total of 3, though the two weights sum to 2
 abbrev pub three_in_all : Answer
 three_in_all = answer (drawn 3 (row (0 ∷ 2 ∷ []) 1 ∷ row (1 ∷ 3 ∷ []) 1 ∷ [])) four_stages
 
@@ -61,15 +61,15 @@ all_zero = answer four_lottery (stage (pos 0) (pos 0 ∷ pos 0 ∷ pos 0 ∷ pos
 abbrev pub uneven : Answer
 uneven = answer (drawn 3 (row (0 ∷ 2 ∷ []) 1 ∷ row (1 ∷ 3 ∷ []) 2 ∷ [])) all_at_once
 
--- a with d weighs 2
+-- a with d weighs 2, more than the first cap
 abbrev pub low_cap : Answer
 low_cap = answer four_lottery (stage (pos 1) (pos 1 ∷ pos 0 ∷ pos 0 ∷ pos 1 ∷ []) ∷ stage (pos 0) (negsuc 0 ∷ pos 1 ∷ pos 1 ∷ negsuc 0 ∷ []) ∷ [])
 
--- and then b has a weight below 0
+-- the same, and in the second stage b has a weight below 0 while unsettled
 abbrev pub low_cap_and_negative : Answer
 low_cap_and_negative = answer four_lottery (stage (pos 1) (pos 1 ∷ pos 0 ∷ pos 0 ∷ pos 1 ∷ []) ∷ stage (pos 0) (negsuc 0 ∷ negsuc 0 ∷ pos 1 ∷ pos 1 ∷ []) ∷ [])
 
--- b with d weighs 0
+-- b with d weighs 0, less than the first cap
 abbrev pub high_cap : Answer
 high_cap = answer four_lottery (stage (pos 2) (pos 1 ∷ pos 0 ∷ pos 1 ∷ pos 0 ∷ []) ∷ all_at_once)
 
@@ -101,6 +101,6 @@ either_stages = stage (pos 1) (pos 1 ∷ pos 1 ∷ []) ∷ []
 abbrev pub household_stages : List Stage
 household_stages = stage (pos 1) (pos 1 ∷ pos 0 ∷ pos 1 ∷ pos 0 ∷ []) ∷ stage (pos 1) (pos 0 ∷ pos 1 ∷ pos 0 ∷ pos 1 ∷ []) ∷ []
 
--- the members of each class of a check at the first of these stages, the latest
+-- the members of each class of a check at the latest of these stages, which is the first in the list
 abbrev pub members_at : Pool → List Stage → List (List ℕ)
 members_at pool stages = map (λ class. class.members) (classes_at pool stages).classes

@@ -9,7 +9,7 @@ use Rattle.define_draws.specs.declared.DiceStop.{DiceStop}
 use Rattle.define_draws.specs.declared.DiceStop.TheVariants.{BadDigit, MoreDigits}
 use Rattle.define_draws.specs.Tickets.{row_of}
 
--- the least number from `size` on whose power of ten is at least the total, looking at most this many steps ahead
+-- the least number `n` from `size` on with `total ≤ 10 ^ n`, or `size + steps` if none below that is found
 abbrev pub least_from : ℕ → ℕ → ℕ → ℕ
 least_from total size zero = size
 least_from total size (suc steps) = elim (nat_le total (10 ^ size)) [ true ↦ size | false ↦ least_from total (size + 1) steps ]
@@ -22,7 +22,7 @@ group_size total = least_from total 1 total
 abbrev pub groups_per_ticket : ℕ → ℕ
 groups_per_ticket total = 10 ^ group_size total / total
 
--- a group that names a ticket
+-- the group names a ticket
 abbrev pub is_accepted : ℕ → ℕ → Bool
 is_accepted total group = nat_lt group (total * groups_per_ticket total)
 
@@ -43,7 +43,7 @@ abbrev pub first_accepted : ℕ → List ℕ → Option ℕ
 first_accepted total digits =
     find (λ place. is_accepted total (group_at (group_size total) digits place)) (range_with_len 0 (length digits / group_size total))
 
--- what the group in this place names, if there is one
+-- the ticket that the group in this place names; if there is no such group, more digits are needed
 abbrev pub named_at : ℕ → List ℕ → Option ℕ → Result Named DiceStop
 named_at total digits (Some place) =
     Ok (record { ticket = pos (ticket_of total (group_at (group_size total) digits place)); used = (place + 1) * group_size total })

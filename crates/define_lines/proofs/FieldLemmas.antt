@@ -1,4 +1,4 @@
--- Words and numbers are fields: they have no TAB and no LF, and are text.
+-- Words and numbers are fields: they have no TAB and no LF, and are UTF-8.
 use Rattle.std.proofs.Common.{◌≡◌, ℕ, zero, suc, ◌+◌, ◌<◌, ◌^◌, ◌%◌, Bool, true, false, not, ◌&&◌, eqb, ltb, List, [], ◌∷◌, lit<, refl, ◌∙◌, arith}
 use Rattle.std.specs.Fmt.{decimal}
 use Rattle.std.specs.List.{AllByRecursion, list_all}

@@ -12,7 +12,7 @@ use Rattle.std.proofs.lemmas.List.Splits.{slice_split_at, slice_split_none, join
 use Rattle.std.proofs.lemmas.Grind.{flat_map-append}
 use Rattle.define_lines.specs.Lines.{tab, tabbed, line_feed, line_of, text_of, fields_of, pieces_of}
 
--- both sides of an ASCII byte are text where the whole is
+-- if bytes are UTF-8 and one of them is ASCII, the bytes before it and those after it are UTF-8 too
 pub around_ascii : (before : List ℕ) (c : ℕ) (after : List ℕ) → c < 128 → IsUtf8 (before ++ c ∷ after) → IsUtf8 before × IsUtf8 after
 around_ascii before c after small whole =
     let all = before ++ c ∷ after in
@@ -26,7 +26,7 @@ around_ascii before c after small whole =
       subst IsUtf8 (drop-append-add before (c ∷ after) 1) last,
     )
 
--- the fields of a line that is text are text
+-- if a line is UTF-8, each of its fields is
 pub each_field_is_utf8 : (fields : List (List ℕ)) → IsUtf8 (line_of fields) → AllByRecursion (λ field. is_utf8 field ≡ true) fields
 each_field_is_utf8 [] h = tt
 each_field_is_utf8 (field ∷ []) h = (is_utf8-from_IsUtf8 field h, tt)
@@ -38,7 +38,7 @@ tab_is_ascii : (i : ℕ) → get_or (9 ∷ []) i 0 < 128
 tab_is_ascii zero = lit< tt
 tab_is_ascii (suc i) = lit< tt
 
--- a line of fields that are text is text
+-- if all fields are UTF-8, their line is
 pub line_is_utf8 : (fields : List (List ℕ)) → AllByRecursion (λ field. is_utf8 field ≡ true) fields → IsUtf8 (line_of fields)
 line_is_utf8 [] h = IsUtf8-nil
 line_is_utf8 (field ∷ []) h = IsUtf8-from_is_utf8 field h.0
@@ -46,18 +46,18 @@ line_is_utf8 (field ∷ next ∷ later) h =
     IsUtf8-append field (9 ∷ line_of (next ∷ later)) (IsUtf8-from_is_utf8 field h.0)
     (IsUtf8-append (9 ∷ []) (line_of (next ∷ later)) (IsUtf8-from_ascii (9 ∷ []) tab_is_ascii) (line_is_utf8 (next ∷ later) h.1))
 
--- a list without a byte
+-- the list doesn't have the byte `c`
 abbrev pub Lacks : ℕ → List ℕ → Type 0
 Lacks c xs = All (λ x. eqb x c ≡ false) xs
 
--- lines without LF are the pieces of their text, and nothing stands behind the last
+-- if no line has an LF, the pieces of their text are the lines, and an empty last piece
 pub pieces_of-text_of : (lines : List (List ℕ)) → AllByRecursion (Lacks line_feed) lines → pieces_of (text_of lines) ≡ lines ++ [] ∷ []
 pieces_of-text_of [] h = refl
 pieces_of-text_of (line ∷ lines) h =
     let regrouped : text_of (line ∷ lines) ≡ line ++ (line_feed ∷ text_of lines) = append_assoc line (line_feed ∷ []) (text_of lines) in
     ap pieces_of regrouped ∙ (slice_split_at (λ b. eqb b line_feed) line line_feed (text_of lines) h.0 refl ∙ ap (λ ls. line ∷ ls) (pieces_of-text_of lines h.1))
 
--- fields without TAB are those of their line
+-- if no field has a TAB, the fields of their line are these fields
 pub fields_of-line_of : (field : List ℕ) (fields : List (List ℕ)) → AllByRecursion (Lacks tab) (field ∷ fields) → fields_of (line_of (field ∷ fields)) ≡ field ∷ fields
 fields_of-line_of field [] h = slice_split_none (λ b. eqb b tab) field h.0
 fields_of-line_of field (next ∷ later) h =
@@ -71,19 +71,19 @@ line-tabbed : (word : List ℕ) (fields : List (List ℕ)) → line_of (word ∷
 line-tabbed word [] = sym (append-nil word)
 line-tabbed word (field ∷ fields) = ap (λ rest. word ++ (tab ∷ rest)) (line-tabbed field fields)
 
--- a word, its fields and LF, as they are written, are a line
+-- a word, then each field after a TAB, then LF, as code writes them, are the text of one line
 pub line_written : (word : List ℕ) (fields : List (List ℕ)) → (word ++ tabbed fields) ++ line_feed ∷ [] ≡ text_of (line_of (word ∷ fields) ∷ [])
 line_written word fields =
     ap (λ line. line ++ line_feed ∷ []) (sym (line-tabbed word fields)) ∙ sym (append-nil (line_of (word ∷ fields) ++ line_feed ∷ []))
 
--- lines without LF are the first pieces of a text that begins with them
+-- if a text begins with lines that have no LF, these are its first pieces
 pub pieces_of-text_of_then : (lines : List (List ℕ)) (rest : List ℕ) → AllByRecursion (Lacks line_feed) lines → pieces_of (text_of lines ++ rest) ≡ lines ++ pieces_of rest
 pieces_of-text_of_then [] rest h = refl
 pieces_of-text_of_then (line ∷ lines) rest h =
     let regrouped : text_of (line ∷ lines) ++ rest ≡ line ++ (line_feed ∷ (text_of lines ++ rest)) = simp append_assoc in
     ap pieces_of regrouped ∙ (slice_split_at (λ b. eqb b line_feed) line line_feed (text_of lines ++ rest) h.0 refl ∙ ap (λ ls. line ∷ ls) (pieces_of-text_of_then lines rest h.1))
 
--- a text has some piece
+-- a text has at least one piece
 pub some_piece : (rest : List ℕ) → (first : List ℕ) × (later : List (List ℕ)) × (pieces_of rest ≡ first ∷ later)
 some_piece [] = ([], [], refl)
 some_piece (byte ∷ rest) =
@@ -105,13 +105,13 @@ pieces_lack (byte ∷ bytes) =
     onto byte [] e h = (All-cons (λ x. eqb x 10 ≡ false) byte [] e (All-from_recursion (λ x. eqb x 10 ≡ false) [] tt), tt)
     onto byte (piece ∷ pieces) e h = (All-cons (λ x. eqb x 10 ≡ false) byte piece e h.0, h.1)
 
--- a word, a first field, the other fields and LF are a line, where they were added to a text one after the other
+-- to add a word, its first field, its other fields and LF to a text, one after the other, is to add their line
 pub line_added : (text word first : List ℕ) (fields : List (List ℕ)) →
     (((text ++ word) ++ (tab ∷ first)) ++ tabbed fields) ++ line_feed ∷ [] ≡ text ++ text_of (line_of (word ∷ first ∷ fields) ∷ [])
 line_added text word first fields =
     let regrouped : (((text ++ word) ++ (tab ∷ first)) ++ tabbed fields) ++ line_feed ∷ [] ≡ text ++ ((word ++ tabbed (first ∷ fields)) ++ line_feed ∷ []) = simp append_assoc in
     regrouped ∙ ap (λ line. text ++ line) (line_written word (first ∷ fields))
 
--- lines behind lines
+-- to add lines and then more lines to a text is to add them all
 pub text_of-append : (text : List ℕ) (xs ys : List (List ℕ)) → (text ++ text_of xs) ++ text_of ys ≡ text ++ text_of (xs ++ ys)
 text_of-append text xs ys = append_assoc text (text_of xs) (text_of ys) ∙ ap (λ lines. text ++ lines) (sym (flat_map-append (λ line. line ++ line_feed ∷ []) xs ys))

@@ -16,14 +16,14 @@ bytes_are xs ys h = (bytes_eq-Decides xs ys).0 h
 pub bytes_same : (xs ys : List ℕ) → xs ≡ ys → bytes_eq xs ys ≡ true
 bytes_same xs ys h = (bytes_eq-Decides xs ys).1 h
 
--- a number up to the limit is read again
+-- the digits of a number up to the limit are read as this number
 pub number_again : (limit n : ℕ) → n < 10 ^ 64 → n ≤ limit → number_up_to limit (decimal n) ≡ Some n
 number_again limit n small h =
     let value = (decimal_is_IsNumeral_wide n small).1 in
     let passes = and_from (bytes_eq (decimal n) (decimal n)) (leb n limit) (bytes_same (decimal n) (decimal n) refl) (le-leb n limit h) in
     ap (λ m. cond (bytes_eq (decimal m) (decimal n) && leb m limit) (Some m) None) value ∙ ap (λ test. cond test (Some n) None) passes
 
--- a number that is read is spelled by the field
+-- if a field is read as a number, it is this number's digits
 pub number_spelled : (limit n : ℕ) (field : List ℕ) → number_up_to limit field ≡ Some n → (decimal n ≡ field) × (n ≤ limit)
 number_spelled limit n field h =
     let value = digits_value 10 field in
@@ -31,7 +31,7 @@ number_spelled limit n field h =
     let parts = and_parts (bytes_eq (decimal value) field) (leb value limit) found.0 in
     subst (λ m. (decimal m ≡ field) × (m ≤ limit)) found.1 (bytes_are (decimal value) field parts.0, leb-true value limit parts.1)
 
--- where no number up to the limit is spelled so, none is read
+-- if no number up to the limit has the field as its digits, the field is read as no number
 pub no_number : (limit : ℕ) (field : List ℕ) → ((n : ℕ) → n ≤ limit → decimal n ≢ field) → number_up_to limit field ≡ None
 no_number limit field h =
     (elim (number_up_to limit field) as (λ o. number_up_to limit field ≡ o → o ≡ None) [
@@ -39,12 +39,12 @@ no_number limit field h =
       | Some n ↦ λ e. let s = number_spelled limit n field e in absurd (h n s.1 s.0)
     ]) refl
 
--- a text of digits starts with no sign
+-- a numeral's first byte is neither `-` nor `+`
 first_is_digit : (digits : List ℕ) → IsNumeral 10 digits → (eqb (get_or digits 0 0) 45 ≡ false) × (eqb (get_or digits 0 0) 43 ≡ false)
 first_is_digit [] h = absurd (omega (arith, h.0))
 first_is_digit (c ∷ cs) h = let range = digit_from_value c h.1.0 in (ne_eqb c 45 (λ e. omega (arith, range)), ne_eqb c 43 (λ e. omega (arith, range)))
 
--- the value of the digits with their sign
+-- the spelling of a number with a sign has this number as its value
 pub signed_value : (z : ℤ) → unsigned_abs z < 10 ^ 64 → signed_digits_value 10 (signed_decimal z) ≡ z
 signed_value (pos n) small =
     let is = decimal_is_IsNumeral_wide n small in
@@ -52,7 +52,7 @@ signed_value (pos n) small =
     rw (first.0, first.1) (ap pos is.1)
 signed_value (negsuc n) small = let is = decimal_is_IsNumeral_wide (suc n) small in ap (λ m. neg_ℤ (pos m)) is.1
 
--- the digits stand behind the sign
+-- without its sign, the spelling of a number is a numeral
 pub signed_numeral : (z : ℤ) → unsigned_abs z < 10 ^ 64 → IsNumeral 10 (without_leading_sign (signed_decimal z))
 signed_numeral (pos n) small =
     let is = decimal_is_IsNumeral_wide n small in
@@ -60,13 +60,13 @@ signed_numeral (pos n) small =
     rw (first.0, first.1) is.0
 signed_numeral (negsuc n) small = (decimal_is_IsNumeral_wide (suc n) small).0
 
--- a number with a sign is read again
+-- the spelling of a number with a sign is read as this number
 pub signed_again : (limit : ℕ) (z : ℤ) → unsigned_abs z < 10 ^ 64 → unsigned_abs z ≤ limit → signed_up_to limit (signed_decimal z) ≡ Some z
 signed_again limit z small h =
     let passes = and_from (bytes_eq (signed_decimal z) (signed_decimal z)) (leb (unsigned_abs z) limit) (bytes_same (signed_decimal z) (signed_decimal z) refl) (le-leb (unsigned_abs z) limit h) in
     ap (λ y. cond (bytes_eq (signed_decimal y) (signed_decimal z) && leb (unsigned_abs y) limit) (Some y) None) (signed_value z small) ∙ ap (λ test. cond test (Some z) None) passes
 
--- a number with a sign that is read is spelled by the field
+-- if a field is read as a number with a sign, it is this number's spelling
 pub signed_spelled : (limit : ℕ) (z : ℤ) (field : List ℕ) → signed_up_to limit field ≡ Some z → (signed_decimal z ≡ field) × (unsigned_abs z ≤ limit)
 signed_spelled limit z field h =
     let value = signed_digits_value 10 field in

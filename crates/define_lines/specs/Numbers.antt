@@ -4,13 +4,13 @@ use Rattle.std.specs.Prelude.{ℕ, ℤ, nat_le, if◌then◌else◌, ◌&&◌, L
 use Rattle.std.specs.Fmt.{decimal, signed_decimal}
 use Rattle.std.specs.Str.Parse.{digits_value, signed_digits_value}
 
--- the number up to a limit that a field spells
+-- the number that a field spells, if it spells one that is at most `limit`
 abbrev pub number_up_to : ℕ → List ℕ → Option ℕ
 number_up_to limit field =
     let number = digits_value 10 field in
     if bytes_eq (decimal number) field && nat_le number limit then Some number else None
 
--- the whole number, of an absolute value up to a limit, that a field spells with its sign
+-- the whole number that a field spells with its sign, if it spells one whose absolute value is at most `limit`
 abbrev pub signed_up_to : ℕ → List ℕ → Option ℤ
 signed_up_to limit field =
     let number = signed_digits_value 10 field in

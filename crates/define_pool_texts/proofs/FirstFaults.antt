@@ -1,4 +1,4 @@
--- Where the first fault stands: the lines before it begin a pool's text, and with it they don't.
+-- Where the first fault is: the lines before it begin a pool's text, and with it they don't.
 use Rattle.std.proofs.Common.{◌≡◌, ◌≢◌, ℕ, suc, Bool, true, false, eqb, ltb, ◌+◌, ◌-◌, ◌<◌, List, [], ◌∷◌, ◌++◌, length, take, get_or, refl, sym, ◌∙◌, ap, subst, arith, append_assoc, length-append, Some, None, ◌⊎◌, inl, inr}
 use Rattle.std.specs.Prelude.{Result, Ok, Err}
 use Rattle.std.specs.List.{AllByRecursion}
@@ -30,7 +30,7 @@ abbrev Passes : Progress → List (List ℕ) → Type 0
 Passes progress [] = Unit {0}
 Passes progress (line ∷ lines) = (line_kind progress line ≡ None) × Passes (after_line progress line) lines
 
--- right lines stand then, and what stands is right
+-- lines without a fault lead to a right progress, and add themselves to the lines so far
 passed : (progress : Progress) (lines : List (List ℕ)) → IsRight progress → Passes progress lines →
     IsRight (after_lines progress lines) × (lines_so_far (after_lines progress lines) ≡ lines_so_far progress ++ lines)
 passed progress [] right h = (right, sym (append-nil (lines_so_far progress)))
@@ -39,7 +39,7 @@ passed progress (line ∷ lines) right h =
     let rest = passed (after_line progress line) lines step.0 h.1 in
     (rest.0, rest.1 ∙ (ap (λ stood. stood ++ lines) step.1 ∙ append_assoc (lines_so_far progress) (line ∷ []) lines))
 
--- a pool's text begins with its first lines
+-- the text of a pool begins with the first of its lines
 begins : (pool : Pool) (lines rest : List (List ℕ)) → IsPool pool → lines_before_end pool ++ end_line ∷ [] ≡ lines ++ rest → BeginsPoolText lines
 begins pool lines rest has same = (pool, text_of rest, has, ap text_of same ∙ flat_map-append (λ line. line ++ line_feed ∷ []) lines rest)
 
@@ -47,14 +47,14 @@ begins pool lines rest has same = (pool, text_of rest, has, ap text_of same ∙ 
 lodger : Pool
 lodger = record { size = 1; categories = []; volunteers = record { id = codes "a"; values = []; standing = Open; household = Some (codes "h") } ∷ [] }
 
--- the lines of the end, behind those before it
+-- in each version, the first line alone begins the text of some pool
 version_begins : (second : Bool) → BeginsPoolText (version_line second ∷ [])
 unfolding lodger is_utf8 chars encode
 version_begins true =
     begins lodger (version_line true ∷ []) _ (record { size = refl; few_categories = refl; categories = refl; different_categories = refl; few_volunteers = refl; ids = refl; different_ids = refl; values = refl; households = refl }) refl
 version_begins false = begins (empty_pool 1) (version_line false ∷ []) (size_line 1 ∷ end_line ∷ []) (IsPool-empty_pool 1 refl) refl
 
--- right lines between the size and the end are those of the pool's own version, or the first household line is due
+-- the right lines between the size and the end are those of the pool in its own version, or the first household line is due
 own_or_awaits : (pool : Pool) (passed : Passed) → IsRightInside pool passed → (lines_in passed.second pool ≡ lines_before_end pool) ⊎ AwaitsHousehold (lines_in passed.second pool)
 own_or_awaits pool passed right =
     (elim (awaits_household passed) as (λ b. awaits_household passed ≡ b → (lines_in passed.second pool ≡ lines_before_end pool) ⊎ AwaitsHousehold (lines_in passed.second pool)) [
@@ -64,7 +64,7 @@ own_or_awaits pool passed right =
           inr (pool, right.is_pool, right.housed ∙ ap (ltb 0) (eqb-true passed.households 0 parts.1), ap (λ second. lines_in second pool) parts.0)
     ]) refl
 
--- what stands begins some pool's text, or the first household line is due
+-- the lines so far begin some pool's text, or the first household line is due
 stands : (progress : Progress) → IsRight progress → BeginsPoolText (lines_so_far progress) ⊎ AwaitsHousehold (lines_so_far progress)
 stands Begun right = inl (begins (empty_pool 1) [] (lines_before_end (empty_pool 1) ++ end_line ∷ []) (IsPool-empty_pool 1 refl) refl)
 stands (Versioned second) right = inl (version_begins second)
@@ -75,7 +75,7 @@ stands (Inside pool passed) right =
     ]
 stands (Ended pool) right = inl (begins pool (lines_before_end pool ++ end_line ∷ []) [] right (sym (append-nil (lines_before_end pool ++ end_line ∷ []))))
 
--- after the second line what stands is a pool's text, or lacks the end alone, or the first household line is due
+-- if there are at least two lines so far, they are a pool's text, or are one once the end is added, or the first household line is due
 closed : (progress : Progress) → IsRight progress → 1 < length (lines_so_far progress) →
     IsPoolText (text_of (lines_so_far progress)) ⊎ IsPoolText (text_of (lines_so_far progress ++ end_line ∷ [])) ⊎ AwaitsHousehold (lines_so_far progress)
 closed Begun right more = absurd (omega arith)
@@ -87,7 +87,7 @@ closed (Inside pool passed) right more =
     ]
 closed (Ended pool) right more = inl (pool, right, refl)
 
--- the first fault of pieces: right lines, and one at which the reading stops
+-- where the reading of pieces stops: after right lines, at a line with a fault, or at the last piece since the end is missing
 record Stops (number : ℕ) (progress : Progress) (pieces : List (List ℕ)) (fault : Fault) : Type 0 where
   before : List (List ℕ)
   line : List ℕ
@@ -97,12 +97,12 @@ record Stops (number : ℕ) (progress : Progress) (pieces : List (List ℕ)) (fa
   passes : Passes progress before
   stop : (line_kind (after_lines progress before) line ≡ Some fault.kind) ⊎ ((fault.kind ≡ 12) × (later ≡ []))
 
--- the reading stops at the first piece
+-- the reading stops at the first piece if this has a fault
 fails_here : (number : ℕ) (progress : Progress) (line : List ℕ) (later : List (List ℕ)) (kind : ℕ) → line_kind progress line ≡ Some kind →
     Stops number progress (line ∷ later) (record { line = number; kind = kind })
 fails_here number progress line later kind h = record { before = []; line = line; later = later; parted = refl; place = omega arith; passes = tt; stop = inl h }
 
--- and at the last piece, since no end stood
+-- the reading stops at the last piece if the end is missing
 lacks_end : (number : ℕ) (progress : Progress) (line : List ℕ) → Stops number progress (line ∷ []) (record { line = number; kind = 12 })
 lacks_end number progress line = record { before = []; line = line; later = []; parted = refl; place = omega arith; passes = tt; stop = inr (refl, refl) }
 
@@ -134,7 +134,7 @@ stops number progress line (next ∷ later) fault h =
           }
     ]) refl h
 
--- where the bytes have a fault their pieces have it
+-- if bytes have a first fault, the reading of their pieces stops there
 stops_at : (bytes : List ℕ) (fault : Fault) → read bytes ≡ Err fault → Stops 1 Begun (pieces_of bytes) fault
 stops_at bytes fault h =
     let some = some_piece bytes in
@@ -170,7 +170,7 @@ before_is_closed bytes fault h third =
     subst (λ lines. IsPoolText (text_of lines) ⊎ IsPoolText (text_of (lines ++ end_line ∷ [])) ⊎ AwaitsHousehold lines) same
     (closed (after_lines Begun at.before) stood.0 (let p = at.place in omega (arith, size)))
 
--- lines with a fault have it before any others
+-- right lines, then a line with a fault, then at least one piece have a first fault, whatever these pieces are
 fault_again : (number : ℕ) (progress : Progress) (before : List (List ℕ)) (line next : List ℕ) (later : List (List ℕ)) (kind : ℕ) → Passes progress before → line_kind (after_lines progress before) line ≡ Some kind →
     (fault : Fault) × (read_lines reader number progress (before ++ line ∷ next ∷ later) ≡ Err fault)
 fault_again number progress [] line next later kind h k =

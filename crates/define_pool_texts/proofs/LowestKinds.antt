@@ -1,4 +1,4 @@
--- The lowest of the kinds of fault that hold.
+-- The lowest of the kinds of fault that apply.
 use Rattle.std.proofs.Common.{◌≡◌, ℕ, ◌<◌, ◌≤◌, Bool, true, false, not, ◌&&◌, ◌||◌, cond, eqb, ltb, List, [], ◌∷◌, ◌++◌, map, refl, sym, ◌∙◌, arith, Option, Some, None}
 use Rattle.std.specs.List.{list_all}
 use Rattle.std.specs.Str.{is_utf8}
@@ -11,7 +11,7 @@ use Rattle.define_pool_texts.specs.declared.Passed.{Passed}
 use Rattle.define_pool_texts.specs.PoolReading.{Entry, OfCategory, OfValue, OfVolunteer, OfHousehold, OfStanding, TheEnd, Unknown, Progress, Begun, Versioned, Inside, Ended, entry_of, entry_kinds, entry_kind, line_kind, line_kinds}
 use Rattle.define_pool_texts.specs.FirstFault.{applies_among, IsLowest}
 
--- the first of two kinds
+-- the first kind if there is one, else the second
 abbrev pub kind_or : Option ℕ → Option ℕ → Option ℕ
 kind_or None other = other
 kind_or (Some kind) other = Some kind
@@ -21,16 +21,16 @@ lowest_kind-append [] second = refl
 lowest_kind-append ((kind, true) ∷ first) second = refl
 lowest_kind-append ((kind, false) ∷ first) second = lowest_kind-append first second
 
--- the kind of a line that isn't UTF-8
+-- the kind of fault of a line's encoding: 11 if the line isn't UTF-8
 abbrev pub encoding_kind : List ℕ → Option ℕ
 encoding_kind line = lowest_kind ((11, not (is_utf8 line)) ∷ [])
 
--- a line's kind is that of its entry, and else that of its encoding
+-- a line's kind is that of its entry, or if there is none, that of its encoding
 pub line_kind_of : (pool : Pool) (passed : Passed) (line : List ℕ) →
     line_kind (Inside pool passed) line ≡ kind_or (entry_kind pool passed (entry_of (fields_of line))) (encoding_kind line)
 line_kind_of pool passed line = lowest_kind-append (entry_kinds pool passed (entry_of (fields_of line))) ((11, not (is_utf8 line)) ∷ [])
 
--- no kind above all of a list is among it
+-- if all kinds of a list are above `least`, each of them that applies is
 above_all : (kinds : List (ℕ × Bool)) (least other : ℕ) → list_all (λ y. ltb least y) (map (λ k. k.0) kinds) ≡ true → applies_among kinds other ≡ true → least < other
 above_all [] least other h k = absurd (false≢true k)
 above_all ((kind, test) ∷ kinds) least other h k =
@@ -44,7 +44,7 @@ above_all ((kind, test) ∷ kinds) least other h k =
     or_as_cond true b h = refl
     or_as_cond false b h = h
 
--- of kinds that rise the first that holds is the lowest
+-- if kinds rise, the first that applies is the lowest
 pub lowest_is : (kinds : List (ℕ × Bool)) (kind : ℕ) → is_increasing (map (λ k. k.0) kinds) ≡ true → lowest_kind kinds ≡ Some kind → IsLowest kinds kind
 lowest_is [] kind rises h = cc
 lowest_is ((first, true) ∷ kinds) kind rises h =
@@ -108,6 +108,6 @@ line_kinds_end (Versioned second) line = refl
 line_kinds_end (Inside pool passed) line = entry_kinds_end pool passed (entry_of (fields_of line)) (not (is_utf8 line))
 line_kinds_end (Ended pool) line = refl
 
--- no line has the kind of a missing end
+-- no line has kind 12, which is that of a missing end
 pub not_the_end : (progress : Progress) (line : List ℕ) → line_kind progress line ≡ Some 12 → ⊥
 not_the_end progress line h = false≢true (sym (line_kinds_end progress line) ∙ lowest_stands (line_kinds progress line) 12 h)

@@ -1,4 +1,4 @@
--- The text of a pool is read again, and gives that pool.
+-- The text of a pool is read as this pool.
 use Rattle.std.proofs.Common.{◌≡◌, ℕ, zero, suc, ◌+◌, ◌<◌, ◌≤◌, true, false, not, ◌&&◌, ◌||◌, cond, eqb, ltb, leb, List, [], ◌∷◌, ◌++◌, length, get_or, map, refl, sym, ◌∙◌, ap, subst, arith, add-one, append_assoc, Option, Some, None, unwrap_or, option_map}
 use Rattle.std.specs.Prelude.{bytes_eq, codes, Ok, is_some}
 use Rattle.std.specs.Fmt.{decimal}
@@ -29,11 +29,11 @@ use Rattle.define_lines.proofs.NumberLemmas.{bytes_same, number_again}
 use Rattle.define_pool_texts.proofs.NameFields.{name_field}
 use Rattle.define_pool_texts.proofs.LowestKinds.{kind_or, encoding_kind, line_kind_of}
 
--- lines without LF lead from one progress to another with no fault
+-- none of these lines has an LF or a fault, and they lead from one progress to another
 abbrev pub Runs : Progress → List (List ℕ) → Progress → Type 0
 Runs = reading.Runs reader
 
--- a line of fields that say a right entry, and lines that go on from there
+-- the line of fields that are read as an entry, without a fault, leads on to the progress after this entry
 run_entry : (pool : Pool) (passed : Passed) (field : List ℕ) (fields : List (List ℕ)) (entry : Entry) (lines : List (List ℕ)) (after : Progress) → AllByRecursion IsField (field ∷ fields) →
     entry_of (field ∷ fields) ≡ entry → entry_kind pool passed entry ≡ None → Runs (after_entry pool passed entry) lines after → Runs (Inside pool passed) (line_of (field ∷ fields) ∷ lines) after
 run_entry pool passed field fields entry lines after are e none rest =
@@ -47,7 +47,7 @@ run_entry pool passed field fields entry lines after are e none rest =
       subst (λ said. Runs (after_entry pool passed said) lines after) (sym same) rest,
     )
 
--- a name in a list of different names is none of those before it
+-- if names are all different, a name isn't among those before it
 new_among : (before : List (List ℕ)) (name : List ℕ) (later : List (List ℕ)) → all_different (before ++ name ∷ later) ≡ true → includes_list before name ≡ false
 new_among [] name later h = refl
 new_among (first ∷ before) name later h =
@@ -78,7 +78,7 @@ with_value-push (first ∷ next ∷ later) category value = ap (λ rest. first �
 bound_again : (n : ℕ) → n ≤ 999 → bound_of (decimal n) ≡ n
 bound_again n h = ap (λ o. unwrap_or o 1000) (number_again 999 n (omega arith) h)
 
--- what a value that may be added keeps
+-- a value with a new name, within its limits, has no fault if its category has room
 value_is_new : (size : ℕ) (before : List Category) (name : List ℕ) (values : List BoundedValue) (value : BoundedValue) →
     includes_list (value_names values) value.name ≡ false → is_value value ≡ true → length values < 50 → value_kind (made size (before ++ named name values ∷ []) []) value ≡ None
 value_is_new size before name values value new is room =
@@ -152,7 +152,7 @@ categories_run second size done (category ∷ todo) are different few =
     run_entry (made size done []) (none_passed second) (codes "category") (category.name ∷ []) (OfCategory category.name) (map value_line category.values ++ flat_map category_lines todo) after
     (plain_field (codes "category") refl, (name_field category.name is.name, tt)) refl (category_is_new size done category.name new is.name (omega (arith, sizes))) all
 
--- a name that stands at a place of different names is known, and that is its place
+-- a name that isn't in a list differs from the name at each place; so if names are all different, each is found at its own place
 absent_at : (names : List (List ℕ)) (name : List ℕ) (i : ℕ) → includes_list names name ≡ false → i < length names → bytes_eq name (get_or names i []) ≡ false
 absent_at [] name i h l = absurd (omega arith)
 absent_at (first ∷ names) name zero h l = (or_parts (bytes_eq name first) (includes_list names name) h).0
@@ -212,11 +212,11 @@ volunteer_is_new pool id names known each new is room =
     let few : leb 400 (length pool.volunteers) ≡ false = lt-leb 400 (length pool.volunteers) room in
     rw (known, same, new, limits, few) refl
 
--- a volunteer as the own line has it
+-- a volunteer as their own line leaves them: open, without a household
 abbrev opened : Volunteer → Volunteer
 opened volunteer = record { id = volunteer.id; values = volunteer.values; standing = Open; household = None }
 
--- a volunteer as the own line and that of the household have it
+-- a volunteer as their own line and their household line leave them: open, with their household
 abbrev lodged : Volunteer → Volunteer
 lodged volunteer = record { id = volunteer.id; values = volunteer.values; standing = Open; household = volunteer.household }
 
@@ -247,7 +247,7 @@ volunteers_run second size categories done (volunteer ∷ todo) are names have d
     (volunteer_is_new pool volunteer.id given at.known at.each new name.0 (omega arith))
     (subst (λ p. Runs (Inside p (none_passed second)) (map (volunteer_line categories) todo) after) (sym again) rest_to)
 
--- the one behind others of other ids is found by the id
+-- a volunteer who comes after others with other ids is found by the id
 found_behind : (done later : List Volunteer) (volunteer : Volunteer) → includes_list (ids done) volunteer.id ≡ false → number_of (done ++ volunteer ∷ later) volunteer.id ≡ Some (length done)
 found_behind done later volunteer new =
     let all = done ++ volunteer ∷ later in
@@ -275,24 +275,25 @@ with_household_behind : (done : List Volunteer) (volunteer : Volunteer) (todo : 
 with_household_behind [] volunteer todo name = refl
 with_household_behind (first ∷ done) volunteer todo name = ap (λ rest. first ∷ rest) (with_household_behind done volunteer todo name)
 
--- ids are as different where one volunteer is looked at in another state
+-- the ids stay the same if a volunteer is replaced by one with the same id
 ids_behind : (done : List Volunteer) (volunteer same : Volunteer) (todo : List Volunteer) → same.id ≡ volunteer.id → ids (done ++ same ∷ []) ++ ids todo ≡ ids done ++ volunteer.id ∷ ids todo
 ids_behind done volunteer same todo e =
     ap (λ names. names ++ ids todo) (map-append (λ v. v.id) done (same ∷ [])) ∙ (append_assoc (ids done) (same.id ∷ []) (ids todo) ∙ ap (λ id. ids done ++ id ∷ ids todo) e)
 
--- the lines of households, behind those of the volunteers, in a text of version 2
+-- the household lines, after the volunteers' lines, in a text of version 2
 module _ (size : ℕ) (categories : List Category) where
-  -- household lines have passed so many
+  -- the progress with these volunteers, of whom household lines have passed the first `passed`
   housing : ℕ → List Volunteer → Progress
   housing passed volunteers = Inside (made size categories volunteers) (record { second = true; households = passed; standings = 0 })
 
-  -- the lines of some volunteers lead from all of these without a household to their households
+  -- the household lines of `todo` lead from a pool in which `todo` have no household to one in which they have theirs; `done` have theirs
+  -- already
   Houses : List Volunteer → List Volunteer → ℕ → Type 0
   Houses done todo passed =
       (last : ℕ) × (passed ≤ last) × (list_any (λ (v : Volunteer). is_some v.household) todo ≡ true → 0 < last)
       × Runs (housing passed (done ++ map opened todo)) (household_lines todo) (housing last (done ++ map lodged todo))
 
-  -- one more in front, whose line is read
+  -- `Houses` holds with one more volunteer in front of `todo`, who has a household
   one_houses : (done todo : List Volunteer) (volunteer : Volunteer) (passed : ℕ) (name : List ℕ) → passed ≤ length done → all_different (ids done ++ volunteer.id ∷ ids todo) ≡ true →
       is_name volunteer.id ≡ true → is_name name ≡ true → Some name ≡ volunteer.household → Houses (done ++ lodged volunteer ∷ []) todo (length done + 1) → Houses done (volunteer ∷ todo) passed
   unfolding Houses housing
@@ -323,7 +324,7 @@ module _ (size : ℕ) (categories : List Category) where
       let more : length done + 1 ≤ last = rest.1 in
       (last, omega arith, (λ some. omega arith), subst (λ h. Runs (Inside pool at) (household_line h volunteer.id ++ household_lines todo) after) same runs)
 
-  -- one more in front, who has none
+  -- `Houses` holds with one more volunteer in front of `todo`, who has no household
   alone_houses : (done todo : List Volunteer) (volunteer : Volunteer) (passed : ℕ) → None ≡ volunteer.household → Houses (done ++ lodged volunteer ∷ []) todo passed → Houses done (volunteer ∷ todo) passed
   unfolding Houses housing
   alone_houses done todo volunteer passed same rest =
@@ -358,7 +359,7 @@ module _ (size : ℕ) (categories : List Category) where
         | Some one ↦ λ same is. one_houses done todo volunteer passed one few different name.0 is same behind
       ]) refl house.0
 
--- where nobody has a household no line is needed for any
+-- if nobody has a household, there is no household line
 none_housed : (volunteers : List Volunteer) → list_any (λ (v : Volunteer). is_some v.household) volunteers ≡ false → (household_lines volunteers ≡ []) × (map opened volunteers ≡ map lodged volunteers)
 none_housed [] h = (refl, refl)
 none_housed (volunteer ∷ volunteers) h =
@@ -373,7 +374,7 @@ none_housed (volunteer ∷ volunteers) h =
     no_household None k = refl
     no_household (Some name) k = cc
 
--- the household lines of a pool, in its own version: the first is not due then
+-- in the pool's own version, its household lines lead to a progress at which no household line is due
 pool_houses : (pool : Pool) → IsPool pool → (second : Bool) → has_households pool ≡ second →
     (households : ℕ) × ((second && eqb households 0) ≡ false)
     × Runs (Inside (made pool.size pool.categories (map opened pool.volunteers)) (none_passed second)) (household_lines pool.volunteers)
@@ -390,17 +391,18 @@ pool_houses pool is false none =
           (sym alone.0) (ap (λ volunteers. Inside (made pool.size pool.categories volunteers) (none_passed false)) alone.1),
     )
 
--- the lines of standings, behind those of the households, where no household line is due
+-- the standing lines, after the household lines, at a progress at which no household line is due
 module _ (size : ℕ) (categories : List Category) (second : Bool) (households : ℕ) (due : (second && eqb households 0) ≡ false) where
-  -- standing lines have passed so many
+  -- how far the lines have come if standing lines have passed the first `passed` volunteers
   standing_at : ℕ → Passed
   standing_at passed = record { second = second; households = households; standings = passed }
 
-  -- the lines of some volunteers lead from all of these open to their standings
+  -- the standing lines of `todo` lead from a pool in which `todo` are open to one in which they have their standings; `done` have theirs
+  -- already
   Leads : List Volunteer → List Volunteer → ℕ → Type 0
   Leads done todo passed = (last : ℕ) × Runs (Inside (made size categories (done ++ map lodged todo)) (standing_at passed)) (standing_lines todo) (Inside (made size categories (done ++ todo)) (standing_at last))
 
-  -- one more in front, whose line is read
+  -- `Leads` holds with one more volunteer in front of `todo`, who isn't open
   one_leads : (done todo : List Volunteer) (volunteer : Volunteer) (passed : ℕ) (word : List ℕ) (standing : Standing) → passed ≤ length done → all_different (ids done ++ volunteer.id ∷ ids todo) ≡ true →
       IsField word → is_name volunteer.id ≡ true → entry_of (word ∷ volunteer.id ∷ []) ≡ OfStanding standing volunteer.id → standing ≡ volunteer.standing →
       standing_line volunteer.standing volunteer.id ≡ line_of (word ∷ volunteer.id ∷ []) ∷ [] →
@@ -431,7 +433,7 @@ module _ (size : ℕ) (categories : List Category) (second : Bool) (households :
       (subst (λ progress. Runs progress (standing_lines todo) after) (sym goes) rest_to) in
       (last, subst (λ lines. Runs (Inside pool at) (lines ++ standing_lines todo) after) (sym line) runs)
 
-  -- one more in front, who is open
+  -- `Leads` holds with one more volunteer in front of `todo`, who is open
   open_leads : (done todo : List Volunteer) (volunteer : Volunteer) (passed : ℕ) → Open ≡ volunteer.standing → Leads (done ++ volunteer ∷ []) todo passed → Leads done (volunteer ∷ todo) passed
   unfolding Leads standing_at
   open_leads done todo volunteer passed same rest =
@@ -465,7 +467,7 @@ module _ (size : ℕ) (categories : List Category) (second : Bool) (households :
             (ap (λ s. standing_line s volunteer.id) (sym same)) behind
       ]) refl
 
--- the first line of a version leads to it
+-- the first line leads to the progress after it, in its version
 version_runs : (second : Bool) (lines : List (List ℕ)) (after : Progress) → Runs (Versioned second) lines after → Runs Begun (version_line second ∷ lines) after
 version_runs true lines after runs = (line_lacks_feed (codes "pool" ∷ codes "2" ∷ []) (plain_field (codes "pool") refl, (plain_field (codes "2") refl, tt)), refl, runs)
 version_runs false lines after runs = (line_lacks_feed (codes "pool" ∷ codes "1" ∷ []) (plain_field (codes "pool") refl, (plain_field (codes "1") refl, tt)), refl, runs)
@@ -505,7 +507,7 @@ pool_runs pool is =
       subst (λ n. Runs (Inside (empty_pool n) (none_passed second)) entries (Ended pool)) (sym size_again) all,
     )
 
--- what is spelled is read
+-- the spelling of a pool is read as this pool
 pub spelled_is_read : (pool : Pool) → IsPool pool → read (spelling pool) ≡ Ok pool
 spelled_is_read pool right =
     let lines = lines_before_end pool ++ end_line ∷ [] in

@@ -28,12 +28,12 @@ use Rattle.define_lines.proofs.LineLemmas.{each_field_is_utf8, line_of-fields_of
 use Rattle.define_lines.proofs.NumberLemmas.{bytes_are, number_spelled}
 use Rattle.define_pool_texts.proofs.LowestKinds.{kind_or, encoding_kind, line_kind_of}
 
--- neither of two kinds
+-- if there is no first of two kinds, there is neither of them
 pub neither : (first second : Option ℕ) → kind_or first second ≡ None → (first ≡ None) × (second ≡ None)
 neither None second h = (refl, h)
 neither (Some kind) second h = cc
 
--- the lines that stood
+-- the lines that led to a progress
 abbrev pub lines_so_far : Progress → List (List ℕ)
 lines_so_far Begun = []
 lines_so_far (Versioned second) = version_line second ∷ []
@@ -131,7 +131,7 @@ module _ (pool : Pool) (passed : Passed) where
         | Some word ↦ λ e. spells word first fields (is_word first word e)
       ]) refl h
 
--- the lines of a category that gets one more value
+-- the lines of the categories, if the last category gets one more value
 flat_map-with_value : (categories : List Category) (value : BoundedValue) → (length categories ≡ 0 → ⊥) →
     flat_map category_lines (with_value categories value) ≡ flat_map category_lines categories ++ value_line value ∷ []
 flat_map-with_value [] value some = absurd (some refl)
@@ -144,13 +144,13 @@ flat_map-with_value (category ∷ next ∷ later) value some =
     ap (λ lines. category_lines category ++ lines) (flat_map-with_value (next ∷ later) value (λ e. omega arith))
     ∙ sym (append_assoc (category_lines category) (flat_map category_lines (next ∷ later)) (value_line value ∷ []))
 
--- the name that stands at the place of a known name is that name
+-- the name at the place of a known name is this name
 name_at_place : (values : List BoundedValue) (name : List ℕ) → includes_list (value_names values) name ≡ true → get_or (value_names values) (unwrap_or (place_of values name) 0) [] ≡ name
 name_at_place values name h =
     let known = place_at values name h in
     ap (λ place. get_or (value_names values) (unwrap_or place 0) []) known.1 ∙ known.3
 
--- the names at the places of known names are those names
+-- the names at the places of known names are these names
 pub names_at-places_of : (categories : List Category) (names : List (List ℕ)) → are_known categories names ≡ true → length names ≡ length categories → names_at categories (places_of categories names) ≡ names
 names_at-places_of [] [] known e = refl
 names_at-places_of [] (name ∷ names) known e = absurd (omega arith)
@@ -160,7 +160,7 @@ names_at-places_of (category ∷ categories) (name ∷ names) known e =
     let rest = names_at-places_of categories names parts.1 (omega arith) in
     let here = name_at_place category.values name parts.0 in cc
 
--- where nobody is there, one line more of the categories is one line more of all
+-- if there are no volunteers, one more line of the categories is one more line of all
 under_nobody : (f g : Volunteer → List ℕ) (volunteers : List Volunteer) (after before : List (List ℕ)) (line : List ℕ) →
     volunteers ≡ [] → after ≡ before ++ line ∷ [] →
     ((after ++ map f volunteers) ++ household_lines volunteers) ++ standing_lines volunteers ≡ (((before ++ map g volunteers) ++ household_lines volunteers) ++ standing_lines volunteers) ++ line ∷ []
@@ -170,13 +170,13 @@ under_nobody f g [] after before line e h = nils after ∙ (h ∙ ap (λ lines. 
     nils lines = append-nil ((lines ++ []) ++ []) ∙ (append-nil (lines ++ []) ∙ append-nil lines)
 under_nobody f g (volunteer ∷ volunteers) after before line e h = cc
 
--- whether somebody has no standing line
+-- the standing has no line
 abbrev pub is_open : Standing → Bool
 is_open Open = true
 is_open Seated = false
 is_open Gone = false
 
--- those from a number on are open
+-- all volunteers from this number on are open
 abbrev pub open_from : ℕ → List Volunteer → Bool
 open_from number volunteers = list_all (λ (volunteer : Volunteer). is_open volunteer.standing) (drop number volunteers)
 
@@ -186,14 +186,14 @@ no_line Open id h = refl
 no_line Seated id h = absurd (false≢true h)
 no_line Gone id h = absurd (false≢true h)
 
--- where all are open there is no standing line
+-- if all volunteers are open, there is no standing line
 no_lines : (volunteers : List Volunteer) → open_from 0 volunteers ≡ true → standing_lines volunteers ≡ []
 no_lines [] h = refl
 no_lines (volunteer ∷ volunteers) h =
     let parts = and_parts (is_open volunteer.standing) (open_from 0 volunteers) h in
     rw (no_line volunteer.standing volunteer.id parts.0) (no_lines volunteers parts.1)
 
--- one line more where somebody's standing is set whom no standing line has passed
+-- to set the standing of a volunteer whom no standing line has passed adds one standing line
 one_standing : (volunteers : List Volunteer) (passed number : ℕ) (standing : Standing) (d : Volunteer) → open_from passed volunteers ≡ true → passed ≤ number → number < length volunteers →
     standing_lines (with_standing volunteers number standing) ≡ standing_lines volunteers ++ standing_line standing (get_or volunteers number d).id
 one_standing [] passed number standing d h l m = absurd (omega arith)
@@ -209,7 +209,7 @@ one_standing (volunteer ∷ volunteers) (suc passed) (suc number) standing d h l
     ap (λ lines. standing_line volunteer.standing volunteer.id ++ lines) (one_standing volunteers passed number standing d h (omega arith) (omega arith))
     ∙ sym (append_assoc (standing_line volunteer.standing volunteer.id) (standing_lines volunteers) (standing_line standing (get_or volunteers number d).id))
 
--- behind the one whose standing is set all are open as before
+-- after the volunteer whose standing is set, all are open as before
 open_behind : (volunteers : List Volunteer) (passed number : ℕ) (standing : Standing) → open_from passed volunteers ≡ true → passed ≤ number → open_from (suc number) (with_standing volunteers number standing) ≡ true
 open_behind [] passed number standing h l = refl
 open_behind (volunteer ∷ volunteers) zero zero standing h l = (and_parts (is_open volunteer.standing) (open_from 0 volunteers) h).1
@@ -218,23 +218,23 @@ open_behind (volunteer ∷ volunteers) zero (suc number) standing h l =
 open_behind (volunteer ∷ volunteers) (suc passed) zero standing h l = absurd (omega arith)
 open_behind (volunteer ∷ volunteers) (suc passed) (suc number) standing h l = open_behind volunteers passed number standing h (omega arith)
 
--- those from a number on have no household
+-- all volunteers from this number on have no household
 abbrev pub alone_from : ℕ → List Volunteer → Bool
 alone_from number volunteers = list_all (λ (volunteer : Volunteer). not (is_some volunteer.household)) (drop number volunteers)
 
--- no household has no line
+-- without a household there is no household line
 no_house : (household : Option (List ℕ)) (id : List ℕ) → not (is_some household) ≡ true → household_line household id ≡ []
 no_house None id h = refl
 no_house (Some name) id h = absurd (false≢true h)
 
--- where nobody has one there is no household line
+-- if nobody has a household, there is no household line
 no_houses : (volunteers : List Volunteer) → alone_from 0 volunteers ≡ true → household_lines volunteers ≡ []
 no_houses [] h = refl
 no_houses (volunteer ∷ volunteers) h =
     let parts = and_parts (not (is_some volunteer.household)) (alone_from 0 volunteers) h in
     rw (no_house volunteer.household volunteer.id parts.0) (no_houses volunteers parts.1)
 
--- one line more where the household is set of somebody whom no household line has passed
+-- to set the household of a volunteer whom no household line has passed adds one household line
 one_household : (volunteers : List Volunteer) (passed number : ℕ) (name : List ℕ) (d : Volunteer) → alone_from passed volunteers ≡ true → passed ≤ number → number < length volunteers →
     household_lines (with_household volunteers number name) ≡ household_lines volunteers ++ household_line (Some name) (get_or volunteers number d).id
 one_household [] passed number name d h l m = absurd (omega arith)
@@ -250,7 +250,7 @@ one_household (volunteer ∷ volunteers) (suc passed) (suc number) name d h l m 
     ap (λ lines. household_line volunteer.household volunteer.id ++ lines) (one_household volunteers passed number name d h (omega arith) (omega arith))
     ∙ sym (append_assoc (household_line volunteer.household volunteer.id) (household_lines volunteers) (household_line (Some name) (get_or volunteers number d).id))
 
--- behind the one whose household is set nobody has one, as before
+-- after the volunteer whose household is set, nobody has a household, as before
 alone_behind : (volunteers : List Volunteer) (passed number : ℕ) (name : List ℕ) → alone_from passed volunteers ≡ true → passed ≤ number → alone_from (suc number) (with_household volunteers number name) ≡ true
 alone_behind [] passed number name h l = refl
 alone_behind (volunteer ∷ volunteers) zero zero name h l = (and_parts (not (is_some volunteer.household)) (alone_from 0 volunteers) h).1
@@ -259,7 +259,7 @@ alone_behind (volunteer ∷ volunteers) zero (suc number) name h l =
 alone_behind (volunteer ∷ volunteers) (suc passed) zero name h l = absurd (omega arith)
 alone_behind (volunteer ∷ volunteers) (suc passed) (suc number) name h l = alone_behind volunteers passed number name h (omega arith)
 
--- a standing changes no household, and a household no standing
+-- to set a standing changes no household, and to set a household changes no standing
 alone-with_standing : (volunteers : List Volunteer) (passed number : ℕ) (standing : Standing) → alone_from passed (with_standing volunteers number standing) ≡ alone_from passed volunteers
 alone-with_standing [] passed number standing = refl
 alone-with_standing (volunteer ∷ volunteers) zero zero standing = refl
@@ -288,14 +288,14 @@ open-with_household [] number name = refl
 open-with_household (volunteer ∷ volunteers) zero name = refl
 open-with_household (volunteer ∷ volunteers) (suc number) name = ap (λ b. is_open volunteer.standing && b) (open-with_household volunteers number name)
 
--- where a household was set somebody has one
+-- if a household is set, somebody has one
 housed-with_household : (volunteers : List Volunteer) (number : ℕ) (name : List ℕ) → number < length volunteers →
     list_any (λ (v : Volunteer). is_some v.household) (with_household volunteers number name) ≡ true
 housed-with_household [] number name l = absurd (omega arith)
 housed-with_household (volunteer ∷ volunteers) zero name l = refl
 housed-with_household (volunteer ∷ volunteers) (suc number) name l = or_right (is_some volunteer.household) _ (housed-with_household volunteers number name (omega arith))
 
--- what no kind says of a household or standing line: a number that was not passed, of a volunteer of this id
+-- the id of a household or standing line without a fault is that of a volunteer whom no line of this sort has passed
 record IdFits (pool : Pool) (passed : ℕ) (id : List ℕ) : Type 0 where
   number : ℕ
   found : number_of pool.volunteers id ≡ Some number
@@ -319,14 +319,14 @@ id_fits pool passed id h =
           }
     ]) refl (not-false (is_ahead passed (number_of pool.volunteers id)) h)
 
--- what no kind says of a standing line: the first household line isn't due, and the id fits
+-- what holds of a standing line without a fault: no household line is due, and the id is right
 standing_fits : (pool : Pool) (passed : Passed) (standing : Standing) (id : List ℕ) → entry_kind pool passed (OfStanding standing id) ≡ None →
     (awaits_household passed ≡ false) × IdFits pool passed.standings id
 standing_fits pool passed standing id h =
     let first = no_kind (awaits_household passed) 1 _ h in
     (first.0, id_fits pool passed.standings id (no_kind (not (is_ahead passed.standings (number_of pool.volunteers id))) 9 None first.1).0)
 
--- what no kind says of a household line
+-- what holds of a household line without a fault
 record HouseholdFits (pool : Pool) (passed : Passed) (id name : List ℕ) : Type 0 where
   second : passed.second ≡ true
   no_standing : passed.standings ≡ 0
@@ -341,7 +341,7 @@ household_fits pool passed id name h =
     let none = ltb-false 0 passed.standings place.1 in
     record { second = not-false passed.second place.0; no_standing = omega arith; fits = id_fits pool passed.households id next.0; kind = next.1 }
 
--- what no kind says of a volunteer: no household or standing line stood, and the builder finds no fault
+-- what holds of a volunteer's line without a fault: no household or standing line came before it, and building has no fault
 volunteer_parts : (pool : Pool) (passed : Passed) (id : List ℕ) (names : List (List ℕ)) → entry_kind pool passed (OfVolunteer id names) ≡ None →
     (passed.households ≡ 0) × (passed.standings ≡ 0) × (volunteer_kind pool id names ≡ None)
 volunteer_parts pool passed id names h =
@@ -350,8 +350,8 @@ volunteer_parts pool passed id names h =
     let one = ltb-false 0 passed.households neither_passed.0 in
     let other = ltb-false 0 passed.standings neither_passed.1 in (omega arith, omega arith, parts.1)
 
--- those from a number on are open, those from another on have no household, and all keep the limits; there are households exactly
--- behind a household line, which version 1 hasn't
+-- the pool so far is right: it keeps its limits; those whom no standing line has passed are open; those whom no household line has passed
+-- have no household; somebody has a household exactly if there was a household line; and in version 1 there was none
 pub record IsRightInside (pool : Pool) (passed : Passed) : Type 0 where
   pub is_pool : IsPool pool
   pub ahead : open_from passed.standings pool.volunteers ≡ true
@@ -359,7 +359,7 @@ pub record IsRightInside (pool : Pool) (passed : Passed) : Type 0 where
   pub housed : has_households pool ≡ ltb 0 passed.households
   pub first : passed.second ≡ false → passed.households ≡ 0
 
--- where the first household line isn't due the pool's own version is that of the text
+-- if no household line is due, the pool's own version is that of the text
 pub own_version : (pool : Pool) (passed : Passed) → IsRightInside pool passed → awaits_household passed ≡ false → has_households pool ≡ passed.second
 own_version pool passed right h = right.housed ∙ same passed.second passed.households h right.first
   where
@@ -369,14 +369,14 @@ own_version pool passed right h = right.housed ∙ same passed.second passed.hou
     same false zero k first = refl
     same false (suc households) k first = let none = first refl in absurd (omega arith)
 
--- what stands is right: the pool, where there is one, has a text, and those whom no such line has passed are open, or have no household
+-- a progress is right: its pool, if it has one, is right so far
 abbrev pub IsRight : Progress → Type 0
 IsRight Begun = Unit {0}
 IsRight (Versioned second) = Unit {0}
 IsRight (Inside pool passed) = IsRightInside pool passed
 IsRight (Ended pool) = IsPool pool
 
--- what a right entry leaves has one line more: the entry's
+-- a right entry adds its line to the lines so far
 pub entry_adds : (pool : Pool) (passed : Passed) (entry : Entry) → IsRight (Inside pool passed) → entry_kind pool passed entry ≡ None →
     lines_so_far (after_entry pool passed entry) ≡ lines_in passed.second pool ++ entry_lines entry
 entry_adds pool passed (OfCategory name) right h =
@@ -467,7 +467,7 @@ entry_adds pool passed TheEnd right h =
     let due = no_kind (awaits_household passed) 1 None h in ap (λ second. lines_in second pool ++ end_line ∷ []) (own_version pool passed right due.0)
 entry_adds pool passed Unknown right h = cc
 
--- a size in range is spelled by the fields
+-- fields that are read as a size in range are those of the size's line
 size_spelled : (fields : List (List ℕ)) → size_kind (size_of fields) ≡ None → line_of fields ≡ size_line (size_of fields)
 size_spelled [] h = cc
 size_spelled (first ∷ []) h = cc
@@ -480,7 +480,7 @@ size_spelled (first ∷ field ∷ []) h =
     ]) refl)
     (λ _ k. cc) h
 
--- a right entry of fields that are text leaves what is right
+-- if fields are UTF-8 and are read as an entry without a fault, the progress after it is right
 module _ (pool : Pool) (passed : Passed) (right : IsRight (Inside pool passed)) where
   Keeps : Entry → Type 0
   Keeps entry = entry_kind pool passed entry ≡ None → IsRight (after_entry pool passed entry)
@@ -558,7 +558,7 @@ module _ (pool : Pool) (passed : Passed) (right : IsRight (Inside pool passed)) 
         | Some word ↦ keeps word fields utf8.1
       ]) h
 
--- a right line is one line more, and what stands stays right
+-- a line without a fault keeps the progress right, and adds itself to the lines so far
 pub line_adds : (progress : Progress) (line : List ℕ) → IsRight progress → line_kind progress line ≡ None →
     IsRight (after_line progress line) × (lines_so_far (after_line progress line) ≡ lines_so_far progress ++ line ∷ [])
 line_adds Begun line right h =
@@ -584,7 +584,7 @@ line_adds (Inside pool passed) line right h =
     )
 line_adds (Ended pool) line right h = cc
 
--- a text that ends with its last line is the text of the pool that is read
+-- if the text ends with a pool, the lines so far and the last bytes are the spelling of this pool
 last_is_spelled : (number : ℕ) (progress : Progress) (bytes : List ℕ) (pool : Pool) → IsRight progress → at_last number progress bytes ≡ Ok pool →
     IsPool pool × (text_of (lines_so_far progress) ++ bytes ≡ spelling pool)
 last_is_spelled number Begun bytes pool right h = cc
@@ -595,6 +595,6 @@ last_is_spelled number (Ended other) [] pool right h =
     let same : other ≡ pool = cc in
     (subst IsPool same right, append-nil (spelling other) ∙ ap spelling same)
 
--- what is read is spelled so, each byte of it
+-- if bytes are read as a pool, they are its spelling
 pub read_is_spelled : (bytes : List ℕ) (pool : Pool) → read bytes ≡ Ok pool → IsPool pool × (bytes ≡ spelling pool)
 read_is_spelled bytes pool h = reading.read_is_spelled reader IsRight lines_so_far IsPool spelling line_adds last_is_spelled 1 Begun tt refl bytes pool h

@@ -14,7 +14,8 @@ IsPoolText bytes = (pool : Pool) × IsPool pool × (bytes ≡ spelling pool)
 abbrev pub BeginsPoolText : List (List ℕ) → Type 0
 BeginsPoolText lines = (pool : Pool) × (rest : List ℕ) × IsPool pool × (spelling pool ≡ text_of lines ++ rest)
 
--- these are right lines of version 2 before its first household line, which are those of a pool without households
+-- these are all lines, before the end, of a pool without households, in version 2. They are right so far, but a household line must come
+-- before the end
 abbrev pub AwaitsHousehold : List (List ℕ) → Type 0
 AwaitsHousehold lines = (pool : Pool) × IsPool pool × (has_households pool ≡ false) × (lines ≡ lines_in true pool)
 

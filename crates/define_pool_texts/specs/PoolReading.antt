@@ -80,7 +80,7 @@ entry_of (first ∷ fields) = entry_behind (word_among words first) fields
 abbrev pub number_of : List Volunteer → List ℕ → Option ℕ
 number_of volunteers id = position (λ volunteer. bytes_eq id volunteer.id) volunteers
 
--- the number is there, and is that of a volunteer whom the lines haven't passed, which have passed `passed`
+-- there is a number, and it is that of a volunteer after the first `passed`, whom the lines have passed
 abbrev pub is_ahead : ℕ → Option ℕ → Bool
 is_ahead passed None = false
 is_ahead passed (Some number) = nat_le passed number

@@ -60,7 +60,7 @@ standing_lines volunteers = flat_map (λ volunteer. standing_line volunteer.stan
 abbrev pub end_line : List ℕ
 end_line = codes "end"
 
--- the lines of a pool before its end, in a text of a version
+-- the lines of a pool before its end, in version 2 if `second` is true, else in version 1
 abbrev pub lines_in : Bool → Pool → List (List ℕ)
 lines_in second pool =
     version_line second ∷ size_line pool.size

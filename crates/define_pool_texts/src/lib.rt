@@ -21,8 +21,8 @@ ghost use Rattle.define_pool_texts.specs.FirstFault.{IsPoolText, BeginsPoolText,
 pub struct Passed {
     /// The text is of version 2.
     pub second: bool,
-    /// How many volunteers household lines have passed: 0 before the first such line, else those up to and with the one of the
-    /// last.
+    /// How many volunteers household lines have passed: 0 before the first household line, else all up to the volunteer of the last one,
+    /// this volunteer included.
     pub households: usize,
     /// How many volunteers standing lines have passed, counted in the same way.
     pub standings: usize,
@@ -45,10 +45,10 @@ pub fn one_pool_per_text()
     ensures { (first second : Pool) → IsPool first → IsPool second → spelling first ≡ spelling second → first ≡ second }
 {}
 
-/// The lines before the first faulty line begin the text of some pool, and with the faulty line they begin none. For kind 12 the
-/// finished lines begin one. After the second line, the lines before the faulty one, closed by the end, are the text of a pool, or
-/// are one already. Right lines of version 2 without a household line count as such a beginning, whether or not a volunteer could still
-/// follow, and the end doesn't close them.
+/// The lines before the first faulty line begin the text of some pool, and with the faulty line they begin none. If the kind is 12, all
+/// finished lines are right, but the end is missing. From the third line on, the lines before the faulty one are the text of a pool, or are
+/// one once the end is added. There is one exception: right lines of version 2 without a household line yet. They count as a beginning even
+/// if there can be no volunteer for such a line, and the end doesn't close them.
 pub fn first_fault_is_first()
     ensures before { (bytes : List ℕ) (fault : Fault) → read bytes ≡ Err fault →
         BeginsPoolText (lines_before fault bytes) ⊎ AwaitsHousehold (lines_before fault bytes) }

@@ -1,4 +1,4 @@
--- What is added to a pool where no kind of fault holds keeps what each pool keeps.
+-- If a step of building has no fault, what it makes is a pool again.
 use Rattle.std.proofs.Common.{◌≡◌, ℕ, zero, suc, ◌+◌, ◌<◌, Bool, true, false, cond, eqb, ltb, leb, not, ◌&&◌, ◌||◌, List, [], ◌∷◌, ◌++◌, length, Option, Some, None, option_map, unwrap_or, refl, sym, ap, ◌∙◌, arith, add-one, get_or}
 use Rattle.std.specs.List.{list_all}
 use Rattle.std.specs.Str.{is_utf8, bytes_eq}
@@ -15,7 +15,7 @@ use Rattle.define_pools.specs.Lists.{includes_list, all_different}
 use Rattle.define_pools.specs.Pool.{BoundedValue, Category, Volunteer, Pool, keeps_name_limits, is_name, is_size, are_bounds, is_value, is_category, has_values, is_household, IsPool}
 use Rattle.define_pools.specs.Building.{category_names, value_names, ids, last_values, with_value, place_of, places_of, are_known, empty_pool, size_kind, category_added, category_kind, value_added, value_kind, volunteer_added, volunteer_kind, with_standing, standing_set, with_household, household_set, household_kind}
 
--- where no kind is answered the first test is false, and the others answer none
+-- if no kind applies, the first test is false, and no later kind applies
 pub no_kind : (test : Bool) (kind : ℕ) (rest : Option ℕ) → cond test (Some kind) rest ≡ None → (test ≡ false) × (rest ≡ None)
 no_kind true kind rest h = cc
 no_kind false kind rest h = (refl, h)
@@ -25,7 +25,7 @@ same_bytes_comm xs ys =
     let there = bytes_eq-Decides ys xs in
     same_from_decides (bytes_eq xs ys) (bytes_eq ys xs) (bytes_eq-Decides xs ys) (λ e. sym (there.0 e), λ e. there.1 (sym e))
 
--- a list that does not stand among different lists may follow them
+-- if a list isn't among lists that are all different, they are all different with it too
 pub all_different_push : (xss : List (List ℕ)) (xs : List ℕ) → all_different xss ≡ true → includes_list xss xs ≡ false → all_different (xss ++ xs ∷ []) ≡ true
 all_different_push [] xs h k = refl
 all_different_push (ys ∷ yss) xs h k =
@@ -35,13 +35,13 @@ all_different_push (ys ∷ yss) xs h k =
     let none : includes_list (yss ++ xs ∷ []) ys ≡ false = list_any-append (bytes_eq ys) yss (xs ∷ []) ∙ or_from (includes_list yss ys) (bytes_eq ys xs || false) (not-true (includes_list yss ys) parts.0) (or_from (bytes_eq ys xs) false other refl) in
     and_from (not (includes_list (yss ++ xs ∷ []) ys)) (all_different (yss ++ xs ∷ [])) (not_from_false (includes_list (yss ++ xs ∷ []) ys) none) (all_different_push yss xs parts.1 apart.1)
 
--- the last test of each kind: no such name may be, or too many are there
+-- if the last test of a step is false, the name keeps the limits and there is room for one more
 limits_and_room : (name : List ℕ) (limit count : ℕ) → (not (keeps_name_limits name) || leb limit count) ≡ false → (keeps_name_limits name ≡ true) × (count < limit)
 limits_and_room name limit count h =
     let parts = or_parts (not (keeps_name_limits name)) (leb limit count) h in
     (not-false (keeps_name_limits name) parts.0, leb-false limit count parts.1)
 
--- with no kind of a size the empty pool is one
+-- if the size has no fault, the empty pool of this size is a pool
 pub IsPool-empty_pool : (size : ℕ) → size_kind size ≡ None → IsPool (empty_pool size)
 IsPool-empty_pool size h = record {
   size = not-false (is_size size) (no_kind _ _ _ h).0;
@@ -55,7 +55,7 @@ IsPool-empty_pool size h = record {
   households = refl;
 }
 
--- what no kind says of a category
+-- what holds of a category without a fault
 pub record CategoryFits (pool : Pool) (name : List ℕ) : Type 0 where
   pub nobody : pool.volunteers ≡ []
   pub new : includes_list (category_names pool.categories) name ≡ false
@@ -89,7 +89,7 @@ IsPool-category_added pool name p kind utf8 =
       households = p.households;
     }
 
--- a value added to the last category
+-- a value that is added to the last category changes no category's name
 length-with_value : (categories : List Category) (value : BoundedValue) → length (with_value categories value) ≡ length categories
 length-with_value [] value = refl
 length-with_value (category ∷ []) value = refl
@@ -100,7 +100,7 @@ category_names-with_value [] value = refl
 category_names-with_value (category ∷ []) value = refl
 category_names-with_value (category ∷ (next ∷ later)) value = ap (λ names. category.name ∷ names) (category_names-with_value (next ∷ later) value)
 
--- one more value, of a new name, in a category
+-- a category with one more value, of a new name, is a category
 is_category_push : (category : Category) (value : BoundedValue) → is_category category ≡ true → is_value value ≡ true → includes_list (value_names category.values) value.name ≡ false → length category.values < 50 →
     is_category (record category { values = category.values ++ value ∷ [] }) ≡ true
 is_category_push category value h good new room =
@@ -123,7 +123,7 @@ categories_with_value (category ∷ (next ∷ later)) value h good new room =
     let parts = and_parts (is_category category) (list_all is_category (next ∷ later)) h in
     and_from (is_category category) (list_all is_category (with_value (next ∷ later) value)) parts.0 (categories_with_value (next ∷ later) value parts.1 good new room)
 
--- what no kind says of a value
+-- what holds of a value without a fault
 pub record ValueFits (pool : Pool) (value : BoundedValue) : Type 0 where
   pub some : 0 < length pool.categories
   pub nobody : pool.volunteers ≡ []
@@ -169,7 +169,7 @@ IsPool-value_added pool value p kind utf8 =
       households = p.households;
     }
 
--- a name that stands among the values of a category has a place there
+-- a name that is among those of the values has a place there
 pub place_at : (values : List BoundedValue) (name : List ℕ) → includes_list (value_names values) name ≡ true →
     (place : ℕ) × (place_of values name ≡ Some place) × (place < length values) × (get_or (value_names values) place [] ≡ name)
 place_at [] name h = absurd (false≢true h)
@@ -192,7 +192,7 @@ has_values_places (category ∷ categories) (name ∷ names) h k =
     let here : ltb (unwrap_or (place_of category.values name) 0) (length category.values) ≡ true = rw found.1 (lt-ltb found.0 (length category.values) found.2) in
     and_from (ltb (unwrap_or (place_of category.values name) 0) (length category.values)) (has_values categories (places_of categories names)) here (has_values_places categories names parts.1 (omega arith))
 
--- what no kind says of a volunteer
+-- what holds of a volunteer without a fault
 pub record VolunteerFits (pool : Pool) (id : List ℕ) (names : List (List ℕ)) : Type 0 where
   pub known : are_known pool.categories names ≡ true
   pub each : length names ≡ length pool.categories
@@ -231,7 +231,7 @@ IsPool-volunteer_added pool id names p kind utf8 =
       households = list_all-push (λ (v : Volunteer). is_household v.household) pool.volunteers volunteer p.households refl;
     }
 
--- another standing of one volunteer changes nothing else
+-- to set a volunteer's standing changes nothing else
 pub length-with_standing : (volunteers : List Volunteer) (number : ℕ) (standing : Standing) → length (with_standing volunteers number standing) ≡ length volunteers
 length-with_standing [] number standing = refl
 length-with_standing (volunteer ∷ volunteers) zero standing = refl
@@ -274,7 +274,7 @@ IsPool-standing_set pool number standing p = record {
   households = rw (households-with_standing pool.volunteers number standing) p.households;
 }
 
--- another household of one volunteer changes nothing else
+-- to set a volunteer's household changes nothing else
 pub length-with_household : (volunteers : List Volunteer) (number : ℕ) (name : List ℕ) → length (with_household volunteers number name) ≡ length volunteers
 length-with_household [] number name = refl
 length-with_household (volunteer ∷ volunteers) zero name = refl

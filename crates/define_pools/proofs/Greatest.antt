@@ -35,7 +35,8 @@ fold_parts stage sum (i ∷ panel) = omega (arith, sum_is_lem sum (weight_of sta
 pub weight_parts : (stage : Stage) (panel : List ℕ) → up (panel_weight stage panel) + total (minus stage) panel ≡ total (plus stage) panel + down (panel_weight stage panel)
 weight_parts stage panel = omega (arith, fold_parts stage (pos 0) panel)
 
--- the parts that stand on each side of `weight = cap`
+-- the two sides of `weight = cap`, each with the parts that are added there: weights above 0 and a negative cap, or weights below 0 and a
+-- positive cap
 abbrev heavy : Stage → List ℕ → ℕ
 heavy stage panel = total (plus stage) panel + down stage.cap
 
@@ -77,7 +78,8 @@ total-weight : (rows : List LotteryRow) (f : List ℕ → ℕ) (k : ℕ) → tot
 total-weight [] f k = omega arith
 total-weight (row ∷ rows) f k = omega (arith, total-weight rows f k)
 
--- a sum over panels, with a constant, by members
+-- the sum over rows of weight times (the sum of the members' `f`, and `k`), as the sum over volunteers of `f` times count, and `k` times
+-- the total
 by_members : (pool : Pool) (lottery : Lottery) → IsLottery pool lottery → (f : ℕ → ℕ) (k : ℕ) →
     total (λ row. (total f row.panel + k) * row.weight) lottery.rows ≡ total (λ i. f i * count lottery i) (everybody pool) + k * lottery.total
 by_members pool lottery is f k =
@@ -100,14 +102,14 @@ positive_total pool lottery is =
 -- ---- two lotteries over one pool
 
 module _ (pool : Pool) (mine other : Lottery) (is_mine : IsLottery pool mine) (is_other : IsLottery pool other) where
-  -- the chances, over the product of the totals
+  -- the chances in both lotteries, as numerators over the product of the two totals
   abbrev x : ℕ → ℕ
   x i = count mine i * other.total
 
   abbrev y : ℕ → ℕ
   y i = count other i * mine.total
 
-  -- how many chances lie at or below a number
+  -- how many chances are at most `u`
   mine_at : (u : ℕ) → at_most other.total u (rising (counts pool mine)) ≡ total (λ i. le_one (x i) u) (everybody pool)
   mine_at u = at_most-rising other.total u (counts pool mine) ∙ at_most-map other.total u (count mine) (everybody pool)
 
@@ -119,7 +121,7 @@ module _ (pool : Pool) (mine other : Lottery) (is_mine : IsLottery pool mine) (i
       not_greater other.total mine.total (rising (counts pool other)) (rising (counts pool mine)) (Rises-rising (counts pool other)) (Rises-rising (counts pool mine))
       (λ u before. let here = h u (λ w l. sym (other_at w) ∙ before w l ∙ mine_at w) in omega (arith, mine_at u, other_at u, here))
 
-  -- what the two have in common after stages
+  -- what holds after some stages: the settled have equal chances in both lotteries, and the other lottery's panels attain the caps
   record Agrees (earlier : List Stage) : Type 0 where
     equal : AllByRecursion (λ i. is_settled earlier i ≡ true → x i ≡ y i) (everybody pool)
     attained : AllByRecursion (λ row. attains earlier row.panel ≡ true) other.rows
@@ -247,7 +249,7 @@ module _ (pool : Pool) (mine other : Lottery) (is_mine : IsLottery pool mine) (i
           (each_both (λ row. leb 1 row.weight ≡ true) (λ row. heavy stage row.panel * row.weight ≡ light stage row.panel * row.weight) other.rows
           (each_from_list_all (λ row. leb 1 row.weight) other.rows is_other.total_agrees.weights) same)
 
-      -- after the stage the two lotteries agree on more
+      -- so this holds after the stage too
       agree_after : Agrees (stage ∷ earlier)
       agree_after = record {
         equal =
@@ -268,7 +270,7 @@ module _ (pool : Pool) (mine other : Lottery) (is_mine : IsLottery pool mine) (i
           equal_now true z a c f g h = f refl
           equal_now false z a c f g h = ⊎_elim (λ p. g refl (up_from z p)) (λ p. absurd (false≢true p)) (or_cases (int_lt (pos 0) z) false h)
 
-    -- where all stages hold, the lotteries agree on everybody
+    -- if all stages hold, everybody has the same chance in both lotteries
     agree_at_end : (earlier later : List Stage) → StagesHold pool mine earlier later → Agrees earlier → AllByRecursion (λ i. x i ≡ y i) (everybody pool)
     agree_at_end earlier [] all agrees =
         each_map (λ i. (is_settled earlier i ≡ true) × (is_settled earlier i ≡ true → x i ≡ y i)) (λ i. x i ≡ y i) (λ i p. p.1 p.0) (everybody pool)

@@ -1,4 +1,4 @@
--- An increasing list by neighbours, as code tests it.
+-- A list is increasing if each number is below the next one, which is what code tests.
 use Rattle.std.proofs.Common.{◌≡◌, ℕ, suc, zero, ◌+◌, ◌<◌, true, ltb, List, [], ◌∷◌, ◌&&◌, arith, refl}
 use Rattle.std.specs.List.{list_all}
 use Rattle.std.specs.List.Sorted.{IsStrictlyIncreasing}

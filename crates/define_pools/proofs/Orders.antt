@@ -7,11 +7,11 @@ use Rattle.laws_basic.proofs.Each.{each_map, each_both}
 use Rattle.define_pools.specs.Lists.{put_in_order, rising}
 use Rattle.define_pools.specs.Lottery.{first_is_greater}
 
--- 1 where a * k is at most t
+-- 1 if `a * k` is at most `t`, else 0
 abbrev pub one_at : ℕ → ℕ → ℕ → ℕ
 one_at k t a = cond (leb (a * k) t) 1 0
 
--- how many numbers, times k, are at most t
+-- how many of the numbers, each times `k`, are at most `t`
 abbrev pub at_most : ℕ → ℕ → List ℕ → ℕ
 at_most k t [] = 0
 at_most k t (a ∷ xs) = one_at k t a + at_most k t xs
@@ -25,7 +25,7 @@ at_most-put_in_order k t x (y ∷ ys) =
       | false ↦ omega (arith, rest)
     ]
 
--- sorting moves nothing across a number
+-- to sort a list doesn't change how many of its numbers are at most `t`
 pub at_most-rising : (k t : ℕ) (xs : List ℕ) → at_most k t (rising xs) ≡ at_most k t xs
 at_most-rising k t [] = refl
 at_most-rising k t (x ∷ xs) = omega (arith, at_most-put_in_order k t x (rising xs), at_most-rising k t xs)
@@ -57,7 +57,7 @@ pub Rises-rising : (xs : List ℕ) → Rises (rising xs)
 Rises-rising [] = tt
 Rises-rising (x ∷ xs) = Rises-put x (rising xs) (Rises-rising xs)
 
--- none of the numbers is at most t
+-- if all numbers are at least `a`, and `a * k` is above `t`, none of them is at most `t`
 none_at_most : (k t a : ℕ) (xs : List ℕ) → t < a * k → AllByRecursion (λ y. a ≤ y) xs → at_most k t xs ≡ 0
 none_at_most k t a [] h r = refl
 none_at_most k t a (x ∷ xs) h r =
@@ -65,12 +65,12 @@ none_at_most k t a (x ∷ xs) h r =
     let high : leb (x * k) t ≡ false = lt-leb (x * k) t (omega arith) in
     let rest = none_at_most k t a xs h r.1 in rw (high, rest) refl
 
--- some of the numbers is at most the first one
+-- at least one number, the first itself, is at most the first
 some_at_most : (k a : ℕ) (xs : List ℕ) → 1 ≤ at_most k (a * k) (a ∷ xs)
 some_at_most k a xs =
     let same : leb (a * k) (a * k) ≡ true = le-leb (a * k) (a * k) (omega arith) in rw same (omega arith)
 
--- at the first number where f and g differ, g is no more
+-- at the first number where `f` and `g` differ, `g` is less
 abbrev pub NoMoreAtFirst : (ℕ → ℕ) → (ℕ → ℕ) → Type 0
 NoMoreAtFirst f g = (u : ℕ) → ((w : ℕ) → w < u → f w ≡ g w) → g u ≤ f u
 
@@ -80,7 +80,8 @@ tails A B a b as' bs e h u below =
     let one : (w : ℕ) → one_at B w a ≡ one_at A w b = λ w. ap (λ m. cond (leb m w) 1 0) e in
     let here = h u (λ w l. omega (arith, below w l, one w)) in omega (arith, here, one u)
 
--- rising numbers compared by how many of them lie at or below a number
+-- of two rising lists the first isn't greater, if at the first `u` where the lists differ in how many numbers are at most `u` the second
+-- has fewer
 pub not_greater : (A B : ℕ) (as' bs : List ℕ) → Rises as' → Rises bs →
     NoMoreAtFirst (λ u. at_most B u as') (λ u. at_most A u bs) → first_is_greater A B as' bs ≡ false
 not_greater A B [] bs r s h = refl
@@ -95,7 +96,7 @@ not_greater A B (a ∷ as') (b ∷ bs) r s h =
           absurd (omega (arith, none (b * A) (le_refl (b * A)), some_at_most A b bs))) (λ k. k) (cases_lt (b * A) (a * B)))
     ]) refl
 
--- 1 where a number is at most t
+-- 1 if `m` is at most `t`, else 0
 abbrev pub le_one : ℕ → ℕ → ℕ
 le_one m t = cond (leb m t) 1 0
 
@@ -103,7 +104,8 @@ pub at_most-map : (k t : ℕ) (f : ℕ → ℕ) (xs : List ℕ) → at_most k t 
 at_most-map k t f [] = refl
 at_most-map k t f (x ∷ xs) = omega (arith, at_most-map k t f xs)
 
--- what is known of one volunteer: settled ones have equal chances; the others have at least the level, and in the other lottery at least t
+-- what is known of a volunteer's chances `x` and `y` in two lotteries: if the volunteer is settled, they are equal; else `x` is at least
+-- `level`, and `y` at least `t`
 pub record Known (settled : Bool) (x y level t : ℕ) : Type 0 where
   pub equal : settled ≡ true → x ≡ y
   pub high : settled ≡ false → level ≤ x
@@ -140,7 +142,8 @@ no_more_at_first f g t same more u eqs =
     (λ (l : t ≤ u). ⊎_elim (λ (p : t < u). absurd (omega (arith, eqs t p))) (λ (p : u ≤ t). let e : u ≡ t = omega arith in rw e (le_of_lt more)) (cases_lt t u))
     (cases_lt u t)
 
--- where the other lottery is not below, each unsettled volunteer has at least the level there
+-- if the second lottery is above the first, as `NoMoreAtFirst` says it, each unsettled volunteer's chance in it is at least `t`, for each
+-- `t` up to the level
 pub all_reach : (xs : List ℕ) (settled : ℕ → Bool) (x y : ℕ → ℕ) (level : ℕ) →
     (NoMoreAtFirst (λ u. total (λ i. le_one (y i) u) xs) (λ u. total (λ i. le_one (x i) u) xs) → ⊥) →
     AllByRecursion (λ i. Known (settled i) (x i) (y i) level 0) xs →

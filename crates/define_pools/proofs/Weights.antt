@@ -1,4 +1,4 @@
--- Sums over panels and members exchanged, and one stage in numbers.
+-- Sums over panels and their members, as sums over volunteers.
 use Rattle.std.proofs.Common.{◌≡◌, ℕ, zero, suc, ◌+◌, ◌*◌, ◌≤◌, ◌<◌, Bool, true, false, cond, ◌||◌, eqb, ltb, List, [], ◌∷◌, refl, sym, ap, ◌∙◌, arith, true≢false}
 use Rattle.std.specs.List.{list_all, AllByRecursion, range_with_len}
 use Rattle.std.proofs.lemmas.Bool.{and_parts, eqb-true, ne_eqb, eq-eqb, ltb-true}
@@ -22,7 +22,7 @@ one_member f x first (suc count) h k =
           omega (arith, one_member f x (first + 1) count (omega arith) (omega arith))
     ]) refl
 
--- a number below each of a list is none of them
+-- a number that is below each number of a list isn't in the list
 pub not_held : (x : ℕ) (xs : List ℕ) → list_all (λ y. ltb x y) xs ≡ true → includes xs x ≡ false
 not_held x [] h = refl
 not_held x (y ∷ ys) h =
@@ -34,7 +34,7 @@ either : (b c : Bool) (v : ℕ) → (b ≡ true → c ≡ false) → cond (b || 
 either true c v h = let e = h refl in rw e (omega arith)
 either false c v h = omega arith
 
--- a sum over a panel is a sum over everybody
+-- the sum of `f` over a panel, as a sum over everybody to which those who aren't members add 0
 pub total_panel : (f : ℕ → ℕ) (count : ℕ) (panel : List ℕ) → is_increasing panel ≡ true → list_all (λ i. ltb i count) panel ≡ true →
     total f panel ≡ total (λ i. cond (includes panel i) (f i) 0) (range_with_len 0 count)
 total_panel f count [] up below = sym (total-zero (λ i. 0) (λ i. refl) (range_with_len 0 count))
@@ -49,7 +49,7 @@ total_panel f count (x ∷ xs) up below =
     (λ i. either (eqb x i) (includes xs i) (f i) (λ e. ap (includes xs) (sym (eqb-true x i e)) ∙ not_twice)) (range_with_len 0 count) in
     omega (arith, split, here, rest, total-add (λ i. cond (eqb x i) (f i) 0) (λ i. cond (includes xs i) (f i) 0) (range_with_len 0 count))
 
--- an increasing list of numbers below a number
+-- an increasing list of numbers below `count`
 pub record Fits (count : ℕ) (panel : List ℕ) : Type 0 where
   pub up : is_increasing panel ≡ true
   pub below : list_all (λ i. ltb i count) panel ≡ true
@@ -62,7 +62,7 @@ spread_out : (b : Bool) (f m c : ℕ) → f * (cond b m 0 + c) ≡ cond b f 0 * 
 spread_out true f m c = omega arith
 spread_out false f m c = omega arith
 
--- a sum over panels and their members, by members
+-- the sum over rows of weight times the sum of the members' `f`, as the sum over volunteers of `f` times count
 pub exchange : (f : ℕ → ℕ) (count : ℕ) (rows : List LotteryRow) → AllByRecursion (λ row. Fits count row.panel) rows →
     total (λ row. total f row.panel * row.weight) rows ≡ total (λ i. f i * counted rows i) (range_with_len 0 count)
 exchange f count [] h = sym (total-zero (λ i. f i * 0) (λ i. omega arith) (range_with_len 0 count))

@@ -6,7 +6,7 @@ use Rattle.define_pools.specs.declared.Standing.TheVariants.{Open}
 use Rattle.define_pools.specs.Lists.{includes_list}
 use Rattle.define_pools.specs.Pool.{Pool, Category, BoundedValue, Volunteer, is_size, are_bounds, keeps_name_limits}
 
--- of kinds in rising order, each with whether it applies, the lowest that applies
+-- the lowest kind that applies, given kinds in rising order, each with whether it applies
 abbrev pub lowest_kind : List (ℕ × Bool) → Option ℕ
 lowest_kind [] = None
 lowest_kind ((kind, applies) ∷ rest) = if applies then Some kind else lowest_kind rest
@@ -32,12 +32,12 @@ with_value [] value = []
 with_value (category ∷ []) value = record category { values = category.values ++ value ∷ [] } ∷ []
 with_value (category ∷ next ∷ later) value = category ∷ with_value (next ∷ later) value
 
--- the place of a value's name
+-- the place of the value of this name, if there is one
 abbrev pub place_of : List BoundedValue → List ℕ → Option ℕ
 place_of [] name = None
 place_of (value ∷ values) name = if bytes_eq name value.name then Some 0 else option_map (λ place. place + 1) (place_of values name)
 
--- for each category the place of the name that is given for it
+-- for each category the place of the value that the given name names
 abbrev pub places_of : List Category → List (List ℕ) → List ℕ
 places_of [] names = []
 places_of (category ∷ categories) [] = []

@@ -50,10 +50,10 @@ pub record StageHolds (pool : Pool) (lottery : Lottery) (earlier : List Stage) (
   pub none_negative : IsTrue (list_all (λ i. int_le (pos 0) (weight_of stage i)) (unsettled pool earlier))
   -- somebody who is unsettled has a weight above 0
   pub some_positive : IsTrue (nat_lt 0 (length (settling pool earlier stage)))
-  -- these have one count
+  -- all whom the stage settles have one count
   pub common_count : ℕ
   pub same_count : IsTrue (list_all (λ i. count lottery i == common_count) (settling pool earlier stage))
-  -- nobody who is unsettled has a count below it
+  -- nobody who is unsettled has a lower count
   pub least_count : IsTrue (list_all (λ i. nat_le common_count (count lottery i)) (unsettled pool earlier))
   -- no quota panel that attains the earlier caps weighs more than the cap
   pub capped : IsTrue (is_capped pool earlier stage)

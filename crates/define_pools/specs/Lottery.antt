@@ -19,7 +19,7 @@ pub record TotalAgrees (lottery : Lottery) : Type 0 where
   pub weights : IsTrue (list_all (λ row. nat_le 1 row.weight) lottery.rows)
   pub total : lottery.total ≡ sum_by (λ row. row.weight) lottery.rows
 
--- some different quota panels, each with a weight of at least 1, and the sum of these
+-- at least one quota panel, all different, each with a weight of at least 1; and the total, which is the weights' sum
 pub record IsLottery (pool : Pool) (lottery : Lottery) : Type 0 where
   pub some : IsTrue (nat_lt 0 (length lottery.rows))
   pub panels : IsTrue (list_all (λ row. is_quota_panel pool row.panel) lottery.rows)
@@ -34,7 +34,8 @@ count lottery i = sum_by (λ row. row.weight) (filter (λ row. includes row.pane
 abbrev pub counts : Pool → Lottery → List ℕ
 counts pool lottery = map (count lottery) (everybody pool)
 
--- two lists of counts with their totals: at the first place where the fractions of the totals differ, the first is greater
+-- the first list of counts is greater than the second: at the first place where the fractions count over total of the two lists differ, the
+-- first list's fraction is greater
 abbrev pub first_is_greater : ℕ → ℕ → List ℕ → List ℕ → Bool
 first_is_greater first_total second_total [] seconds = false
 first_is_greater first_total second_total (first ∷ firsts) [] = false

@@ -62,7 +62,7 @@ is_category category =
     is_name category.name && nat_le (length category.values) 50 && all_different (map (λ value. value.name) category.values)
     && list_all is_value category.values
 
--- one place of a value per category
+-- for each category the place of one of its values
 abbrev pub has_values : List Category → List ℕ → Bool
 has_values [] [] = true
 has_values [] (place ∷ places) = false
@@ -93,7 +93,7 @@ everybody pool = range_with_len 0 (length pool.volunteers)
 abbrev pub volunteer : List Volunteer → ℕ → Volunteer
 volunteer volunteers i = slice_index_or volunteers i (record { id = []; values = []; standing = Gone; household = None })
 
--- how many members of a panel have the value of a place in the category of a place
+-- how many members of a panel have the value at `value_place` of the category at `category_place`
 abbrev pub members_with : List Volunteer → List ℕ → ℕ → ℕ → ℕ
 members_with volunteers panel category_place value_place =
     count_by (λ i. slice_index (volunteer volunteers i).values category_place == value_place) panel
@@ -120,7 +120,7 @@ abbrev pub keeps_standings : List Volunteer → List ℕ → Bool
 keeps_standings volunteers panel =
     list_all (λ (i, volunteer). allows volunteer.standing (includes panel i)) (enumerate_from 0 volunteers)
 
--- two household names are one household, if both are there
+-- there are two household names, and they are the same
 abbrev pub is_same_household : Option (List ℕ) → Option (List ℕ) → Bool
 is_same_household None other = false
 is_same_household (Some name) None = false

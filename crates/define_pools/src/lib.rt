@@ -28,7 +28,7 @@ pub fn certified_is_greatest()
     ensures { (pool : Pool) (lottery : Lottery) (stages : List Stage) → Certifies pool lottery stages → LeximinGreatest pool lottery }
 {}
 
-/// The list of quota panels has exactly the quota panels.
+/// The list `panels pool` has all quota panels of the pool, and nothing else.
 pub fn all_are_listed()
     ensures { (pool : Pool) (panel : List ℕ) → Contains (panels pool) panel ↔ IsTrue (is_quota_panel pool panel) }
 {}

@@ -21,16 +21,16 @@ use Rattle.define_additions.specs.TreeRanges.{is_leaf, is_multiplier, is_tree_li
 use Rattle.define_proof_texts.specs.ProofText.{close_line, most_trees, multiplier_fields, node_line, tree_line}
 use Rattle.define_proof_texts.specs.ProofReading.{LineInTree, NextTree, OfNode, TheClose, Unknown, leaf_of, leaf_said, line_in_tree, multiplier_of, multipliers_of, node_in_range, node_said, split_of, split_said}
 
--- ---- what is said is spelled so
+-- ---- a line has the spelling of what it says
 
--- how a line is spelled that says this behind the first of the tree of a number
+-- the line has the spelling of what it says inside tree `number` of `last`, and its numbers are in range
 abbrev pub IsSpelled : ℕ → ℕ → ℕ → List ℕ → LineInTree → Type 0
 IsSpelled volunteers number last line (OfNode node) = (line ≡ node_line node) × (is_tree_line volunteers node ≡ true)
 IsSpelled volunteers number last line NextTree = (line ≡ tree_line (number + 1)) × (number < last) × (number < most_trees)
 IsSpelled volunteers number last line TheClose = (line ≡ close_line) × (number ≡ last)
 IsSpelled volunteers number last line Unknown = Unit {0}
 
--- fields of a number and a factor are those of their multiplier
+-- two fields that are read as a multiplier are those of this multiplier
 pair_spelled : (number factor : List ℕ) (multiplier : Multiplier) → multiplier_of (number_up_to last_constraint number) (signed_up_to number_limit factor) ≡ Some multiplier →
     number ∷ factor ∷ [] ≡ multiplier_fields multiplier
 pair_spelled number factor multiplier h = by (number_up_to last_constraint number) (signed_up_to number_limit factor) refl refl h
@@ -101,7 +101,7 @@ module _ (volunteers number last : ℕ) where
       (λ e. split_spelled first fields (bytes_are first (codes "split") e))
       (λ _. cond_both (bytes_eq first (codes "bound")) (leaf_said volunteers fields) Unknown P (λ e. leaf_spelled first fields (bytes_are first (codes "bound") e)) (λ _. tt))
 
-  -- a line is spelled as what it says
+  -- each line has the spelling of what it says
   pub line_spelled : (line : List ℕ) → Spells line (line_in_tree volunteers number last line)
   line_spelled line =
       let node = node_said volunteers (fields_of line) in
@@ -114,12 +114,12 @@ module _ (volunteers number last : ℕ) where
       (bytes_are line (tree_line (number + 1)) e, ltb-true number last parts.0, ltb-true number most_trees parts.1)) (λ _. tt))
       (λ _. subst (λ l. Spells l node) (line_of-fields_of line) (node_spelled (fields_of line))))
 
--- ---- what is spelled is said again
+-- ---- the spelling of a value is read as this value
 
 limit_small : number_limit < 10 ^ 64
 limit_small = lit< tt
 
--- a number with a sign is a field, as a stage's cap is
+-- the spelling of a number with a sign is a field, as that of a stage's cap is
 signed_field : (z : ℤ) → unsigned_abs z ≤ number_limit → IsField (signed_decimal z)
 signed_field z small =
     let stage : Stage = record { weights = []; cap = z } in
@@ -201,12 +201,12 @@ module _ (volunteers : ℕ) (small : volunteers ≤ 400) where
       ∙ ap (leaf_of volunteers (Some leaf.scale)) (multipliers_again leaf.multipliers parts.multipliers)
       ∙ ap (λ test. cond test (OfNode (OfLeaf leaf)) Unknown) is
 
-  -- and says it, whatever the number of the tree
+  -- a right node's line is read as this node, in each tree
   pub node_again : (number last : ℕ) (node : TreeLine) → is_tree_line volunteers node ≡ true → line_in_tree volunteers number last (node_line node) ≡ OfNode node
   node_again number last (OfSplit i) is = said_again (OfSplit i) is
   node_again number last (OfLeaf leaf) is = said_again (OfLeaf leaf) is
 
--- the line of the next tree says so
+-- the line that begins the next tree is read as such
 pub next_again : (volunteers number last : ℕ) → number < last → number < most_trees → line_in_tree volunteers number last (tree_line (number + 1)) ≡ NextTree
 next_again volunteers number last l m =
     let node = node_said volunteers (fields_of (tree_line (number + 1))) in
@@ -214,7 +214,7 @@ next_again volunteers number last l m =
     ap (λ test. cond test (cond (ltb number last && ltb number most_trees) NextTree Unknown) node) (bytes_same (tree_line (number + 1)) (tree_line (number + 1)) refl)
     ∙ ap (λ test. cond test NextTree Unknown) both
 
--- and so does the last line
+-- inside the last tree, the last line is read as such
 pub close_again : (volunteers last : ℕ) → line_in_tree volunteers last last close_line ≡ TheClose
 close_again volunteers last = ap (λ test. cond test TheClose Unknown) (eq-eqb last last refl)
 

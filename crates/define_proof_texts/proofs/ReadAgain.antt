@@ -1,4 +1,4 @@
--- The text of a proof is read again, and gives that proof.
+-- The text of a proof is read as this proof.
 use Rattle.std.proofs.Common.{◌≡◌, ℕ, ◌+◌, ◌≤◌, Bool, true, false, not, cond, ltb, List, [], ◌∷◌, ◌++◌, length, map, drop, ◌||◌, refl, sym, ◌∙◌, ap, subst, arith, append_assoc, length-append, Some, None}
 use Rattle.std.specs.Prelude.{bytes_eq, codes, Ok, is_none}
 use Rattle.std.specs.List.{list_all}
@@ -26,13 +26,13 @@ use Rattle.define_proof_texts.specs.ProofReading.{Begun, Closed, InBundle, InNoP
 use Rattle.define_proof_texts.proofs.NodeLines.{close_again, next_again, node_again, node_lacks_feed, tree_lacks_feed}
 use Rattle.define_proof_texts.proofs.Spelled.{keep_ranges}
 
--- lines without LF lead from one progress to another with no fault
+-- none of these lines has an LF or a fault, and they lead from one progress to another
 abbrev pub Runs : Progress → List (List ℕ) → Progress → Type 0
 Runs = reading.Runs reader
 
 -- ---- the lines of a pool
 
--- lines of a pool that lead to its end do so in a proof
+-- if lines of a pool lead to its end, they do so in a proof too
 pool_inside : (progress : pools.Progress) (lines : List (List ℕ)) (pool : Pool) → pool_again.Runs progress lines (pools.Ended pool) → Runs (InPool progress) lines (InPool (pools.Ended pool))
 pool_inside progress [] pool h = ap InPool h
 pool_inside pools.Begun (line ∷ lines) pool h = (h.0, h.1, pool_inside (pools.after_line pools.Begun line) lines pool h.2)
@@ -40,7 +40,7 @@ pool_inside (pools.Versioned second) (line ∷ lines) pool h = (h.0, h.1, pool_i
 pool_inside (pools.Inside other passed) (line ∷ lines) pool h = (h.0, h.1, pool_inside (pools.after_line (pools.Inside other passed) line) lines pool h.2)
 pool_inside (pools.Ended other) (line ∷ lines) pool h = let e = h.1 in cc
 
--- a pool's first line begins no bundle, and may stand behind the first line of a proof
+-- a pool's first line may come after the first line of a proof, and begins no bundle
 pool_begins : (second : Bool) → line_kind Opened (version_line second) ≡ None
 pool_begins true = refl
 pool_begins false = refl
@@ -60,7 +60,7 @@ pool_runs pool is =
 
 -- ---- the lines of a bundle
 
--- lines of a bundle that lead to its end do so in a proof
+-- if lines of a bundle lead to its end, they do so in a proof too
 bundle_inside : (progress : bundles.Progress) (lines : List (List ℕ)) (bundle : Bundle) → bundle_again.Runs progress lines (bundles.Done bundle) → Runs (InBundle progress) lines (InBundle (bundles.Done bundle))
 bundle_inside progress [] bundle h = ap InBundle h
 bundle_inside bundles.Begun (line ∷ lines) bundle h = (h.0, h.1, bundle_inside (bundles.after_line bundles.Begun line) lines bundle h.2)
@@ -69,7 +69,7 @@ bundle_inside (bundles.InRows pool lottery) (line ∷ lines) bundle h = (h.0, h.
 bundle_inside (bundles.InStages pool answer) (line ∷ lines) bundle h = (h.0, h.1, bundle_inside (bundles.after_line (bundles.InStages pool answer) line) lines bundle h.2)
 bundle_inside (bundles.Done other) (line ∷ lines) bundle h = let e = h.1 in cc
 
--- behind the first line of a proof too
+-- after a proof's first line, all lines of a bundle lead to its end too
 bundle_runs : (lines : List (List ℕ)) (bundle : Bundle) → bundle_again.Runs bundles.Begun lines (bundles.Done bundle) → Runs Opened lines (InBundle (bundles.Done bundle))
 bundle_runs [] bundle h = cc
 bundle_runs (line ∷ lines) bundle h =
@@ -83,7 +83,7 @@ bundle_runs (line ∷ lines) bundle h =
 
 -- ---- the lines of trees
 
--- a line that has to stand, and does
+-- the line that must come here has no fault
 expected : (line : List ℕ) → lowest_kind ((22, not (bytes_eq line line)) ∷ []) ≡ None
 expected line = ap (λ b. cond (not b) (Some 22) None) (bytes_same line line refl)
 
@@ -91,7 +91,7 @@ module _ (bundle : Bundle) (small : length bundle.pool.volunteers ≤ 400) where
   abbrev n : ℕ
   n = length bundle.pool.volunteers
 
-  -- a line that says something behind the first of a tree
+  -- a line inside a tree that says `said`, without a fault, leads on
   run_tree : (whole : List (List TreeLine)) (lines : List TreeLine) (line : List ℕ) (said : LineInTree) (later : List (List ℕ)) (after : Progress) → Lacks line_feed line → said_in_trees bundle whole line ≡ said →
       lowest_kind (tree_kinds said) ≡ None → Runs (after_tree bundle whole lines said) later after → Runs (InTrees bundle whole lines) (line ∷ later) after
   run_tree whole lines line said later after lacks e none rest =
@@ -106,7 +106,7 @@ module _ (bundle : Bundle) (small : length bundle.pool.volunteers ≤ 400) where
       (node_again n small (length whole + 1) (length bundle.answer.stages) node parts.0) refl
       (subst (λ lines. Runs (InTrees bundle whole (done ++ node ∷ [])) (map node_line todo) (InTrees bundle whole lines)) (append_assoc done (node ∷ []) todo) rest)
 
-  -- behind a whole tree the later ones and the last line
+  -- after a whole tree, the lines of the later trees and the last line lead to the end
   later_run : (whole : List (List TreeLine)) (lines : List TreeLine) (later : List (List TreeLine)) → (length whole + 1) + length later ≡ length bundle.answer.stages → (length whole + 1) + length later ≤ most_trees →
       keep_ranges n later ≡ true →
       Runs (InTrees bundle whole lines) (trees_from ((length whole + 1) + 1) later ++ close_line ∷ []) (Closed (OfLottery bundle.pool bundle.answer (whole ++ lines ∷ later)))
@@ -129,7 +129,7 @@ module _ (bundle : Bundle) (small : length bundle.pool.volunteers ≤ 400) where
       (tree_lacks_feed number (omega (arith, few))) (next_again n (length whole + 1) (length bundle.answer.stages) (omega (arith, many)) (omega (arith, few))) refl
       (subst (λ trees. Runs (InTrees bundle more []) ((map node_line tree ++ trees_from (number + 1) later) ++ close_line ∷ []) (Closed (OfLottery bundle.pool bundle.answer trees))) (append_assoc whole (lines ∷ []) (tree ∷ later)) regrouped)
 
-  -- behind a bundle its trees and the last line
+  -- after a bundle, the lines of its trees and the last line lead to the end
   trees_run : (trees : List (List TreeLine)) → ltb 0 (length bundle.answer.stages) ≡ true → length trees ≡ length bundle.answer.stages → length trees ≤ most_trees → keep_ranges n trees ≡ true →
       Runs (InBundle (bundles.Done bundle)) (trees_from 1 trees ++ close_line ∷ []) (Closed (OfLottery bundle.pool bundle.answer trees))
   trees_run [] some many few are = let l = ltb-true 0 (length bundle.answer.stages) some in absurd (omega arith)
@@ -160,7 +160,7 @@ module _ (pool : Pool) (small : length pool.volunteers ≤ 400) where
         subst (λ s. Runs (after_no_panel pool done s) (map node_line todo ++ close_line ∷ []) (Closed (OfNoPanel pool (done ++ node ∷ todo)))) (sym said) rest,
       )
 
-  -- behind a pool the lines that it has no quota panel
+  -- after a pool, the line that it has no quota panel, those of its tree and the last line lead to the end
   no_panel_runs : (lines : List TreeLine) → list_all (is_tree_line (length pool.volunteers)) lines ≡ true → Runs (InPool (pools.Ended pool)) ((none_line ∷ tree_lines 0 lines) ++ close_line ∷ []) (Closed (OfNoPanel pool lines))
   no_panel_runs lines are = (
     (plain_field (codes "none") refl).no_feed,
@@ -173,7 +173,7 @@ module _ (pool : Pool) (small : length pool.volunteers ≤ 400) where
 opens : (lines : List (List ℕ)) (after : Progress) → Runs Opened lines after → Runs Begun (proof_line ∷ lines) after
 opens lines after runs = (line_lacks_feed (codes "proof" ∷ codes "1" ∷ []) (plain_field (codes "proof") refl, (plain_field (codes "1") refl, tt)), refl, runs)
 
--- what lines with these texts lead to is read
+-- if lines lead to the end with a proof, and their text is its spelling, the spelling is read as this proof
 runs_are_read : (lines : List (List ℕ)) (proof : Proof) → Runs Begun lines (Closed proof) → text_of lines ≡ proof_spelling proof → read_proof (proof_spelling proof) ≡ Ok proof
 runs_are_read lines proof runs same =
     ap read_proof (sym same) ∙ reading.text_is_read reader (Closed proof) proof (λ number. refl) 1 Begun lines runs
@@ -202,7 +202,7 @@ no_panel_is_read pool lines is =
     ap (λ ls. proof_line ∷ ls) (sym (append_assoc (pool_lines pool) (none_line ∷ tree_lines 0 lines) (close_line ∷ []))) in
     runs_are_read (proof_line ∷ (pool_lines pool ++ rest)) proof (opens (pool_lines pool ++ rest) (Closed proof) all) (ap text_of regrouped)
 
--- what is spelled is read
+-- the spelling of a proof is read as this proof
 pub spelled_is_read : (proof : Proof) → IsProof proof → read_proof (proof_spelling proof) ≡ Ok proof
 spelled_is_read (OfLottery pool answer trees) is = lottery_is_read pool answer trees is
 spelled_is_read (OfNoPanel pool lines) is = no_panel_is_read pool lines is

@@ -15,7 +15,7 @@ abbrev pub HasTree : Proof → ℕ → Type 0
 HasTree (OfLottery pool answer trees) stage = (1 ≤ stage) × (stage ≤ length trees)
 HasTree (OfNoPanel pool lines) stage = stage ≡ 0
 
--- the lines after those of that tree: of the later trees, and the last line
+-- the lines after those of the tree of this number: of the later trees, and the last line
 abbrev pub lines_behind : Proof → ℕ → List (List ℕ)
 lines_behind (OfLottery pool answer trees) stage = trees_from (stage + 1) (drop stage trees) ++ close_line ∷ []
 lines_behind (OfNoPanel pool lines) stage = close_line ∷ []

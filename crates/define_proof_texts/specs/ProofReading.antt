@@ -42,7 +42,7 @@ pub data LineInTree : Type 0 where
   TheClose : LineInTree
   Unknown : LineInTree
 
--- the multiplier of a constraint's number and a factor, if both are numbers
+-- the multiplier of a constraint's number and a factor, if both are there
 abbrev pub multiplier_of : Option ℕ → Option ℤ → Option Multiplier
 multiplier_of (Some number) (Some factor) = Some (record { number = number; factor = factor })
 multiplier_of _ _ = None
@@ -54,11 +54,11 @@ multipliers_of (number ∷ []) = None
 multipliers_of (number ∷ factor ∷ fields) =
     with_number (multiplier_of (number_up_to last_constraint number) (signed_up_to number_limit factor)) (multipliers_of fields)
 
--- a line of a tree, if its numbers are in their ranges
+-- this line of a tree, if its numbers are in their ranges, for a pool of this number of volunteers
 abbrev pub node_in_range : ℕ → TreeLine → LineInTree
 node_in_range volunteers node = if is_tree_line volunteers node then OfNode node else Unknown
 
--- a split, and a leaf of a scale and multipliers, if they are right
+-- the line of a split on a volunteer, and below that of a leaf, if their numbers are there and in range
 abbrev pub split_of : ℕ → Option ℕ → LineInTree
 split_of volunteers None = Unknown
 split_of volunteers (Some i) = node_in_range volunteers (OfSplit i)
@@ -67,7 +67,7 @@ abbrev pub leaf_of : ℕ → Option ℕ → Option (List Multiplier) → LineInT
 leaf_of volunteers (Some scale) (Some multipliers) = node_in_range volunteers (OfLeaf (record { scale = scale; multipliers = multipliers }))
 leaf_of volunteers _ _ = Unknown
 
--- what the fields after each word say, for this number of volunteers
+-- what a line says by the fields after its word, for a pool of this number of volunteers
 abbrev pub split_said : ℕ → List (List ℕ) → LineInTree
 split_said volunteers (i ∷ []) = split_of volunteers (number_up_to volunteers i)
 split_said volunteers _ = Unknown
@@ -76,7 +76,7 @@ abbrev pub leaf_said : ℕ → List (List ℕ) → LineInTree
 leaf_said volunteers [] = Unknown
 leaf_said volunteers (scale ∷ fields) = leaf_of volunteers (number_up_to number_limit scale) (multipliers_of fields)
 
--- what the fields of the line of a split or leaf say
+-- what the line of a split or leaf says by its fields
 abbrev pub node_said : ℕ → List (List ℕ) → LineInTree
 node_said volunteers [] = Unknown
 node_said volunteers (first ∷ fields) =
@@ -84,15 +84,15 @@ node_said volunteers (first ∷ fields) =
     else if bytes_eq first (codes "bound") then leaf_said volunteers fields
     else Unknown)
 
--- What a line says inside tree `number`, where the last tree is number `last`, for a pool of `volunteers`. The line that begins the next
--- tree follows each tree but the last, and the last line follows that
+-- what a line says inside tree `number`, where the last tree is tree `last`, for a pool of `volunteers`: a split or leaf, the line that
+-- begins the next tree, or inside the last tree the last line of the text
 abbrev pub line_in_tree : ℕ → ℕ → ℕ → List ℕ → LineInTree
 line_in_tree volunteers number last line =
     (if bytes_eq line close_line then (if number == last then TheClose else Unknown)
     else if bytes_eq line (tree_line (number + 1)) then (if nat_lt number last && nat_lt number most_trees then NextTree else Unknown)
     else node_said volunteers (fields_of line))
 
--- what a line says after a bundle and whole trees, inside one more
+-- what a line says inside the tree that comes after a bundle and these whole trees
 abbrev pub said_in_trees : Bundle → List (List TreeLine) → List ℕ → LineInTree
 said_in_trees bundle whole line = line_in_tree (length bundle.pool.volunteers) (length whole + 1) (length bundle.answer.stages) line
 
@@ -186,7 +186,7 @@ after_line (InTrees bundle whole lines) line = after_tree bundle whole lines (sa
 after_line (InNoPanel pool lines) line = after_no_panel pool lines (said_in_no_panel pool line)
 after_line (Closed proof) line = Closed proof
 
--- The kind of fault if the lines run out: the lowest one, since the last line is missing in each case. 12 before the pool's end, 17
+-- the kind of fault if the lines run out. It is the lowest one, since the last line is missing in each case: 12 before the pool's end, 17
 -- before the bundle's, else 23
 abbrev pub missing_kind : Progress → ℕ
 missing_kind Begun = 23

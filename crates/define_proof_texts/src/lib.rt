@@ -1,7 +1,6 @@
-//! The text of a proof that a lottery is leximin greatest, or that a pool has no quota panel, and the first fault of bytes that are
-//! none. The definitions are in `specs/`. Stands on `define_additions`, `define_bundles` and `define_lines`. Above: the
-//! crates that hold proofs as values, and read and write their text; `proof_verify`, whose refusals name lines; the commands `prove` and
-//! `verify`.
+//! The text of a proof that a lottery is leximin greatest, or that a pool has no quota panel, and the first fault of bytes that are no
+//! proof's text. The definitions are in `specs/`. Stands on `define_additions`, `define_bundles` and `define_lines`. Above: the crates that
+//! hold proofs as values, and read and write their text; `proof_verify`, whose refusals name lines; the commands `prove` and `verify`.
 //!
 //! The functions have no body: their contracts are laws over the definitions, and worked examples.
 #![tactic(auto)]
@@ -41,9 +40,9 @@ pub fn kinds_rise()
     ensures { (progress : Progress) (line : List ℕ) → IsTrue (is_increasing (map (λ one. one.0) (line_kinds progress line))) }
 {}
 
-/// In the text, the lines of each tree come after as many lines as are counted before them, one after the other, with the next tree or
-/// the last line after them. So the line of a number in this range is the tree's, or, if the tree has no more, the next line of the
-/// text.
+/// In the text, `lines_before` lines come before a tree's lines, which follow one another; after them comes the next tree, or the last
+/// line. So the line at `place` in the tree is line `lines_before + place + 1` of the text. If the tree has only `place` lines, that is the
+/// line after them.
 pub fn tree_lines_in_text()
     ensures { (proof : Proof) (stage place : ℕ) → HasTree proof stage → place ≤ length (tree_of proof stage) →
         drop (lines_before proof stage + place) (proof_lines proof) ≡ map node_line (drop place (tree_of proof stage)) ++ lines_behind proof stage }

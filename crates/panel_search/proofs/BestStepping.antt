@@ -52,7 +52,7 @@ enter_no_less all closed row later front now = let more = enter_more all closed 
 
 -- ---- from the empty front
 
--- where a search from it makes no visit, the whole search counts one and keeps nothing
+-- if a search from the empty front makes no visit, the whole search counts one and keeps nothing
 pub none_entered : (all : Classes) (closed : List Row) (row : Row) → (search_from all closed row [] row.b).visits ≡ 0 → best_search all closed row ≡ record { visits = 1; floor = row.b; kept = None }
 none_entered all closed row none =
     let begun : Pricing = record { visits = 0; floor = row.b; kept = None } in
@@ -71,11 +71,11 @@ child_at all closed row depth front count now = child_best all closed row (drop 
 abbrev pub children_within : Classes → List Row → Row → ℕ → List ℕ → ℕ → ℕ → Pricing → Pricing
 children_within all closed row depth front low end now = children_best all closed row (drop (depth + 1) all.classes) front (counts_below low end) now
 
--- no count is left
+-- if no count is left, nothing is searched
 pub children_none : (all : Classes) (closed : List Row) (row : Row) (depth : ℕ) (front : List ℕ) (low end : ℕ) (now : Pricing) → end ≤ low → children_within all closed row depth front low end now ≡ now
 children_none all closed row depth front low end now l = ap (λ counts. children_best all closed row (drop (depth + 1) all.classes) front counts now) (below_none low end l)
 
--- the greatest count, and those below it
+-- the child with the greatest count comes first, then those with the counts below it
 pub children_next : (all : Classes) (closed : List Row) (row : Row) (depth : ℕ) (front : List ℕ) (low end : ℕ) (now : Pricing) → low < end →
     children_within all closed row depth front low end now ≡ children_within all closed row depth front low (end - 1) (child_at all closed row depth front (end - 1) now)
 children_next all closed row depth front low end now l = ap (λ counts. children_best all closed row (drop (depth + 1) all.classes) front counts now) (below_next low end l)
@@ -86,7 +86,7 @@ child_within all closed row depth front low end now l =
     let same = children_next all closed row depth front low end now l in
     rw same (children_more all closed row (drop (depth + 1) all.classes) front (counts_below low (end - 1)) (child_at all closed row depth front (end - 1) now) (enter_no_less all closed row (drop (depth + 1) all.classes)))
 
--- children out of reach change nothing
+-- children that aren't reachable change nothing
 passed_over : (all : Classes) (closed : List Row) (row : Row) (later : List Class) (front counts : List ℕ) (now : Pricing) →
     children_best all closed row later front counts now ≡ children_best all closed row later front (filter (λ c. is_reachable all (front ++ c ∷ [])) counts) now
 passed_over all closed row later front [] now = refl
@@ -101,7 +101,7 @@ passed_over all closed row later front (c ∷ counts) now =
           ∙ passed_over all closed row later front counts now
     ]) refl
 
--- a front with classes after it
+-- to enter a front with classes after it counts one visit and searches its children
 pub enter_children : (all : Classes) (closed : List Row) (row : Row) (depth : ℕ) (class : Class) (front : List ℕ) (low end : ℕ) (now : Pricing) → Stands all depth class → class.least ≤ class.most → LiveBetween all front class low end →
     enter_best all closed row (drop depth all.classes) front now ≡ children_within all closed row depth front low end (record now { visits = now.visits + 1 })
 enter_children all closed row depth class front low end now stands order live =
@@ -123,9 +123,9 @@ moves_same all closed row depth rest due due' front front' nodes nodes' result a
     (subst (λ x. Moves all closed row depth rest due x nodes' result after) f
     (subst (λ n. Moves all closed row depth rest due front n result after) g moves))
 
--- ---- where a search stands
+-- ---- where a search is
 
--- the same place with another tally
+-- a search is at the same front if only its tally changes, and the classes that the tally has still to come
 pub stands_with : (all : Classes) (closed : List Row) (row : Row) (depth : ℕ) (rest rest' : List Class) (before after : BestSearch) → StandsAt all closed row depth rest before → after.counts.items ≡ before.counts.items → after.kept.items ≡ before.kept.items →
     after.priced ≡ before.priced → after.closed.items ≡ before.closed.items → Tracks all (take depth before.counts.items) rest' after.tally → StandsAt all closed row depth rest' after
 stands_with all closed row depth rest rest' before after stands e f g h tracks = record {
@@ -144,11 +144,11 @@ first_of [] rest n l = refl
 first_of (c ∷ front) rest zero l = absurd (omega arith)
 first_of (c ∷ front) rest (suc n) l = ap (λ (xs : List ℕ). c ∷ xs) (first_of front rest n (omega arith))
 
--- a front is written into the first places
+-- if a front is written into the first places, these places have it
 pub written_first : (front given items : List ℕ) (n : ℕ) → given ≡ front → length front ≤ n → take (length front) (take n (given ++ drop (length given) items)) ≡ front
 written_first front given items n e l = subst (λ xs. take (length front) (take n (xs ++ drop (length xs) items)) ≡ front) (sym e) (first_of front (drop (length front) items) n l)
 
--- a search is set up at a front
+-- a search that was set up at a front is about to enter it
 pub begins_at : (all : Classes) (closed : List Row) (row : Row) (front : List ℕ) (search : BestSearch) → length search.counts.items ≡ length all.classes → length search.kept.items ≡ length all.classes → length front ≤ length all.classes →
     take (length front) search.counts.items ≡ front → AreWithin all front → Tracks all front (drop (length front) all.classes) search.tally → Weighs all row front search.priced → WeighEach all closed front search.closed.items →
     BeginsAt all closed row (length front) search
@@ -162,7 +162,7 @@ begins_at all closed row front search places kept within e counts tally priced c
   closed_rows = subst (λ f. WeighEach all closed f search.closed.items) (sym e) closed_rows;
 }
 
--- a live child
+-- if the front takes a count with which it is live, the search is at this child
 pub child_stands : (all : Classes) (closed : List Row) (row : Row) (depth count : ℕ) (rest : List Class) (before after : BestSearch) → StandsAt all closed row depth rest before → depth < length all.classes → CanTake all depth count →
     is_reachable all (take depth before.counts.items ++ count ∷ []) ≡ true → after.counts.items ≡ set before.counts.items depth count → length after.kept.items ≡ length all.classes →
     Tracks all (take depth before.counts.items ++ count ∷ []) rest after.tally → Weighs all row (take depth before.counts.items ++ count ∷ []) after.priced →
@@ -180,7 +180,7 @@ child_stands all closed row depth count rest before after stands below can live 
       closed_rows = subst (λ f. WeighEach all closed f after.closed.items) (sym child) closed_rows;
     }
 
--- back at the front that a child went on from
+-- after a child's search, the search is at the front again
 pub parent_stands : (all : Classes) (closed : List Row) (row : Row) (depth count : ℕ) (rest : List Class) (before child after : BestSearch) → StandsAt all closed row depth rest before → StandsAt all closed row (depth + 1) rest child →
     take (depth + 1) child.counts.items ≡ take depth before.counts.items ++ count ∷ [] → take depth child.counts.items ≡ take depth before.counts.items →
     after.counts.items ≡ child.counts.items → after.kept.items ≡ child.kept.items → after.priced ≡ child.priced → after.closed.items ≡ child.closed.items →
@@ -199,7 +199,7 @@ parent_stands all closed row depth count rest before child after stands below e 
       closed_rows = subst (WeighEach all closed (take depth after.counts.items)) (sym i) (each_back all closed front_before _ _ count _ e front below.closed_rows);
     }
 
--- a live child's search is entered
+-- to search a live child that may weigh enough is to enter it
 pub child_due : (all : Classes) (closed : List Row) (row : Row) (later : List Class) (child : List ℕ) (now : Pricing) → is_reachable all child ≡ true →
     (list_all (λ r. int_le r.b (optimistic all r child)) closed && int_lt now.floor (optimistic all row child)) ≡ true → child_best all closed row later child now ≡ enter_best all closed row later child now
 child_due all closed row later child now live weighs =

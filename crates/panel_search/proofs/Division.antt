@@ -40,7 +40,7 @@ lists_next all depth class stands =
     taken (y ∷ ys) zero x l e = ap (λ (z : Class). z ∷ []) (sym e)
     taken (y ∷ ys) (suc n) x l e = let same : suc n + 1 ≡ suc (n + 1) = omega arith in rw same (ap (λ (zs : List Class). y ∷ zs) (taken ys n x (omega arith) e))
 
--- each number of classes so far has fewer lists
+-- with one class more there are `next` lists of counts, and fewer classes than these have fewer than 64
 pub few_next : (all : Classes) (depth lists next : ℕ) (class : Class) → KeepsLimits all → Stands all depth class → lists ≡ lists_of (take depth all.classes) → lists < 64 → ((k : ℕ) → k < depth → lists_of (take k all.classes) < 64) →
     next ≡ lists * (class.most - class.least + 1) →
     (next ≡ lists_of (take (depth + 1) all.classes)) × (next ≤ 30000) × ((k : ℕ) → k < depth + 1 → lists_of (take k all.classes) < 64)
@@ -85,16 +85,16 @@ among_next all closed row floor front c counts =
       | false ↦ refl
     ]
 
--- no count is left
+-- if no count is left, there is no live child
 pub among_none : (all : Classes) (closed : List Row) (row : Row) (floor : ℤ) (front : List ℕ) (low end : ℕ) → end ≤ low → live_among all closed row floor front (counts_below low end) ≡ []
 among_none all closed row floor front low end l = ap (live_among all closed row floor front) (below_none low end l)
 
--- the greatest count, and those below it
+-- the child with the greatest count comes first, if it is live, then the live children with the counts below it
 pub among_more : (all : Classes) (closed : List Row) (row : Row) (floor : ℤ) (front : List ℕ) (low end : ℕ) → low < end →
     live_among all closed row floor front (counts_below low end) ≡ live_among all closed row floor front ((end - 1) ∷ []) ++ live_among all closed row floor front (counts_below low (end - 1))
 among_more all closed row floor front low end l = ap (live_among all closed row floor front) (below_next low end l) ∙ among_next all closed row floor front (end - 1) (counts_below low (end - 1))
 
--- children out of reach aren't live
+-- children that aren't reachable aren't live
 passed_over : (all : Classes) (closed : List Row) (row : Row) (floor : ℤ) (front counts : List ℕ) →
     live_among all closed row floor front counts ≡ live_among all closed row floor front (filter (λ c. is_reachable all (front ++ c ∷ [])) counts)
 passed_over all closed row floor front [] = refl
@@ -110,7 +110,7 @@ passed_over all closed row floor front (c ∷ counts) =
       | false ↦ λ e. ap (λ b. cond (b && weighs && above) (child ∷ left) left) e ∙ rest
     ]) refl
 
--- all counts
+-- the live children with counts in `low..end` are all live children
 pub among_all : (all : Classes) (closed : List Row) (row : Row) (front : List ℕ) (class : Class) (low end : ℕ) → Stands all (length front) class → class.least ≤ class.most → LiveBetween all front class low end →
     live_among all closed row row.b front (counts_below low end) ≡ live_children all closed row front
 among_all all closed row front class low end stands order live =
@@ -122,11 +122,11 @@ among_all all closed row front class low end stands order live =
 abbrev pub firsts : Classes → List Class
 firsts all = take (piece_depth all) all.classes
 
--- the pieces below fronts of so many classes
+-- the pieces below fronts of `depth` classes
 abbrev pub below_each : Classes → List Row → Row → ℕ → List (List ℕ) → Pieces
 below_each all closed row depth fronts = together (map (λ front. pieces_below all closed row (drop depth (firsts all)) front) fronts)
 
--- the pieces are those below these live fronts of so many classes, and so many fronts came before them
+-- the pieces are those below `here`, which are live fronts of `depth` classes; and `so_far` fronts were entered before
 pub record GoesOn (all : Classes) (closed : List Row) (row : Row) (depth so_far : ℕ) (here : List (List ℕ)) : Type 0 where
   pub live : AllByRecursion (IsLiveFront all closed row depth) here
   pub visits : (pieces all closed row).visits ≡ so_far + (below_each all closed row depth here).visits
@@ -163,7 +163,7 @@ together-append below (x ∷ xs) ys =
     let rest = together-append below xs ys in
     (omega (arith, rest.0), ap (λ zs. (below x).fronts ++ zs) rest.1 ∙ sym (append_assoc (below x).fronts (together (map below xs)).fronts (together (map below ys)).fronts))
 
--- one class more
+-- the pieces below fronts are those below their live children, and each front counts one visit
 enter_each : (all : Classes) (closed : List Row) (row : Row) (class : Class) (later : List Class) (fronts : List (List ℕ)) → AllByRecursion (λ front. counts_first (drop (length front) all.classes) ≡ counts_of class) fronts →
     ((together (map (λ front. pieces_below all closed row (class ∷ later) front) fronts)).visits ≡ length fronts + (together (map (λ front. pieces_below all closed row later front) (flat_map (live_children all closed row) fronts))).visits)
     × ((together (map (λ front. pieces_below all closed row (class ∷ later) front) fronts)).fronts ≡ (together (map (λ front. pieces_below all closed row later front) (flat_map (live_children all closed row) fronts))).fronts)
@@ -178,7 +178,7 @@ enter_each all closed row class later (front ∷ fronts) h =
           ∙ ap (λ zs. (together (map below (live_children all closed row front))).fronts ++ zs) rest.1 ∙ sym split.1,
     )
 
--- the classes of pieces from a place on
+-- the classes of a piece's front from place `depth` on: the class there, and those after it
 pub firsts_from : (all : Classes) (depth : ℕ) (class : Class) → Stands all depth class → depth < piece_depth all → drop depth (firsts all) ≡ class ∷ drop (depth + 1) (firsts all)
 firsts_from all depth class stands below =
     let size = length-take-le (piece_depth all) all.classes (depth_within all) in
@@ -242,7 +242,7 @@ goes_next all closed row depth visits more class fronts next limits stands below
         (subst (λ counts. AllByRecursion (IsLiveFront all closed row (depth + 1)) (live_among all closed row row.b front counts)) (sym k.0) (children_live all closed row depth class front limits stands h.0))
         (each_child fronts h.1 k.1)
 
--- more fronts are entered than may be
+-- if the visits so far and those to these fronts are more than the budget, all visits are
 pub goes_too_far : (all : Classes) (closed : List Row) (row : Row) (depth visits nodes : ℕ) (class : Class) (fronts : List (List ℕ)) → Stands all depth class → depth < piece_depth all → GoesOn all closed row depth visits fronts →
     nodes < visits + length fronts → nodes < (pieces all closed row).visits
 goes_too_far all closed row depth visits nodes class fronts stands below goes l =
@@ -256,7 +256,7 @@ goes_too_far all closed row depth visits nodes class fronts stands below goes l 
     each_count [] h = tt
     each_count (front ∷ fronts) h = (ap (λ n. counts_first (drop n all.classes)) h.0.long ∙ ap counts_first (comes_next all depth class stands), each_count fronts h.1)
 
--- with all classes of a piece's front
+-- fronts that have all classes of a piece's front are the fronts of the pieces
 pub goes_last : (all : Classes) (closed : List Row) (row : Row) (depth visits : ℕ) (fronts : List (List ℕ)) → depth ≡ piece_depth all → GoesOn all closed row depth visits fronts → ((pieces all closed row).visits ≡ visits) × ((pieces all closed row).fronts ≡ fronts)
 goes_last all closed row depth visits fronts e goes =
     let none : drop depth (firsts all) ≡ [] = ap (λ n. drop n (firsts all)) (e ∙ sym (length-take-le (piece_depth all) all.classes (depth_within all))) ∙ dropped (firsts all) in
@@ -274,12 +274,12 @@ goes_last all closed row depth visits fronts e goes =
 
 -- ---- in the words of the code
 
--- the class after a front
+-- the class that the code reads at the front's length is the one after the front
 pub stands_after : (all : Classes) (front items : List ℕ) (classes : List Class) (class : Class) → length front < length all.classes → items ≡ front → classes ≡ all.classes → class ≡ get_or classes (length items) class → Stands all (length front) class
 stands_after all front items classes class below e f is =
     stands_there all (length front) classes class below f (is ∙ ap (λ xs. get_or classes (length xs) class) e)
 
--- the budget is spent
+-- if the visits are more than the budget, `Spent` is a right answer
 pub pieces_spent : (parts : Pieces) (nodes : ℕ) (result : Result (Vec (List ℕ) Global × ℕ) SearchStop) → IsErrAnd result (λ e. e ≡ Spent) → nodes < parts.visits → AnswersPieces parts nodes result
 pieces_spent parts nodes (Ok answer) h l = absurd h
 pieces_spent parts nodes (Err stop) h l = subst (λ stop. AnswersPieces parts nodes (Err stop)) (sym h) l

@@ -20,7 +20,7 @@ use Rattle.panel_search.specs.declared.searching.SearchStop.{SearchStop}
 use Rattle.laws_of_fronts.specs.Front.{AreWithin}
 use Rattle.laws_of_fronts.proofs.Beside.{get_pushed}
 
--- one row more
+-- the closed rows are right with one more row and its greatest sums
 pub closed_more : (all : Classes) (rows : List Row) (sums : List Sums) (row : Row) (here : Sums) → AreClosed all rows sums → HaveEntries all (row ∷ []) → HaveReach all (row ∷ []) →
     IsSummed all row here → AreClosed all (rows ++ row ∷ []) (sums ++ here ∷ [])
 closed_more all rows sums row here kept entries reaches summed = record {
@@ -42,19 +42,19 @@ closed_more all rows sums row here kept entries reaches summed = record {
   };
 }
 
--- a fact about each row of a list, at one of them
+-- what holds of each row of a list holds of the row at a place
 pub row_has : (P : Row → Type 0) (rows : List Row) (i : ℕ) (row : Row) → AllByRecursion P rows → slice_get rows i ≡ Some row → P row
 row_has P [] i row h e = cc
 row_has P (r ∷ rows) zero row h e = let is : r ≡ row = cc in subst P is h.0
 row_has P (r ∷ rows) (suc i) row h e = row_has P rows i row h.1 e
 
--- what the search kept is the answer
+-- the composition that a search answers is the one that it kept
 pub answers_kept : (pricing : Pricing) (nodes : ℕ) (wanted : Option (List ℕ)) (r : Result (Option (List ℕ) × ℕ) SearchStop) → pricing.kept ≡ wanted → AnswersBest pricing nodes r →
     IfOk r (λ answer. answer.0 ≡ wanted)
 answers_kept pricing nodes wanted (Ok (found, visits)) e told = told.1 ∙ e
 answers_kept pricing nodes wanted (Err stop) e told = tt
 
--- the front of each piece is one of the classes
+-- the front of each piece is a front of the classes
 pub fronts_kept : (all made : Classes) (closed : List Row) (row : Row) (nodes : ℕ) (r : Result (Vec (List ℕ) Global × ℕ) SearchStop) → KeepsLimits all → made ≡ all → AnswersPieces (pieces made closed row) nodes r →
     IfOk r (λ answer. AllByRecursion (IsFront all) (vec_items answer.0))
 fronts_kept all made closed row nodes (Ok (fronts, visits)) limits e told =

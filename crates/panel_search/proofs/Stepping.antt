@@ -1,4 +1,4 @@
--- The children of a front one after the other, and what their steps come to.
+-- The search of a front's children, one after the other, step by step.
 use Rattle.std.proofs.Common.{◌≡◌, ℕ, ◌+◌, ◌-◌, ◌≤◌, ◌<◌, Bool, true, false, cond, List, [], ◌∷◌, ◌++◌, take, drop, filter, map, Some, None, Result, Ok, Err, refl, sym, ap, ◌∙◌, arith, subst}
 use Rattle.std.specs.Prelude.{IsErr}
 use Rattle.std.proofs.lemmas.Bool.{false≢true}
@@ -14,7 +14,7 @@ use Rattle.laws_of_fronts.specs.Front.{Stands}
 use Rattle.laws_of_fronts.proofs.InTurn.{after_nothing, at_least_one, found_at_once, found_later, then_next}
 use Rattle.laws_of_fronts.proofs.Tracking.{comes_next}
 
--- a child, and the children after it
+-- the search of some children is that of the first, and then that of the others
 children_more : (all : Classes) (later : List Class) (front : List ℕ) (c : ℕ) (counts : List ℕ) →
     children_first all later front (c ∷ counts) ≡ then_next (child_first all later (front ++ c ∷ [])) (children_first all later front counts)
 children_more all later front c counts =
@@ -24,7 +24,7 @@ children_more all later front c counts =
       | false ↦ after_nothing (children_first all later front counts)
     ]
 
--- children out of reach change nothing
+-- children that aren't reachable change nothing
 passed_over : (all : Classes) (later : List Class) (front counts : List ℕ) → children_first all later front counts ≡ children_first all later front (filter (λ c. is_reachable all (front ++ c ∷ [])) counts)
 passed_over all later front counts = ap (λ children. one_by_one (map (λ child. enter_first all later child) children)) (kept counts)
   where
@@ -43,7 +43,7 @@ passed_over all later front counts = ap (λ children. one_by_one (map (λ child.
 
 -- ---- steps
 
--- both searches of a step, where the first found nothing
+-- if the first search finds nothing, and the second then does what the definition says, both together do
 pub both : (all : Classes) (depth : ℕ) (later : List Class) (one rest : Due) (before mid : Search) (result : Result Bool BudgetSpent) (after : Search) →
     before.left ≡ mid.left + one.visits → one.found ≡ None → take depth mid.counts.items ≡ take depth before.counts.items →
     Steps all depth later rest mid result after → Steps all depth later (then_next one rest) before result after
@@ -70,18 +70,18 @@ pub steps_false : (all : Classes) (depth : ℕ) (later : List Class) (due : Due)
 steps_false all depth later due left front true after steps e = cc
 steps_false all depth later due left front false after steps e = steps
 
--- a child with so many of the class
+-- the search of the child with `count` of the next class
 abbrev pub child_at : Classes → ℕ → List ℕ → ℕ → Due
 child_at all depth front count = child_first all (drop (depth + 1) all.classes) (front ++ count ∷ [])
 
 abbrev pub children_within : Classes → ℕ → List ℕ → ℕ → ℕ → Due
 children_within all depth front low end = children_first all (drop (depth + 1) all.classes) front (counts_below low end)
 
--- no count is left
+-- if no count is left, nothing is searched
 pub children_none : (all : Classes) (depth : ℕ) (front : List ℕ) (low end : ℕ) → end ≤ low → children_within all depth front low end ≡ record { visits = 0; found = None }
 children_none all depth front low end l = ap (children_first all (drop (depth + 1) all.classes) front) (below_none low end l)
 
--- the greatest count, and those below it
+-- the child with the greatest count comes first, then those with the counts below it
 children_next : (all : Classes) (depth : ℕ) (front : List ℕ) (low end : ℕ) → low < end → children_within all depth front low end ≡ then_next (child_at all depth front (end - 1)) (children_within all depth front low (end - 1))
 children_next all depth front low end l =
     ap (children_first all (drop (depth + 1) all.classes) front) (below_next low end l) ∙ children_more all (drop (depth + 1) all.classes) front (end - 1) (counts_below low (end - 1))
@@ -123,7 +123,7 @@ enter_due all depth class front front' low end stands order e live =
     ∙ ap (λ (below : Due). let due : Due = record { visits = 1 + below.visits; found = below.found } in due)
     (passed_over all (drop (depth + 1) all.classes) front' (counts_of class) ∙ ap (children_first all (drop (depth + 1) all.classes) front') (live_counts all front' class low end order live.inside live.outside))
 
--- a live child's search is entered
+-- to search a live child is to enter it
 pub child_due : (all : Classes) (later : List Class) (child child' : List ℕ) → is_reachable all child ≡ true → child' ≡ child → child_first all later child ≡ enter_first all later child'
 child_due all later child child' live e =
     ap (λ b. cond b (enter_first all later child) (record { visits = 0; found = None })) live ∙ ap (enter_first all later) (sym e)

@@ -14,18 +14,21 @@ Answers search nodes (Ok found) = (search.visits ≤ nodes) × (found ≡ search
 Answers search nodes (Err Spent) = nodes < search.visits
 Answers search nodes (Err OutOfMemory) = Unit {0}
 
--- the same of a search for the best composition: what it kept, and its visits
+-- for a search for the best composition that has its memory: what it kept and its visits, if these are within the budget, else that the
+-- budget is spent
 abbrev pub AnswersBestWithin : Pricing → ℕ → Result (Option (List ℕ) × ℕ) BudgetSpent → Type 0
 AnswersBestWithin pricing nodes (Ok (found, visits)) = (pricing.visits ≤ nodes) × (found ≡ pricing.kept) × (visits ≡ pricing.visits)
 AnswersBestWithin pricing nodes (Err spent) = nodes < pricing.visits
 
--- what the search for the best composition kept and its visits, if these are within the budget, else that the budget is spent
+-- for a search for the best composition: what it kept and its visits, if these are within the budget, else that the budget is spent; want
+-- of memory may come at any time
 abbrev pub AnswersBest : Pricing → ℕ → Result (Option (List ℕ) × ℕ) SearchStop → Type 0
 AnswersBest pricing nodes (Ok (found, visits)) = (pricing.visits ≤ nodes) × (found ≡ pricing.kept) × (visits ≡ pricing.visits)
 AnswersBest pricing nodes (Err Spent) = nodes < pricing.visits
 AnswersBest pricing nodes (Err OutOfMemory) = Unit {0}
 
--- the fronts of pieces and the visits before them, if these are within the budget, else that the budget is spent
+-- the fronts of pieces and the visits before them, if these are within the budget, else that the budget is spent; want of memory may come
+-- at any time
 abbrev pub AnswersPieces : Pieces → ℕ → Result (Vec (List ℕ) Global × ℕ) SearchStop → Type 0
 AnswersPieces parts nodes (Ok (fronts, visits)) = (parts.visits ≤ nodes) × (vec_items fronts ≡ parts.fronts) × (visits ≡ parts.visits)
 AnswersPieces parts nodes (Err Spent) = nodes < parts.visits
@@ -36,12 +39,13 @@ abbrev pub IsKept : Pricing → Option (List ℕ × ℤ) → Type 0
 IsKept pricing None = pricing.kept ≡ None
 IsKept pricing (Some (counts, weight)) = (pricing.kept ≡ Some counts) × (weight ≡ pricing.floor)
 
--- what a search that has its memory kept, with its weight, and its visits, if these are within the budget, else that the budget is spent
+-- for a search that has its memory: what it kept, with its weight, and its visits, if these are within the budget, else that the budget is
+-- spent
 abbrev pub AnswersWeighedWithin : Pricing → ℕ → Result (Option (List ℕ × ℤ) × ℕ) BudgetSpent → Type 0
 AnswersWeighedWithin pricing nodes (Ok (found, visits)) = (pricing.visits ≤ nodes) × IsKept pricing found × (visits ≡ pricing.visits)
 AnswersWeighedWithin pricing nodes (Err spent) = nodes < pricing.visits
 
--- the same; want of memory may come at any time
+-- the same for a search that takes its memory first, so that want of memory may come
 abbrev pub AnswersWeighed : Pricing → ℕ → Result (Option (List ℕ × ℤ) × ℕ) SearchStop → Type 0
 AnswersWeighed pricing nodes (Ok (found, visits)) = (pricing.visits ≤ nodes) × IsKept pricing found × (visits ≡ pricing.visits)
 AnswersWeighed pricing nodes (Err Spent) = nodes < pricing.visits

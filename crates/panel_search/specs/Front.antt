@@ -1,4 +1,4 @@
--- What a search keeps of the front where it is, as the numbers of `laws_of_fronts`.
+-- What a search keeps of the front that it is at, as the numbers of which `laws_of_fronts` speaks.
 use Rattle.std.specs.Prelude.{ℕ, List}
 use Rattle.define_searches.specs.Classes.{Class, Classes}
 use Rattle.laws_of_fronts.specs.Front as laws
@@ -8,6 +8,7 @@ use Rattle.panel_search.specs.declared.tally.Tally.{Tally}
 abbrev pub numbers : Tally → laws.FrontTally
 numbers tally = record { taken = tally.taken; held = tally.held.items; later_taken = tally.later_taken; later = tally.later.items; homes = tally.homes.items }
 
--- how many the front takes, and the most that these classes give, in all and of each value; and how many it takes of each household
+-- the tally is that of the front, with the classes `rest` still to come: how many members the front takes and the most that `rest` can
+-- give, in all and of each value, and how many the front takes of each household
 abbrev pub Tracks : Classes → List ℕ → List Class → Tally → Type 0
 Tracks all front rest tally = laws.Tracks all front rest (numbers tally)

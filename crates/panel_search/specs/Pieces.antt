@@ -16,7 +16,7 @@ pub record IsLiveFront (all : Classes) (closed : List Row) (row : Row) (depth : 
 abbrev pub live_among : Classes → List Row → Row → ℤ → List ℕ → List ℕ → List (List ℕ)
 live_among all closed row floor front counts = filter (is_live_above all closed row floor) (map (λ c. front ++ c ∷ []) counts)
 
--- the counts that the first of these classes may have
+-- the counts that the first of these classes may have, none if there is no class
 abbrev pub counts_first : List Class → List ℕ
 counts_first [] = []
 counts_first (class ∷ later) = counts_of class

@@ -11,7 +11,7 @@ use Rattle.panel_search.specs.declared.pricing.BestSearch.{BestSearch}
 use Rattle.laws_of_fronts.specs.Front.{AreWithin, CanTake}
 use Rattle.define_waves.specs.Below.{child_best}
 
--- a search is at a live front of the first classes, and these classes come after it
+-- a search is at a live front of the first `depth` classes, and its tally has the classes `later` still to come
 pub record StandsAt (all : Classes) (closed : List Row) (row : Row) (depth : ℕ) (later : List Class) (search : BestSearch) : Type 0 where
   pub places : length search.counts.items ≡ length all.classes
   pub kept_places : length search.kept.items ≡ length all.classes
@@ -22,7 +22,7 @@ pub record StandsAt (all : Classes) (closed : List Row) (row : Row) (depth : ℕ
   pub priced : Weighs all row (take depth search.counts.items) search.priced
   pub closed_rows : WeighEach all closed (take depth search.counts.items) search.closed.items
 
--- a search is about to enter a front of the first classes, live or not
+-- a search is about to enter the front of the first `depth` classes, which may be live or not
 pub record BeginsAt (all : Classes) (closed : List Row) (row : Row) (depth : ℕ) (search : BestSearch) : Type 0 where
   pub places : length search.counts.items ≡ length all.classes
   pub kept_places : length search.kept.items ≡ length all.classes
@@ -32,7 +32,7 @@ pub record BeginsAt (all : Classes) (closed : List Row) (row : Row) (depth : ℕ
   pub priced : Weighs all row (take depth search.counts.items) search.priced
   pub closed_rows : WeighEach all closed (take depth search.counts.items) search.closed.items
 
--- its visits, its floor, and what it has kept
+-- a search's visits, its floor, and what it has kept
 abbrev pub pricing_of : BestSearch → Pricing
 pricing_of search = record { visits = search.visits; floor = search.floor; kept = if search.is_found then Some search.kept.items else None }
 
@@ -40,17 +40,17 @@ pricing_of search = record { visits = search.visits; floor = search.floor; kept 
 abbrev pub CanTakeWithin : Classes → ℕ → ℕ → ℕ → Type 0
 CanTakeWithin all depth low end = (count : ℕ) → low ≤ count → count < end → CanTake all depth count
 
--- the children of a front, with these counts of the next class, one after the other
+-- the search of a front's children, with these counts of the next class, one after the other
 abbrev pub children_best : Classes → List Row → Row → List Class → List ℕ → List ℕ → Pricing → Pricing
 children_best all closed row later front counts now = fold (λ now c. child_best all closed row later (front ++ c ∷ []) now) now counts
 
--- the step does what is due and returns to the front where it was, or the visits that are due are more than the budget
+-- the step does what the definition says (`due`) and returns to the same front, or the definition needs more visits than the budget `nodes`
 abbrev pub Moves : Classes → List Row → Row → ℕ → List Class → Pricing → List ℕ → ℕ → Result (Unit {0}) BudgetSpent → BestSearch → Type 0
 Moves all closed row depth later due front nodes (Ok done) after =
     (pricing_of after ≡ due) × (take depth after.counts.items ≡ front) × (after.nodes ≡ nodes) × (due.visits ≤ nodes) × StandsAt all closed row depth later after
 Moves all closed row depth later due front nodes (Err spent) after = nodes < due.visits
 
--- the whole search does what is due, or the visits that are due are more than the budget
+-- the whole search does what the definition says (`due`), or the definition needs more visits than the budget `nodes`
 abbrev pub EndsWithin : Pricing → ℕ → Result (Unit {0}) BudgetSpent → BestSearch → Type 0
 EndsWithin due nodes (Ok done) after = (pricing_of after ≡ due) × (due.visits ≤ nodes)
 EndsWithin due nodes (Err spent) after = nodes < due.visits

@@ -3,6 +3,6 @@ use Rattle.std.specs.Prelude.{ℕ, ◌≤◌, ◌<◌, List, length}
 use Rattle.define_searches.specs.declared.Bounds.{Bounds}
 use Rattle.laws_of_fronts.specs.Tallies.{HasBound}
 
--- the upper bounds are small
+-- each upper bound is at most 999
 abbrev pub AreSmallBounds : List (List Bounds) → Type 0
 AreSmallBounds bounds = (c v : ℕ) (bound : Bounds) → c < length bounds → HasBound bounds c v bound → bound.upper ≤ 999

@@ -10,11 +10,11 @@ use Rattle.panel_search.specs.declared.weighing.Weights.{Weights}
 abbrev pub table_of : Sums → List ℤ
 table_of sums = sums.cells.items
 
--- the weights, by the lengths of fronts
+-- the weights of a front and of each front before it, by their lengths
 abbrev pub weights_of : Weights → List ℤ
 weights_of weights = weights.by_length.items
 
--- the greatest sums in a row
+-- the table has the greatest sums of units in a row
 abbrev pub IsSummed : Classes → Row → Sums → Type 0
 IsSummed all row sums = laws.IsSummed all row (table_of sums)
 
@@ -22,7 +22,7 @@ IsSummed all row sums = laws.IsSummed all row (table_of sums)
 abbrev pub SumEach : Classes → List Row → List Sums → Type 0
 SumEach = laws.SumEach table_of
 
--- the weights in a row of a front and of each front before it
+-- the weights are those, in a row, of a front and of each front before it
 abbrev pub Weighs : Classes → Row → List ℕ → Weights → Type 0
 Weighs all row front weights = laws.Weighs all row front (weights_of weights)
 

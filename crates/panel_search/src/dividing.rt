@@ -14,7 +14,8 @@ use crate::searching::{BudgetSpent, SearchStop};
 use alike::Classes;
 use std::alloc::{AllocError, Global};
 
-// Returns the fronts of the pieces of the search for the best composition, in order, with the visits to the fronts before them.
+// Returns the fronts of the pieces of the search for the best composition, in order, and the visits to the fronts before them. Fails if
+// these are more than `nodes`.
 pub(crate) fn pieces(
     alloc: Global,
     terms: &Terms<'_>,
@@ -36,7 +37,7 @@ pub(crate) fn pieces(
     Ok((fronts, visits))
 }
 
-// The empty front, if it is live with the row's right side as the floor.
+// Returns the empty front alone, if it is live with the row's right side as the floor, else no front.
 fn begun(alloc: Global, terms: &Terms<'_>) -> Result<Vec<Front>, AllocError>
     requires { AreTerms terms.now }
     ensures { IfOk result (λ fronts. fronts.items ≡ filter (is_live_above terms.now.classes.now terms.now.closed.now terms.now.row.now terms.now.row.now.b) ([] ∷ [])) }
@@ -49,7 +50,7 @@ fn begun(alloc: Global, terms: &Terms<'_>) -> Result<Vec<Front>, AllocError>
     Ok(fronts)
 }
 
-// The visits after `fronts` more fronts were entered.
+// Returns the visits after `fronts` more fronts are entered, if the budget allows them.
 fn entered(visits: u64, fronts: usize, nodes: u64) -> Result<u64, BudgetSpent>
     requires { visits ≤ nodes }
     ensures ok { OnOk result (visits + fronts ≤ nodes) }
@@ -63,7 +64,7 @@ fn entered(visits: u64, fronts: usize, nodes: u64) -> Result<u64, BudgetSpent>
     Ok(visits + more)
 }
 
-// How many classes a piece's front has: the least number of first classes that have at least 64 lists of counts, or all classes.
+// Returns how many classes a piece's front has: as few of the first classes as have at least 64 lists of counts, or all classes.
 fn piece_depth(classes: &Classes) -> usize
     ensures { result ≡ piece_depth classes.now }
 {
@@ -78,7 +79,7 @@ fn piece_depth(classes: &Classes) -> usize
     classes.classes().len()
 }
 
-// The live fronts of one class more that continue live fronts, in order.
+// Returns the live fronts that continue these fronts by one class, in order.
 fn next_fronts(
     alloc: Global,
     terms: &Terms<'_>,
@@ -97,7 +98,7 @@ fn next_fronts(
     Ok(next)
 }
 
-// Appends the live fronts of one class more that continue a live front.
+// Appends the live fronts that continue a live front by one class.
 #[tactic(auto, using(crate::proofs::Kept::front_within))]
 fn push_children(
     alloc: Global,

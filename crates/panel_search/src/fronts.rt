@@ -27,14 +27,14 @@ impl Front {
         Front { counts }
     }
 
-    /// The count of each of its classes.
+    /// Returns the count of each of its classes.
     pub fn counts(&self) -> &[usize]
         ensures { result.now ≡ self.now }
     {
         &self.counts
     }
 
-    // The front that continues this one with `count` of the next class.
+    // Returns the front that continues this one with `count` of the next class.
     pub(crate) fn child(&self, alloc: Global, count: usize) -> Result<Front, AllocError>
         ensures { IfOk result (λ child. child ≡ self.now ++ count ∷ []) }
     {

@@ -1,4 +1,5 @@
-//! The greatest sums of units that classes give in a row, as a table that is made once. `weighing` reads it.
+//! The greatest sums of units in a row, as a table that is made once. A unit is one member that a class can give, and weighs the class's
+//! entry. `weighing` reads the table.
 
 ghost use Rattle.std.specs.Prelude.{◌≡◌, ◌+◌, ◌<◌, ◌≤◌, drop, length, IfOk};
 ghost use Rattle.laws_of_fronts.specs.Weights.{AreNarrow, CanAdd, HasUnit, IsGreater, AreGreatest, HoldsSums, units_from};
@@ -9,15 +10,15 @@ use alike::Classes;
 use define_rows::Row;
 use std::alloc::{AllocError, Global};
 
-/// For the classes from each place on, the greatest sums of 0, 1, 2 and more of their units, up to as many as the size: (classes + 1)
-/// times (size + 1) numbers of 16 bytes, from the last class to the first.
+/// For the last 0, 1, 2 and more classes, up to all: the greatest sums of 0, 1, 2 and more of their units, up to as many as the size. These
+/// are (classes + 1) times (size + 1) numbers of 16 bytes.
 #[derive(Debug, Drop)]
 pub(crate) struct Sums {
     cells: Vec<i128>,
 }
 
 impl Sums {
-    // The table of a row.
+    // Makes the table of a row.
     pub(crate) fn new(alloc: Global, classes: &Classes, row: &Row) -> Result<Sums, AllocError>
         requires { AreNarrow classes.now row.now.a }
         ensures { IfOk result (λ sums. IsSummed classes.now row.now sums) }
@@ -26,7 +27,7 @@ impl Sums {
         Ok(Sums { cells })
     }
 
-    // The greatest sum of `count` units of the classes from a place on.
+    // Returns the greatest sum of `count` units of the classes from `place` on.
     pub(crate) fn greatest_of(
         &self,
         classes: &Classes,
@@ -45,7 +46,7 @@ impl Sums {
     }
 }
 
-// For the last 0, 1, 2 and more classes: the greatest sums of their units, up to as many units as the size.
+// Returns, for the last 0, 1, 2 and more classes, the greatest sums of their units, up to as many units as the size.
 fn greatest_sums(
     alloc: Global,
     classes: &Classes,
@@ -90,7 +91,7 @@ fn put_class(
     units + most
 }
 
-// The greatest sums with one more unit of this weight.
+// Adds one more unit, of this weight, to the `units` units of which these are the greatest sums.
 fn put_unit(sums: &mut [i128], units: usize, weight: i128)
     requires { CanAdd weight sums.old }
     ensures { HasUnit units weight sums.old sums.new }
@@ -101,8 +102,8 @@ fn put_unit(sums: &mut [i128], units: usize, weight: i128)
     }
 }
 
-// The greatest sum of `count` units out of `units` others and one more: with this one if all the others are taken, else the greater of
-// the two.
+// Returns the greatest sum of `count` units out of `units` and one more. If all `units` are taken, it is the sum with the new one; else the
+// greater of the sums without and with it.
 fn greater(units: usize, count: usize, without: i128, with_it: i128) -> i128
     ensures { IsGreater units count without with_it result }
 {

@@ -27,7 +27,7 @@ pub(crate) fn take_at(homes: &mut [usize], household: Option<usize>, count: usiz
     }
 }
 
-// True if at most one is taken of the household, or there is none.
+// True if at most one member is taken of the household, or if there is no household.
 pub(crate) fn has_one(homes: &[usize], household: Option<usize>) -> bool
     requires known { IsKnownHousehold (length homes.now) household }
     requires small { AreFew homes.now }
@@ -39,8 +39,8 @@ pub(crate) fn has_one(homes: &[usize], household: Option<usize>) -> bool
     }
 }
 
-// Returns `end`: exactly the counts below `end`, of those below `until`, take at most one of the household with those that are taken
-// already. Without a household that is `until`.
+// Returns `end`: of the counts below `until`, exactly those below `end` take at most one of the household, together with those who are
+// taken already. Without a household, `end` is `until`.
 pub(crate) fn room(homes: &[usize], household: Option<usize>, until: usize) -> usize
     requires { IsKnownHousehold (length homes.now) household }
     ensures inside { (count : ℕ) → count < result → (count < until) × (has_room homes.now household count ≡ true) }

@@ -44,7 +44,7 @@ impl<'p> Model for PricedRow<'p> {
 }
 
 impl<'p> PricedRow<'p> {
-    // A row with its sums, over closed rows with theirs.
+    // Returns a row with its greatest sums, over closed rows with theirs.
     pub(crate) fn new(
         classes: &'p Classes,
         closed: &'p [Row],
@@ -64,14 +64,14 @@ impl<'p> PricedRow<'p> {
         }
     }
 
-    /// The classes that the rows are over.
+    /// Returns the classes that the rows are over.
     pub fn classes(&self) -> &'p Classes
         ensures { result.now ≡ self.now.classes }
     {
         self.classes
     }
 
-    /// The row that is priced.
+    /// Returns the row that is priced.
     pub fn row(&self) -> &'p Row
         ensures { result.now ≡ self.now.row }
     {
@@ -86,7 +86,7 @@ impl<'p> PricedRow<'p> {
         self.classes.facts();
     }
 
-    // What the searches read.
+    // Returns what the searches read.
     pub(crate) fn terms(&self) -> Terms<'_>
         ensures terms { AreTerms result }
         ensures classes { result.classes.now ≡ self.now.classes }
@@ -102,9 +102,9 @@ impl<'p> PricedRow<'p> {
         }
     }
 
-    /// Returns the fronts of the pieces of the pricing's search in waves, in order, with the visits to the fronts before them, if
-    /// these are at most `nodes`. If the empty front isn't live there is no piece, and one visit. Each front has at most one count
-    /// for each class, from the class's least to its most.
+    /// Returns the fronts of the pieces of the search in waves, in order, and the visits to the fronts before them. Fails with `Spent` if
+    /// these are more than `nodes`. If the empty front isn't live, there is no piece, and one visit. Each front has at most one count for
+    /// each class, from the class's least to its most.
     pub fn pieces(&self, alloc: Global, nodes: u64) -> Result<(Vec<Front>, u64), SearchStop>
         ensures answers { AnswersPieces (pieces self.now.classes self.now.closed self.now.row) nodes result }
         ensures fronts { IfOk result (λ answer. AllByRecursion (IsFront self.now.classes) answer.0.items) }
@@ -113,10 +113,10 @@ impl<'p> PricedRow<'p> {
         pieces(alloc, &self.terms(), nodes)
     }
 
-    /// Searches the compositions that begin with a front and weigh at least the right side in each closed row. Returns the one of
-    /// greatest weight in the row, the first of equals, or None exactly if none weighs more than the floor; and the visits of the
-    /// search, if these are at most `nodes`. If the front isn't live above the floor there is no visit. The front has at most one
-    /// count for each class, from the class's least to its most. All memory is taken before the first visit.
+    /// Searches the compositions that begin with a front and weigh at least the right side in each closed row. Returns the one of greatest
+    /// weight in the row, the first of equals, or None exactly if none weighs more than the floor; and the visits of the search. Fails with
+    /// `Spent` if these are more than `nodes`. If the front isn't live above the floor, there is no visit. The front has at most one count
+    /// for each class, from the class's least to its most. All memory is taken before the first visit.
     #[tactic(auto, using(crate::proofs::Kept::front_within))]
     pub fn best_from(
         &self,
@@ -133,7 +133,7 @@ impl<'p> PricedRow<'p> {
         search_from(alloc, &self.terms(), front.counts(), floor, nodes)
     }
 
-    /// The same with the weight in the row of the composition that is found.
+    /// Searches as `best_from` does, and returns the weight in the row of the composition that is found, too.
     #[tactic(auto, using(crate::proofs::Kept::front_within))]
     pub fn weighed_from(
         &self,

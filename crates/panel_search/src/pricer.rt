@@ -53,14 +53,14 @@ impl<'c> Pricer<'c> {
         }
     }
 
-    /// The classes that the rows are over.
+    /// Returns the classes that the rows are over.
     pub fn classes(&self) -> &'c Classes
         ensures { result.now ≡ self.now.classes }
     {
         self.classes
     }
 
-    /// The rows, as they were added.
+    /// Returns the rows, in the order in which they were added.
     pub fn closed(&self) -> &[Row]
         ensures { result.now ≡ self.now.closed }
     {
@@ -86,9 +86,9 @@ impl<'c> Pricer<'c> {
         }
     }
 
-    /// Searches the compositions that weigh at least the right side in each closed row. Returns the one of greatest weight in the
-    /// row, above the row's right side, the first of equals, or None if there is none; and the visits of the search, if these are
-    /// at most `nodes`. The row has one entry per class and a reach below 2^127. All memory is taken before the first visit.
+    /// Searches the compositions that weigh at least the right side in each closed row, and more than its right side in `row`. Returns the
+    /// one of greatest weight in `row`, the first of equals, or None if there is none; and the visits of the search. Fails with `Spent` if
+    /// these are more than `nodes`. The row has one entry per class and a reach below 2^127. All memory is taken before the first visit.
     pub fn best(&self, row: &Row, nodes: u64) -> Result<(Option<Composition>, u64), SearchStop>
         requires entries { HaveEntries self.now.classes (row.now ∷ []) }
         requires reach { HaveReach self.now.classes (row.now ∷ []) }
@@ -114,9 +114,9 @@ impl<'c> Pricer<'c> {
     }
 }
 
-/// Searches the compositions that weigh at least the right side in each closed row. Returns the one of greatest weight in the row,
-/// above the row's right side, the first of equals, or None if there is none; and the visits of the search, if these are at most
-/// `nodes`. A `Pricer` keeps what this makes of the closed rows.
+/// Searches the compositions that weigh at least the right side in each closed row, and more than its right side in `row`. Returns the one
+/// of greatest weight in `row`, the first of equals, or None if there is none; and the visits of the search. Fails with `Spent` if these
+/// are more than `nodes`. A `Pricer` keeps what this makes of the closed rows.
 ///
 /// Each of the rows has one entry per class and a reach below 2^127: the absolute value of its right side, and of each entry times its
 /// class's size. So every weight fits 128 bits. All memory is taken before the first visit.
@@ -136,9 +136,9 @@ pub fn best(
     pricer.best(row, nodes)
 }
 
-/// Returns the fronts of the pieces of the search in waves for the best composition, in order, with the visits to the fronts before
-/// them, if these are at most `nodes`: `PricedRow::pieces` for these rows. Each of the rows has one entry per class and a reach below
-/// 2^127.
+/// Returns the fronts of the pieces of the search in waves for the best composition, in order, and the visits to the fronts before them:
+/// `PricedRow::pieces` for these rows. Fails with `Spent` if the visits are more than `nodes`. Each of the rows has one entry per class and
+/// a reach below 2^127.
 pub fn pieces(
     alloc: Global,
     classes: &Classes,
@@ -156,9 +156,9 @@ pub fn pieces(
     priced.pieces(alloc, nodes)
 }
 
-/// Returns the best composition below a front, with a floor of its own, and the visits of the search, if these are at most `nodes`:
-/// `PricedRow::best_from` for these rows. Each of the rows has one entry per class and a reach below 2^127; the front has at most one
-/// count for each class, from the class's least to its most.
+/// Returns the best composition below a front, with a floor of its own, and the visits of the search: `PricedRow::best_from` for these
+/// rows. Fails with `Spent` if the visits are more than `nodes`. Each of the rows has one entry per class and a reach below 2^127; the
+/// front has at most one count for each class, from the class's least to its most.
 pub fn best_from(
     alloc: Global,
     classes: &Classes,

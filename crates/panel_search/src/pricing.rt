@@ -54,7 +54,7 @@ pub(crate) fn search_from(
     Ok(search.run(terms, front.len())?)
 }
 
-// The same with the weight of what it finds.
+// Searches as `search_from` does, and returns the weight of what it finds, too.
 pub(crate) fn search_weighed(
     alloc: Global,
     terms: &Terms<'_>,
@@ -91,7 +91,7 @@ pub(crate) fn search_best(
     Ok((None, 1))
 }
 
-// `places` places for counts, with the front's in the first of them.
+// Returns `places` counts: first those of the front, then 0.
 fn places_after(alloc: Global, front: &[usize], places: usize) -> Result<Vec<usize>, AllocError>
     requires { length front.now ≤ places }
     ensures places { IfOk result (λ counts. length counts.items ≡ places) }
@@ -119,7 +119,7 @@ pub(crate) struct BestSearch {
 }
 
 impl BestSearch {
-    // At a front, before anything is entered.
+    // Returns a search at a front, before anything is entered.
     pub(crate) fn new(
         alloc: Global,
         terms: &Terms<'_>,
@@ -148,7 +148,7 @@ impl BestSearch {
         })
     }
 
-    // The whole search. It has its memory, so it ends with what it kept, or with its budget spent.
+    // Runs the whole search. It has its memory already, so it ends with what it kept, or with its budget spent.
     fn run(
         mut self,
         terms: &Terms<'_>,
@@ -163,7 +163,7 @@ impl BestSearch {
         Ok(self.answer())
     }
 
-    // The same with the weight of what it kept, which is then the floor.
+    // Runs the whole search, and returns the weight of what it kept, too. This weight is the floor at the end.
     fn run_weighed(
         mut self,
         terms: &Terms<'_>,
@@ -180,7 +180,7 @@ impl BestSearch {
         Ok((found.map(|composition| (composition, floor)), visits))
     }
 
-    // What was kept, and the visits.
+    // Returns what was kept, and the visits.
     fn answer(self) -> (Option<Composition>, u64)
         ensures found { result.0 ≡ (pricing_of self).kept }
         ensures visits { result.1 ≡ self.visits }
@@ -232,7 +232,7 @@ impl BestSearch {
         attains && self.floor < weight
     }
 
-    // Counts a visit.
+    // Counts a visit, if the budget allows one more.
     fn spend(&mut self) -> Result<(), BudgetSpent>
         requires { self.old.visits ≤ self.old.nodes }
         ensures ok { OnOk result (self.old.visits < self.old.nodes) }
@@ -264,7 +264,8 @@ impl BestSearch {
         self.is_found = true;
     }
 
-    // True if the child's optimistic weights are at least the closed rows' right sides, and above the floor.
+    // True if the child with `count` of the next class has an optimistic weight of at least the right side in each closed row, and above
+    // the floor in the priced row. The weights are then those of the child.
     fn weights_allow(&mut self, terms: &Terms<'_>, depth: usize, count: usize) -> bool
         requires terms { AreTerms terms.now }
         requires below { depth < length terms.now.classes.now.classes }

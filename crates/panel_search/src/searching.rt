@@ -25,8 +25,8 @@ pub enum SearchStop {
     OutOfMemory,
 }
 
-/// Returns the first composition of the classes, in order of classes with the greater count first, or None if there is none, if the
-/// search makes at most `nodes` visits. Each front that is entered counts one visit, also the empty front.
+/// Returns the first composition of the classes, in order of classes with the greater count first, or None if there is none. Fails with
+/// `Spent` if the search takes more than `nodes` visits. Each front that is entered counts one visit, also the empty front.
 pub fn first(
     alloc: Global,
     classes: &Classes,
@@ -87,7 +87,7 @@ impl Search {
         })
     }
 
-    // The whole search. It has its memory, so it ends with what it finds, or with its budget spent.
+    // Runs the whole search. It has its memory already, so it ends with what it finds, or with its budget spent.
     fn run(mut self, classes: &Classes) -> Result<Option<Composition>, BudgetSpent>
         requires places { length self.counts.items ≡ length classes.now.classes }
         requires tally { Tracks classes.now [] classes.now.classes self.tally }
@@ -114,7 +114,7 @@ impl Search {
         }
     }
 
-    // Counts a visit.
+    // Counts a visit, if one is left.
     fn spend(&mut self) -> Result<(), BudgetSpent>
         ensures ok { OnOk result (self.old.left ≡ self.new.left + 1) }
         ensures err { OnErr result (self.old.left ≡ 0) }

@@ -70,7 +70,7 @@ pub(crate) fn values_range(
     (low, end)
 }
 
-// The bounds of a category's value.
+// Returns the bounds of a category's value.
 fn bound_at(bounds: &[ValueBounds], category: usize, value: usize) -> Bounds
     requires category { category < length bounds.now }
     requires value { value < length (slice_index_or bounds.now category []) }

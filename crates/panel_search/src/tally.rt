@@ -24,7 +24,7 @@ pub(crate) struct Tally {
 }
 
 impl Tally {
-    // Of the empty front, after which each class comes.
+    // Returns the tally of the empty front, with all classes still to come.
     pub(crate) fn new(alloc: Global, classes: &Classes) -> Result<Tally, AllocError>
         ensures { IfOk result (λ tally. Tracks classes.now [] classes.now.classes tally) }
     {
@@ -43,7 +43,7 @@ impl Tally {
         })
     }
 
-    // Of a front: the classes after it are still to come.
+    // Returns the tally of a front, with the classes after it still to come.
     pub(crate) fn at_front(
         alloc: Global,
         classes: &Classes,
@@ -74,7 +74,7 @@ impl Tally {
         self.later_taken -= class.most();
     }
 
-    // Puts that class back.
+    // Puts the class after the front back among those that are still to come.
     pub(crate) fn end_class(&mut self, classes: &Classes, front: &[usize])
         requires below { length front.now < length classes.now.classes }
         requires stands { Tracks classes.now front.now (drop (length front.now + 1) classes.now.classes) self.old }
@@ -85,7 +85,7 @@ impl Tally {
         self.later_taken += class.most();
     }
 
-    // The front takes `count` of the next class.
+    // Lets the front take `count` of the next class.
     pub(crate) fn take(&mut self, classes: &Classes, front: &[usize], count: usize)
         requires below { length front.now < length classes.now.classes }
         requires small { taken_by classes.now front.now ≤ 1000 }
@@ -99,7 +99,7 @@ impl Tally {
         self.taken += count;
     }
 
-    // The front gives `count` of the next class back.
+    // Lets the front give `count` of the next class back.
     pub(crate) fn give_back(&mut self, classes: &Classes, front: &[usize], count: usize)
         requires below { length front.now < length classes.now.classes }
         requires stands { Tracks classes.now (front.now ++ count ∷ []) (drop (length front.now + 1) classes.now.classes) self.old }
@@ -175,7 +175,7 @@ impl Tally {
         true
     }
 
-    // How many members the front lacks of the size.
+    // Returns how many members the front lacks of the size.
     pub(crate) fn lack_here(&self, classes: &Classes, front: &[usize]) -> usize
         requires live { is_reachable classes.now front.now ≡ true }
         requires stands { Tracks classes.now front.now (drop (length front.now) classes.now.classes) self.now }
@@ -185,7 +185,7 @@ impl Tally {
         classes.size() - self.taken
     }
 
-    // How many members the front with `count` of the next class lacks of the size.
+    // Returns how many members the front with `count` of the next class lacks of the size.
     pub(crate) fn lack(&self, classes: &Classes, front: &[usize], count: usize) -> usize
         requires below { length front.now < length classes.now.classes }
         requires live { is_reachable classes.now (front.now ++ count ∷ []) ≡ true }
@@ -205,7 +205,7 @@ impl Tally {
     }
 }
 
-// Adds to cells of zero what each class can give of each value. Returns how much all classes can give.
+// Adds to `later`, which is all 0, the most that each class can give of each value. Returns the most that all classes together can give.
 fn add_all(later: &mut [usize], classes: &Classes) -> usize
     requires room { length later.old ≡ 50 * length classes.now.bounds }
     requires zero { AreAtMost 0 (length classes.now.bounds) later.old }

@@ -20,7 +20,7 @@ pub(crate) struct Weights {
 }
 
 impl Weights {
-    // Of a front.
+    // Returns the weights of a front.
     pub(crate) fn new(
         alloc: Global,
         classes: &Classes,
@@ -39,7 +39,7 @@ impl Weights {
         Ok(weights)
     }
 
-    // Of the empty front.
+    // Returns the weights of the empty front.
     fn of_nothing(alloc: Global, classes: &Classes, row: &Row) -> Result<Weights, AllocError>
         requires { AreNarrow classes.now row.now.a }
         ensures { IfOk result (λ weights. Weighs classes.now row.now [] weights) }
@@ -49,7 +49,7 @@ impl Weights {
         Ok(Weights { by_length })
     }
 
-    // The front's weight.
+    // Returns the front's weight.
     pub(crate) fn weight(&self, classes: &Classes, row: &Row, front: &[usize]) -> i128
         requires within { length front.now < length classes.now.classes + 1 }
         requires stands { Weighs classes.now row.now front.now self.now }
@@ -58,7 +58,8 @@ impl Weights {
         self.by_length[front.len()]
     }
 
-    // The optimistic weight of the front, which lacks `lack` members.
+    // Returns the optimistic weight of the front, which lacks `lack` members: its weight, and the greatest sum of `lack` units of the classes
+    // after it.
     pub(crate) fn optimistic(
         &self,
         sums: &Sums,
@@ -100,7 +101,7 @@ impl Weights {
         weight
     }
 
-    // The optimistic weight of the front with `count` of the next class, which then lacks `lack` members.
+    // Continues the front with `count` of the next class, so that it lacks `lack` members, and returns its optimistic weight then.
     pub(crate) fn child(
         &mut self,
         sums: &Sums,
@@ -125,7 +126,7 @@ impl Weights {
     }
 }
 
-// The weights of a front in each closed row.
+// Returns the weights of a front in each closed row.
 pub(crate) fn all_weights(
     alloc: Global,
     classes: &Classes,
@@ -144,7 +145,7 @@ pub(crate) fn all_weights(
     Ok(weights)
 }
 
-// A weight with `count` times an entry.
+// Returns a weight plus `count` times an entry.
 fn with_count(weight: i128, count: usize, entry: i128) -> i128
     requires { unsigned_abs weight + count * unsigned_abs entry < 2 ^ 127 }
     ensures { result ≡ weight +ℤ pos count *ℤ entry }
@@ -152,7 +153,8 @@ fn with_count(weight: i128, count: usize, entry: i128) -> i128
     weight + count as i128 * entry
 }
 
-// True if the optimistic weight of the front with `count` of the next class is at least the right side of each closed row.
+// True if the optimistic weight of the front with `count` of the next class is at least the right side of each closed row. The weights are
+// then those of this child.
 pub(crate) fn child_attains(
     weights: &mut [Weights],
     sums: &[Sums],

@@ -13,7 +13,7 @@ use Rattle.pricing_pool.specs.Outcomes.{Outcome}
 use Rattle.pricing_pool.specs.SoFar.{CameTo, GoesOn}
 use Rattle.pricing_pool.proofs.Taking.{piece_and_later, piece_visits, taken_ok, taken_spent}
 
--- the pieces of the first fronts
+-- the pricing after the pieces of the first `count` fronts
 abbrev pub came_up_to : Row → (List ℕ → Pricing) → Pricing → List (List ℕ) → ℕ → Pricing
 came_up_to row search begun fronts count = fold (take_piece row) begun (map search (take count fronts))
 
@@ -23,7 +23,7 @@ one_more row search begun [] place l = absurd (omega arith)
 one_more row search begun (f ∷ fs) zero l = refl
 one_more row search begun (f ∷ fs) (suc place) l = one_more row search (take_piece row begun (search f)) fs place (omega arith)
 
--- a piece takes no more visits, with those before it, than all pieces
+-- the visits before a piece and those of the piece are at most the visits after all pieces
 with_those_before : (row : Row) (search : List ℕ → Pricing) (begun : Pricing) (fronts : List (List ℕ)) (place : ℕ) → place < length fronts →
     (came_up_to row search begun fronts place).visits + (search (slice_index_or fronts place [])).visits ≤ (fold (take_piece row) begun (map search fronts)).visits
 with_those_before row search begun [] place l = absurd (omega arith)
@@ -37,7 +37,7 @@ module _ (all : Classes) (closed : List Row) (row : Row) (begun : Pricing) (fron
   abbrev pub before : Pricing
   before = came_up_to row search begun fronts place
 
-  -- the piece in a place was taken
+  -- if the outcome of the piece in a place is taken, the pricing is that after this piece
   pub piece_taken : (now after : Pricing) (outcome : Outcome) → now ≡ before → place < length fronts → AnswersWeighed (search (slice_index_or fronts place [])) budget outcome → CameTo outcome nodes (Ok tt) now after →
       (after ≡ came_up_to row search begun fronts (place + 1)) × (after.visits ≤ nodes) × (begun.visits ≤ now.visits → begun.visits ≤ after.visits)
   piece_taken now after outcome e l answers came =
@@ -47,7 +47,7 @@ module _ (all : Classes) (closed : List Row) (row : Row) (begun : Pricing) (fron
       taken.0 ∙ ap (λ p. take_piece row p (search (slice_index_or fronts place []))) e ∙ sym (one_more row search begun fronts place l) ∙ ap (came_up_to row search begun fronts) place_on in
       (is, taken.1, λ m. omega (arith, ap (λ p. p.visits) taken.0, piece_visits row now (search (slice_index_or fronts place [])), m))
 
-  -- it couldn't be
+  -- if it can't be taken, the wave stops for the same reason
   pub piece_stops : (now after : Pricing) (outcome : Outcome) (stop : SearchStop) (left : Pricing) → now ≡ before → place < length fronts → budget ≡ nodes - begun.visits → begun.visits ≤ now.visits → now.visits ≤ nodes →
       AnswersWeighed (search (slice_index_or fronts place [])) budget outcome → CameTo outcome nodes (Err stop) now after → GoesOn (wave all closed row begun fronts) nodes (Err stop) left
   piece_stops now after outcome Spent left e l of more within answers came =

@@ -12,7 +12,7 @@ fold_keeps : {A X : Type 0} (P : A → Type 0) (f : A → X → A) → ((a : A) 
 fold_keeps P f step [] a p = p
 fold_keeps P f step (x ∷ xs) a p = fold_keeps P f step xs (f a x) (step a x p)
 
--- the floor is the weight of what was kept last
+-- the floor is the weight of what was kept last, if there is one
 abbrev pub IsWeighed : Row → Pricing → Type 0
 IsWeighed row now = (counts : List ℕ) → now.kept ≡ Some counts → now.floor ≡ weight_in row.a counts
 

@@ -1,4 +1,4 @@
--- Outcomes that are taken are those of the pieces.
+-- To take an outcome is to take its piece, as the definition says.
 use Rattle.std.proofs.Common.{◌≡◌, ℕ, ◌+◌, ◌-◌, ◌<◌, ◌≤◌, true, false, cond, List, [], ◌∷◌, ◌++◌, fold, ℤ, Option, Some, None, Ok, Err, refl, sym, ap, ◌∙◌, arith}
 use Rattle.std.specs.Prelude.{int_lt}
 use Rattle.define_rows.specs.Row.{Row}
@@ -13,7 +13,7 @@ use Rattle.pricing_pool.specs.Outcomes.{Outcome}
 use Rattle.pricing_pool.specs.SoFar.{CameTo, heavier}
 use Rattle.pricing_pool.proofs.Kept.{IsWeighed, search_weighed}
 
--- what a piece kept is kept where it is heavier
+-- to keep the composition of an outcome, if it is heavier, is to keep that of its piece
 heavier_kept : (row : Row) (piece : Pricing) (found : Option (List ℕ × ℤ)) (now : Pricing) → IsWeighed row piece → IsKept piece found → heavier found now ≡ keep_heavier row now piece.kept
 heavier_kept row piece None now weighed kept = sym (ap (keep_heavier row now) kept)
 heavier_kept row piece (Some (counts, weight)) now weighed kept =
@@ -51,11 +51,11 @@ piece_visits row now piece = by piece.kept
       | false ↦ refl
     ])
 
--- pieces take no visits away
+-- the visits only grow with more pieces
 pub pieces_add : (row : Row) (now : Pricing) (pieces : List Pricing) → now.visits ≤ (fold (take_piece row) now pieces).visits
 pieces_add row now [] = omega arith
 pieces_add row now (piece ∷ pieces) = omega (arith, piece_visits row now piece, pieces_add row (take_piece row now piece) pieces)
 
--- nor does a piece with those after it
+-- the visits so far and those of the next piece are at most the visits after all pieces
 pub piece_and_later : (row : Row) (now piece : Pricing) (pieces : List Pricing) → now.visits + piece.visits ≤ (fold (take_piece row) now (piece ∷ pieces)).visits
 piece_and_later row now piece pieces = omega (arith, piece_visits row now piece, pieces_add row (take_piece row now piece) pieces)

@@ -11,11 +11,11 @@ use Rattle.define_waves.specs.Waves.{wave}
 use Rattle.pricing_pool.proofs.Taking.{pieces_add}
 
 module _ (all : Classes) (closed : List Row) (row : Row) (fronts : List (List ℕ)) where
-  -- the fronts of the wave of a number
+  -- the fronts of wave `number`
   abbrev pub part : ℕ → List (List ℕ)
   part number = take 16 (drop (16 * number) fronts)
 
-  -- so many waves
+  -- the pricing after the first `count` waves
   abbrev pub up_to : Pricing → ℕ → Pricing
   up_to begun count = fold (wave all closed row) begun (map part (range_with_len 0 count))
 
@@ -27,7 +27,7 @@ module _ (all : Classes) (closed : List Row) (row : Row) (fronts : List (List �
   pub wave_adds : (now : Pricing) (fs : List (List ℕ)) → now.visits ≤ (wave all closed row now fs).visits
   wave_adds now fs = pieces_add row now (map (λ (front : List ℕ). search_from all closed row front now.floor) fs)
 
-  -- later waves take no visits away
+  -- the visits only grow with later waves
   pub rises : (begun : Pricing) (count more : ℕ) → (up_to begun count).visits ≤ (up_to begun (count + more)).visits
   rises begun count zero =
       let same : count ≡ count + 0 = omega arith in
@@ -37,7 +37,7 @@ module _ (all : Classes) (closed : List Row) (row : Row) (fronts : List (List �
       let same : count + more + 1 ≡ count + suc more = omega arith in
       subst (λ n. (up_to begun count).visits ≤ (up_to begun n).visits) same (omega (arith, rises begun count more, next))
 
-  -- a wave takes no more visits, with those before it, than all of them
+  -- the visits after a wave are at most those after all waves
   pub wave_within : (begun : Pricing) (count total : ℕ) → count < total → (wave all closed row (up_to begun count) (part count)).visits ≤ (up_to begun total).visits
   wave_within begun count total l =
       let same : count + 1 + (total - (count + 1)) ≡ total = omega (arith, l) in

@@ -18,12 +18,12 @@ pub ceiling : (n : ℕ) → n / 16 + min 1 (n % 16) ≡ (n + 15) / 16
 ceiling n = omega arith
 
 module _ (all : Classes) (closed : List Row) (row : Row) (nodes : ℕ) where
-  -- waves take no visits away
+  -- the visits only grow from wave to wave
   waves_rise : (now : Pricing) (parts : List (List (List ℕ))) → now.visits ≤ (fold (wave all closed row) now parts).visits
   waves_rise now [] = omega arith
   waves_rise now (fronts ∷ later) = omega (arith, wave_adds all closed row [] now fronts, waves_rise (wave all closed row now fronts) later)
 
-  -- where the fronts before the pieces take too many visits
+  -- if the pieces can't be made, the whole search stops for the same reason
   pub pieces_stop : (stop : SearchStop) → AnswersPieces (pieces all closed row) nodes (Err stop) → AnswersBest (best_in_waves all closed row) nodes (Err stop)
   pieces_stop Spent l = omega (arith, l, waves_rise (record { visits = (pieces all closed row).visits; floor = row.b; kept = None }) (waves (pieces all closed row).fronts))
   pieces_stop OutOfMemory l = tt
@@ -50,7 +50,7 @@ module _ (all : Classes) (closed : List Row) (row : Row) (nodes : ℕ) where
         after.kept ≡ price all closed row
     waves_price searchable entries after e = ap (λ now. now.kept) (e ∙ due_is) ∙ waves_keep_price all closed row searchable entries
 
--- a wave that can't be searched
+-- if a wave stops, the search of all waves stops for the same reason
 pub wave_stops : (all : Classes) (closed : List Row) (row : Row) (fronts : List (List ℕ)) (begun now : Pricing) (nodes number : ℕ) (stop : SearchStop) (left after : Pricing) → now ≡ up_to all closed row fronts begun number →
     number < (length fronts + 15) / 16 → GoesOn (wave all closed row now (part all closed row fronts number)) nodes (Err stop) left → GoesOn (fold (wave all closed row) begun (waves fronts)) nodes (Err stop) after
 wave_stops all closed row fronts begun now nodes number Spent left after e l goes =

@@ -16,13 +16,13 @@ Outcome = Result (Option (List ℕ × ℤ) × ℕ) SearchStop
 abbrev pub search_at : Priced → List (List ℕ) → ℤ → ℕ → Pricing
 search_at priced fronts floor place = search_from priced.classes priced.closed priced.row (slice_index_or fronts place []) floor
 
--- the answers of one of `workers` workers: of the pieces in those of the first `places` places that are the worker's number modulo
--- `workers`
+-- the answers of worker number `worker` of `workers`, in order: of the pieces whose place in the wave is below `places`, and `worker`
+-- modulo `workers`
 pub record AreOf (search : ℕ → Pricing) (nodes workers worker places : ℕ) (outcomes : List Outcome) : Type 0 where
   pub each : (i : ℕ) (outcome : Outcome) → slice_get outcomes i ≡ Some outcome → AnswersWeighed (search (worker + i * workers)) nodes outcome
   pub all : places ≤ worker + length outcomes * workers
 
--- the answers of `count` of the workers, from the worker `from` on
+-- the answers of `count` of the workers, from worker `from` on
 pub record AreOfAll (search : ℕ → Pricing) (nodes workers from count places : ℕ) (all : List (Vec Outcome Global)) : Type 0 where
   pub one_each : length all ≡ count
   pub each : (j : ℕ) (outcomes : Vec Outcome Global) → slice_get all j ≡ Some outcomes → AreOf search nodes workers (from + j) places (vec_items outcomes)
@@ -39,7 +39,7 @@ abbrev pub HasAnswer : List (Vec Outcome Global) → ℕ → ℕ → Type 0
 HasAnswer all workers place = (place % workers < length all)
     × ((outcomes : Vec Outcome Global) → slice_get all (place % workers) ≡ Some outcomes → place / workers < length (vec_items outcomes))
 
--- this is the answer
+-- this is the answer of the piece in this place
 abbrev pub IsAnswer : List (Vec Outcome Global) → ℕ → ℕ → Outcome → Type 0
 IsAnswer all workers place outcome = (outcomes : Vec Outcome Global) × (slice_get all (place % workers) ≡ Some outcomes) × (slice_get (vec_items outcomes) (place / workers) ≡ Some outcome)
 

@@ -6,7 +6,7 @@ use Rattle.panel_search.specs.declared.searching.SearchStop.TheVariants.{Spent, 
 use Rattle.pricing_pool.specs.Outcomes.{Outcome}
 use Rattle.pricing_pool.specs.declared.waves.SoFar.{SoFar}
 
--- the visits, the greatest weight, and what was kept
+-- the outcome so far, as a pricing: the visits, the floor, and what was kept
 abbrev pub pricing_so_far : SoFar → Pricing
 pricing_so_far so_far = record { visits = so_far.visits; floor = so_far.floor; kept = so_far.kept }
 
@@ -15,7 +15,7 @@ abbrev pub heavier : Option (List ℕ × ℤ) → Pricing → Pricing
 heavier None now = now
 heavier (Some (counts, weight)) now = if int_lt now.floor weight then record now { floor = weight; kept = Some counts } else now
 
--- the outcome was added, or the visits are more than the budget; want of memory may come at any time
+-- to take an outcome adds it, or the visits are more than the budget `nodes`; want of memory may come at any time
 abbrev pub CameTo : Outcome → ℕ → Result (Unit {0}) SearchStop → Pricing → Pricing → Type 0
 CameTo (Ok (found, visits)) nodes (Ok done) before after = (after ≡ heavier found (record before { visits = before.visits + visits })) × (after.visits ≤ nodes)
 CameTo (Ok (found, visits)) nodes (Err Spent) before after = nodes < before.visits + visits
@@ -26,7 +26,8 @@ CameTo (Err OutOfMemory) nodes (Ok done) before after = ⊥
 CameTo (Err OutOfMemory) nodes (Err Spent) before after = ⊥
 CameTo (Err OutOfMemory) nodes (Err OutOfMemory) before after = Unit {0}
 
--- the search does what is due, or its visits are more than the budget; want of memory may come at any time
+-- the search does what the definition says (`due`), or the definition needs more visits than the budget `nodes`; want of memory may come at
+-- any time
 abbrev pub GoesOn : Pricing → ℕ → Result (Unit {0}) SearchStop → Pricing → Type 0
 GoesOn due nodes (Ok done) after = (after ≡ due) × (due.visits ≤ nodes)
 GoesOn due nodes (Err Spent) after = nodes < due.visits

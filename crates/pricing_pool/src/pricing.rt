@@ -20,10 +20,9 @@ use std::thread::Threads;
 /// How many pieces each wave has, but for the last one.
 const WAVE: usize = 16;
 
-/// Searches the compositions that weigh at least the right side in each closed row. Returns the one of greatest weight in the row,
-/// above the row's right side, the first of equals, or None if there is none; and the visits of the search in waves, if these are at
-/// most `nodes`. From 1 to 64 workers search its pieces on threads, and the watch is told the number of each piece as it starts.
-/// Neither changes the answer.
+/// Searches the compositions that weigh at least the right side in each closed row, and more than its right side in `row`. Returns the one
+/// of greatest weight in `row`, the first of equals, or None if there is none; and the visits of the search in waves. From 1 to 64 workers
+/// search its pieces on threads, and the watch is told the number of each piece as it starts. Neither changes the answer.
 ///
 /// Each of the rows has one entry per class and a reach below 2^127: the absolute value of its right side, and of each entry times its
 /// class's size. `Spent` comes exactly if the visits exceed `nodes`; want of memory may come at any time.
@@ -48,7 +47,7 @@ pub fn best_by<R: Threads + Sync, W: Watch + Sync>(
     price_by(rt, alloc, workers, watch, &pricer, row, nodes)
 }
 
-/// The same over the closed rows that a pricer keeps.
+/// Searches as `best_by` does, over the closed rows that a pricer keeps.
 pub fn price_by<R: Threads + Sync, W: Watch + Sync>(
     rt: &R,
     alloc: Global,
@@ -69,7 +68,7 @@ pub fn price_by<R: Threads + Sync, W: Watch + Sync>(
     search_waves(rt, alloc, workers as usize, watch, &priced, nodes)
 }
 
-/// The search in waves for a row that is priced.
+/// Searches in waves for a row that is priced.
 fn search_waves<R: Threads + Sync, W: Watch + Sync>(
     rt: &R,
     alloc: Global,
@@ -154,7 +153,7 @@ fn take_wave_of<R: Threads + Sync, W: Watch + Sync>(
     so_far.take_wave(rt, alloc, watch, &wave, workers.min(part.len()), nodes)
 }
 
-/// The fronts of the wave that begins in this place.
+/// Returns the fronts of the wave that begins in this place.
 fn part_from(fronts: &[Front], start: usize) -> &[Front]
     requires { start < length fronts.now }
     ensures part { result.now ≡ take 16 (drop start fronts.now) }

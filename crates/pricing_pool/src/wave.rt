@@ -33,7 +33,7 @@ impl<'a> Model for Wave<'a> {
 }
 
 impl<'a> Wave<'a> {
-    /// At most 16 pieces below these fronts, the first of which has the number `first`.
+    /// Returns the wave of at most 16 pieces below these fronts; `first` is the number of the first piece.
     pub(crate) fn new(
         priced: &'a PricedRow<'a>,
         fronts: &'a [Front],

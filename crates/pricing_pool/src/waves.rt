@@ -16,7 +16,8 @@ use panel_search::SearchStop;
 use std::alloc::Global;
 use std::thread::Threads;
 
-/// The outcome of the waves so far: the visits, and the greatest weight with the composition that was kept last, if there is one.
+/// The outcome of the waves so far: the visits; the floor; and the composition that was kept last, if there is one, whose weight is the
+/// floor.
 #[derive(Debug, Drop)]
 pub(crate) struct SoFar {
     pub(crate) visits: u64,
@@ -102,7 +103,7 @@ impl SoFar {
     }
 }
 
-/// The outcome of the piece in this place, among the outcomes of this number of workers.
+/// Returns the outcome of the piece in this place, among the outcomes of this number of workers.
 fn outcome_of<'o>(outcomes: &'o [Vec<Outcome>], workers: usize, place: usize) -> &'o Outcome
     requires some { 1 ≤ workers }
     requires all { HasAnswer outcomes.now workers place }

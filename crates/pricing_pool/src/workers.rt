@@ -31,7 +31,7 @@ pub(crate) trait Pieces {
         ensures value { result ≡ places self.now }
         ensures few { result ≤ 16 };
 
-    /// The number of the piece in this place, among all of the pricing.
+    /// Returns the number of the piece in this place, among all pieces of the pricing.
     fn number(&self, place: usize) -> u64;
 
     fn searched(&self, alloc: Global, place: usize) -> Outcome
@@ -39,7 +39,7 @@ pub(crate) trait Pieces {
         ensures { AnswersWeighed (search self.now place) (budget self.now) result };
 }
 
-/// The outcomes of one worker's pieces, for this number of workers.
+/// Searches the pieces of one worker, where there are `workers` in all, and returns their outcomes.
 fn work<P: Pieces, W: Watch>(
     alloc: Global,
     watch: &W,
@@ -63,7 +63,8 @@ fn work<P: Pieces, W: Watch>(
     Ok(outcomes)
 }
 
-/// The outcomes of `count` workers from one on, for this number of workers in all, side by side on threads.
+/// Searches the pieces of `count` workers, from worker `from` on, side by side on threads. There are `workers` in all. Returns the
+/// outcomes, a list for each worker.
 pub(crate) fn work_side_by_side<R: Threads + Sync, P: Pieces + Sync, W: Watch + Sync>(
     rt: &R,
     alloc: Global,
@@ -100,7 +101,7 @@ pub(crate) fn work_side_by_side<R: Threads + Sync, P: Pieces + Sync, W: Watch + 
     together(left, right)
 }
 
-/// One list after the other, if both are there.
+/// Returns one list after the other, if both are there.
 fn together(
     left: Result<Vec<Vec<Outcome>>, AllocError>,
     right: Result<Vec<Vec<Outcome>>, AllocError>,

@@ -50,7 +50,7 @@ module _ (t : ℕ) (c : enter-After-most t) where
   limits : (c.index-classes-depth.result.least ≤ c.index-classes-depth.result.most) × (c.index-classes-depth.result.most ≤ length c.index-classes-depth.result.members) × (length c.index-classes-depth.result.members ≤ 400)
   limits = class_limits c.args.terms.now.classes.now c.args.depth c.index-classes-depth.result c.facts.ensures stands
 
--- the search of its live children comes to what is due there
+-- the search of the entered front's live children does what the definition says
 module _ (t : ℕ) (c : enter-After-children t) where
   counts : take c.args.depth c.spend.new.self.counts.items ≡ take c.args.depth c.args.self.now.counts.items
   counts = ap (λ search. take c.args.depth search.counts.items) c.in_ok-spend.ensures.visits
@@ -137,7 +137,7 @@ try_child-enter-requires t c =
       ),
     )
 
--- the search went on to the child, and stands at the child again
+-- the search went on to the child, and is at the child again
 module _ (t : ℕ) (c : try_child-After-deref-2 t) where
   long : length (take c.args.depth c.args.self.now.counts.items) ≡ c.args.depth
   long = front_length c.args.depth c.args.self.now.counts.items (length c.args.terms.now.classes.now.classes) c.requires.stands.places c.requires.stands.within

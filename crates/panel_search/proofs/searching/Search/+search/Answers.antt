@@ -45,7 +45,7 @@ module _ (t : ℕ) (c : enter-After-most t) where
   limits : (c.index-classes-depth.result.least ≤ c.index-classes-depth.result.most) × (c.index-classes-depth.result.most ≤ length c.index-classes-depth.result.members) × (length c.index-classes-depth.result.members ≤ 400)
   limits = class_limits c.args.classes.now c.args.depth c.index-classes-depth.result c.facts.ensures stands
 
--- a visit of its own and those of its live children are due there
+-- for the front that is entered, the definition says one visit, and the search of its live children
 module _ (t : ℕ) (c : enter-After-children t) where
   counts : take c.args.depth c.spend.new.self.counts.items ≡ take c.args.depth c.args.self.now.counts.items
   counts = ap (λ counts. take c.args.depth counts.items) c.spend.ensures.counts
@@ -125,7 +125,7 @@ enter-returns t c =
       },
     )
 
--- the search went on to the child, found nothing, and stands at the child again
+-- the search went on to the child, found nothing, and is at the child again
 module _ (t : ℕ) (c : try_child-After-deref-2 t) where
   long : length (take c.args.depth c.args.self.now.counts.items) ≡ c.args.depth
   long = front_length c.args.depth c.args.self.now.counts.items (length c.args.classes.now.classes) c.requires.stands.places c.requires.stands.within
