@@ -33,7 +33,7 @@ fn table(rt: &impl Abort, alloc: Global, columns: usize, rows: &[&[i64]]) -> Res
     Ok(table)
 }
 
-/// Returns what a search finds in a program, and how many nodes and pivots are left of 100 each.
+/// Returns what a search finds, and how many nodes and pivots are left of 100 each. `allowed` are the spans of the rows.
 fn found(
     rt: &impl Abort,
     alloc: Global,
@@ -63,7 +63,7 @@ fn found(
     Ok(text)
 }
 
-/// Spells steps: a split as its column, a refutation as its scale and each number times its factor.
+/// Spells steps: a split by its column, and a refutation by its scale and, for each multiplier, the number of the row and the factor.
 fn spelled(alloc: Global, steps: &[Step]) -> Result<String, Fail> {
     let mut text = String::new(alloc);
     for step in steps {
@@ -81,8 +81,8 @@ fn spelled(alloc: Global, steps: &[Step]) -> Result<String, Fail> {
     Ok(text)
 }
 
-/// Returns the steps that show that a program has no point, or why there are none, with `nodes` nodes left. The rows have the numbers 7, 3,
-/// 9 and 1.
+/// Returns the steps that show that a program has no point, found with at most `nodes` nodes, or why there are no steps. The rows have the
+/// numbers 7, 3, 9 and 1.
 fn tree(
     rt: &impl Abort,
     alloc: Global,
@@ -144,7 +144,7 @@ const SUMS: Rows = &[&[1, 1, 1], &[2, -1, 3]];
 
 const COINS: Rows = &[&[3, 5, 7, 11]];
 
-/// Programs, the most nodes of a search, and what it finds.
+/// The columns' spans, the rows, the rows' spans, the most nodes of the search, and what `found` returns.
 const SEARCHES: &[(Ends, Rows, Ends, u64, &str)] = &[
     (THREE, ODD, &[(3, 3)], 0, "doubt, 99 100"),
     (THREE, ODD, &[(3, 3)], 1, "doubt, 98 99"),
@@ -155,7 +155,7 @@ const SEARCHES: &[(Ends, Rows, Ends, u64, &str)] = &[
     (FOUR, COINS, &[(14, 14)], 100, "point 1 0 0 1, 98 98"),
 ];
 
-/// Programs, the row of weights if there is one, the nodes that are left, and the lines of the tree.
+/// The columns' spans, the rows, the rows' spans, the row of weights if there is one, the nodes of the budget, and what `tree` returns.
 const TREES: &[(Ends, Rows, Ends, Option<usize>, u64, &str)] = &[
     (
         THREE,

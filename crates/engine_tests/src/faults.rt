@@ -1,7 +1,7 @@
-//! Faulty texts, for `texts`. A row has the line and the kind of the first fault, or zeros for none; the number of a line in a sound text;
-//! and what replaces that line and all after it. Fields are parted by `|`.
+//! Faulty texts, for `texts`. A row has four fields, parted by `|`: the line and the kind of the first fault, or zeros for none; the number
+//! of a line in a sound text; and what replaces that line and all after it.
 
-/// Rows for the pool of two women and two men.
+/// Rows for `FOUR`, the pool of two women and two men.
 pub(crate) const FOUR_FAULTS: &str = "\
 1|12|1|
 1|1|1|/
@@ -84,7 +84,7 @@ pub(crate) const FOUR_FAULTS: &str = "\
 4|5|3|category a/value x 1 0/end/
 4|5|3|category a/value x -0 1/end/";
 
-/// Rows for the same pool in a text of version 2, from the first household on.
+/// Rows for `HOUSED`, the same pool in a text of version 2, from its first household line on.
 pub(crate) const HOUSED_FAULTS: &str = "\
 10|1|10|end/
 10|1|10|gone a/end/
@@ -106,7 +106,7 @@ pub(crate) const HOUSED_FAULTS: &str = "\
 12|9|10|household d h/gone b/gone a/end/
 12|1|10|household a h/end/household b h/";
 
-/// Rows for the bundle of the four.
+/// Rows for `FOUR_BUNDLE`.
 pub(crate) const FOUR_BUNDLE_FAULTS: &str = "\
 1|17|1|
 1|17|1|bundle 1
@@ -181,7 +181,7 @@ pub(crate) const FOUR_BUNDLE_FAULTS: &str = "\
 15|16|15|stage 170141183460469231731687303715884105727 0 0 0 -1/
 15|16|15|stage -170141183460469231731687303715884105728 0 0 0 0/";
 
-/// Rows for the proof of their lottery.
+/// Rows for `FOUR_PROOF`.
 pub(crate) const FOUR_PROOF_FAULTS: &str = "\
 1|23|1|
 1|23|1|proof 1
@@ -241,7 +241,7 @@ pub(crate) const FOUR_PROOF_FAULTS: &str = "\
 20|22|20|bound 1 0 170141183460469231731687303715884105728/
 20|22|20|bound 1 2 1 2 1/";
 
-/// Rows for the proof that a couple is no panel.
+/// Rows for `COUPLE_PROOF`.
 pub(crate) const COUPLE_FAULTS: &str = "\
 2|22|2|pool 3/
 3|12|3|

@@ -1,5 +1,5 @@
-//! Searches for the best composition below a front, with a floor of their own, and the pieces into which a search is divided. The visits are
-//! counted by hand.
+//! Searches for the best composition below a front that weighs more than a floor, and the pieces into which a search is divided. The visits
+//! are counted by hand.
 
 ghost use Rattle.std.specs.Prelude.{◌≡◌, true};
 ghost use Rattle.define_waves.specs.Below.{IsFront};
@@ -18,7 +18,7 @@ struct Below<'a> {
     found: Option<&'a [usize]>,
 }
 
-// The pool has four classes of one volunteer each, two are chosen, and the third weighs 1.
+// Searches in `APART`, whose four classes have one volunteer each. Two are chosen, and the third volunteer weighs 1.
 const WORKED: &[Below<'static>] = &[
     Below {
         front: &[1],
@@ -70,7 +70,7 @@ const WORKED: &[Below<'static>] = &[
     },
 ];
 
-// The fronts of the pieces of the search with the right side 0.
+// The fronts of the pieces of the search with the right side 0, in order.
 const PIECES: &[&[usize]] = &[&[1, 0, 1, 0], &[0, 1, 1, 0], &[0, 0, 1, 1]];
 
 // True if the front has at most one count for each class, from the least to the most of the class.
@@ -114,7 +114,7 @@ fn searches_begin_at_fronts(rt: HostRuntime) -> Result<(), Fail> {
     Ok(())
 }
 
-/// The whole search, and the pieces into which it is divided.
+/// Tests a whole search, and the pieces into which it is divided.
 #[test]
 fn a_search_is_divided(rt: HostRuntime) -> Result<(), Fail> {
     let alloc = rt.alloc();

@@ -1,4 +1,4 @@
-//! The lottery of a small point.
+//! The lottery of a small pool's point, by peeling.
 
 use crate::small_pools::{ONE_OF_TWO, pool};
 use proof_limits::Budget;

@@ -7,7 +7,7 @@ use pricing_pool::best_by;
 use std::sync::atomic::{AtomicBool, Ordering};
 use std::test::Fail;
 
-/// How often a piece looks if another one has started.
+/// How often a held piece looks whether piece 2 has started.
 const TURNS: u64 = 1_000_000_000;
 
 /// Holds pieces 0 and 1 until piece 2 has started, for `TURNS` looks at most. `seen` says whether it did.

@@ -27,7 +27,7 @@ struct Asked<'a> {
 }
 
 const GIVEN: &[Given<'static>] = &[
-    // one seat for one of two
+    // one of two is chosen
     Given {
         pool: b"pool\t1\nsize\t1\ncategory\tone\nvalue\tx\t0\t1\nvalue\ty\t0\t1\nvolunteer\ta\tx\nvolunteer\tb\ty\nend\n",
         visits: 3,
@@ -47,7 +47,7 @@ const GIVEN: &[Given<'static>] = &[
             },
         ],
     },
-    // each has another value
+    // two of four are chosen, each of whom has a value of their own
     Given {
         pool: APART,
         visits: 5,
@@ -59,7 +59,7 @@ const GIVEN: &[Given<'static>] = &[
             found: Some(&[1, 0, 1, 0]),
         }],
     },
-    // the second of a pair fits
+    // of the two with value x, only the second fits
     Given {
         pool: b"pool\t1\nsize\t2\ncategory\tone\nvalue\tx\t1\t1\nvalue\ty\t1\t1\ncategory\ttwo\nvalue\tp\t1\t1\nvalue\tq\t1\t1\nvolunteer\ta\tx\tp\nvolunteer\tb\tx\tq\nvolunteer\tc\ty\tp\nvolunteer\td\ty\tp\nend\n",
         visits: 5,

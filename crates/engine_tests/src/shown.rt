@@ -1,9 +1,9 @@
-//! Texts shown with marks: a blank for TAB, a stroke for LF, a low line for a blank, and a caret for a byte that is no UTF-8; rows of faulty
-//! texts, with fields parted by `|`; and texts with some of their lines changed. `texts`, `pools` and `verifying` use this.
+//! Texts shown with marks: a blank for TAB, a slash for LF, an underscore for a blank, and a caret for a byte that is no UTF-8; rows of
+//! faulty texts, with fields parted by `|`; and texts with some of their lines replaced. `texts`, `pools` and `verifying` use this.
 
 use std::alloc::{AllocError, Global};
 
-/// Adds a shown text.
+/// Adds the bytes of a shown text.
 fn add(text: &mut Vec<u8>, shown: &str) -> Result<(), AllocError> {
     for byte in shown.as_bytes() {
         text.push(match *byte {
@@ -17,7 +17,7 @@ fn add(text: &mut Vec<u8>, shown: &str) -> Result<(), AllocError> {
     Ok(())
 }
 
-/// Returns the text that is shown so.
+/// Returns the bytes of a shown text.
 pub(crate) fn spelled(alloc: Global, shown: &str) -> Result<Vec<u8>, AllocError> {
     let mut text = Vec::new(alloc);
     add(&mut text, shown)?;
@@ -32,7 +32,8 @@ fn number_of(field: Option<&str>) -> usize {
     }
 }
 
-/// Returns the line and the kind of a row, and its text: the shown lines before the line that the row replaces, and the row's own.
+/// Returns the line and the kind of a row of a faulty text, and the text: the lines of `shown` before the one that the row replaces, and
+/// then the row's own lines.
 pub(crate) fn faulty(
     alloc: Global,
     shown: &str,
@@ -52,7 +53,7 @@ pub(crate) fn faulty(
     Ok((wanted, text))
 }
 
-/// Returns a shown text with other lines in the place of lines `first..=last`.
+/// Returns the bytes of a shown text in which `lines` replace the lines `first..=last`. If both are 0, nothing is replaced.
 pub(crate) fn changed(
     alloc: Global,
     shown: &str,

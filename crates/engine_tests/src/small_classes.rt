@@ -9,7 +9,7 @@ use pool_text::read_pool;
 use std::alloc::Global;
 use std::test::Fail;
 
-/// Two are chosen of four volunteers, each of whom has another value.
+/// A pool in which two are chosen of four volunteers, each of whom has a value of their own.
 pub(crate) const APART: &[u8] =
     b"pool\t1\nsize\t2\ncategory\tvalue\nvalue\tp\t0\t1\nvalue\tq\t0\t1\nvalue\tr\t0\t1\nvalue\ts\t0\t1\nvolunteer\ta\tp\nvolunteer\tb\tq\nvolunteer\tc\tr\nvolunteer\td\ts\nend\n";
 

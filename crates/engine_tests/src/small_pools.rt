@@ -3,10 +3,10 @@
 use pool_model::{BuildStop, Name, Pool};
 use std::alloc::Global;
 
-/// The size, and values with their bounds and how many volunteers have them.
+/// A pool's size, and its values: the name, the lower and the upper bound, and how many volunteers have the value.
 pub(crate) type SmallPool = (usize, &'static [(&'static str, usize, usize, usize)]);
 
-/// Builds the pool.
+/// Builds a pool of one category with these values.
 pub(crate) fn pool(alloc: Global, given: SmallPool) -> Result<Pool, BuildStop> {
     let mut pool = Pool::new(alloc, given.0)?;
     pool.add_category("one")?;
@@ -22,5 +22,5 @@ pub(crate) fn pool(alloc: Global, given: SmallPool) -> Result<Pool, BuildStop> {
     Ok(pool)
 }
 
-/// One is chosen of two who differ.
+/// A pool in which one is chosen of two volunteers with different values.
 pub(crate) const ONE_OF_TWO: SmallPool = (1, &[("x", 0, 1, 1), ("y", 0, 1, 1)]);

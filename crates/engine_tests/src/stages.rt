@@ -7,7 +7,7 @@ use proof_stages::{Chances, Columned, Relaxed, column_stages, relaxed_stages};
 use std::alloc::{AllocError, Global};
 use std::test::Fail;
 
-/// Pools, and the chances of each value's volunteers.
+/// Pools, with the chance of each value's volunteers, or `empty` if no point meets the quotas.
 const POOLS: &[(SmallPool, &str)] = &[
     ((2, &[("x", 1, 1, 2), ("y", 1, 1, 2)]), "1/2 1/2 "),
     ((2, &[("x", 1, 1, 3), ("y", 1, 1, 2)]), "1/3 1/2 "),

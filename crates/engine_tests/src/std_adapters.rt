@@ -44,7 +44,7 @@ impl Write for Interrupted {
     }
 }
 
-/// A failed read is a fault and is not made again, and a sound reader is read to its end.
+/// Tests that a failed read is a fault and is not made again, and that a sound reader is read to its end.
 #[test]
 fn readers_of_std_are_sources(rt: HostRuntime) -> Result<(), Fail> {
     let mut source = StdSource::new(Interrupted {
@@ -62,7 +62,7 @@ fn readers_of_std_are_sources(rt: HostRuntime) -> Result<(), Fail> {
     Ok(())
 }
 
-/// A failed write is a fault and is not made again; what came before it is written. An empty piece makes no call.
+/// Tests that a failed write is a fault and is not made again, that what came before it is written, and that an empty piece makes no call.
 #[test]
 fn writers_of_std_are_sinks(rt: HostRuntime) {
     let mut sink = StdSink::new(Interrupted {

@@ -18,7 +18,7 @@ fn span(ends: (i64, i64)) -> Span {
     Span::reaching(narrow(ends.0), narrow(ends.1))
 }
 
-// Two rows of three columns, which all have the span from 0 to `most`; the rows' spans; and whether there is a point.
+// Two rows over three columns; the rows' spans; the greatest number of each column's span, which begins at 0; and whether there is a point.
 #[derive(Drop)]
 struct SmallProgram {
     rows: [[i64; 3]; 2],
@@ -71,7 +71,7 @@ fn greatest(multiplier: i128, ends: (i64, i64)) -> i128 {
     multiplier.wrapping_mul(i128::from(end))
 }
 
-// True if the multiplied rows, within their spans, are less than what the columns' spans allow at least.
+// True if no point can keep all spans: the greatest sum of the multiplied rows by the rows' spans is below the least by the columns' spans.
 fn refutes(program: &SmallProgram, multipliers: &[Narrow]) -> bool {
     let mut total = 0i128;
     let mut columns = [0i128; 3];
@@ -92,7 +92,7 @@ fn refutes(program: &SmallProgram, multipliers: &[Narrow]) -> bool {
     total < 0
 }
 
-// True if a run of the program finds what is wanted, and shows it by a point or a refutation.
+// True if a run of the program says rightly whether there is a point, and its point or its refutation is right.
 fn is_right(alloc: Global, program: &SmallProgram, budget: &mut Budget) -> Result<bool, ProveStop> {
     let mut table = table_of(alloc, program)?;
     let columns = [
@@ -211,7 +211,7 @@ fn wide_table(alloc: Global) -> Result<Table, ProveStop> {
     Ok(table)
 }
 
-// Returns the operation that stops a call, and its two numbers.
+// Returns the operation that passes 2^62 and its two numbers, if it stopped a call.
 fn passed(made: Result<(), ProveStop>) -> Option<(Op, i128, i128)> {
     match &made {
         Err(ProveStop::Wide(pass)) => Some((pass.op(), pass.x(), pass.y())),

@@ -1,4 +1,4 @@
-//! Texts of pools, bundles and proofs: written again as they were read, cut anywhere, and with faults.
+//! Texts of pools, bundles and proofs: read and written again, cut before each byte, and with faults.
 
 use crate::faults::{
     COUPLE_FAULTS, FOUR_BUNDLE_FAULTS, FOUR_FAULTS, FOUR_PROOF_FAULTS, HOUSED_FAULTS,
@@ -20,27 +20,27 @@ enum Form {
     Proof,
 }
 
-/// Two women and two men, one of each to be chosen.
+/// A pool of two women and two men, one of each to be chosen.
 const FOUR: &str =
     "pool 1/size 2/category gender/value female 1 1/value male 1 1/volunteer a female/volunteer b female/volunteer c male/volunteer d male/end/";
 
-/// The same, but two share a household, one of these is gone and somebody is seated. A name has a letter of two bytes and a blank.
+/// The same pool, but a and c share a household, a is gone and d is seated. The household's name has a letter of two bytes and a blank.
 const HOUSED: &str =
     "pool 2/size 2/category gender/value female 1 1/value male 1 1/volunteer a female/volunteer b female/volunteer c male/volunteer d male/household a é_/household c é_/gone a/seated d/end/";
 
-/// One of the four, of whom a and c share a household.
+/// A bundle of the same four, of whom a and c share a household.
 const HOUSED_BUNDLE: &str =
     "bundle 2/pool 2/size 2/category gender/value female 1 1/value male 1 1/volunteer a female/volunteer b female/volunteer c male/volunteer d male/household a h/household c h/end/total 2/panel 1 0 3/panel 1 1 2/stage 1 1 1 0 0/stage 0 0 -1 1 0/stage 0 -1 1 -1 1/done/";
 
-/// A bundle of one volunteer, and numbers at the ends of their ranges.
+/// A bundle of one volunteer, with numbers at the ends of their ranges.
 const WIDEST_BUNDLE: &str =
     "bundle 1/pool 1/size 1/volunteer a/end/total 100000000000000000000000000000000000000/panel 100000000000000000000000000000000000000 0/stage -170141183460469231731687303715884105726 -1/stage 0 170141183460469231731687303715884105727/stage 0 0/done/";
 
-/// A proof of one volunteer's lottery, and numbers at the ends of their ranges.
+/// A proof of one volunteer's lottery, with numbers at the ends of their ranges.
 const WIDEST_PROOF: &str =
     "proof 1/bundle 1/pool 1/size 1/volunteer a/end/total 1/panel 1 0/stage 1 1/done/tree 1/split 0/bound 0/bound 72057594037927936 0 72057594037927936 1800 -72057594037927936/close/";
 
-/// Texts with their lengths, and the kind of fault if the text is cut in each line.
+/// Texts with their lengths in bytes, and for each line the kind of fault if the text is cut in this line.
 const TEXTS: &[(Form, &str, usize, &[u8])] = &[
     (Form::Pool, FOUR, 138, &[12; 10]),
     (Form::Pool, HOUSED, 186, &[12; 14]),
@@ -142,7 +142,7 @@ fn texts_are_written_again(rt: HostRuntime) -> Result<(), Fail> {
     Ok(())
 }
 
-/// Has each kind of fault at its first and its last place.
+/// Tests rows of faulty texts, which have each kind of fault at the first and at the last place where it can be.
 #[test]
 fn first_faults_are_found(rt: HostRuntime) -> Result<(), Fail> {
     let alloc = rt.alloc();

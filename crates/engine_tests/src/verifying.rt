@@ -1,5 +1,5 @@
-//! Proofs by hand, and what is said of them with some of their lines changed, by a checker that uses nothing of the program. And bundles,
-//! with the visits of a check's searches, which another program counted over the definitions.
+//! Proofs that were written by hand, whole and with some of their lines replaced. The verdicts are those of a checker that uses nothing of
+//! the program. And bundles, with the visits of a check's searches, which another program counted over the definitions.
 
 use crate::samples::{COUPLE_PROOF, FOUR_BUNDLE, FOUR_PROOF};
 use crate::shown::changed;
@@ -10,15 +10,16 @@ use proof_verify::{Verdict, verify};
 use std::alloc::{AllocError, Global};
 use std::test::Fail;
 
-/// A proof of the answer where one of them is gone and one is seated.
+/// A proof for the pool of `FOUR_PROOF`, in which a is gone and c is seated.
 const DROPOUT: &str =
     "proof 1/bundle 1/pool 1/size 2/category gender/value female 1 1/value male 1 1/volunteer a female/volunteer b female/volunteer c male/volunteer d male/gone a/seated c/end/total 1/panel 1 1 2/stage 0 1 0 0 0/stage 0 -1 0 0 1/stage 1 0 1 0 -1/stage 0 0 -1 1 0/done/tree 1/bound 1/tree 2/bound 1 2 1/tree 3/bound 1 1 1/tree 4/bound 1 5 -1/close/";
 
-/// A proof for four of whom the first two are of one household, and the last has one alone.
+/// A proof for four volunteers. The first two share a household, and the last has one alone.
 const HOUSE: &str =
     "proof 1/bundle 2/pool 2/size 2/category gender/value female 0 2/value male 0 2/category age/value young 0 2/value old 0 2/volunteer a female young/volunteer b female old/volunteer c male young/volunteer d male old/household a h/household b h/household d alone/end/total 2/panel 1 0 2/panel 1 1 3/stage 1 1 1 0 0/stage 1 0 0 1 1/done/tree 1/bound 1 5 1/tree 2/bound 1 0 1 5 -1/close/";
 
-/// What is said, `valid` or the stage, the reason and who shows it, if other lines replace lines `first..=last`.
+/// For `FOUR_PROOF`, the verdict as `said` spells it if lines `first..=last` are replaced, then `first` and `last`, and the lines in their
+/// place. If both are 0, nothing is replaced.
 const FOUR_CHANGED: &[(&str, usize, usize, &str)] = &[
     ("valid", 0, 0, ""),
     ("valid", 20, 20, "bound 2 1 1/"),
@@ -150,7 +151,7 @@ const FOUR_CHANGED: &[(&str, usize, usize, &str)] = &[
     ),
 ];
 
-/// The same for the second proof.
+/// The same for `COUPLE_PROOF`.
 const COUPLE_CHANGED: &[(&str, usize, usize, &str)] = &[
     ("valid", 0, 0, ""),
     ("valid", 14, 14, "bound 0 0 -1 3 1/"),
@@ -189,7 +190,7 @@ const COUPLE_CHANGED: &[(&str, usize, usize, &str)] = &[
     ("0 12 [14]", 9, 10, "household a g/household b h/"),
 ];
 
-/// The same for the third proof.
+/// The same for `DROPOUT`.
 const DROPOUT_CHANGED: &[(&str, usize, usize, &str)] = &[
     ("valid", 0, 0, ""),
     ("valid", 23, 23, "bound 7/"),
@@ -215,7 +216,7 @@ const DROPOUT_CHANGED: &[(&str, usize, usize, &str)] = &[
     ("valid", 25, 25, "split 3/bound 1/bound 0 2 1/"),
 ];
 
-/// The same for the fourth proof.
+/// The same for `HOUSE`.
 const HOUSE_CHANGED: &[(&str, usize, usize, &str)] = &[
     ("valid", 0, 0, ""),
     (
@@ -243,15 +244,16 @@ const HOUSE_CHANGED: &[(&str, usize, usize, &str)] = &[
     ),
 ];
 
-/// A bundle of them where a and c are of one household.
+/// A bundle for the pool of `FOUR_BUNDLE`, in which a and c share a household.
 const FAMILY_BUNDLE: &str =
     "bundle 2/pool 2/size 2/category gender/value female 1 1/value male 1 1/volunteer a female/volunteer b female/volunteer c male/volunteer d male/household a h/household c h/end/total 2/panel 1 0 3/panel 1 1 2/stage 1 1 0 1 0/done/";
 
-/// A bundle of three women and a man, of whom a and b are of one household: b with c weighs more than the cap, and isn't listed.
+/// A bundle of three women and a man, in which a and b share a household. The panel of b and c weighs more than the cap, and isn't listed.
 const ALIKE_BUNDLE: &str =
     "bundle 2/pool 2/size 2/category gender/value female 0 2/value male 0 2/volunteer a female/volunteer b female/volunteer c female/volunteer d male/household a h/household b h/end/total 2/panel 1 0 2/panel 1 1 3/stage 1 0 1 1 0/done/";
 
-/// A bundle, the lines `first..=last` that other lines replace, those lines, the visits that a search may take, and what a check says.
+/// A bundle, the first and the last of the lines that are replaced, the lines in their place, the visits that a search may make, and what
+/// the check says.
 const CHECKED: &[(&str, usize, usize, &str, u64, &str)] = &[
     (FOUR_BUNDLE, 15, 16, "stage 2 1 1 1 1/", 1, "valid"),
     (
@@ -291,7 +293,7 @@ const CHECKED: &[(&str, usize, usize, &str, u64, &str)] = &[
     ),
 ];
 
-/// Returns `valid`, or the stage, the reason and who shows it.
+/// Returns `valid`, or the stage, the reason, and the volunteers or the line that show it.
 fn said(alloc: Global, verdict: &Verdict) -> Result<String, AllocError> {
     match verdict.refusal() {
         Some(refusal) => {

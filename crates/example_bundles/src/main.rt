@@ -1,5 +1,5 @@
-//! Compares bundles with what `lottery` prints: for each bundle in `data/`, that of the pool whose text it holds. Below stand the shell
-//! and the command.
+//! Compares each bundle in `data/` with what `lottery` prints for the pool whose text the bundle holds. A program for the gate. Stands on
+//! `command_shell`, the shell, and on `command_pools`, which has the command.
 #![tactic(auto)]
 
 use command_pools::{Lottery, call_lottery};
@@ -10,10 +10,10 @@ use std::alloc::Global;
 use std::thread::Threads;
 use std::{fs, io};
 
-/// The bundles, each of the pool of its name in `examples/`.
+/// The names of the bundles. Each has the pool of its name in `examples/`.
 const NAMES: &[&str] = &["districts", "dropout", "family", "small"];
 
-/// How many bytes `out` may take.
+/// How many bytes `out` has room for.
 const ROOM: usize = 1_000_000;
 
 fn main(rt: HostRuntime) -> io::Result<()> {
@@ -27,8 +27,8 @@ fn main(rt: HostRuntime) -> io::Result<()> {
     Ok(())
 }
 
-/// The text of the pool in that of a bundle, without its last byte: what stands between the first line and the one that begins with
-/// `total`. Of another text nothing.
+/// Returns the text of a bundle's pool without its last byte: what is between the first line and the line that begins with `total`. Returns
+/// an empty text if there are no such lines.
 fn pool_of(bundle: &str) -> &str {
     bundle
         .split_once('\n')
@@ -36,7 +36,7 @@ fn pool_of(bundle: &str) -> &str {
         .map_or("", |(pool, _)| pool)
 }
 
-/// What `lottery` prints of a pool's text, under the limits that it has without options.
+/// Returns what `lottery` prints for a pool's text, with its default limits and four workers.
 fn printed<R: Threads + Sync>(rt: &R, alloc: Global, pool: &[u8]) -> io::Result<Vec<u8>> {
     let (Some(limits), Some(workers)) = (Limits::new(127, 100_000, 50_000_000), Workers::new(4))
     else {

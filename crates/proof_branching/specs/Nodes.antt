@@ -1,4 +1,4 @@
--- What a table has at a node of a search, and the stops of tests.
+-- What a table has at a node of a search, and the stops of calls that neither run a table nor pass 2^62.
 use Rattle.std.specs.Prelude.{ℕ, ◌<◌, List, length}
 use Rattle.proof_limits.specs.Spans.{Ends}
 use Rattle.proof_limits.specs.declared.stops.ProveStop.{ProveStop}
@@ -7,13 +7,13 @@ use Rattle.proof_branching.specs.declared.nodes.AtNode.{AtNode}
 use Rattle.proof_branching.specs.declared.nodes.AtNode.TheVariants.{Empty, Whole, Broken}
 use Rattle.proof_branching.specs.Searches.{IsWithin}
 
--- a whole point lies in the spans, and a split is on one of their columns
+-- a whole point lies in the spans of the columns, and a split is on one of the columns
 abbrev pub IsAtNode : List Ends → AtNode → Type 0
 IsAtNode spans Empty = Unit {0}
 IsAtNode spans (Whole point) = IsWithin spans point.items
 IsAtNode spans (Broken split) = split.column < length spans
 
--- the table was wrong, or memory runs out
+-- the stop says that the table was wrong, or that memory runs out
 abbrev pub IsLostOrMemory : ProveStop → Type 0
 IsLostOrMemory (Wide pass) = ⊥
 IsLostOrMemory BeyondWidth = ⊥

@@ -17,18 +17,18 @@ abbrev pub LieWithin : List Ends → List ℤ → ℕ → Type 0
 LieWithin spans point count = (k : ℕ) (d : Ends) (e : ℤ) → k < count →
     ((slice_index_or spans k d).least ≤ℤ slice_index_or point k e) × (slice_index_or point k e ≤ℤ (slice_index_or spans k d).greatest)
 
--- the point has a number for each span, which lies in it
+-- the point has a number for each span, and the number lies in its span
 pub record IsWithin (spans : List Ends) (point : List ℤ) : Type 0 where
   pub one_each : length point ≡ length spans
   pub inside : LieWithin spans point (length spans)
 
--- a point that is found lies in the spans; a search is in doubt only after `most` nodes, with one more to look at
+-- a point that is found lies in the spans; a search that ends in doubt took `most` nodes, and one more that it did not look at
 abbrev pub IsFound : List Ends → ℕ → Left → Left → Found → Type 0
 IsFound spans most old new (Point point) = IsWithin spans point.items
 IsFound spans most old new Nothing = Unit {0}
 IsFound spans most old new Doubt = old.nodes ≡ new.nodes + (most + 1)
 
--- a stop of a search: as of a run of the table, or no node is left, or the table was wrong
+-- the stops of a search: those of a run of the table, or no node is left, or the table was wrong
 abbrev pub SearchStops : TableSizes → Left → ProveStop → Type 0
 SearchStops table left (Wide pass) = Unit {0}
 SearchStops table left BeyondWidth = table.width < 2 ^ 62

@@ -30,7 +30,8 @@ pub(crate) enum AtNode {
     Broken(Split),
 }
 
-/// Runs the table with the spans of a node, `columns`. A whole point is tested against the spans of the root.
+/// Runs the table with `columns`, the columns' spans at a node, and returns what it has there. A whole point is tested against `root`, the
+/// columns' spans at the root.
 pub(crate) fn look(
     alloc: Global,
     table: &mut Table,
@@ -56,7 +57,7 @@ pub(crate) fn look(
     Ok(node)
 }
 
-/// Returns what a point is, whose values are multiplied by the denominator: whole, or where to split.
+/// Returns the point if it is whole, else where to split. `values` are those of the point, times the denominator.
 fn node_at(
     alloc: Global,
     root: &[Span],
@@ -111,7 +112,7 @@ fn distance(value: i128, denominator: Narrow) -> i128
     }
 }
 
-/// Splits a span at a value that is not whole. Returns None if one of the parts is empty.
+/// Splits a span at a value that is not whole. Returns None if a part is empty or its end is not narrow.
 fn split_at(column: usize, value: i128, denominator: Narrow, span: Span) -> Option<Split>
     requires { pos 1 ≤ℤ denominator }
     ensures { IfSome result (λ split. split.column ≡ column) }

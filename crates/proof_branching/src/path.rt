@@ -1,5 +1,5 @@
-//! The place of a search in its tree: the spans of the node, and the columns that were split on the way. `searching` and `proving` walk
-//! by `enter` and `turn`.
+//! The node at which a search is in its tree: the columns' spans there, and the columns that were split on the way. `searching` and
+//! `proving` go from node to node by `enter` and `turn`.
 
 ghost use Rattle.std.specs.Prelude.{◌≡◌, ◌<◌, IfOk, length};
 
@@ -35,7 +35,7 @@ impl Model for SearchPath {
 }
 
 impl SearchPath {
-    /// Begins at the root, with these spans of the columns.
+    /// Returns the path of the root, where the columns have these spans.
     pub(crate) fn new(alloc: Global, columns: &[Span]) -> Result<SearchPath, AllocError>
         ensures { IfOk result (λ path. path ≡ length columns.now) }
     {

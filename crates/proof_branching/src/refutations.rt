@@ -9,7 +9,7 @@ use proof_limits::{Narrow, ProveStop};
 use proof_table::common_divisor;
 use std::alloc::{AllocError, Global};
 
-/// Returns the rows without that of the weights, in the order of their numbers.
+/// Returns the rows other than the row of weights, in the order of their numbers.
 pub(crate) fn rows_by_number(
     alloc: Global,
     numbers: &[usize],
@@ -25,7 +25,7 @@ pub(crate) fn rows_by_number(
     Ok(rows)
 }
 
-/// Returns a table's refutation in lowest terms: the row of the weights gives the scale, and each other row its multiplier, if not 0.
+/// Returns a table's refutation in lowest terms. The row of weights gives the scale, and each row of `rows` its multiplier, if not 0.
 pub(crate) fn refutation_of(
     alloc: Global,
     refutation: &[Narrow],
@@ -43,8 +43,8 @@ pub(crate) fn refutation_of(
     in_lowest_terms(alloc, scale(refutation, weight_row), &pairs)
 }
 
-/// Divides a scale of at least 0, and multipliers with the numbers of their rows, by their greatest common divisor. Leaves out multipliers
-/// of 0. The contract leaves the result open, since each proof is verified before it is printed.
+/// Divides a scale of at least 0, and the multipliers of numbered rows, by their greatest common divisor. Leaves out multipliers of 0. The
+/// contract leaves the result open, since each proof is verified before it is printed.
 pub fn in_lowest_terms(
     alloc: Global,
     scale: Narrow,
@@ -77,7 +77,7 @@ fn divisor_of(alloc: Global, scale: Narrow, pairs: &[(usize, Narrow)]) -> Result
     Ok(common_divisor(&numbers))
 }
 
-/// Returns what the weights are multiplied by: minus the multiplier of their row if that is below 0, else 0.
+/// Returns what the weights are multiplied by: minus the multiplier of the row of weights if it is below 0, else 0.
 fn scale(refutation: &[Narrow], weight_row: Option<usize>) -> Narrow {
     match weight_row {
         Some(row) => (-factor_of(refutation, row)).max(Narrow::ZERO),

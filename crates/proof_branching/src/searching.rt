@@ -17,14 +17,14 @@ use std::alloc::Global;
 pub enum Found {
     /// A point: a number for each column.
     Point(Vec<Narrow>),
-    /// That there is no point, if the table was right.
+    /// There is no point, if the table was right.
     Nothing,
-    /// Neither a point nor that there is none, at the nodes that the search may look at.
+    /// No point was found at the nodes that the search may look at, and others are left.
     Doubt,
 }
 
 /// Searches for a point of whole numbers within these spans of columns and rows, at no more than `most` nodes. If the table's point is
-/// not whole, the search splits the column that is farthest from a whole number, and enters the nearer part first.
+/// not whole, the search splits the column whose value is farthest from a whole number, and enters the part nearer to the value first.
 pub fn search(
     alloc: Global,
     table: &mut Table,

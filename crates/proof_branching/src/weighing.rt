@@ -1,4 +1,4 @@
-//! The search for a point whose weight lies in a span, by a row of weights that is added to the table for that time. Stands on
+//! The search for a point whose weight lies in a span, by a row of weights that is added to the table during the search. Stands on
 //! `searching`; `proof_stages` and `proof_peeling` call it, and `proof_run` uses `add_weights`. Promises: the spent budget, the sizes, and
 //! that `ceiling` rounds up exactly.
 
@@ -13,8 +13,8 @@ use proof_limits::{Budget, Narrow, ProveStop, Span, narrow_add};
 use proof_table::Table;
 use std::alloc::Global;
 
-/// Searches as `search` does, for a point whose weight lies in `span` too. The table has a row of the weights for that time, and aims at
-/// great weight. After an error the table must not be used further.
+/// Searches as `search` does, for a point whose weight lies in `span` too. During the search the table has a row of the weights, and aims
+/// at great weight. After an error the table must not be used further.
 pub fn search_weighing(
     alloc: Global,
     table: &mut Table,

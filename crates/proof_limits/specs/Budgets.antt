@@ -1,4 +1,4 @@
--- The budget of a run: how much it may spend, and what of that is left. The contracts of every crate of the engine cite `SpendsOn`.
+-- The budget of a run: how much it may spend, and what of that is left. Most crates of the engine, and those above it, cite `SpendsOn`.
 use Rattle.std.specs.Prelude.{◌≡◌, ℕ, ◌≤◌}
 
 -- how many pivots and nodes are left, and how many the whole run may spend

@@ -1,4 +1,4 @@
--- Narrow numbers, the exact results of operations, and which operations pass 2^62.
+-- Narrow numbers, the exact results of operations, and the operations that pass 2^62.
 use Rattle.std.specs.Prelude.{◌^◌, ◌≤◌, ◌<◌, ℤ, ◌+ℤ◌, ◌-ℤ◌, ◌*ℤ◌, unsigned_abs, int_div}
 use Rattle.proof_limits.specs.declared.passes.Op.{Op}
 use Rattle.proof_limits.specs.declared.passes.Op.TheVariants.{Mul, Add, Sub, Div}

@@ -2,7 +2,7 @@
 use Rattle.proof_limits.specs.declared.stops.ProveStop.{ProveStop}
 use Rattle.proof_limits.specs.declared.stops.ProveStop.TheVariants.{Wide, BeyondWidth, Spent, Lost, OutOfMemory}
 
--- an operation passes 2^62, or memory runs out
+-- the stop says that an operation passes 2^62, or that memory runs out
 abbrev pub IsWideOrMemory : ProveStop → Type 0
 IsWideOrMemory (Wide pass) = Unit {0}
 IsWideOrMemory BeyondWidth = ⊥

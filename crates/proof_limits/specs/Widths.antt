@@ -1,4 +1,4 @@
--- What an operation returns as a narrow number and in 128 bits, and how it stops if the result is too wide.
+-- What an operation returns if it makes narrow numbers, or numbers of 128 bits, and how it stops if the result is too wide.
 use Rattle.std.specs.Prelude.{◌≡◌, ◌^◌, ◌≤◌, ◌<◌, nat_le, if◌then◌else◌, Result, Ok, Err, MatchResult, ℤ, ◌+ℤ◌, ◌-ℤ◌, ◌*ℤ◌, unsigned_abs, int_div, FitsSigned}
 use Rattle.std.specs.Int.{w128}
 use Rattle.proof_limits.specs.declared.passes.Op.{Op}

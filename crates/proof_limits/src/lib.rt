@@ -1,6 +1,6 @@
 //! The numbers and limits of the run that makes proofs: whole numbers of at most 2^62 by absolute value with exact operations, spans,
 //! the budget of a run, and why a run stops. Stands on no crate of the project. Each crate of the engine of `prove` stands on it, from
-//! `proof_table` to `proof_run`; `proof_answers` and `prove_command` print its budgets and stops.
+//! `proof_table` to `proof_run`; `command_proofs` prints its budgets and stops, and `command_meanings` says what is printed.
 //! Every public call is a promise: its contract says its result exactly.
 #![tactic(auto)]
 

@@ -1,5 +1,5 @@
-//! Exact operations on whole numbers that stop if the result is too wide. Stands on `narrow`, `passes` and `stops`; the crates above
-//! calculate with these calls alone.
+//! Exact operations on whole numbers that stop if the result is too wide. Stands on `narrow`, `passes` and `stops`; the crates of the
+//! engine calculate with these calls.
 
 ghost use Rattle.std.specs.Prelude.{◌≡◌, ◌≤◌, ◌^◌, pos, ◌*ℤ◌, ◌≢◌, unsigned_abs, IfOk, IfErr, SomeIff, FitsSigned};
 ghost use Rattle.std.specs.Int.{w128};
@@ -20,7 +20,8 @@ pub fn times(x: Narrow, y: Narrow) -> i128
     x.wide() * y.wide()
 }
 
-// Returns `made`, the result of an operation, as a narrow number. None stands for a result that does not fit 128 bits.
+// Returns the result of an operation as a narrow number, or the stop that names the operation. `made` is None if the result does not fit
+// 128 bits.
 #[inline]
 fn narrowed(op: Op, x: i128, y: i128, made: Option<i128>) -> Result<Narrow, ProveStop>
     requires { SomeIff made (FitsSigned w128 (outcome op x y)) (outcome op x y) }
@@ -71,7 +72,7 @@ pub fn narrow_div(x: i128, y: i128) -> Result<Narrow, ProveStop>
     narrowed(Op::Div, x, y, x.checked_div(y))
 }
 
-// Returns `made`, the result of an operation. None stands for a result that does not fit 128 bits, which stops.
+// Returns the result of an operation, or the stop that names the operation. `made` is None if the result does not fit 128 bits.
 #[inline]
 fn widened(op: Op, x: i128, y: i128, made: Option<i128>) -> Result<i128, ProveStop>
     requires { SomeIff made (FitsSigned w128 (outcome op x y)) (outcome op x y) }

@@ -1,5 +1,5 @@
 //! An operation that passes 2^62, as a stop names it: the operation and its two numbers. Stands on nothing; `stops` and `operations` use
-//! it, and `prove_command` prints it.
+//! it, and `command_proofs` prints it.
 
 ghost use Rattle.std.specs.Prelude.{◌≡◌};
 ghost use Rattle.proof_limits.specs.Operations.{Passes};
@@ -13,9 +13,9 @@ pub enum Op {
     Mul,
     /// The sum.
     Add,
-    /// The first less the second.
+    /// The first number less the second.
     Sub,
-    /// The first divided by the second, rounded towards 0. The second is not 0.
+    /// The first number divided by the second, rounded towards 0. The second is not 0.
     Div,
 }
 

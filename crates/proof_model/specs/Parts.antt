@@ -1,4 +1,4 @@
--- How the parts of a proof and the node of a line are seen: as the proofs and lines of `define_additions`. The contracts above cite `seen`.
+-- How contracts see a proof's parts and a line's node: as proofs and lines of `define_additions`. The contracts above cite `seen`.
 use Rattle.define_additions.specs.ProofVerdict as words
 use Rattle.define_additions.specs.TreeLines as lines
 use Rattle.proof_model.specs.declared.proofs.Parts.{Parts}
@@ -6,12 +6,12 @@ use Rattle.proof_model.specs.declared.proofs.Parts.TheVariants.{Lottery, NoPanel
 use Rattle.proof_model.specs.declared.trees.Node.{Node}
 use Rattle.proof_model.specs.declared.trees.Node.TheVariants.{Split, Leaf}
 
--- a node as the definitions have it
+-- a node as contracts see it
 abbrev pub seen_node : Node → lines.TreeLine
 seen_node (Split i) = lines.OfSplit i
 seen_node (Leaf leaf) = lines.OfLeaf leaf
 
--- the parts of a proof as the definitions have them
+-- the parts of a proof as contracts see them
 abbrev pub seen : Parts → words.Proof
 seen (Lottery bundle trees) = words.OfLottery bundle.pool bundle.answer trees.items
 seen (NoPanel pool lines) = words.OfNoPanel pool lines

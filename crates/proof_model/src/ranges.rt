@@ -1,4 +1,4 @@
-//! The ranges of the numbers in a tree's lines. Stands on `leaves` and `trees`; `proofs` and `proof_text` test lines here.
+//! The ranges of the numbers in a tree's lines. Stands on `leaves` and `trees`; `proofs` and `proof_text` test lines by these calls.
 
 ghost use Rattle.std.specs.Prelude.{◌≡◌, ◌<◌, length, map, slice_index};
 ghost use Rattle.std.specs.List.{list_all};
@@ -50,7 +50,7 @@ fn are_multipliers(multipliers: &[Multiplier]) -> bool
     multipliers.iter().all(is_multiplier)
 }
 
-/// True if the numbers rise.
+/// True if the numbers of the constraints rise.
 fn are_in_order(multipliers: &[Multiplier]) -> bool
     ensures { result ≡ is_increasing (map (λ multiplier. multiplier.number) multipliers.now) }
 {

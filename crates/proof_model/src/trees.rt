@@ -11,7 +11,7 @@ use std::marker::Model;
 /// A node of a tree.
 #[derive(Debug, Drop)]
 pub enum Node {
-    /// A split on the volunteer of this number. The lines of the subtree without this volunteer follow, and then those of the one with.
+    /// A split on the volunteer of this number. The subtree without the volunteer follows, and then the subtree with the volunteer.
     Split(usize),
     /// A leaf.
     Leaf(OneLeaf),
@@ -59,7 +59,7 @@ impl TreeLine {
     }
 }
 
-/// Lines, in order. They may be those of a tree, or not.
+/// Lines, in order. They need not be those of a tree.
 #[derive(Debug, Drop)]
 pub struct TreeLines {
     lines: Vec<TreeLine>,

@@ -1,20 +1,20 @@
--- How long the lists of a run and of a tail are.
+-- The lengths of the lists of a run of peeling and of a tail.
 use Rattle.std.specs.Prelude.{◌≡◌, ◌+◌, length, IfSome}
 use Rattle.proof_peeling.specs.declared.lotteries.PeelingRun.{PeelingRun}
 use Rattle.proof_peeling.specs.declared.tails.PanelMix.{PanelMix}
 
--- a tail has a span for each column and row of its table, which has a row for each volunteer who moves and one for the total
+-- a tail has a span for each column and row of its table, and the table has a row for each volunteer of `moving` and one for the total
 pub record IsPanelMix (mix : PanelMix) : Type 0 where
   pub columns : length mix.columns.items ≡ mix.table.columns
   pub rows : length mix.rows.items ≡ mix.table.rows
   pub moving : mix.table.rows ≡ length mix.moving.items + 1
 
--- the remainder, and the best one, have a part for each volunteer
+-- the remainder and the best remainder have a part for each volunteer
 pub record IsPeelingRun (run : PeelingRun) : Type 0 where
   pub remainder : length run.remainder.parts.items ≡ length run.program.now.firsts
   pub best : IfSome run.best (λ best. length best.parts.items ≡ length run.program.now.firsts)
 
--- the table has a column for each volunteer, and the rows of the panels
+-- the table has a column for each volunteer, and a row for each row that panels keep
 pub record HasTable (run : PeelingRun) : Type 0 where
   pub columns : run.table.columns ≡ length run.program.now.firsts
   pub rows : run.table.rows ≡ length run.rows.now.rows.items

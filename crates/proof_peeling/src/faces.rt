@@ -8,8 +8,9 @@ use crate::rows::PanelRow;
 use proof_limits::{Narrow, ProveStop, Span, times};
 use std::alloc::Global;
 
-/// Spans that hold of every panel that can be peeled off a remainder: a volunteer with all of the total is on it, one with nothing is not,
-/// and a tight row is tight for it. `sums` has the sums of the rows over the remainder.
+/// Spans that each panel keeps that can be peeled off a remainder. A volunteer with all of the total is on the panel, one with nothing is
+/// not. A row whose sum over the remainder is at an end of its span has this end as its sum for the panel. `sums` has the rows' sums over
+/// the remainder.
 #[derive(Debug, Drop)]
 pub(crate) struct Face {
     pub(crate) columns: Vec<Span>,

@@ -16,7 +16,7 @@ use proof_stages::Chances;
 use proof_table::Table;
 use std::alloc::Global;
 
-/// How many turns of peeling each round has. The turn before the first round is one more.
+/// How many turns of peeling each round has. One more turn comes before the first round.
 const TURNS: [u64; 4] = [12, 12, 48, 96];
 
 /// How far pseudo-random numbers may shift a wish in all turns but the first.
@@ -60,8 +60,8 @@ struct PeelingRun<'a> {
     best: Option<Remainder>,
 }
 
-/// Makes a lottery of the point that the chances of columns are, over panels of this size that keep the rows. The contract says nothing of
-/// it, since each proof is verified before it is printed.
+/// Makes a lottery over panels of `size` members that keep the rows, in which each volunteer has the chance of their column. The contract
+/// says nothing of the lottery, since each proof is verified before it is printed.
 pub fn lottery_of_point(
     alloc: Global,
     program: &Program,
@@ -97,7 +97,7 @@ fn tail_width() -> Narrow {
     }
 }
 
-/// Returns a table of the rows over volunteers.
+/// Returns a table with a column for each volunteer and these rows.
 fn loaded(alloc: Global, program: &Program, rows: &PanelRows) -> Result<Table, ProveStop>
     ensures columns { IfOk result (λ table. table.columns ≡ length program.now.firsts) }
     ensures rows { IfOk result (λ table. table.rows ≡ length rows.now.rows.items) }
@@ -133,7 +133,7 @@ fn remainder_of(
     })
 }
 
-/// True if tails stopped at their width or at 2^62.
+/// True if the tails stopped because a number passed their width or 2^62.
 fn is_too_wide(found: &Result<Peeled, ProveStop>) -> bool {
     matches!(found, Err(ProveStop::Wide(_) | ProveStop::BeyondWidth))
 }
@@ -218,7 +218,7 @@ impl PeelingRun<'_> {
         self.double()
     }
 
-    /// Keeps the remainder as the best one if less is left than in the best one so far, else returns to that.
+    /// Keeps the remainder as the best one if less is left in it than in the best one so far, else returns to the best one.
     fn keep_or_return(&mut self) -> Result<(), ProveStop>
         requires run { IsPeelingRun self.old }
         requires table { HasTable self.old }
@@ -259,7 +259,7 @@ impl PeelingRun<'_> {
         self.remainder.double()
     }
 
-    /// Returns to the best remainder if less is left in it, else keeps this one as the best.
+    /// Returns to the best remainder if less is left in it, else keeps the present one as the best.
     fn go_to_best(&mut self) -> Result<(), ProveStop>
         requires run { IsPeelingRun self.old }
         requires table { HasTable self.old }
@@ -335,7 +335,8 @@ impl PeelingRun<'_> {
         Err(ProveStop::Lost)
     }
 
-    /// Returns the panels that were taken off and those of a tail, whose weights have this denominator, with weights of one denominator.
+    /// Returns the panels that were taken off and those of the tail, with their weights times `denominator`, which is that of the tail's
+    /// weights.
     fn found(&self, tail: &[(i128, usize)], denominator: Narrow) -> Result<Peeled, ProveStop> {
         let mut panels = Vec::new(self.alloc);
         for taken in &self.remainder.taken {
@@ -348,7 +349,7 @@ impl PeelingRun<'_> {
         Ok(Peeled::Found(panels))
     }
 
-    /// Returns the panel of a number with a weight.
+    /// Returns the seen panel of number `panel`, with a weight.
     fn weighted(&self, weight: i128, panel: usize) -> Result<WeightedPanel, ProveStop> {
         let members = Vec::from_slice(self.alloc, self.seen.members(panel))?;
         Ok(WeightedPanel { weight, members })

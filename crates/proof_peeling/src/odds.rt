@@ -2,7 +2,8 @@
 
 use proof_limits::Narrow;
 
-/// Returns about 16 times the binary logarithm of a number above 0, from its bit length and the four bits after the first; 0 otherwise.
+/// Returns about 16 times the binary logarithm of 128 times a number above 0, from its bit length and the four bits after the first.
+/// Returns 0 for other numbers.
 pub(crate) fn log(number: Narrow) -> i64 {
     if number.get() <= 0 {
         return 0;

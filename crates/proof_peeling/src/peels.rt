@@ -18,7 +18,7 @@ use std::alloc::Global;
 /// How many nodes a search for a panel may look at.
 pub(crate) const MOST_NODES: u64 = 2000;
 
-/// What distinguishes a turn of peeling from others.
+/// The number of a turn of peeling, which seeds its pseudo-random numbers, and how much they may change wishes.
 #[derive(Clone, Copy, Debug)]
 pub(crate) struct Turn {
     pub(crate) number: u64,
@@ -26,7 +26,7 @@ pub(crate) struct Turn {
     pub(crate) wildness: u32,
 }
 
-/// Takes panels off a remainder until nothing is left or no further panel is found. True if nothing is left.
+/// Takes panels off a remainder until nothing is left or no further panel is found. Returns true if nothing is left.
 pub(crate) fn peel(
     alloc: Global,
     table: &mut Table,
@@ -107,7 +107,8 @@ fn greatest_weight(
     narrow_add(weight, 0)
 }
 
-/// Returns the same for one row: `own` is the panel's sum, and `sum` that of the remainder.
+/// Returns how often a panel can be taken off such that the remainder keeps one row on average. `own` is the panel's sum in this row, and
+/// `sum` the remainder's.
 fn row_weight(own: i128, span: Span, sum: i128, total: Narrow) -> Result<i128, ProveStop> {
     let (least, greatest) = (span.least(), span.greatest());
     let mut weight = total.wide();

@@ -8,7 +8,7 @@ use proof_program::Program;
 use proof_stages::ClassStage;
 use std::alloc::Global;
 
-/// A row over volunteers: its coefficients, the places of those that are not 0, and the span of its sums.
+/// A row over volunteers: its coefficients, the places of the coefficients that are not 0, and the span of its sums.
 #[derive(Debug, Drop)]
 pub(crate) struct PanelRow {
     pub(crate) coefficients: Vec<Narrow>,

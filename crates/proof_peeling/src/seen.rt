@@ -26,7 +26,7 @@ impl SeenPanels {
         &self.panels
     }
 
-    /// Returns the members of the panel of a number.
+    /// Returns the members of the panel of a number, or none if there is no such panel.
     pub(crate) fn members(&self, number: usize) -> &[usize] {
         match self.panels.get(number) {
             Some(members) => members,
@@ -34,8 +34,8 @@ impl SeenPanels {
         }
     }
 
-    /// Adds the panel of a point, and returns its number. Stops if the point has a value other than 0 and 1, or if its ones are not as many as
-    /// a panel has members.
+    /// Adds the panel of a point, if it is new, and returns its number. Stops if the point has a value other than 0 and 1, or not exactly
+    /// `size` ones.
     pub(crate) fn see(&mut self, point: &[Narrow]) -> Result<usize, ProveStop> {
         let mut members = Vec::new(self.alloc);
         for (i, value) in point.iter().enumerate() {

@@ -1,5 +1,5 @@
-//! The exact tail: a table of the panels seen makes up a remainder, and its multipliers ask for further panels. Stands on `faces` and
-//! `seen`; `lotteries` calls `tail_of`.
+//! The exact tail: a table looks for weights of the panels seen that make up a remainder. If there are none, the multipliers that refute it
+//! say which further panel to search for. Stands on `faces`, `remainders` and `seen`; `lotteries` calls `tail_of`.
 
 ghost use Rattle.std.specs.Prelude.{◌≡◌, length, IfOk, OnOk};
 ghost use Rattle.proof_table.specs.Sizes.{SameSizes, Spends};
@@ -16,25 +16,25 @@ use proof_limits::{Budget, Narrow, ProveStop, Span, times, wide_sub};
 use proof_table::{PseudoRandom, Table};
 use std::alloc::Global;
 
-/// How many panels a tail may ask for.
+/// How many further panels a tail may search for.
 const MOST_STEPS: usize = 600;
 
-/// The greatest pseudo-random number by which panels differ in the goal.
+/// The greatest pseudo-random number that is a panel's part of the goal. These parts break ties.
 const MOST_TIE_BREAK: u64 = 64;
 
 /// The result of a tail.
 #[derive(Debug, Drop)]
 pub(crate) enum Tail {
-    /// Weights of panels, which have these numbers, and the denominator of the weights.
+    /// The weight and the number of each panel that makes up the remainder, and the denominator of the weights.
     Inside(Vec<(i128, usize)>, Narrow),
     /// The remainder is no mix of panels.
     Outside,
-    /// A search ended in doubt, or the tail asked for too many panels.
+    /// A search ended in doubt, or the tail searched for too many panels.
     Doubt,
 }
 
-/// The table of a tail: a column for each panel of the face, a row for each volunteer who is on some of them and not on all, and a row for
-/// the total.
+/// The table of a tail: a column for each panel of the face, a row for each volunteer whom the face leaves open, and a row for the total.
+/// `moving` has these volunteers, and `panels` the numbers of the panels.
 #[derive(Drop)]
 struct PanelMix {
     table: Table,
@@ -45,7 +45,7 @@ struct PanelMix {
     rows: Vec<Span>,
 }
 
-/// Looks for weights of panels that make up a remainder exactly. Stops if an entry passes the width.
+/// Looks for weights of panels that make up a remainder exactly. Stops if an entry of the tail's table passes `width`.
 pub(crate) fn tail_of(
     alloc: Global,
     table: &mut Table,
@@ -179,7 +179,7 @@ impl PanelMix {
         })
     }
 
-    /// Adds a column for the panel of a number.
+    /// Adds a column for the seen panel of this number.
     fn join(
         &mut self,
         alloc: Global,
@@ -203,7 +203,7 @@ impl PanelMix {
         Ok(())
     }
 
-    /// True if the panels make up the remainder.
+    /// True if some weights of the panels make up the remainder.
     fn has_point(&mut self, budget: &mut Budget) -> Result<bool, ProveStop>
         requires { IsPanelMix self.old }
         ensures mix { IsPanelMix self.new }
@@ -212,7 +212,7 @@ impl PanelMix {
         self.table.run(&self.columns, &self.rows, budget)
     }
 
-    /// Returns the panels of the point that was found, with their weights.
+    /// Returns the panels whose weights in the point that was found are not 0, with these weights.
     fn weights(&self, alloc: Global) -> Result<Tail, ProveStop> {
         let values = self.table.point(alloc)?;
         let mut weights = Vec::new(alloc);
@@ -224,8 +224,8 @@ impl PanelMix {
         Ok(Tail::Inside(weights, self.table.denominator()))
     }
 
-    /// Returns how much each volunteer is wished for on a further panel, by the multipliers of the rows, and the least sum of wishes that
-    /// helps.
+    /// Returns how much each volunteer is wished for on a further panel, which is minus the multiplier of their row, and the least sum of
+    /// wishes of a panel that helps.
     fn wanted(
         &self,
         alloc: Global,

@@ -25,7 +25,7 @@ module _ (pool : Pool) where
   abbrev equal : ℕ → ℕ → Bool
   equal i j = are_equal (volunteer pool.volunteers i) (volunteer pool.volunteers j)
 
-  -- who is alike has the same household, if one is shared
+  -- alike volunteers share one household, or none of them shares any
   alike_shares : (i j : ℕ) → alike i j ≡ true → shared i ≡ shared j
   alike_shares i j t = by (eqb i j) refl t
     where

@@ -41,7 +41,7 @@ module _ (pool : Pool) (demand : Demand) where
       ∙ counted_total count columns (recursion_from_All (λ column. column.first < length pool.volunteers) columns h)
       ∙ ap pos (sym (naturals.sum_by-is-total (λ column. cond (counts column) (count column) 0) columns))
 
-  -- whether some point breaks the constraint, by the sums
+  -- some point breaks the constraint iff its least sum is below the lower bound or its greatest sum is above the upper bound
   pub breaks_where : (columns : List Column) (least greatest : ℕ) (number : ℕ) → All (λ column. column.first < length pool.volunteers) columns →
       least ≡ sum_by (λ column. cond (counts column) column.least 0) columns → greatest ≡ sum_by (λ column. cond (counts column) column.greatest 0) columns →
       can_break columns (number, constraint_of pool demand) ≡ (ltb least demand.lower || ltb demand.upper greatest)

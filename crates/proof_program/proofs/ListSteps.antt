@@ -1,4 +1,4 @@
--- Lists that are made of others element by element, with one element more.
+-- Loops that map, filter and number a list: what one more element adds to the result.
 use Rattle.std.proofs.Common.{◌≡◌, ℕ, ◌+◌, ◌<◌, Bool, true, false, cond, List, [], ◌∷◌, ◌++◌, map, filter, take, length, get_or, sym, ap, ap₂, ◌∙◌, arith}
 use Rattle.std.specs.List.{enumerate_from, range_with_len}
 use Rattle.std.proofs.lemmas.List.{append-nil, append_assoc, map_push, take_more}
@@ -6,11 +6,11 @@ use Rattle.std.proofs.lemmas.List.Elements.{filter-append}
 use Rattle.std.proofs.lemmas.List.FromFn.{get_or-enumerate_from}
 use Rattle.laws_basic.proofs.Lists.{numbers_more}
 
--- an element with its number
+-- element `k` of a numbered list
 pub numbered_at : {X : Type 0} (xs : List X) (k : ℕ) (x : X) → k < length xs → x ≡ get_or xs k x → get_or (enumerate_from 0 xs) k (k, x) ≡ (k, x)
 numbered_at xs k x l e = get_or-enumerate_from 0 xs k (k, x) l ∙ ap₂ (λ n y. (n, y)) (let at : 0 + k ≡ k = omega arith in at) (sym e)
 
--- ---- one more that passes, or doesn't
+-- ---- one more element, which passes the filter or doesn't
 
 filter_more : {X : Type 0} (p : X → Bool) (xs : List X) (x : X) → p x ≡ true → filter p (xs ++ x ∷ []) ≡ filter p xs ++ x ∷ []
 filter_more p xs x t = filter-append p xs (x ∷ []) ∙ ap (λ b. filter p xs ++ cond b (x ∷ []) []) t
@@ -31,7 +31,7 @@ pub passing_left : {X Y : Type 0} (f : X → Y) (p : X → Bool) (xs : List X) (
 passing_left f p xs k x old new l e t same so_far =
     same ∙ so_far ∙ sym (ap (λ xs. map f (filter p xs)) (taken_more xs k x l e) ∙ ap (map f) (filter_same p (take k xs) x t))
 
--- ---- a list whose image stands behind another
+-- ---- a list whose mapped elements come after others
 
 behind : {X Y : Type 0} (f : X → Y) (before here : List Y) (old new : List X) (x : X) → new ≡ old ++ x ∷ [] → map f old ≡ before ++ here → map f new ≡ before ++ (here ++ f x ∷ [])
 behind f before here old new x added so_far =

@@ -40,7 +40,7 @@ counting_is pool passes lower upper order small = record {
   at_most_one = λ i. (one_or_none passes (everybody pool) i).1;
 }
 
--- ---- lists with their numbers
+-- ---- numbered lists
 
 pub numbered : {X : Type 0} (P : X → Type 0) (xs : List X) → AllByRecursion P xs → All (λ pair. P pair.1) (enumerate_from 0 xs)
 numbered P xs h k d l =
@@ -56,7 +56,7 @@ module _ (pool : Pool) (is : IsPool pool) where
   known : All (λ category. is_category category.1 ≡ true) categories
   known = numbered (λ category. is_category category ≡ true) pool.categories (each_from_list_all is_category pool.categories is.categories)
 
-  -- ---- how many there are
+  -- ---- how many constraints there are
 
   pub few_constraints : length (constraints pool []) ≤ 1401
   few_constraints =
@@ -78,7 +78,7 @@ module _ (pool : Pool) (is : IsPool pool) where
       let joined = length-append (values ++ []) households in let ended = length-append values [] in
       omega (arith, value_count, few_values, few_categories, category_count, household_count, few_first, few_of_all, everybody_count, few_volunteers, joined, ended)
 
-  -- ---- what they count
+  -- ---- each constraint counts volunteers
 
   value_counts : (category_place : ℕ) (value : ℕ × BoundedValue) → is_value value.1 ≡ true → Counts (value_constraint pool category_place value)
   value_counts category_place value h =
@@ -111,7 +111,7 @@ module _ (pool : Pool) (is : IsPool pool) where
 
   -- ---- demands
 
-  -- the constraints of households stand right behind those of the quotas, where no stage stands before
+  -- before the first stage, the constraints of households come right after those of the quotas
   pub joined : quota_constraints pool ++ map (household_constraint pool) (first_members pool) ≡ constraints pool []
   joined =
       let values = flat_map (category_constraints pool) categories in

@@ -1,4 +1,4 @@
--- What each program of a pool keeps.
+-- What holds of each program of a pool.
 use Rattle.std.proofs.Common.{◌≡◌, ℕ, ◌<◌, List, [], map, filter, length, get_or, ℤ, pos, ◌≤ℤ◌, sym, ap, ◌∙◌, arith, true}
 use Rattle.std.specs.List.{All, enumerate_from}
 use Rattle.std.proofs.lemmas.Bool.{leb-true}
@@ -54,7 +54,7 @@ module _ (pool : Pool) (is : IsPool pool) (numbers : List ℕ) (columns : List C
         rows = are_rows;
       }
 
--- a program of these parts is that of the pool over the columns
+-- a program with these parts is the program of the pool over the columns
 pub same_program : (pool : Pool) (numbers : List ℕ) (columns : List Column) (leaders : List ℕ) (sizes : List ℤ) (spans : List Ends) (rows : List QuotaRow) (quotas : ℕ) →
     leaders ≡ map (λ column. column.first) columns → sizes ≡ map (λ column. pos column.size) columns → spans ≡ map span_of columns → rows ≡ rows_of columns (constraints pool []) →
     quotas ≡ length (quota_constraints pool) →

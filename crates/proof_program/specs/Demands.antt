@@ -1,4 +1,4 @@
--- Demands: the constraints of a pool, by whom they count.
+-- Demands: constraints that are given by the volunteers whom they count.
 use Rattle.std.specs.Prelude.{◌≡◌, ℕ, ◌<◌, ◌≤◌, ◌==◌, Bool, true, List, map, length, slice_index, Option, None, Some}
 use Rattle.std.specs.List.{All}
 use Rattle.define_additions.specs.Constraints.{Constraint, counting}
@@ -10,7 +10,7 @@ use Rattle.proof_program.specs.declared.demands.Counted.{Counted}
 use Rattle.proof_program.specs.declared.demands.Counted.TheVariants.{Everybody, WithValue, OfHousehold}
 use Rattle.proof_program.specs.declared.demands.Demand.{Demand}
 
--- a demand counts a volunteer
+-- whether volunteer `i` is one of those whom a demand counts
 abbrev pub is_counted : Pool → Counted → ℕ → Bool
 is_counted pool Everybody i = true
 is_counted pool (WithValue category value) i = slice_index (volunteer pool.volunteers i).values category == value
@@ -20,11 +20,11 @@ is_counted pool (OfHousehold number) i = is_of_household number (shared_househol
 abbrev pub constraint_of : Pool → Demand → Constraint
 constraint_of pool demand = counting pool (is_counted pool demand.counted) demand.lower demand.upper
 
--- for each volunteer the household that is shared with somebody
+-- for each volunteer the number of the household that they share, or None
 abbrev pub shared_households : Pool → List (Option ℕ)
 shared_households pool = map (shared_household pool.volunteers) (everybody pool)
 
--- the household of a class, which then has one member
+-- the shared household of a class, if it has one; a class with a shared household has a single member
 abbrev pub household_of : Option Class → Option ℕ
 household_of None = None
 household_of (Some class) = class.household
@@ -36,7 +36,7 @@ pub record IsColumn (column : Column) : Type 0 where
   pub in_order : column.least ≤ column.greatest
   pub within : column.greatest ≤ column.size
 
--- at most 400 columns, whose first members are volunteers of the pool
+-- there are at most 400 columns, and their first members are volunteers of the pool
 pub record AreColumns (pool : Pool) (columns : List Column) : Type 0 where
   pub few : length columns ≤ 400
   pub firsts : All (λ column. column.first < length pool.volunteers) columns
@@ -51,7 +51,7 @@ pub record NumberColumns (pool : Pool) (numbers : List ℕ) (columns : List Colu
 abbrev pub HasBounds : Demand → Type 0
 HasBounds demand = (demand.lower ≤ demand.upper) × (demand.upper ≤ 999)
 
--- at most as many demands as a pool can have constraints, with bounds in order
+-- demands with bounds in order, at most 1401 of them, as a pool has no more constraints before its first stage
 pub record AreDemands (demands : List Demand) : Type 0 where
   pub few : length demands ≤ 1401
   pub each : All HasBounds demands

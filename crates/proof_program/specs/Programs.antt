@@ -14,7 +14,7 @@ class_column class = record { first = slice_index class.members 0; size = length
 abbrev pub class_columns : Pool → List Column
 class_columns pool = map class_column (classes_of pool).classes
 
--- the column of a volunteer alone
+-- the column of a single volunteer
 abbrev pub own_column : Pool → ℕ → Column
 own_column pool i =
     let standing = (volunteer pool.volunteers i).standing in record { first = i; size = 1; least = least_taken standing 1; greatest = most_taken standing 1 }
@@ -38,11 +38,11 @@ row_of columns (number, constraint) = record {
   span = record { least = constraint.lower; greatest = constraint.upper };
 }
 
--- the least or the greatest sum of a constraint over the columns' spans
+-- a constraint's sum if a panel has `count` members of each column; the columns' least or greatest counts give the least or greatest sum
 abbrev pub sum_over : (Column → ℕ) → List Column → Constraint → ℤ
 sum_over count columns constraint = signed_sum (λ column. coefficient constraint column.first *ℤ pos (count column)) columns
 
--- some point of the columns' spans breaks a constraint
+-- whether some point of the columns' spans breaks a constraint
 abbrev pub can_break : List Column → ℕ × Constraint → Bool
 can_break columns (number, constraint) =
     int_lt (sum_over (λ column. column.least) columns constraint) constraint.lower
@@ -81,11 +81,11 @@ program_over pool column_numbers columns = record {
   quotas = length (quota_constraints pool);
 }
 
--- over classes of alike volunteers
+-- the program over classes of alike volunteers
 abbrev pub program_by_class : Pool → Program
 program_by_class pool = program_over pool (map (class_number (classes_of pool).classes) (everybody pool)) (class_columns pool)
 
--- over single volunteers
+-- the program over single volunteers
 abbrev pub program_by_volunteer : Pool → Program
 program_by_volunteer pool = program_over pool (everybody pool) (own_columns pool)
 

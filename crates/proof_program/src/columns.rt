@@ -1,4 +1,4 @@
-//! The columns of a program. Stands on `alike`, which finds the classes; `programs`, `demands` and `rows` use this.
+//! The columns of a program. Stands on `alike`, which finds the classes; `programs` and `rows` use this.
 
 ghost use Rattle.std.specs.Prelude.{◌≡◌, IfOk, map};
 ghost use Rattle.define_pools.specs.Pool.{everybody as everybody_of};
@@ -62,7 +62,7 @@ fn class_column(class: &Class) -> Column
     }
 }
 
-/// Returns a column for each volunteer alone.
+/// Returns a column for each single volunteer.
 pub(crate) fn own_columns(alloc: Global, pool: &Pool) -> Result<Vec<Column>, AllocError>
     ensures { IfOk result (λ columns. columns.items ≡ columns_alone pool.now) }
 {
@@ -84,7 +84,7 @@ pub(crate) fn everybody(alloc: Global, pool: &Pool) -> Result<Vec<usize>, AllocE
     Ok(numbers)
 }
 
-/// Returns the column of one volunteer alone.
+/// Returns the column of a single volunteer.
 fn own_column(number: usize, standing: Standing) -> Column
     ensures { result ≡ record { first = number; size = 1; least = least_taken standing 1; greatest = most_taken standing 1 } }
 {

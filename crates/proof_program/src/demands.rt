@@ -1,5 +1,5 @@
-//! Demands: the constraints of a pool by whom they count, which are the size, each value and each shared household. `programs` lists them,
-//! and `rows` makes rows of them.
+//! Demands: the constraints of a pool, each given by the volunteers whom it counts. There is one for the size, for each value and for each
+//! shared household. `programs` lists demands, and `rows` makes rows of them.
 
 ghost use Rattle.std.specs.Prelude.{◌≡◌, ◌<◌, ◌++◌, IfOk, OnOk, map, length, slice_get, slice_index};
 ghost use Rattle.std.specs.List.{enumerate_from};
@@ -18,7 +18,7 @@ use std::alloc::{AllocError, Global};
 #[derive(Clone, Copy, Debug)]
 pub(crate) enum Counted {
     Everybody,
-    /// Who has value `.1` of category `.0`.
+    /// The volunteers who have value `.1` of category `.0`.
     WithValue(usize, usize),
     /// The members of the household whose first member has this number.
     OfHousehold(usize),
@@ -92,7 +92,7 @@ pub(crate) fn push_households(
     Ok(())
 }
 
-/// Returns for each volunteer the number of the household that is shared with somebody, as the volunteer's class has it.
+/// Returns for each volunteer the number of the household that they share, or None. It is taken from the volunteer's class.
 pub(crate) fn shared_households(
     alloc: Global,
     pool: &Pool,
@@ -122,7 +122,7 @@ fn class_households(
         .collect(alloc)
 }
 
-/// Returns the household of the class of a number, if it has one.
+/// Returns the shared household of the class of a number, if it has one.
 fn class_household(classes: &[Class], number: usize) -> Option<usize>
     ensures { result ≡ household_in (slice_get classes.now number) }
 {
@@ -162,7 +162,7 @@ fn value_of(pool: &Pool, i: usize, category: usize) -> usize
     values.get(category).copied().unwrap_or(0)
 }
 
-/// Returns the number of the household that a volunteer shares.
+/// Returns the number of the household that a volunteer shares, if there is one.
 fn household_of(pool: &Pool, households: &[Option<usize>], i: usize) -> Option<usize>
     requires households { households.now ≡ households_of pool.now }
     requires volunteer { i < length pool.now.volunteers }
@@ -175,7 +175,7 @@ fn household_of(pool: &Pool, households: &[Option<usize>], i: usize) -> Option<u
     }
 }
 
-/// True if this household has this number.
+/// True if `household` is that of this number.
 fn is_of_household(household: Option<usize>, number: usize) -> bool
     ensures { result ≡ is_member number household }
 {

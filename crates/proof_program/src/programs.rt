@@ -123,7 +123,7 @@ impl Program {
         self.sizes[column]
     }
 
-    /// Returns the span of each column: how many of its members a panel may have. All of a seated class, and none of one that is gone.
+    /// Returns the span of each column: how many of its members a panel may have. It has all of a seated column, and none of a gone one.
     pub fn spans(&self) -> &[Span]
         ensures value { result.now ≡ self.now.spans }
         ensures one_each { length result.now ≡ length self.now.firsts }

@@ -1,4 +1,4 @@
--- What a proof that was made is about, and why a run stops. `prove_command` cites all of it.
+-- What a proof that was made is about, and why a run stops. `command_proofs` cites all of it.
 use Rattle.std.specs.Prelude.{◌≡◌}
 use Rattle.define_additions.specs.ProofVerdict.{OfLottery, OfNoPanel, Proof}
 use Rattle.define_bundles.specs.BundleText.{Bundle}
@@ -18,7 +18,7 @@ abbrev pub IsOfBundle : Bundle → Proof → Type 0
 IsOfBundle bundle (OfLottery own its trees) = (own ≡ bundle.pool) × (its ≡ bundle.answer)
 IsOfBundle bundle (OfNoPanel own lines) = ⊥
 
--- a run stops because an operation passes 2^62, a limit is spent, the run is lost, or memory runs out
+-- the stops of a run: an operation passes 2^62, a limit is spent, the run is lost, or memory runs out
 abbrev pub StopsSo : Left → ProveStop → Type 0
 StopsSo left (Wide pass) = Unit {0}
 StopsSo left BeyondWidth = ⊥

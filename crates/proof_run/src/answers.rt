@@ -1,5 +1,5 @@
-//! The answer of a run: panels that come more than once are put together, and the weights are divided by their common divisor. `runs` uses
-//! this.
+//! The answer of a run: a lottery with its stages. Panels that come more than once are put together, and the weights are divided by their
+//! greatest common divisor. `runs` uses this.
 
 use frac128::gcd;
 use pool_model::{Answer, Certificate, Lottery, LotteryRow, Panel, Stage};
@@ -24,7 +24,7 @@ pub(crate) fn answer_of(
     Ok(Answer::new(lottery, Certificate::new(own)))
 }
 
-/// Returns a stage with the weight of each volunteer.
+/// Returns a stage in which each volunteer has the weight of their column.
 fn stage_of(alloc: Global, classes: &Program, stage: &ClassStage) -> Result<Stage, ProveStop> {
     let mut weights = Vec::new(alloc);
     for weight in &weights_of(alloc, classes, &stage.weights)? {

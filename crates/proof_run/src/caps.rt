@@ -35,7 +35,7 @@ pub(crate) fn tree_of_none(
     steps.ok_or(ProveStop::Lost)
 }
 
-/// Returns the numbers of the rows' constraints after `stages` earlier stages.
+/// Returns the number of each row's constraint after `stages` earlier stages.
 fn numbers_after(alloc: Global, program: &Program, stages: usize) -> Result<Vec<usize>, ProveStop>
     requires { stages < 2 ^ 63 }
     ensures { IfOk result (λ numbers. length numbers.items ≡ length program.now.rows) }
@@ -54,7 +54,7 @@ pub(crate) struct CapSearch<'a> {
     program: &'a Program,
     table: Table,
     rows: Vec<Span>,
-    // the numbers of the constraints of the stages so far
+    // the numbers of the constraints of the stages that were searched so far
     stages: Vec<usize>,
     // how many constraints come before those of stages
     quotas: usize,
@@ -79,7 +79,8 @@ impl<'a> CapSearch<'a> {
         })
     }
 
-    /// Returns the steps that show the cap of the next stage, or None if a panel is above the cap. From now on panels attain the cap.
+    /// Returns the steps that show the cap of the next stage, or None if a panel is above the cap. Later calls search among the panels that
+    /// attain this cap too.
     pub(crate) fn tree(
         &mut self,
         weights: &[Narrow],

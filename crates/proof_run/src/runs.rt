@@ -19,7 +19,7 @@ use proof_stages::{Chances, ClassStage, Columned, Relaxed, column_stages, relaxe
 use std::alloc::Global;
 
 /// Makes a proof of a lottery over a pool's quota panels, or that there is no quota panel, within a budget. Whether the proof is valid is
-/// for `proof_verify` to say. Stops if the budget is spent, an operation passes 2^62, or the run is lost.
+/// for `proof_verify` to say. Stops if a limit is spent, an operation passes 2^62, the run is lost, or memory runs out.
 pub fn make_proof(alloc: Global, pool: &Pool, budget: &mut Budget) -> Result<Proof, ProveStop>
     ensures about { IfOk result (IsOfPool pool.now) }
     ensures spends { SpendsOn budget.old budget.new }
@@ -44,7 +44,8 @@ pub fn prove_bundle(alloc: Global, bundle: &Bundle, budget: &mut Budget) -> Resu
     }
 }
 
-/// Returns a stop as the run reports it: a limit is spent only if nothing of it is left, and no smaller width than 2^62 is reported.
+/// Returns a stop as the run reports it. The run is reported as lost if an entry passed a width below 2^62, or if pivots or nodes are left
+/// although the stop says that they are spent.
 fn reported(stop: ProveStop, budget: &Budget) -> ProveStop
     ensures { StopsSo budget.now result }
 {
@@ -56,7 +57,7 @@ fn reported(stop: ProveStop, budget: &Budget) -> ProveStop
     }
 }
 
-/// Makes a proof of a pool: first by the relaxation, and by compositions if its point is no mix of panels.
+/// Makes a proof of a pool: first by the relaxation, and by compositions if no lottery of the relaxation's point was found.
 fn made(alloc: Global, pool: &Pool, budget: &mut Budget) -> Result<Proof, ProveStop>
     ensures about { IfOk result (IsOfPool pool.now) }
     ensures spends { SpendsOn budget.old budget.new }
@@ -104,7 +105,7 @@ fn by_compositions(
     }
 }
 
-/// Makes a lottery of the point that chances are, over panels that keep the rows.
+/// Makes a lottery over panels that keep the rows, in which each volunteer has the chance of their column.
 fn lottery_of_chances(
     alloc: Global,
     pool: &Pool,
@@ -164,7 +165,7 @@ fn searched(alloc: Global, bundle: &Bundle, budget: &mut Budget) -> Result<Proof
     Proof::of_lottery(bundle.copy()?, trees).ok_or(ProveStop::Lost)
 }
 
-/// Returns how many constraints come before those of stages: the size, and each value.
+/// Returns how many constraints come before those of stages: one for the size, and one for each value.
 fn quotas_of(pool: &Pool) -> usize {
     let mut quotas: usize = 1;
     for category in pool.categories() {

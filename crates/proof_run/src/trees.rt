@@ -1,4 +1,4 @@
-//! The trees of a proof: lines made of the steps of searches, or of a refutation. Stands on `caps`; `runs` uses this.
+//! The trees of a proof, whose lines are made of the steps of a search or of a refutation. Stands on `caps`; `runs` uses this.
 
 ghost use Rattle.proof_limits.specs.Budgets.{SpendsOn};
 ghost use Rattle.proof_run.specs.Shapes.{IsCapSearch};
@@ -13,7 +13,8 @@ use proof_peeling::weights_of;
 use proof_stages::ClassStage;
 use std::alloc::{AllocError, Global};
 
-/// Returns a tree for each stage: one leaf if a refutation shows its cap, else the tree of a search for a panel above it.
+/// Returns a tree for each stage: one leaf if the stage has a refutation that shows its cap, else the tree of a search for a panel above
+/// the cap.
 pub(crate) fn stage_trees(
     alloc: Global,
     programs: &Programs,
@@ -44,14 +45,14 @@ pub(crate) fn stage_trees(
     Ok(trees)
 }
 
-/// Returns the tree of one leaf.
+/// Returns the tree of one leaf, which has the multipliers of a refutation.
 fn tree_of_refutation(alloc: Global, refutation: Refutation) -> Result<TreeLines, AllocError> {
     let mut lines = TreeLines::new(Vec::new(alloc));
     lines.add_line(leaf_line(alloc, refutation)?)?;
     Ok(lines)
 }
 
-/// Returns the tree of a search. The rows have the numbers of constraints, and the columns are volunteers.
+/// Returns the tree that the steps of a search make. Their rows have the numbers of constraints, and their columns are volunteers.
 pub(crate) fn tree_of_steps(alloc: Global, steps: Vec<Step>) -> Result<TreeLines, AllocError> {
     let mut lines = TreeLines::new(Vec::new(alloc));
     for step in steps {

@@ -87,9 +87,9 @@ impl Chances {
         }
     }
 
-    /// Returns the spans of the columns, times a multiple of all denominators. A settled column has its chance alone, a seated one 1, and
-    /// each other one at least `level`. If `level` is beyond the end of a span, the span is `level` alone if `is_open` holds, else the call
-    /// stops.
+    /// Returns the spans of the columns, times a multiple of all denominators. The members of a settled column have its chance, those of a
+    /// seated column 1, and all others at least `level`. If `level` is beyond the end of a column's span, the span is `level` alone if
+    /// `is_open` holds, else the call stops.
     pub(crate) fn column_spans(
         &self,
         alloc: Global,
@@ -107,7 +107,7 @@ impl Chances {
         Ok(spans)
     }
 
-    /// Returns the span of one column.
+    /// Returns the span of one column, as `column_spans` does.
     fn column_span(
         &self,
         program: &Program,

@@ -1,4 +1,4 @@
-//! Stages over columns, and what both ways to find them share. Stands on `chances`; `relaxed` and `columned` make such stages, and
+//! Stages over columns, and what both ways to find stages share. Stands on `chances`; `relaxed` and `columned` make such stages, and
 //! `proof_peeling` and `proof_run` read them.
 
 ghost use Rattle.std.specs.Prelude.{◌≡◌, ◌≤◌, length, IfOk};
@@ -10,18 +10,19 @@ use proof_limits::{Narrow, ProveStop, narrow_add};
 use proof_program::Program;
 use std::alloc::Global;
 
-/// A stage over classes: a weight for each column, the cap, and a refutation that shows the cap, if there is one.
+/// A stage over columns: a weight for each column, the cap, and a refutation that shows the cap, if there is one.
 #[derive(Debug, Drop)]
 pub struct ClassStage {
-    /// Each column's weight, which each of its members has.
+    /// The weight of each column, which each of its members has in the stage.
     pub weights: Vec<Narrow>,
-    /// The most that a panel weighs that attains the earlier caps.
+    /// The cap: no panel that attains the earlier caps weighs more.
     pub cap: Narrow,
     /// Multipliers of constraints that show the cap.
     pub shown_by: Option<Refutation>,
 }
 
-/// Returns a weight of 1 for each unsettled column, and as the cap the most members that a panel may have of them together.
+/// Returns a stage's weights and cap: 1 for each unsettled column and 0 for the others, and the most members that a panel may have of all
+/// unsettled columns by their spans.
 pub(crate) fn everybody_left(
     alloc: Global,
     program: &Program,

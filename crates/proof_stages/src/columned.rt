@@ -1,6 +1,6 @@
-//! Stages over compositions, by column generation: an exact table of the known compositions, whose multipliers ask for further ones.
-//! Stands on `finders`, `mixes` and `levels`; `proof_run` calls `column_stages` if the relaxation's point is no mix of panels. Promise:
-//! nothing of the budget is given back.
+//! Stages over compositions, by column generation: if the known compositions don't give a level, the multipliers of their exact table say
+//! which further composition to search for. Stands on `finders`, `mixes` and `levels`; `proof_run` calls `column_stages` if it finds no
+//! lottery of the relaxation's point. Promise: nothing of the budget is given back.
 
 ghost use Rattle.std.specs.Prelude.{◌≡◌, ◌<◌, IfOk, OnOk, length};
 ghost use Rattle.proof_stages.specs.Shapes.{IsFinder, IsCompositionMix};
@@ -18,7 +18,7 @@ use proof_program::Program;
 use proof_table::divide_by_common;
 use std::alloc::Global;
 
-/// What the compositions say of a pool.
+/// What was found over the compositions of a pool.
 #[derive(Debug, Drop)]
 pub enum Columned {
     /// There is no composition, so there is no quota panel.
@@ -113,7 +113,7 @@ fn stage(
     Ok((stage, level))
 }
 
-/// Returns the most that any composition weighs. Each heavier one that is found joins the mix.
+/// Returns the greatest weight of any composition that attains the closed caps. Each heavier composition that is found joins the mix.
 fn raised_cap(
     mix: &mut CompositionMix,
     finder: &mut Finder<'_>,
@@ -140,7 +140,8 @@ fn raised_cap(
     }
 }
 
-/// Returns the weights that multipliers give, in lowest terms. An unsettled column has 0 if it is seated or its weight would be below 0.
+/// Returns the weights by columns, minus the multipliers of their rows, in lowest terms. An unsettled column weighs 0 if it is seated or
+/// its weight would be below 0.
 fn weights_of(
     alloc: Global,
     program: &Program,
@@ -160,7 +161,7 @@ fn weights_of(
     Ok(weights)
 }
 
-/// Returns the least weight of a composition that weighs at least what `level` gives on average.
+/// Returns the least whole weight that is at least the average weight of a panel if all unsettled columns have the chance `level`.
 fn need(own: WeightSums, level: Chance, common: Narrow) -> Result<Narrow, ProveStop> {
     let settled = wide_mul(own.settled, level.den().wide())?;
     let unsettled = wide_mul(

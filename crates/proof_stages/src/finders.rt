@@ -83,7 +83,7 @@ impl<'a> Finder<'a> {
         point_of(found, self.program.columns())
     }
 
-    /// Closes a stage: from now on each composition that is found weighs its cap.
+    /// Closes a stage: later searches find only compositions that weigh its cap.
     pub(crate) fn close(&mut self, weights: &[Narrow], cap: Narrow) -> Result<(), ProveStop>
         requires finder { IsFinder self.old.table.columns self.old }
         requires weights { length weights.now ≡ self.old.table.columns }
@@ -95,7 +95,7 @@ impl<'a> Finder<'a> {
     }
 }
 
-/// Returns the point that was found, which has a number for each of `columns` columns.
+/// Returns the point that was found, if there is one. Stops if it has not `columns` numbers, or if the search ended in doubt.
 fn point_of(found: Found, columns: usize) -> Result<Option<Vec<Narrow>>, ProveStop>
     ensures { IfOk result (λ found. IfSome found (λ counts. length counts.items ≡ columns)) }
 {
@@ -106,7 +106,7 @@ fn point_of(found: Found, columns: usize) -> Result<Option<Vec<Narrow>>, ProveSt
     }
 }
 
-/// Returns the most that a point of the columns' spans can weigh, if all weights are taken without their signs.
+/// Returns the most that a point of the columns' spans weighs, with the weights taken without their signs.
 fn reach(program: &Program, weights: &[Narrow]) -> Result<Narrow, ProveStop> {
     let mut reach = 0;
     for (weight, span) in weights.iter().zip(program.spans()) {

@@ -67,7 +67,7 @@ impl Chance {
         self.den
     }
 
-    /// Returns the fraction times a multiple of its denominator.
+    /// Returns the fraction times `multiple`, which should be a multiple of its denominator.
     pub fn scaled(self, multiple: Narrow) -> Result<Narrow, ProveStop>
         ensures value { result ≡ narrowed Op.Mul self.num (int_div multiple self.den) }
         ensures stops { IfErr result IsWideOrMemory }

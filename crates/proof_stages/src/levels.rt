@@ -1,5 +1,5 @@
-//! Levels: the chance that all unsettled columns have at least, as the weights and the cap of a stage allow it. Stands on `chances`;
-//! `relaxed` and `columned` use this.
+//! Levels: a level is a chance that all unsettled columns are to have at least, the greatest that the weights and the cap of a stage allow.
+//! Stands on `chances`; `relaxed` and `columned` use this.
 
 ghost use Rattle.std.specs.Prelude.{◌≡◌, ◌≤ℤ◌, ◌<ℤ◌, pos, length};
 
@@ -12,13 +12,13 @@ use proof_program::Program;
 /// The sums of weights over settled and over unsettled columns.
 #[derive(Clone, Copy, Debug)]
 pub(crate) struct WeightSums {
-    /// The settled columns' weights times their chances, times the common denominator.
+    /// The sum over all members of settled columns: weight times chance, times the common denominator.
     pub(crate) settled: i128,
-    /// The weights of all members of the other columns.
+    /// The sum of the weights of all members of unsettled columns.
     pub(crate) unsettled: Narrow,
 }
 
-/// Returns the sums of weights, where each member of a column has the column's weight. The contract leaves the sums open, since each
+/// Returns the sums of weights, where each member of a column has the weight of the column. The contract leaves the sums open, since each
 /// proof is verified before it is printed.
 pub(crate) fn weight_sums(
     program: &Program,

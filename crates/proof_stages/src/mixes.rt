@@ -1,5 +1,5 @@
-//! The compositions that were found, and the exact table that weighs them against the wanted chances. Stands on `proof_table`; `columned`
-//! uses this.
+//! The compositions that were found, and the exact table that looks for weights of them that give wanted chances. Stands on `proof_table`;
+//! `columned` uses this.
 
 ghost use Rattle.std.specs.Prelude.{IfOk, OnOk, length};
 ghost use Rattle.proof_table.specs.Sizes.{Spends};
@@ -9,17 +9,17 @@ use proof_limits::{Budget, Narrow, ProveStop, Span, narrow_add, times, wide_add}
 use proof_table::{PseudoRandom, Table};
 use std::alloc::Global;
 
-/// The greatest pseudo-random number by which compositions differ in the goal.
+/// The greatest pseudo-random number that is a composition's part of the goal. These parts break ties.
 const MOST_TIE_BREAK: u64 = 64;
 
-/// A composition, and whether it weighs less than the cap of some closed stage.
+/// A composition, and whether it weighs less than the cap of a closed stage, so that it has no part in later mixes.
 #[derive(Debug, Drop)]
 struct Known {
     counts: Vec<Narrow>,
     is_lighter: bool,
 }
 
-/// The compositions that were found, and the table of their weights: a column for each composition, a row for each column of the quotas,
+/// The compositions that were found, and the table of their weights: a column for each composition, a row for each column of the program,
 /// and a row for the total.
 #[derive(Drop)]
 pub(crate) struct CompositionMix {
@@ -70,7 +70,7 @@ impl CompositionMix {
         Ok(())
     }
 
-    /// True if weights of compositions that attain the closed caps sum to `total`, and their counts to sums within these spans.
+    /// True if compositions that attain the closed caps can have weights that sum to `total`, with sums of weighted counts within `spans`.
     pub(crate) fn has_point(
         &mut self,
         spans: &[Span],
@@ -100,7 +100,7 @@ impl CompositionMix {
         self.table.refutation(self.alloc)
     }
 
-    /// Returns the most that a known composition weighs that attains the closed caps.
+    /// Returns the greatest weight of a known composition that attains the closed caps.
     pub(crate) fn most(&self, weights: &[Narrow]) -> Result<Narrow, ProveStop> {
         let mut most = None;
         for known in &self.known {
@@ -112,7 +112,7 @@ impl CompositionMix {
         most.ok_or(ProveStop::Lost)
     }
 
-    /// Closes a stage: marks the compositions that weigh less than its cap.
+    /// Closes a stage: marks the known compositions that weigh less than its cap.
     pub(crate) fn close(&mut self, weights: &[Narrow], cap: Narrow) -> Result<(), ProveStop>
         requires { IsCompositionMix (length weights.now) self.old }
         ensures { IsCompositionMix (length weights.now) self.new }

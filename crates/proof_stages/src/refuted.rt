@@ -1,4 +1,4 @@
-//! What a refuted program shows: weights, and a cap that no point passes. Stands on `chances`; `relaxed` uses this.
+//! What multipliers that refute a program show: weights, and a cap that no point passes. Stands on `chances`; `relaxed` uses this.
 
 ghost use Rattle.std.specs.Prelude.{◌≡◌, ◌+◌, ◌≤◌, length, IfOk};
 
@@ -52,7 +52,7 @@ pub(crate) fn shown_by(
     lowest(weights, cap)
 }
 
-/// Returns the most that a row's sum times its multiplier can be.
+/// Returns the most that a row's sum times its multiplier can be within the row's span.
 fn charge(row: &QuotaRow, multiplier: Narrow) -> i128 {
     let span = row.span();
     if multiplier.get() > 0 {
@@ -72,7 +72,8 @@ fn add_row(weights: &mut [Narrow], row: &QuotaRow, multiplier: Narrow) -> Result
     Ok(())
 }
 
-/// Takes unsettled columns that weigh less than 0 or are seated out of the weights, and their most members' weight off the cap.
+/// Sets the weight to 0 for each unsettled column that weighs less than 0 or is seated. Takes this weight, times the most members that a
+/// panel may have of the column, off the cap. Returns the cap.
 fn charge_columns(
     program: &Program,
     chances: &Chances,

@@ -22,7 +22,7 @@ use std::alloc::Global;
 pub enum Relaxed {
     /// No point meets the quotas, so there is no quota panel.
     Empty,
-    /// The stages, each column's chance, and whether panels may attain each cap, which is then a multiple of its weights' common divisor.
+    /// The stages, each column's chance, and whether each cap is a multiple of its weights' common divisor, so that panels may attain it.
     Settled(Vec<ClassStage>, Chances, bool),
 }
 
@@ -57,7 +57,7 @@ pub fn relaxed_stages(
     Err(ProveStop::Lost)
 }
 
-/// A stage, and the chance of the columns that it settles.
+/// A stage, the chance of the columns that it settles, and whether its cap is a multiple of its weights' common divisor.
 #[derive(Debug, Drop)]
 struct FoundStage {
     stage: ClassStage,
@@ -132,7 +132,8 @@ fn has_point(
     table.run(&columns, &rows, budget)
 }
 
-/// Returns a weight of 1 for each unsettled column of which no panel may have a member, or None if there is no such column.
+/// Returns weights: 1 for each unsettled column of which no panel may have a member, and 0 for the others. Returns None if there is no such
+/// column.
 fn gone_weights(
     alloc: Global,
     program: &Program,
@@ -151,7 +152,7 @@ fn gone_weights(
     Ok(is_some.then_some(weights))
 }
 
-/// Returns the stage after `earlier` earlier ones, with the refutation that these multipliers of the rows are.
+/// Returns the stage after `earlier` earlier ones, with a refutation made of these multipliers of the rows.
 fn found_by(
     alloc: Global,
     program: &Program,

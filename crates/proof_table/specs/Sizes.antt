@@ -1,11 +1,11 @@
--- The sizes of a table, what its calls spend, and which stops they return. Every contract of the crates above that takes a table cites `SameSizes`.
+-- The sizes of a table, what its calls spend, and which stops they return. The crates above that run tables cite `SameSizes` and `Spends`.
 use Rattle.std.specs.Prelude.{◌≡◌, ℕ, ◌^◌, ◌<◌, ◌≤◌, ℤ}
 use Rattle.proof_limits.specs.Budgets.{Left}
 use Rattle.proof_limits.specs.declared.stops.Limit.TheVariants.{Pivots, Nodes, Lottery}
 use Rattle.proof_limits.specs.declared.stops.ProveStop.{ProveStop}
 use Rattle.proof_limits.specs.declared.stops.ProveStop.TheVariants.{Wide, BeyondWidth, Spent, Lost, OutOfMemory}
 
--- how many rows and columns there are, the width of entries, and what the values of a point are multiplied by
+-- a table as contracts see it: how many rows and columns it has, the width of its entries, and the denominator of its points
 pub record TableSizes : Type 0 where
   pub rows : ℕ
   pub columns : ℕ
@@ -25,7 +25,7 @@ pub record Spends (old new : Left) : Type 0 where
   pub pivots : new.pivots ≤ old.pivots
   pub nodes : new.nodes ≡ old.nodes
 
--- a stop of a change of basis: an operation passes 2^62, or an entry passes a width below 2^62
+-- the stops of a change of basis: an operation passes 2^62, or an entry passes a width below 2^62
 abbrev pub ChangeStops : ℕ → ProveStop → Type 0
 ChangeStops width (Wide pass) = Unit {0}
 ChangeStops width BeyondWidth = width < 2 ^ 62
@@ -33,7 +33,7 @@ ChangeStops width (Spent spent) = ⊥
 ChangeStops width Lost = ⊥
 ChangeStops width OutOfMemory = ⊥
 
--- a stop of a run: an operation passes 2^62, an entry passes a width below 2^62, no pivot is left, or memory runs out
+-- the stops of a run: an operation passes 2^62, an entry passes a width below 2^62, no pivot is left, or memory runs out
 abbrev pub RunStops : TableSizes → Left → ProveStop → Type 0
 RunStops table left (Wide pass) = Unit {0}
 RunStops table left BeyondWidth = table.width < 2 ^ 62
@@ -43,7 +43,7 @@ RunStops table left (Spent Lottery) = ⊥
 RunStops table left Lost = ⊥
 RunStops table left OutOfMemory = Unit {0}
 
--- a stop of a call that takes a row off: as of a run, or the row was not found
+-- the stops of a call that takes a row off: those of a run, or the row was not found
 abbrev pub DropStops : TableSizes → Left → ProveStop → Type 0
 DropStops table left (Wide pass) = Unit {0}
 DropStops table left BeyondWidth = table.width < 2 ^ 62

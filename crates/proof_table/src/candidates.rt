@@ -1,4 +1,5 @@
-//! The slots that may enter the basis for a row whose variable is out of its span. `table` uses this.
+//! The candidates of a row whose variable is out of its span: the slots whose variables can move it back. One of them enters the basis.
+//! `table` uses this.
 
 ghost use Rattle.std.specs.Prelude.{◌≢◌, pos, IfErr};
 ghost use Rattle.proof_limits.specs.Stops.{IsWideOrMemory};
@@ -10,7 +11,7 @@ use crate::variables::Variable;
 use crate::worst::{Rule, Worst};
 use proof_limits::{Narrow, ProveStop, Span, times, wide_mul, wide_sub};
 
-// A slot whose variable helps, with the row's entry there, which is not 0.
+// A slot whose variable can move the row's variable towards its span, with the row's entry there, which is not 0.
 #[derive(Clone, Copy)]
 pub(crate) struct Candidate {
     pub(crate) slot: usize,
@@ -27,7 +28,7 @@ fn ratio(goal: Narrow, entry: Narrow) -> u128
     (goal.get().unsigned_abs() as u128 * (1 << 60)) / entry.get().unsigned_abs() as u128
 }
 
-// Returns the slot as a candidate, if a move of its variable from its end of the span helps.
+// Returns the slot as a candidate, if the row's variable moves towards its span when the slot's variable leaves its end.
 fn helping(
     slot: usize,
     at: Slot,
@@ -50,7 +51,7 @@ fn helping(
     })
 }
 
-// Lists the slots that help a row's variable back into its span.
+// Lists all candidates of a row. `is_below` says whether the row's variable is below its span.
 pub(crate) fn gather(
     entries: &[Narrow],
     slots: &[Slot],
@@ -94,7 +95,7 @@ fn least(candidates: &[Candidate]) -> Option<Candidate> {
     found
 }
 
-// Returns the need that is left once a candidate's variable has moved to the other end of its span.
+// Returns how far the row's variable is still out of its span once a candidate's variable has moved to its other end.
 fn need_after(need: i128, candidate: &Candidate, span: Span) -> Result<i128, ProveStop>
     ensures { IfErr result IsWideOrMemory }
 {
@@ -102,7 +103,7 @@ fn need_after(need: i128, candidate: &Candidate, span: Span) -> Result<i128, Pro
     wide_sub(need, wide_mul(candidate.entry.abs().wide(), gap)?)
 }
 
-// Moves candidates to the other ends of their spans, in order, up to the first that meets the need, which is returned.
+// Moves the candidates in order to the other ends of their spans, until one would bring the row's variable back. Returns that one.
 fn pass(
     candidates: &[Candidate],
     slots: &mut [Slot],
@@ -124,7 +125,7 @@ fn pass(
     Ok(None)
 }
 
-// Returns the candidate that enters, if any helps enough.
+// Returns the candidate that enters the basis, by `rule`. If there is none, no point keeps the row's span.
 pub(crate) fn choose(
     candidates: &mut Vec<Candidate>,
     slots: &mut [Slot],

@@ -17,7 +17,7 @@ pub(crate) struct Slot {
     pub(crate) is_at_greatest: bool,
 }
 
-// Makes a pseudo-random goal that keeps each slot at its end. If the denominator is too wide for that, the goal is 0.
+// Makes a pseudo-random goal that keeps each slot at its end. If the denominator is so great that an entry might pass 2^62, the goal is 0.
 pub(crate) fn refresh(goal: &mut [Narrow], slots: &[Slot], denominator: Narrow, seed: u64)
     requires { length slots.now ≤ length goal.old }
 {
@@ -38,7 +38,7 @@ pub(crate) fn refresh(goal: &mut [Narrow], slots: &[Slot], denominator: Narrow, 
     }
 }
 
-// True if a goal asks for the greatest number of a slot's span. A goal of 0 leaves the slot where it is.
+// True if the goal's entry asks for the greatest number of a slot's span. An entry of 0 leaves the slot at its end.
 fn end_asked(goal: Narrow, is_at_greatest: bool) -> bool {
     if goal.get() > 0 {
         true

@@ -11,7 +11,7 @@ pub(crate) struct Spans<'a> {
 }
 
 impl<'a> Spans<'a> {
-    // Spans by the numbers of columns and rows.
+    // Returns the spans of all columns and rows, in the order of their numbers.
     pub(crate) fn new(columns: &'a [Span], rows: &'a [Span]) -> Spans<'a> {
         Spans { columns, rows }
     }

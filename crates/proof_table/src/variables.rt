@@ -1,8 +1,9 @@
-//! The variables of a table: its columns, and the sums of its rows. Every other module names them so.
+//! The variables of a table: its columns, and the sums of its rows. `rows`, `slots`, `spans`, `combining`, `candidates`, `worst` and
+//! `table` use this.
 
 use std::cmp::Reverse;
 
-// The sum of the row of a number, or the column of a number. In their order rows come first, the latest row before all others.
+// The sum of a row, or a column, by its number. In the order of variables all rows come before all columns, and the latest row is first.
 #[derive(Clone, Copy, Debug, PartialEq, Eq, PartialOrd, Ord)]
 pub(crate) enum Variable {
     Row(Reverse<usize>),
@@ -10,7 +11,7 @@ pub(crate) enum Variable {
 }
 
 impl Variable {
-    // Returns the variable of a row.
+    // Returns the variable that is the sum of a row.
     pub(crate) fn row(row: usize) -> Variable {
         Variable::Row(Reverse(row))
     }

@@ -1,5 +1,5 @@
-//! The values of basic variables, and the row whose variable has to leave the basis because it is out of its span. `table` and
-//! `candidates` use this.
+//! The values of basic variables, and the row whose variable leaves the basis because it is out of its span. `table` and `candidates` use
+//! this.
 
 ghost use Rattle.std.specs.Prelude.{◌<◌, length, IfOk, IfErr, IfSome};
 ghost use Rattle.proof_limits.specs.Stops.{IsWideOrMemory};
@@ -23,7 +23,7 @@ pub(crate) struct Worst {
 pub(crate) enum Rule {
     // the row that is farthest out of its span, and the slot by ratios
     Farthest,
-    // the least variable that is out, and the least that helps, so that no basis comes twice
+    // the row of the least variable that is out of its span, and the least candidate, so that no basis comes twice
     Least,
 }
 
@@ -40,7 +40,8 @@ fn row_value(entries: &[Narrow], values: &[Narrow]) -> Result<i128, ProveStop>
     Ok(sum)
 }
 
-// Returns by how much a value is out of its span, times the denominator, or a number of at most 0 if it is inside. True if it is below.
+// Returns by how much a value is out of its span, times the denominator, or a number of at most 0 if it is inside. The flag is true if it
+// is below the span.
 fn distance(value: i128, span: Span, denominator: Narrow) -> Result<(i128, bool), ProveStop>
     ensures { IfErr result IsWideOrMemory }
 {
@@ -60,7 +61,7 @@ fn is_before(rule: Rule, variable: Variable, need: i128, so_far: &Option<Worst>)
     }
 }
 
-// Writes the value of each row, and picks a row that is out of its span.
+// Writes the value of each row, and picks a row whose variable is out of its span, if there is one.
 pub(crate) fn find_worst(
     rows: &mut [TableRow],
     values: &[Narrow],

@@ -1,4 +1,4 @@
--- Lines of a proof that are added to a text one after the other.
+-- Parts of a proof's text that are added one after the other.
 use Rattle.std.proofs.Common.{◌≡◌, ℕ, ◌+◌, ◌<◌, List, [], ◌∷◌, ◌++◌, length, get_or, take, sym, ◌∙◌, ap, arith, append_assoc}
 use Rattle.std.proofs.lemmas.List.{length-take-le, take_more}
 use Rattle.define_lines.specs.Lines.{text_of}

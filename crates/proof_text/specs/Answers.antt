@@ -1,4 +1,4 @@
--- What reading the text of a proof answers.
+-- The answers of a reading of the text of a proof.
 use Rattle.std.specs.Prelude.{◌≡◌, ℕ, Result, Ok, Err, ⊤}
 use Rattle.define_lines.specs.Lines.{Fault}
 use Rattle.define_additions.specs.ProofVerdict.{Proof}
@@ -7,7 +7,7 @@ use Rattle.pool_model.specs.declared.building.BuildStop.TheVariants.{Kind, OutOf
 use Rattle.text_lines.specs.declared.faults.TextStop.{TextStop}
 use Rattle.text_lines.specs.declared.faults.TextStop.TheVariants.{Fault as fault, OutOfMemory}
 
--- the answer is what the definitions say, a proof or a fault; out of memory may come at any time
+-- the answer is the proof or the fault that the definitions say, or out of memory, which may come at any time
 abbrev pub Reads : Result Proof Fault → Result Proof TextStop → Type 0
 Reads said (Ok proof) = said ≡ Ok proof
 Reads said (Err (fault f)) = said ≡ Err (record { line = f.line; kind = f.kind })

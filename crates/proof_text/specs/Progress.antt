@@ -1,4 +1,4 @@
--- How the progress of a reading and a line in a tree are seen, as the definitions have them.
+-- How contracts see the progress of a reading and a line in a tree: as those of the definitions.
 use Rattle.define_additions.specs.ProofVerdict.{OfLottery, OfNoPanel}
 use Rattle.bundle_text.specs.Progress as bundles
 use Rattle.pool_text.specs.Progress as pools
@@ -9,14 +9,14 @@ use Rattle.proof_text.specs.declared.lines.LineInTree.TheVariants.{Node, NextTre
 use Rattle.proof_text.specs.declared.progress.Progress.{Progress}
 use Rattle.proof_text.specs.declared.progress.Progress.TheVariants.{Begun, Opened, InBundle, InPool, WithoutPanel, InTrees, InNoPanel, ClosedLottery, ClosedNoPanel}
 
--- what a line says, as the definitions have it
+-- a line in a tree as contracts see it
 abbrev pub said : LineInTree → words.LineInTree
 said (Node node) = words.OfNode node
 said NextTree = words.NextTree
 said Close = words.TheClose
 said Unknown = words.Unknown
 
--- what the lines so far make, as the definitions have it
+-- the progress of a reading as contracts see it
 abbrev pub seen : Progress → words.Progress
 seen Begun = words.Begun
 seen Opened = words.Opened
@@ -28,7 +28,7 @@ seen (InNoPanel pool lines) = words.InNoPanel pool lines
 seen (ClosedLottery pool answer trees) = words.Closed (OfLottery pool answer trees.items)
 seen (ClosedNoPanel pool lines) = words.Closed (OfNoPanel pool lines)
 
--- after the last line there is a proof
+-- if the progress is closed, what was read is a proof
 abbrev pub IsClosedRight : words.Progress → Type 0
 IsClosedRight words.Begun = Unit {0}
 IsClosedRight words.Opened = Unit {0}

@@ -1,4 +1,4 @@
-//! The lines of a tree, and what each says. Stands on `text_lines` and the ranges of `proof_model`; `progress` reads lines here.
+//! The lines of a tree, and what each says. Stands on `text_lines` and the ranges of `proof_model`; `progress` reads lines by these calls.
 
 ghost use Rattle.std.specs.Prelude.{◌≡◌, ◌<◌, ◌^◌, ◌==◌, nat_lt, ◌&&◌, if◌then◌else◌, map, IfOk, bytes_eq, option_map};
 ghost use Rattle.define_lines.specs.Numbers.{number_up_to as number_in, signed_up_to};
@@ -108,7 +108,7 @@ fn is_spelled(number: usize, field: &[u8]) -> bool
     digits.format(number).as_bytes() == field
 }
 
-/// Reads the fields of a node's line.
+/// Reads the fields of a line that may be a node's.
 fn node_of(alloc: Global, volunteers: usize, fields: &[&[u8]]) -> Result<LineInTree, AllocError>
     ensures { IfOk result (λ node. said node ≡ node_said volunteers (map (λ field. field.now) fields.now)) }
 {
@@ -125,7 +125,7 @@ fn node_of(alloc: Global, volunteers: usize, fields: &[&[u8]]) -> Result<LineInT
     }
 }
 
-/// Reads the fields after `split`.
+/// Reads the fields after `split`: the number of a volunteer.
 fn split_of(volunteers: usize, fields: &[&[u8]]) -> LineInTree
     ensures { said result ≡ split_said volunteers (map (λ field. field.now) fields.now) }
 {
@@ -138,7 +138,7 @@ fn split_of(volunteers: usize, fields: &[&[u8]]) -> LineInTree
     }
 }
 
-/// Reads the fields after `bound`.
+/// Reads the fields after `bound`: a scale, and multipliers.
 fn leaf_of(alloc: Global, volunteers: usize, fields: &[&[u8]]) -> Result<LineInTree, AllocError>
     ensures { IfOk result (λ leaf. said leaf ≡ leaf_said volunteers (map (λ field. field.now) fields.now)) }
 {
@@ -168,7 +168,7 @@ fn in_range(volunteers: usize, node: TreeLine) -> LineInTree
     }
 }
 
-/// Reads multipliers, two fields each.
+/// Reads multipliers of two fields each. Returns None if a pair spells no multiplier, or if one field is left.
 fn multipliers_of(alloc: Global, fields: &[&[u8]]) -> Result<Option<Vec<Multiplier>>, AllocError>
     ensures { IfOk result (λ multipliers. option_map (λ v. v.items) multipliers ≡ multipliers_in (map (λ field. field.now) fields.now)) }
 {

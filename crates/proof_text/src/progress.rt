@@ -1,5 +1,5 @@
-//! How far the text of a proof has been read: what the lines so far make, and what one more line makes of it. Stands on `lines`, and on
-//! the same steps of `bundle_text` and `pool_text`; `reading` calls `after` for each line.
+//! How far the text of a proof has been read: what the lines so far make, and what they make with one more line. Stands on `lines`, and on
+//! the calls `after` of `bundle_text` and `pool_text`; `reading` calls `after` for each line.
 
 ghost use Rattle.std.specs.Prelude.{◌≡◌, IfOk};
 ghost use Rattle.bundle_text.specs.Progress.{seen as bundle_seen};
@@ -19,13 +19,13 @@ const FIRST: &[u8] = b"proof\t1";
 
 const NONE: &[u8] = b"none";
 
-/// The kind of a first line that is no proof's.
+/// The kind of a first line that begins no proof.
 const VERSION: u8 = 21;
 
 /// The kind of a later line that is not allowed there.
 const FORM: u8 = 22;
 
-/// The kind of a text that ends outside the bundle's or the pool's, and of what follows the last line.
+/// The kind of a text that ends too early, but not within the bundle's or the pool's text, and of anything after the last line.
 pub(crate) const ENDING: u8 = 23;
 
 /// What the lines so far make.

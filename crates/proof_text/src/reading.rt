@@ -30,11 +30,11 @@ const MISSING_DONE: u8 = 17;
 ///   nor the line that begins the next tree, nor, in the last tree, `close`
 /// - 23 the lines end outside the bundle's or the pool's text, or something follows `close`
 pub fn read_proof(alloc: Global, bytes: &[u8]) -> Result<Proof, TextStop>
-    // What is read is spelled so, each byte of it.
+    // A proof that is read is spelled by exactly these bytes.
     ensures spelled { IfOk result (λ proof. IsProof proof × (bytes.now ≡ proof_spelling proof)) }
-    // What is spelled so is read, unless memory runs out.
+    // A proof that is spelled by these bytes is read, unless memory runs out.
     ensures read { (proof : Words) → IsProof proof → bytes.now ≡ proof_spelling proof → Reads (Ok proof) result }
-    // Which fault it is.
+    // A fault is the one that the definitions say.
     ensures exact { Reads (read bytes.now) result }
 {
     read_lines(alloc, bytes)

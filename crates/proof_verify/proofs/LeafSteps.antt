@@ -1,4 +1,4 @@
--- The multipliers of a leaf, and the volunteers, one after another.
+-- The sums over a leaf's multipliers and over the volunteers: what one more of these adds, and that all sums fit 128 bits.
 use Rattle.std.proofs.Common.{◌≡◌, ℕ, ◌+◌, ◌<◌, ◌≤◌, ◌^◌, true, ltb, List, length, take, get_or, ℤ, pos, ◌+ℤ◌, ◌-ℤ◌, ◌*ℤ◌, FitsSigned, to_z, of_z, sym, ap, ap₂, ◌∙◌, subst, arith}
 use Rattle.std.specs.Prelude.{unsigned_abs}
 use Rattle.std.specs.List.{enumerate_from}
@@ -17,15 +17,15 @@ use Rattle.define_additions.specs.Leaves.{Leaf, Multiplier, Problem, charge, has
 use Rattle.define_additions.specs.TreeRanges.{is_leaf}
 use Rattle.define_additions.proofs.NarrowSums.{charges_narrow, products_narrow, rest_narrow, total_narrow}
 
--- an element of equal lists
+-- an element of a list is that of an equal list
 pub at_item : {X : Type 0} (items xs : List X) (k : ℕ) (x : X) → items ≡ xs → k < length items → x ≡ get_or items k x → (k < length xs) × (x ≡ get_or xs k x)
 at_item items xs k x e l is = subst (λ ys. (k < length ys) × (x ≡ get_or ys k x)) e (l, is)
 
--- a number as it is stored
+-- a number that fits 128 bits is stored unchanged
 pub stored : (z y : ℤ) → FitsSigned w128 z → z ≡ y → to_z w128 (of_z w128 z) ≡ y
 stored z y fits e = to_z-of_z w128 z fits ∙ e
 
--- a sum as it is stored, where it is a narrow number
+-- a number whose absolute value is below 2^127 fits 128 bits
 pub fits_where : (z y : ℤ) → z ≡ y → unsigned_abs y < 2 ^ 127 → FitsSigned w128 z
 fits_where z y e narrow = subst (λ z. FitsSigned w128 z) (sym e) (fits_signed_from_abs w128 y narrow)
 
@@ -42,7 +42,7 @@ more_none : (a : ℤ) → a +ℤ pos 0 ≡ a
 more_none a = omega (arith, ints)
 
 module _ (problem : Problem) (leaf : Leaf) where
-  -- before the first multiplier, and behind the last
+  -- the sums before the first multiplier, and after the last
   pub rest_begins : (i : ℕ) → rest problem (first_multipliers 0 leaf) i ≡ pos leaf.scale *ℤ weight_of problem.stage i
   rest_begins i = less_none (pos leaf.scale *ℤ weight_of problem.stage i)
 
@@ -60,7 +60,7 @@ module _ (problem : Problem) (leaf : Leaf) where
         ltb-true m.number (length problem.constraints)
         (each_at P leaf.multipliers k m (each_from_list_all (λ it. ltb it.number (length problem.constraints)) leaf.multipliers known) below at)
 
-    -- and its products fit
+    -- the products of each multiplier fit 128 bits
     pub narrow_at : (i : ℕ) → is_problem_in_reach problem ≡ true → is_leaf leaf ≡ true →
         (unsigned_abs (multiplied problem.constraints i m) < 2 ^ 127) × (unsigned_abs (charge problem.constraints m) < 2 ^ 127)
     narrow_at i near is =

@@ -77,11 +77,11 @@ bundle_lines_counted pool answer =
     let fourth = length-map answer.stages stage_line in
     omega (arith, first, second, third, fourth)
 
--- a sum that is answered
+-- a sum that a call returns is replaced by an equal one
 pub same_sum : (result : Result ℕ AllocError) (a b : ℕ) → IfOk result (λ sum. sum ≡ a) → a ≡ b → IfOk result (λ sum. sum ≡ b)
 same_sum result a b h e = subst (λ n. IfOk result (λ sum. sum ≡ n)) e h
 
--- the sums of a pool's lines and of a bundle's, one after another
+-- the sums that the code makes, one after another, are the number of a pool's lines, or of a bundle's
 pub pool_sum : (pool : Pool) (categories : List Category) (volunteers : List Volunteer) (first second third fourth housed decided : ℕ) → categories ≡ pool.categories → volunteers ≡ pool.volunteers →
     first ≡ length (flat_map category_lines categories) → second ≡ first + 3 → third ≡ second + length volunteers → housed ≡ count_by (λ volunteer. is_some volunteer.household) volunteers →
     fourth ≡ third + housed → decided ≡ count_by (λ volunteer. not (is_open volunteer.standing)) volunteers → fourth + decided ≡ length (pool_lines pool)

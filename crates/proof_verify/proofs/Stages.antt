@@ -20,7 +20,7 @@ pub is_valid : (verdict : Verdict) → holds verdict ≡ true → verdict ≡ Va
 is_valid Valid e = refl
 is_valid (Refused refusal) e = absurd (false≢true e)
 
--- a refusal is what is said, whatever comes next
+-- a refusal is the verdict, whatever comes next
 pub stops : (verdict next : Verdict) → holds verdict ≡ false → or_next verdict next ≡ verdict
 stops Valid next e = absurd (false≢true (sym e))
 stops (Refused refusal) next e = refl
@@ -47,13 +47,13 @@ module _ (pool : Pool) (lottery : Lottery) (earlier : List Stage) (stage : Stage
   too_far true fault e = absurd (false≢true (sym e))
   too_far false fault e = refl
 
-  -- it is refused where its numbers reach too far
+  -- a stage whose numbers are not within reach is refused
   pub refused_far : (lines : List TreeLine) → holds before ≡ true → is_stage_in_reach stage ≡ false → of_stage lines ≡ Refused (record { stage = length earlier + 1; reason = 13; who = [] })
   refused_far lines valid far =
       ap₂ (λ first second. or_next first (or_next second listed)) (is_valid before valid)
       (too_far (leb (reach stage) number_limit) (tree_fault (stage_problem pool earlier stage) (standings pool) line lines) far)
 
-  -- for a line, where one has a fault, and else for a listed panel
+  -- a stage within reach is refused for a line if one has a fault, and else for a listed panel, if at all
   pub of_fault : (lines : List TreeLine) (fault : Option TreeFault) → holds before ≡ true → is_stage_in_reach stage ≡ true →
       fault ≡ tree_fault (stage_problem pool earlier stage) (standings pool) line lines →
       of_stage lines ≡ or_next (first_reason (line_reason (length earlier + 1) fault ∷ [])) listed

@@ -6,11 +6,11 @@ use Rattle.define_pools.specs.Pool.{Pool}
 use Rattle.define_searches.specs.Compositions.{is_of_household}
 use Rattle.define_additions.specs.Constraints.{Constraint, category_constraints, constraints, size_constraint}
 
--- the constraints that come before those of stages: the size, and each value
+-- the constraints that come before those of stages: one for the size, and one for each value
 abbrev pub fixed_constraints : Pool → List Constraint
 fixed_constraints pool = size_constraint pool ∷ flat_map (category_constraints pool) (enumerate_from 0 pool.categories)
 
--- `rows` are the constraints of the stage after the earlier ones, and `next` is the place after those of earlier stages
+-- `rows` are the constraints of the stage after the earlier ones, and `next` is the place after the constraints of earlier stages
 pub record AreConstraintsOf (pool : Pool) (earlier : List Stage) (rows : List Constraint) (next : ℕ) : Type 0 where
   pub all : rows ≡ constraints pool earlier
   pub behind : next ≡ length (fixed_constraints pool) + length earlier

@@ -15,7 +15,7 @@ pub record Path : Type 0 where
 abbrev pub reached : Path → List Standing
 reached path = standings_at (standings path.pool) path.decisions
 
--- each decision is on a volunteer who was undecided before it
+-- each decision is on a volunteer who is undecided at the path before it
 abbrev pub each_undecided : List Standing → List Decision → Bool
 each_undecided standings [] = true
 each_undecided standings (decision ∷ path) = is_undecided (standings_at standings path) decision.volunteer && each_undecided standings path
@@ -29,7 +29,7 @@ pub record KeepsStandings (path : Path) (kept : List Standing) : Type 0 where
 abbrev pub with_decision : Path → Decision → Path
 with_decision path decision = record path { decisions = decision ∷ path.decisions }
 
--- the latest decision, on a volunteer who was undecided before it, is undone; or there is none
+-- what undoing returns: the latest decision, which the path loses and which was on an undecided volunteer, or None if there is none
 abbrev pub Undoes : Option Decision → Path → Path → Type 0
 Undoes None old new = (old.decisions ≡ []) × (new ≡ old)
 Undoes (Some decision) old new = (old ≡ with_decision new decision) × IsTrue (is_undecided (reached new) decision.volunteer)

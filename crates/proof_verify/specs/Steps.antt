@@ -1,4 +1,4 @@
--- What passing a line of a tree returns.
+-- What a call returns that passes a line of a tree.
 use Rattle.std.specs.Prelude.{ℕ, if◌then◌else◌, Bool, true, false, List, ◌∷◌, Option, Some, None, Result, Ok, Err}
 use Rattle.define_pools.specs.declared.Standing.{Standing}
 use Rattle.define_additions.specs.Leaves.{Problem, leaf_shows}
@@ -12,12 +12,12 @@ next problem standings (Some path) (OfSplit i) =
     if is_undecided (standings_at standings path) i then Ok (Some (record { volunteer = i; is_in = false } ∷ path)) else Err 11
 next problem standings (Some path) (OfLeaf leaf) = if leaf_shows problem (standings_at standings path) leaf then Ok (path_behind path) else Err 12
 
--- the path if the tree goes on, else None
+-- the path of the next line if the tree goes on, else None
 abbrev pub place : Bool → List Decision → Option (List Decision)
 place true path = Some path
 place false path = None
 
--- the result of a call that returns whether the tree goes on, and leaves this path, or returns a reason
+-- the step that a call makes: it returns whether the tree goes on, and leaves `path`, or it returns a reason
 abbrev pub seen_step : Result Bool ℕ → List Decision → Result (Option (List Decision)) ℕ
 seen_step (Ok goes_on) path = Ok (place goes_on path)
 seen_step (Err reason) path = Err reason

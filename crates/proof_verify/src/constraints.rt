@@ -237,7 +237,7 @@ fn ones_of(
         .collect(alloc)
 }
 
-/// True if this household has this number.
+/// True if `household` is that of this number.
 fn is_of_household(number: usize, household: Option<usize>) -> bool
     ensures { result ≡ is_of number household }
 {
@@ -256,7 +256,7 @@ fn first_members(alloc: Global, households: &[Option<usize>]) -> Result<Vec<usiz
         .collect(alloc)
 }
 
-/// Returns the number of the household that a volunteer shares.
+/// Returns the number of the household that a volunteer shares, if there is one.
 fn household_of(households: &[Option<usize>], i: usize) -> Option<usize>
     ensures { result ≡ slice_index_or households.now i None }
 {
@@ -266,7 +266,7 @@ fn household_of(households: &[Option<usize>], i: usize) -> Option<usize>
     }
 }
 
-/// Returns for each volunteer the number of the household that is shared with somebody.
+/// Returns for each volunteer the number of the household that they share, or None.
 fn shared_households(
     alloc: Global,
     volunteers: &[Volunteer],
@@ -278,7 +278,7 @@ fn shared_households(
         .collect(alloc)
 }
 
-/// Returns the number of the household that a volunteer shares with somebody, which is that of its first member.
+/// Returns the number of the household that a volunteer shares, which is that of its first member, or None.
 fn shared_household(volunteers: &[Volunteer], i: usize) -> Option<usize>
     ensures { result ≡ shared volunteers.now i }
 {
@@ -287,7 +287,7 @@ fn shared_household(volunteers: &[Volunteer], i: usize) -> Option<usize>
     if 2 <= members { first } else { None }
 }
 
-/// Returns how many volunteers are of a volunteer's household.
+/// Returns how many members a volunteer's household has.
 fn household_size(volunteers: &[Volunteer], i: usize) -> usize
     ensures { result ≡ count_by (are_of_one_household volunteers.now i) (range_with_len 0 (length volunteers.now)) }
 {
@@ -296,7 +296,7 @@ fn household_size(volunteers: &[Volunteer], i: usize) -> usize
         .count()
 }
 
-/// Returns the first volunteer of a volunteer's household.
+/// Returns the first member of a volunteer's household.
 fn first_of_household(volunteers: &[Volunteer], i: usize) -> Option<usize>
     ensures { result ≡ find (are_of_one_household volunteers.now i) (range_with_len 0 (length volunteers.now)) }
 {

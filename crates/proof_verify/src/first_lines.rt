@@ -1,5 +1,5 @@
-//! How many lines the text of a proof has before the first line of its first tree. They are counted from the values, without writing them.
-//! `verifying` uses this to name lines in verdicts.
+//! How many lines the text of a proof has before the first line of its first tree. They are counted from the values, without writing the
+//! text. `verifying` and `trees` use this to name lines in verdicts.
 
 ghost use Rattle.std.specs.Prelude.{◌≡◌, ◌+◌, not, count_by, IfOk, is_some, length};
 ghost use Rattle.std.specs.List.{flat_map};
@@ -10,7 +10,7 @@ ghost use Rattle.define_pool_texts.specs.PoolText.{category_lines};
 use pool_model::{Answer, Category, Pool, Standing, Volunteer};
 use std::alloc::AllocError;
 
-/// Returns `number + count`. A text whose number of lines does not fit a `usize` does not fit memory, so such a sum is out of memory.
+/// Returns `number + count`, or out of memory if the sum does not fit a `usize`: a text of so many lines does not fit memory.
 pub(crate) fn after(number: usize, count: usize) -> Result<usize, AllocError>
     ensures { IfOk result (λ sum. sum ≡ number + count) }
 {
@@ -20,19 +20,19 @@ pub(crate) fn after(number: usize, count: usize) -> Result<usize, AllocError>
     }
 }
 
-/// Returns how many lines a bundle has before its last.
+/// Returns how many lines a bundle's text has before the last one.
 pub(crate) fn bundle_line_count(pool: &Pool, answer: &Answer) -> Result<usize, AllocError>
     ensures { IfOk result (λ count. count ≡ length (lines_before_done pool.now answer.now)) }
 {
     let rows = answer.lottery().rows().len();
     let stages = answer.certificate().stages().len();
     let before = pool_line_count(pool)?;
-    // the first line, and that of the total
+    // the first line, and the line of the total
     let with_total = after(before, 2)?;
     after(after(with_total, rows)?, stages)
 }
 
-/// Returns how many lines a pool has.
+/// Returns how many lines a pool's text has.
 pub(crate) fn pool_line_count(pool: &Pool) -> Result<usize, AllocError>
     ensures { IfOk result (λ count. count ≡ length (pool_lines pool.now)) }
 {

@@ -1,6 +1,6 @@
-//! Whether a leaf shows a stage's cap: the charges of its multipliers and of the volunteers' rests are added up, and compared with what a
-//! panel above the cap weighs. No sum is tested for its width, since a law says that none passes 128 bits if the problem is within reach and
-//! the leaf keeps its ranges. Stands on `constraints`; `trees` calls `leaf_shows`.
+//! Whether a leaf shows a stage's cap: the charges of its multipliers and of the volunteers' rests are added up, and compared with the
+//! least that a panel above the cap weighs, times the scale. No sum is tested for its width, since a law says that none passes 128 bits if
+//! the problem is within reach and the leaf keeps its ranges. Stands on `constraints`; `trees` calls `leaf_shows`.
 
 ghost use Rattle.std.specs.Prelude.{◌≡◌, ◌^◌, ◌<◌, ◌*ℤ◌, ◌+ℤ◌, IsTrue, length, pos, unsigned_abs};
 ghost use Rattle.define_additions.specs.Constraints.{constraint_at, signed_sum};
@@ -111,7 +111,7 @@ fn charges(problem: &Problem, leaf: &Leaf) -> i128
     charges
 }
 
-/// Returns a multiplier's charge: the most that a panel's sum, multiplied, can be.
+/// Returns a multiplier's charge: the most that a panel's sum times the factor can be.
 fn charge(problem: &Problem, multiplier: &Multiplier) -> i128
     requires known { multiplier.now.number < length problem.now.constraints }
     requires narrow { unsigned_abs (charge_of problem.now.constraints multiplier.now) < 2 ^ 127 }
@@ -147,7 +147,7 @@ fn above_zero(rest: i128) -> i128
     if 0 < rest { rest } else { 0 }
 }
 
-/// Returns a volunteer's rest: the weight, multiplied, less the coefficients, multiplied.
+/// Returns a volunteer's rest: the weight times the scale, less the coefficient times the factor for each multiplier.
 fn rest(problem: &Problem, leaf: &Leaf, i: usize) -> i128
     requires near { IsTrue (is_problem_in_reach problem.now) }
     requires leaf { IsTrue (is_leaf leaf.now) }
@@ -161,7 +161,7 @@ fn rest(problem: &Problem, leaf: &Leaf, i: usize) -> i128
     rest
 }
 
-/// Returns a volunteer's coefficient in a multiplier's constraint, multiplied.
+/// Returns a volunteer's coefficient in a multiplier's constraint, times the factor.
 fn multiplied(problem: &Problem, multiplier: &Multiplier, i: usize) -> i128
     requires known { multiplier.now.number < length problem.now.constraints }
     requires narrow { unsigned_abs (multiplied_of problem.now.constraints i multiplier.now) < 2 ^ 127 }

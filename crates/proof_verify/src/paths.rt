@@ -87,7 +87,7 @@ impl<'a> Path<'a> {
         &self.standings
     }
 
-    /// True if the standing of a volunteer is still open there.
+    /// True if the standing of a volunteer is still open where the path leads.
     pub(crate) fn is_undecided(&self, i: usize) -> bool
         ensures { result ≡ is_undecided_of (reached self.now) i }
     {
@@ -116,7 +116,8 @@ impl<'a> Path<'a> {
         Some(latest)
     }
 
-    /// Goes on after a leaf: back to the latest volunteer who was out, who is in from here on. False if the tree ends.
+    /// Goes on after a leaf: back to the latest decision that put a volunteer out, which now puts the volunteer in. Returns false if there
+    /// is none, so that the tree ends.
     pub(crate) fn go_behind(&mut self) -> Result<bool, AllocError>
         ensures path { IfOk result (λ goes_on. path_behind self.old.decisions ≡ place goes_on self.new.decisions) }
         ensures pool { OnOk result (self.new.pool ≡ self.old.pool) }
@@ -151,7 +152,7 @@ fn is_open(standing: Standing) -> bool
     }
 }
 
-/// Returns the standing of a volunteer who is in or out.
+/// Returns the standing of a volunteer whom a decision puts in or out.
 fn decided_standing(is_in: bool) -> Standing
     ensures { result ≡ decided is_in }
 {

@@ -1,5 +1,5 @@
-//! The lines of a tree, one after the other: finds the first that is not the next line of a tree, or whose multipliers do not show the cap.
-//! Stands on `paths` and `leaves`; `verifying` calls `tree_fault`.
+//! The walk through the lines of a tree, which finds the first that is not the next line of a tree, or whose multipliers do not show the
+//! cap. Stands on `paths` and `leaves`; `verifying` calls `tree_fault`.
 
 ghost use Rattle.std.specs.Prelude.{◌≡◌, IfOk, IsTrue, OnOk, length, true, Ok, Err};
 ghost use Rattle.std.specs.List.{list_all};
@@ -87,7 +87,7 @@ pub(crate) fn tree_fault(
     Ok(Some(Fault::new(after(number, lines.len())?, NO_NEXT_LINE)))
 }
 
-/// Passes a line. Returns whether the tree goes on after it, where the path then leads, or the reason why the line is refused.
+/// Passes a line, and moves the path to the next one. Returns whether the tree goes on, or the reason why the line is refused.
 fn pass_line(
     problem: &Problem,
     path: &mut Path,

@@ -1,5 +1,6 @@
-//! The check of a proof, reason by reason: those of the lottery, and then for each stage those before the cap, the reach of its numbers,
-//! those of its tree, and those of the listed panels. Stands on all other modules. `verify` is the promise; the other functions are helpers.
+//! The check of a proof, reason by reason: the reasons of the lottery, and then for each stage the reasons before its cap, the reach of its
+//! numbers, the reasons of its tree, and those of the listed panels. Stands on all other modules. `verify` is the promise; the other
+//! functions are helpers.
 
 ghost use Rattle.std.specs.Prelude.{◌≡◌, ◌∷◌, [], IfOk, IsTrue, List, length, map, pos};
 ghost use Rattle.std.specs.List.{list_all};
@@ -26,7 +27,7 @@ use pool_model::{Answer, Pool, Stage, Volunteer};
 use proof_model::{Parts, Proof, TreeLine, TreeLines};
 use std::alloc::{AllocError, Global};
 
-/// The greatest reach of a stage, which is its cap and weights without signs, added up: 2^56.
+/// The greatest reach of a stage, which is the sum of its cap and weights without signs: 2^56.
 const MAX_REACH: u128 = 72_057_594_037_927_936;
 
 /// Returns whether a proof is valid, or why it is refused. The lottery of a valid proof is leximin greatest, and a pool with a valid proof
@@ -61,13 +62,13 @@ fn of_lottery(
         return Ok(verdict);
     }
     let before = bundle_line_count(pool, answer)?;
-    // the first line, the last of the bundle, the one that begins the tree, and the first of the tree
+    // counted too: the proof's first line, the bundle's last, the line that begins the tree, and the tree's first
     let first = after(before, 4)?;
     let course = Course::begin(alloc, pool, answer)?;
     stages_verdict(alloc, course, answer.certificate().stages(), first, trees)
 }
 
-/// Checks stages, and that they settle everybody. The first line of the first tree has the number `first`.
+/// Checks stages, and that they settle everybody. `first` is the number of the first line of the first tree.
 fn stages_verdict(
     alloc: Global,
     mut course: Course<'_>,
@@ -99,7 +100,7 @@ fn stages_verdict(
     course.left(alloc)
 }
 
-/// Checks a stage. The first line of its tree has the number `number`.
+/// Checks a stage. `number` is the number of the first line of its tree.
 fn stage_verdict(
     alloc: Global,
     course: &Course<'_>,
@@ -131,7 +132,7 @@ fn stage_verdict(
     course.off_cap(alloc, stage)
 }
 
-/// Returns the refusal of a line.
+/// Returns the verdict that refuses a line.
 fn refused_line(alloc: Global, stage: usize, fault: &Fault) -> Result<Verdict, AllocError>
     ensures { IfOk result (λ verdict. verdict ≡ Refused (record { stage = stage; reason = fault.now.reason; who = fault.now.line ∷ [] })) }
 {
@@ -158,7 +159,7 @@ fn of_no_panel(alloc: Global, pool: &Pool, lines: &[TreeLine]) -> Result<Verdict
     let constraints = Constraints::of_first(alloc, pool)?;
     let stage = no_panel(alloc, pool)?;
     let before = pool_line_count(pool)?;
-    // the first line, the one that there is no panel, the one that begins the tree, and the first of the tree
+    // counted too: the proof's first line, the line `none`, the line that begins the tree, and the tree's first
     let first = after(before, 4)?;
     let problem = Problem::new(constraints.rows(), &stage);
     match tree_fault(alloc, &problem, pool, first, lines)? {

@@ -5,7 +5,7 @@ use Rattle.define_additions.specs.ProofSteps.{verdict_from}
 use Rattle.proof_verify.specs.Kept.{AreConstraintsOf}
 use Rattle.proof_verify.proofs.verifying.stages_verdict.Given as goal
 
--- what is to be said of the stages that come is to be said of all
+-- the verdict on all stages is the verdict on the stages that are left
 abbrev pub invariant-loop-k : goal.invariant-loop-k
 invariant-loop-k l = record {
   pool : l.course.pool ≡ l.initial.course.pool;
