@@ -1,5 +1,5 @@
-//! The rows that each panel of a lottery keeps: those of the quotas, and those of stages. `faces` and `tails` use them; `proof_run` makes
-//! `PanelRows`, and uses `weights_of`. Promises: the lengths.
+//! The rows that each panel of a lottery keeps: those of the quotas, and those of stages. `faces`, `peels`, `tails` and `lotteries` use them;
+//! `proof_run` makes `PanelRows`, and uses `weights_of`. Promises: the lengths.
 
 ghost use Rattle.std.specs.Prelude.{◌≡◌, ◌+◌, length, IfOk};
 

@@ -1,5 +1,5 @@
 //! The stages of a pool, found in two ways. The relaxation (`relaxed`) lets points take the place of panels: each stage is a refuted
-//! program, whose multipliers are a leaf that shows the cap. Column generation (`columned`) weighs compositions, where the relaxation's
+//! program, whose multipliers are a leaf that shows the cap. Column generation (`columned`) weighs compositions, if the relaxation's
 //! point is no mix of panels; its caps are shown by trees. Stands on `proof_program`, `proof_branching`, `proof_table` and `proof_limits`;
 //! `proof_peeling` and `proof_run` stand on it.
 //! Promises: each call is safe and ends, gives nothing of the budget back, and `Chances` has exactly the chances that were settled. The

@@ -10,7 +10,7 @@ ghost use Rattle.define_pool_texts.specs.PoolText.{category_lines};
 use pool_model::{Answer, Category, Pool, Standing, Volunteer};
 use std::alloc::AllocError;
 
-/// Returns `number + count`, or out of memory if the sum does not fit a `usize`: a text of so many lines does not fit memory.
+/// Returns `number + count`, or out of memory if the sum does not fit a `usize`: such a long text does not fit memory.
 pub(crate) fn after(number: usize, count: usize) -> Result<usize, AllocError>
     ensures { IfOk result (λ sum. sum ≡ number + count) }
 {
