@@ -1,4 +1,4 @@
--- What a check comes to is told rightly.
+-- The answers for a verdict and for a stop of a check are right by `CheckMeans`.
 use Rattle.std.proofs.Common.{◌≡◌, ◌↔◌, ℕ, refl, sym, subst, Ok}
 use Rattle.std.specs.Prelude.{Err}
 use Rattle.define_pools.specs.Certificate.{Certifies}

@@ -1,4 +1,4 @@
--- A draw that is refused is told with its cause.
+-- If a draw is refused, the answer for its stop is right by `DrawMeans`.
 use Rattle.std.proofs.Common.{◌≡◌, ◌∙◌, ℕ, List, refl, ap₂, sym, subst}
 use Rattle.std.specs.Prelude.{Err}
 use Rattle.define_pools.specs.Lottery.{TotalAgrees}

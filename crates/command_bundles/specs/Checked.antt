@@ -1,4 +1,5 @@
--- What is answered where a check comes to a verdict, and where it comes to none.
+-- What `check` answers for each verdict on a certificate, and if there is no verdict. The contracts of `told` and `stopped` in src/check.rt
+-- cite it.
 use Rattle.std.specs.Prelude.{◌≡◌, ℕ}
 use Rattle.define_checks.specs.Reasons.{Refused, Valid, Verdict}
 use Rattle.cert_check.specs.declared.stops.CheckStop.{CheckStop}
@@ -12,7 +13,7 @@ abbrev pub TellsVerdict : Verdict → Saying → Type 0
 TellsVerdict Valid answer = answer ≡ Prints printed.Done valid_line
 TellsVerdict (Refused refusal) answer = answer ≡ Prints printed.Refused (refused_line refusal)
 
--- want of memory is never answered so
+-- the answer is the one for this stop. Want of memory has no answer: the command returns an error then
 abbrev pub TellsStop : ℕ → CheckStop → Saying → Type 0
 TellsStop nodes (NodesSpent stage) answer = answer ≡ Stops cause.Spent (visits_spent_line nodes stage)
 TellsStop nodes OutOfMemory answer = ⊥

@@ -1,4 +1,4 @@
-//! The command `check`: whether the certificate of a bundle holds, and why it is refused where it doesn't.
+//! The command `check`: whether the certificate of a bundle holds, and why it is refused if it doesn't.
 
 ghost use Rattle.std.specs.Prelude.{IfOk};
 ghost use Rattle.command_shell.specs.Answers.{IsRight, saying};
@@ -35,7 +35,7 @@ impl Command for Check {
     }
 }
 
-/// What `check` answers about a bundle.
+/// Returns what `check` answers about `bundle`.
 fn checked(alloc: Global, nodes: u64, bundle: &Bundle) -> Result<Answer, AllocError>
     ensures { IfOk result (λ answer. IsRight (CheckMeans nodes bundle.now) (saying answer)) }
 {
@@ -45,7 +45,7 @@ fn checked(alloc: Global, nodes: u64, bundle: &Bundle) -> Result<Answer, AllocEr
     }
 }
 
-/// What is answered where the check comes to a verdict.
+/// Returns the answer for a verdict.
 fn told(alloc: Global, verdict: &Verdict) -> Result<Answer, AllocError>
     ensures { IfOk result (λ answer. TellsVerdict verdict.now (saying answer)) }
 {
@@ -61,7 +61,7 @@ fn told(alloc: Global, verdict: &Verdict) -> Result<Answer, AllocError>
     }
 }
 
-/// What is answered where it comes to none.
+/// Returns the answer for a check without a verdict: the search at a stage spent its visits. Want of memory is `Err`.
 fn stopped(alloc: Global, nodes: u64, stop: &CheckStop) -> Result<Answer, AllocError>
     ensures { IfOk result (λ answer. TellsStop nodes stop.now (saying answer)) }
 {

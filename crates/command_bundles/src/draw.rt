@@ -1,4 +1,4 @@
-//! The command `draw`: the panel that is drawn from a bundle, by a seal that is given and the digits of dice.
+//! The command `draw`: the panel that the digits of dice draw from a bundle, if the given seal is the bundle's.
 
 ghost use Rattle.std.specs.Prelude.{◌≡◌, IfOk};
 ghost use Rattle.define_bundles.specs.BundleText.{bundle_spelling};
@@ -13,7 +13,7 @@ use command_shell::{Answer, Cause, Command, Meaning, Printed, input_line};
 use sealed_draw::{DrawStop, draw, seal, total_agrees};
 use std::alloc::{AllocError, Global};
 
-/// The kind of a bundle whose weights don't sum to its total. Its line is told as 0.
+/// The kind of fault of a bundle whose weights don't sum to its total. It is told with line number 0, since no single line is faulty.
 const WRONG_TOTAL: u8 = 14;
 
 /// `draw`: the panel that is drawn from a bundle.
@@ -41,7 +41,7 @@ impl Command for Draw<'_> {
     }
 }
 
-/// What `draw` answers about a bundle, whose text this is.
+/// Returns what `draw` answers about `bundle`, whose text is `text`.
 fn drawn(
     alloc: Global,
     given: &str,
@@ -69,7 +69,7 @@ fn drawn(
     }
 }
 
-/// What is answered where nothing is drawn.
+/// Returns the answer for a draw that is refused. Want of memory is `Err`.
 fn stopped(alloc: Global, stop: &DrawStop) -> Result<Answer, AllocError>
     ensures { IfOk result (λ answer. TellsStop stop.now (saying answer)) }
 {

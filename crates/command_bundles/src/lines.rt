@@ -14,7 +14,7 @@ use sealed_draw::{Draw, seal};
 use std::alloc::{AllocError, Global};
 use text_lines::{end_line, push_field, push_line, push_number, push_numbers, push_signed};
 
-/// The line of the seal of a text.
+/// Returns the line of `seal`: the seal of `text`.
 pub(crate) fn seal_line(alloc: Global, text: &[u8]) -> Result<Vec<u8>, AllocError>
     ensures { IfOk result (λ line. line.items ≡ words_of_line (codes "seal" ∷ seal_of text.now ∷ [])) }
 {
@@ -24,7 +24,7 @@ pub(crate) fn seal_line(alloc: Global, text: &[u8]) -> Result<Vec<u8>, AllocErro
     Ok(line)
 }
 
-/// The ticket that was drawn, and the panel's members.
+/// Returns the two lines of a draw: the ticket with how many digits were read, and the ids of the panel's members.
 pub(crate) fn drawn_lines(alloc: Global, pool: &Pool, drawn: &Draw) -> Result<Vec<u8>, AllocError>
     requires ticket { pos 0 ≤ℤ drawn.now.ticket }
     requires panel { IsTrue (list_all (λ i. nat_lt i (length pool.now.volunteers)) drawn.now.panel) }
@@ -37,7 +37,7 @@ pub(crate) fn drawn_lines(alloc: Global, pool: &Pool, drawn: &Draw) -> Result<Ve
     Ok(text)
 }
 
-/// Adds the line of a ticket and of how many digits were read.
+/// Adds the line of the ticket, with `used`, how many digits were read.
 fn push_ticket(text: &mut Vec<u8>, ticket: i128, used: usize) -> Result<(), AllocError>
     requires { pos 0 ≤ℤ ticket }
     ensures { OnOk result (text.new.items ≡ text.old.items ++ words_of_line (codes "ticket" ∷ decimal (unsigned_abs ticket) ∷ decimal used ∷ [])) }
@@ -60,7 +60,7 @@ fn push_panel(text: &mut Vec<u8>, pool: &Pool, panel: &Panel) -> Result<(), Allo
     end_line(text)
 }
 
-/// The rule that the seal that was given is another one than the one that is kept.
+/// Returns the line of the rule that refuses a draw whose given seal isn't the kept one.
 pub(crate) fn seal_rule_line(alloc: Global, given: &str, kept: &str) -> Result<Vec<u8>, AllocError>
     ensures { IfOk result (λ line. line.items ≡ words_of_line (codes "rule" ∷ codes "SealDiffers" ∷ given.now ∷ kept.now ∷ [])) }
 {
@@ -73,7 +73,7 @@ pub(crate) fn seal_rule_line(alloc: Global, given: &str, kept: &str) -> Result<V
     Ok(line)
 }
 
-/// A rule with a number.
+/// Returns the line of a rule with a number: the place of a bad digit, or how many digits were read before more were needed.
 pub(crate) fn number_rule_line(
     alloc: Global,
     rule: &[u8],
@@ -89,7 +89,7 @@ pub(crate) fn number_rule_line(
     Ok(line)
 }
 
-/// The line of a certificate that holds, or of a proof that is valid.
+/// Returns the line of a certificate that holds, or of a valid proof of a lottery.
 pub fn valid_line(alloc: Global) -> Result<Vec<u8>, AllocError>
     ensures { IfOk result (λ line. line.items ≡ words_of_line (codes "valid" ∷ [])) }
 {
@@ -98,8 +98,8 @@ pub fn valid_line(alloc: Global) -> Result<Vec<u8>, AllocError>
     Ok(line)
 }
 
-/// The line of a certificate, or of a proof, that is refused: the stage, the reason, and the numbers of the volunteers who show it, or for the
-/// reasons 11 and 12 the number of a line of the text of the proof.
+/// Returns the line of a refused certificate or proof: the stage, the reason, and the numbers of the volunteers who show it. For the
+/// reasons 11 and 12, which only a proof has, the last number is that of a line of the proof's text.
 pub fn refused_line(alloc: Global, refusal: &Refusal) -> Result<Vec<u8>, AllocError>
     ensures { IfOk result (λ line. line.items ≡ words_of_refused refusal.now) }
 {
@@ -112,7 +112,8 @@ pub fn refused_line(alloc: Global, refusal: &Refusal) -> Result<Vec<u8>, AllocEr
     Ok(line)
 }
 
-/// The line of visits that are spent at a stage, after no columns and no pivots.
+/// Returns the line of a check whose search at a stage spent its visits: `nodes`, the stage, and 0 columns and 0 pivots, since a check has
+/// none.
 pub(crate) fn nodes_spent_line(
     alloc: Global,
     nodes: u64,

@@ -21,7 +21,7 @@ use Rattle.command_meanings.specs.Panel.{IsFirstPanel, PanelMeans}
 use Rattle.command_meanings.specs.Seal.{SealMeans, bundle_seal, seal_line}
 use Rattle.command_meanings.specs.Verify.{VerifyMeans, shown_line}
 
--- where each right answer is this one, there is one
+-- if each right answer is `due`, at most one answer is right
 pub one_by : (meaning : Meaning) (due : Saying) → ((answer : Saying) → IsRight meaning answer → answer ≡ due) → HasOneAnswer meaning
 one_by meaning due is first second a b = is first a ∙ sym (is second b)
 
@@ -77,7 +77,7 @@ bundle_is (OfNoPanel pool lines) answer right = absurd right
 pub bundle_once : (proof : Proof) → HasOneAnswer (BundleMeans proof)
 bundle_once proof = one_by (BundleMeans proof) (bundle_said proof) (bundle_is proof)
 
--- ---- panel and draw: each two right answers are equal
+-- ---- panel and draw: any two right answers are equal
 
 pub none_has_no_first : (pool : Pool) (panel : List ℕ) → IsFirstPanel pool panel → panels pool ≡ [] → ⊥
 none_has_no_first pool panel is none = each_panel (λ _. ⊥) pool (subst (AllByRecursion (λ _. ⊥)) (sym none) tt) panel is.fits

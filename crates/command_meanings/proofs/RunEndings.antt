@@ -21,7 +21,7 @@ pub one_ending : (pool : Pool) (limits : Limits) (first second : Ending) → Run
 one_ending pool limits first second a b =
     same_ending (classes_of pool) (run_limits limits) (opening (classes_of pool) (run_limits limits)) a.steps b.steps first second a.there b.there
 
--- the answer that an end of the run asks for
+-- the answer of `lottery` for an ending of the run
 abbrev pub lottery_said : Limits → Pool → Ending → Saying
 lottery_said limits pool (Ending.Found last found) = Prints Done (bundle_text pool found)
 lottery_said limits pool Ending.NoPanel = Prints NoPanel no_panel_line
@@ -40,7 +40,7 @@ budget_said limits pool (Ending.PivotsSpent stood) line tells = ap (Stops Spent)
 budget_said limits pool (Ending.NodesSpent stood) line tells = ap (Stops Spent) tells
 budget_said limits pool other line tells = absurd tells
 
--- the run ends so, and the answer is what this end asks for
+-- the run has an ending, and the answer is what `said` gives for it
 record Tells (said : Ending → Saying) (limits : Limits) (pool : Pool) (answer : Saying) : Type 0 where
   ending : Ending
   ends : RunEnds pool limits ending
@@ -66,7 +66,7 @@ abbrev IsDone : Saying → Type 0
 IsDone (Prints Done text) = ⊤
 IsDone answer = ⊥
 
--- the summary in the place of the bundle
+-- the answer of `make` for an ending of the run: the summary of a lottery that is found, else what `lottery` answers
 abbrev made_said : Limits → Pool → Ending → Saying
 made_said limits pool (Ending.Found last found) = Prints Done (summary_text pool found (sizes_of last))
 made_said limits pool other = lottery_said limits pool other

@@ -12,11 +12,11 @@ use Rattle.command_shell.specs.Lines.{line}
 abbrev pub valid_line : List ℕ
 valid_line = line (codes "valid" ∷ [])
 
--- the stage and the reason for which the certificate is refused, and the numbers of who shows it
+-- the stage, the reason for which the certificate is refused, and the numbers of the volunteers who show it
 abbrev pub refused_line : Refusal → List ℕ
 refused_line refusal = line (codes "refused" ∷ decimal refusal.stage ∷ decimal refusal.reason ∷ map decimal refusal.who)
 
--- the budget of visits, and the stage whose search takes more. A check has no columns and makes no pivots
+-- the budget of visits, the stage whose search takes more, and 0 columns and 0 pivots, since a check has none
 abbrev pub visits_spent_line : ℕ → ℕ → List ℕ
 visits_spent_line nodes stage = line (codes "spent" ∷ codes "nodes" ∷ decimal nodes ∷ decimal stage ∷ codes "0" ∷ codes "0" ∷ [])
 
@@ -31,13 +31,13 @@ pub record PrintsValid (nodes : ℕ) (bundle : Bundle) (text : List ℕ) : Type 
   pub greatest : IsGreatest bundle
   pub line : text ≡ valid_line
 
--- the search at a stage takes more visits than it may
+-- the search at a stage takes more than `nodes` visits
 pub record SpendsStage (nodes : ℕ) (bundle : Bundle) (text : List ℕ) : Type 0 where
   pub stage : ℕ
   pub verdict : check_answer bundle.pool bundle.answer nodes ≡ Err stage
   pub line : text ≡ visits_spent_line nodes stage
 
--- the certificate doesn't hold, for the first reason that stands
+-- the certificate doesn't hold; the line tells the first reason that applies
 pub record PrintsRefusal (nodes : ℕ) (bundle : Bundle) (text : List ℕ) : Type 0 where
   pub refusal : Refusal
   pub verdict : check_answer bundle.pool bundle.answer nodes ≡ Ok (Refused refusal)

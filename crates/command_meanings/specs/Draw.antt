@@ -1,5 +1,5 @@
--- What `draw` answers: the panel that is drawn from a bundle, by a seal that is given and the digits of dice. The seal that is kept is that
--- of the bundle itself, so the draw is from the bundle whose seal was given.
+-- What `draw` answers: the panel that the digits of dice draw from a bundle, if the given seal is the bundle's. The seal that it is
+-- compared with is computed from the bundle itself, so what is drawn is drawn from the bundle whose seal was given.
 use Rattle.std.specs.Prelude.{◌≡◌, ℕ, List, [], ◌∷◌, ◌++◌, codes, Ok, Err}
 use Rattle.std.specs.Fmt.{decimal}
 use Rattle.define_pools.specs.Lottery.{TotalAgrees}
@@ -23,13 +23,13 @@ drawn_lines bundle drawn = ticket_line drawn ++ panel_line bundle.pool drawn.pan
 abbrev pub wrong_total_line : List ℕ
 wrong_total_line = input_line (record { line = 0; kind = 14 })
 
--- why nothing is drawn, where this seal was given and that one is kept
+-- the line that tells why nothing is drawn; `given` is the given seal, and `kept` the bundle's
 abbrev pub refused_draw_line : List ℕ → List ℕ → Refused → List ℕ
 refused_draw_line given kept Refused.SealDiffers = line (codes "rule" ∷ codes "SealDiffers" ∷ given ∷ kept ∷ [])
 refused_draw_line given kept (Refused.NoTicket (BadDigit place)) = line (codes "rule" ∷ codes "BadDigit" ∷ decimal place ∷ [])
 refused_draw_line given kept (Refused.NoTicket (MoreDigits read)) = line (codes "rule" ∷ codes "MoreDigits" ∷ decimal read ∷ [])
 
--- the lines of what is drawn
+-- the text is the two lines of what is drawn
 pub record PrintsDrawn (given digits : List ℕ) (bundle : Bundle) (text : List ℕ) : Type 0 where
   pub drawn : Drawn
   pub total : TotalAgrees bundle.answer.lottery
@@ -41,7 +41,7 @@ pub record HasWrongTotal (bundle : Bundle) (text : List ℕ) : Type 0 where
   pub total : TotalAgrees bundle.answer.lottery → ⊥
   pub line : text ≡ wrong_total_line
 
--- another seal was given, or the digits name no ticket
+-- another seal than the bundle's was given, or the digits name no ticket
 pub record RefusesDraw (given digits : List ℕ) (bundle : Bundle) (text : List ℕ) : Type 0 where
   pub refused : Refused
   pub total : TotalAgrees bundle.answer.lottery

@@ -5,7 +5,7 @@ use Rattle.define_additions.specs.ProofVerdict.{OfLottery, OfNoPanel, Proof}
 use Rattle.command_shell.specs.Answers.{Meaning, no_answer}
 use Rattle.command_shell.specs.Lines.{line}
 
--- a proof that there is no quota panel has no lottery
+-- the line for a proof that there is no quota panel, which has no lottery
 abbrev pub no_lottery_line : List ℕ
 no_lottery_line = line (codes "rule" ∷ codes "NoLottery" ∷ [])
 

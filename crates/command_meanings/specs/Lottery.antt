@@ -18,7 +18,7 @@ pub record FindsGreatest (limits : Limits) (pool : Pool) (answer : Answer) : Typ
   pub certified : Certifies pool answer.lottery answer.stages
   pub greatest : LeximinGreatest pool answer.lottery
 
--- the run finds that there is no quota panel, and its opening search took no more visits than it may
+-- the run finds that there is no quota panel, and its opening search takes at most `limits.nodes` visits
 pub record FindsNone (limits : Limits) (pool : Pool) : Type 0 where
   pub ends : RunEnds pool limits Ending.NoPanel
   pub none : panels pool ≡ []
@@ -41,7 +41,7 @@ TellsWidth (Ending.TooWide stood pass) line = line ≡ wide_line stood pass
 TellsWidth (Ending.TotalPasses stood pass) line = line ≡ total_line pass
 TellsWidth other line = ⊥
 
--- an operation passes the width, or the lottery's total passes 10 ^ 38
+-- an operation passes the width, or the lottery's total passes 10 ^ 38, and the line tells which
 pub record PassesWidth (limits : Limits) (pool : Pool) (line : List ℕ) : Type 0 where
   pub ending : Ending
   pub ends : RunEnds pool limits ending
@@ -53,7 +53,7 @@ TellsBudget limits (Ending.PivotsSpent stood) line = line ≡ pivots_spent_line 
 TellsBudget limits (Ending.NodesSpent stood) line = line ≡ nodes_spent_line limits.nodes stood
 TellsBudget limits other line = ⊥
 
--- a pivot is due and as many were made as may be, or a search takes more visits than it may
+-- a pivot is due after `limits.pivots` pivots, or a search takes more than `limits.nodes` visits
 pub record SpendsBudget (limits : Limits) (pool : Pool) (line : List ℕ) : Type 0 where
   pub ending : Ending
   pub ends : RunEnds pool limits ending

@@ -1,4 +1,5 @@
--- What `make` answers: the summary of the run under these limits over the pool that is made from a number. It reads nothing.
+-- What `make` answers: the summary of the run under these limits over the pool that is made from a seed and a number of volunteers. It reads
+-- nothing.
 use Rattle.std.specs.Prelude.{◌≡◌, ℕ, List, length}
 use Rattle.define_made_pools.specs.MadePools.{made_pool}
 use Rattle.define_made_pools.specs.Summary.{Sizes, summary_text}
@@ -14,7 +15,8 @@ use Rattle.command_meanings.specs.Lottery.{FindsGreatest, LotteryMeans}
 abbrev pub sizes_of : Table → Sizes
 sizes_of table = record { classes = length table.sizes; columns = length table.columns; pivots = table.pivots }
 
--- the text is the summary of the answer that the run finds, and of its last table: no lottery over the pool's quota panels is above it
+-- the text is the summary of the answer that the run finds and of the run's last table. No lottery over the pool's quota panels is above
+-- the answer's
 pub record PrintsSummary (limits : Limits) (pool : Pool) (text : List ℕ) : Type 0 where
   pub answer : Answer
   pub last : Table
@@ -22,7 +24,7 @@ pub record PrintsSummary (limits : Limits) (pool : Pool) (text : List ℕ) : Typ
   pub finds : FindsGreatest limits pool answer
   pub summary : text ≡ summary_text pool answer (sizes_of last)
 
--- the summary in the place of a bundle, and else what `lottery` answers about the made pool
+-- at 0 the summary instead of a bundle; at every other status what `lottery` answers about the made pool
 abbrev pub MakeMeans : ℕ → ℕ → Limits → Meaning
 MakeMeans seed volunteers limits = record (LotteryMeans limits (made_pool seed volunteers)) {
   -- 0

@@ -12,7 +12,7 @@ use Rattle.command_meanings.specs.Lines.{panel_line, nodes_spent_line}
 abbrev pub visits_of : Pool → ℕ
 visits_of pool = (first_search (classes_of pool)).visits
 
--- the first members of the first composition's classes are this quota panel
+-- this quota panel has the first members of each class, as many as the first composition takes
 pub record IsFirstPanel (pool : Pool) (panel : List ℕ) : Type 0 where
   pub counts : List ℕ
   pub first : first_composition (classes_of pool) ≡ Some counts
@@ -32,7 +32,7 @@ pub record PrintsNoPanel (nodes : ℕ) (pool : Pool) (text : List ℕ) : Type 0 
   pub none : panels pool ≡ []
   pub line : text ≡ no_panel_line
 
--- the search takes more visits
+-- the search takes more than `nodes` visits
 pub record SpendsVisits (nodes : ℕ) (pool : Pool) (text : List ℕ) : Type 0 where
   pub more : nodes < visits_of pool
   pub line : text ≡ nodes_spent_line nodes None

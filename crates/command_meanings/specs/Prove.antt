@@ -1,5 +1,8 @@
--- What `prove` answers: a proof over the pool of the input that is valid, or why there is none. The run that makes the proof is no
--- definition: where it makes none, only the reason is said.
+-- What `prove` answers: a valid proof over the pool of the input, or a reason why none was made.
+--
+-- The run that makes the proof is no definition. So the meaning doesn't say whether a proof comes at all, nor which of 4, 5 and 11 comes if
+-- none does. What the run met there is free: at 4 any operation that passes 2^62 is right, at 5 a spent lottery or a lost step always is,
+-- and at 11, of a bundle alone, the trees are any, so a bad tree makes a refusal right even if the bundle's certificate holds.
 use Rattle.std.specs.Prelude.{◌≡◌, ℕ, List, [], ◌∷◌, codes, Option, None, Some, ⊤}
 use Rattle.std.specs.Fmt.{decimal, signed_decimal}
 use Rattle.define_additions.specs.ProofVerdict.{OfLottery, OfNoPanel, verdict}
@@ -19,7 +22,7 @@ use Rattle.command_shell.specs.declared.formats.PoolOrBundle.{PoolOrBundle}
 use Rattle.command_shell.specs.declared.formats.PoolOrBundle.TheVariants as either
 use Rattle.command_meanings.specs.Check.{IsGreatest, refused_line}
 
--- ---- what is read: a pool, and the answer that a proof is asked for, where the input is a bundle
+-- ---- what is read: a pool, and, if the input is a bundle, the answer that is to be proved
 
 abbrev pub pool_in : PoolOrBundle → Pool
 pool_in (either.Pool pool) = pool
@@ -37,26 +40,27 @@ proof_operation Add = codes "add"
 proof_operation Sub = codes "sub"
 proof_operation Div = codes "div"
 
--- an operation and its two numbers
+-- the line of an operation that passes 2^62: the operation and its two numbers
 abbrev pub proof_wide_line : Operation → List ℕ
 proof_wide_line passed = line (codes "wide" ∷ proof_operation passed.op ∷ signed_decimal passed.x ∷ signed_decimal passed.y ∷ [])
 
--- what is spent, and how much of it there was
+-- the line of a budget that is spent: what is spent, and how much of it there was
 abbrev pub proof_spent_line : List ℕ → ℕ → List ℕ
 proof_spent_line what most = line (codes "spent" ∷ what ∷ decimal most ∷ [])
 
--- how many turns of tries there are to make the lottery of a point out of panels
+-- how many turns of peeling the run tries to make the lottery of a point out of panels: those of all rounds in `proof_peeling`
 abbrev pub lottery_tries : ℕ
 lottery_tries = 168
 
 -- ---- answers
 
--- an answer that was given is the one
+-- if an answer was given, it is the proof's
 abbrev pub IsGiven : Option Answer → Answer → Type 0
 IsGiven None its = ⊤
 IsGiven (Some given) its = its ≡ given
 
--- the text of a proof that is valid, so no lottery over the pool's quota panels is above its lottery, which is the given one where one is given
+-- the text of a valid proof, so no lottery over the pool's quota panels is above its lottery. If a bundle was given, the lottery is the
+-- bundle's
 pub record PrintsProof (about : PoolOrBundle) (text : List ℕ) : Type 0 where
   pub its : Answer
   pub is_given : IsGiven (given_in about) its
@@ -65,30 +69,31 @@ pub record PrintsProof (about : PoolOrBundle) (text : List ℕ) : Type 0 where
   pub greatest : IsGreatest (record { pool = pool_in about; answer = its })
   pub proof : text ≡ proof_spelling (OfLottery (pool_in about) its trees)
 
--- the text of a proof that there is no quota panel, which is valid, so there is none
+-- the text of a valid proof that there is no quota panel, so there is none
 pub record PrintsProofOfNone (about : PoolOrBundle) (text : List ℕ) : Type 0 where
   pub lines : List TreeLine
   pub valid : verdict (OfNoPanel (pool_in about) lines) ≡ Valid
   pub none : panels (pool_in about) ≡ []
   pub proof : text ≡ proof_spelling (OfNoPanel (pool_in about) lines)
 
--- the exact result of an operation of the run is above 2^62 by absolute value
+-- the exact result of an operation is above 2^62 by absolute value. That the operation is one of the run isn't said
 pub record PassesProofWidth (text : List ℕ) : Type 0 where
   pub passed : Operation
   pub passes : Passes passed
   pub line : text ≡ proof_wide_line passed
 
--- what is spent, where this is left of the budget
+-- what is spent, if `left` is what the run leaves of its budget
 pub data SpendsProofBudget (left : Left) (text : List ℕ) : Type 0 where
-  -- all pivots of the run, all its nodes, or the tries to make a lottery
+  -- all pivots of the run, all its nodes, or all turns of peeling. The last asks for nothing of `left`
   PivotsSpent : left.pivots ≡ 0 → text ≡ proof_spent_line (codes "pivots") left.most_pivots → SpendsProofBudget left text
   NodesSpent : left.nodes ≡ 0 → text ≡ proof_spent_line (codes "nodes") left.most_nodes → SpendsProofBudget left text
   LotterySpent : text ≡ proof_spent_line (codes "lottery") lottery_tries → SpendsProofBudget left text
-  -- nothing: a step of the run led to a state that exact arithmetic never leads to, or its proof was refused
+  -- no budget: a step of the run led to a state that exact arithmetic never leads to, or its proof was refused. It asks for nothing of
+  -- `left`
   StepLost : text ≡ proof_spent_line (codes "lost") 0 → SpendsProofBudget left text
 
--- The given lottery with its stages and with the trees that were found is refused as a proof. Its certificate doesn't hold, unless the reason
--- is one of the trees
+-- The lottery and the stages of the given bundle are refused as a proof with some trees. That the run found these trees isn't said. If the
+-- reason is below 11, the bundle's certificate doesn't hold; the reasons from 11 on are of the trees and say nothing of it
 pub record PrintsGivenRefusal (about : PoolOrBundle) (text : List ℕ) : Type 0 where
   pub its : Answer
   pub is_given : given_in about ≡ Some its
@@ -98,7 +103,7 @@ pub record PrintsGivenRefusal (about : PoolOrBundle) (text : List ℕ) : Type 0 
   pub means : RefusalMeans (OfLottery (pool_in about) its trees) refusal
   pub line : text ≡ refused_line refusal
 
--- what is right to answer, where the run leaves this of its budget
+-- what is right to answer, if the run leaves `left` of its budget
 abbrev pub ProveMeans : Left → PoolOrBundle → Meaning
 ProveMeans left about = record no_answer {
   -- 0
@@ -113,7 +118,7 @@ ProveMeans left about = record no_answer {
   refused = PrintsGivenRefusal about;
 }
 
--- what is right to answer by a run of at most `pivots` pivots and `nodes` nodes. It begins with a budget of these numbers, of which nothing is spent
+-- what is right to answer by a run that begins with an unspent budget of `pivots` pivots and `nodes` nodes
 pub record ProvesWithin (pivots nodes : ℕ) (about : PoolOrBundle) (answer : Saying) : Type 0 where
   pub left : Left
   pub spends : SpendsOn (unspent pivots nodes) left

@@ -9,7 +9,7 @@ use Rattle.command_shell.specs.Answers.{Meaning, no_answer}
 use Rattle.command_shell.specs.Lines.{line}
 use Rattle.command_meanings.specs.Check.{IsGreatest, refused_line, valid_line}
 
--- it is shown that there is no quota panel
+-- the line of a valid proof that there is no quota panel
 abbrev pub valid_none_line : List ℕ
 valid_none_line = line (codes "valid" ∷ codes "none" ∷ [])
 
@@ -28,8 +28,8 @@ pub record PrintsShown (proof : Proof) (text : List ℕ) : Type 0 where
   pub shows : Shows proof
   pub line : text ≡ shown_line proof
 
--- The proof is refused, for the first reason that stands. Its certificate doesn't hold, unless the reason is one of the trees. For 11 and 12
--- the number is that of a line of the proof's text
+-- The proof is refused for the first reason that applies. If the reason is below 11, its certificate doesn't hold; the reasons from 11 on
+-- are of the trees and say nothing of it. For 11 and 12 the last number of the line is that of a line of the proof's text
 pub record PrintsProofRefusal (proof : Proof) (text : List ℕ) : Type 0 where
   pub refusal : Refusal
   pub refuses : verdict proof ≡ Refused refusal

@@ -1,4 +1,5 @@
-//! Laws of what commands mean: at most one answer is right. They are functions without a body, whose contracts are the laws.
+//! Laws of what commands mean: at most one answer is right. They are functions without a body, whose contracts are the laws. `prove` has no
+//! such law, since the run that makes its proof is no definition.
 
 ghost use Rattle.std.specs.Prelude.{ℕ, List};
 ghost use Rattle.define_additions.specs.ProofVerdict.{Proof};
@@ -15,42 +16,42 @@ ghost use Rattle.command_meanings.specs.Verify.{VerifyMeans};
 ghost use Rattle.define_pools.specs.Pool.{Pool};
 ghost use Rattle.define_runs.specs.Run.{Limits};
 
-/// `panel` has one answer about a pool.
+/// `panel` has at most one right answer about a pool.
 pub fn panel_has_one_answer()
     ensures { (nodes : ℕ) (pool : Pool) → HasOneAnswer (PanelMeans nodes pool) }
 {}
 
-/// `lottery` has one answer about a pool.
+/// `lottery` has at most one right answer about a pool.
 pub fn lottery_has_one_answer()
     ensures { (limits : Limits) (pool : Pool) → HasOneAnswer (LotteryMeans limits pool) }
 {}
 
-/// `make` has one answer, for a seed and a number of volunteers.
+/// `make` has at most one right answer, for a seed, a number of volunteers and the limits of a run.
 pub fn make_has_one_answer()
     ensures { (seed volunteers : ℕ) (limits : Limits) → HasOneAnswer (MakeMeans seed volunteers limits) }
 {}
 
-/// `seal` has one answer about a bundle.
+/// `seal` has at most one right answer about a bundle.
 pub fn seal_has_one_answer()
     ensures { (bundle : Bundle) → HasOneAnswer (SealMeans bundle) }
 {}
 
-/// `draw` has one answer about a bundle, for a seal that is given and digits.
+/// `draw` has at most one right answer about a bundle, for a given seal and the digits of dice.
 pub fn draw_has_one_answer()
     ensures { (given digits : List ℕ) (bundle : Bundle) → HasOneAnswer (DrawMeans given digits bundle) }
 {}
 
-/// `check` has one answer about a bundle, for searches of at most `nodes` visits.
+/// `check` has at most one right answer about a bundle, for searches of at most `nodes` visits.
 pub fn check_has_one_answer()
     ensures { (nodes : ℕ) (bundle : Bundle) → HasOneAnswer (CheckMeans nodes bundle) }
 {}
 
-/// `verify` has one answer about a proof.
+/// `verify` has at most one right answer about a proof.
 pub fn verify_has_one_answer()
     ensures { (proof : Proof) → HasOneAnswer (VerifyMeans proof) }
 {}
 
-/// `bundle` has one answer about a proof.
+/// `bundle` has at most one right answer about a proof.
 pub fn bundle_has_one_answer()
     ensures { (proof : Proof) → HasOneAnswer (BundleMeans proof) }
 {}

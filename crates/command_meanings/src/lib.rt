@@ -1,5 +1,6 @@
-//! What the commands without a store mean: for each which text or line is right at which status (one file of `specs/` a command). Below stand the
-//! shell and the definitions; above, the crates of commands and the contract of `office`. Promises: the laws in `laws.rt`, functions without a body.
+//! What the answers of each command mean: which text or line is right at which status (one file of `specs/` a command). Below are the shell
+//! and the definitions; above, the crates of commands and the contract of `office`. Promises: the laws in `laws.rt`, functions without a
+//! body.
 #![tactic(auto)]
 
 mod laws;

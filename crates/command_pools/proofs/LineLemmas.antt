@@ -17,13 +17,13 @@ four_more word fields a b c d =
     let regrouped : ((((word ++ tabbed fields) ++ (tab ∷ a)) ++ (tab ∷ b)) ++ (tab ∷ c)) ++ (tab ∷ d) ≡ word ++ (tabbed fields ++ tabbed more) = simp (append_assoc, append-nil) in
     ap (λ text. text ++ line_feed ∷ []) (regrouped ∙ ap (λ rest. word ++ rest) (sym (tabbed_then fields more))) ∙ line_written word (fields ++ more)
 
--- a line of a word, some fields and four more, written one after the other
+-- if `word`, the fields of `fields`, the fields `a` to `d` and LF are written in turn, the text is the line of them
 pub written_in_turn : (word : List ℕ) (fields : List (List ℕ)) (a b c d : List ℕ) (t0 t1 t2 t3 t4 t5 t6 : List ℕ) →
     t0 ≡ word → t1 ≡ t0 ++ tabbed fields → t2 ≡ t1 ++ (tab ∷ a) → t3 ≡ t2 ++ (tab ∷ b) → t4 ≡ t3 ++ (tab ∷ c) → t5 ≡ t4 ++ (tab ∷ d) → t6 ≡ t5 ++ line_feed ∷ [] →
     t6 ≡ text_of (line_of (word ∷ (fields ++ a ∷ b ∷ c ∷ d ∷ [])) ∷ [])
 written_in_turn word fields a b c d t0 t1 t2 t3 t4 t5 t6 e0 e1 e2 e3 e4 e5 e6 = let whole = four_more word fields a b c d in cc
 
--- members of a quota panel are the pool's
+-- members of a quota panel are numbers of the pool's volunteers
 pub member_in_range : (pool : Pool) (panel : List ℕ) (index : ℕ) → IsTrue (is_quota_panel pool panel) → index < length panel → get_or panel index 0 < length pool.volunteers
 member_in_range pool panel index h l =
     let below = (quota_parts pool panel h).below in

@@ -1,4 +1,4 @@
--- How the run ends, as what is answered.
+-- The answers for a stop of the run are right by `LotteryMeans` and `MakeMeans`.
 use Rattle.std.proofs.Common.{◌≡◌, ℕ, List, Err, refl, ap, sym, subst}
 use Rattle.define_made_pools.specs.MadePools.{made_pool}
 use Rattle.define_made_pools.specs.Summary.{Sizes, summary_text}
@@ -17,7 +17,7 @@ use Rattle.command_meanings.specs.Lottery.{LotteryMeans, PassesWidth, SpendsBudg
 use Rattle.command_meanings.specs.Make.{MakeMeans, sizes_of}
 use Rattle.command_pools.specs.Found.{TellsStop}
 
--- an answer that tells a stop of the run
+-- an answer for a stop of the run, which is of status 4 or 5
 data TellsRefusal (limits : Limits) (pool : Pool) (answer : Saying) : Type 0 where
   IsWidth : (line : List ℕ) → PassesWidth limits pool line → answer ≡ Stops Wide line → TellsRefusal limits pool answer
   IsBudget : (line : List ℕ) → SpendsBudget limits pool line → answer ≡ Stops Spent line → TellsRefusal limits pool answer
@@ -32,7 +32,7 @@ refused limits pool (PivotsSpent at) ends answer is =
 refused limits pool (NodesSpent at) ends answer is = IsBudget _ (record { ending = Ending.NodesSpent (stood at); ends = ends; tells = refl }) is
 refused limits pool OutOfMemory ends answer is = absurd is
 
--- a stop of the run that is told is what the run asks for
+-- if a stop is how the run ends, the answer for it is right
 pub stop_is_right : (limits : Limits) (pool : Pool) (stop : Stop) → TellsEnding (classes_of pool) (run_limits limits) (Err stop) → (answer : Saying) →
     TellsStop limits stop answer → IsRight (LotteryMeans limits pool) answer
 stop_is_right limits pool stop ends answer is = right (refused limits pool stop ends answer is)
@@ -51,7 +51,7 @@ made_stop_is_right seed volunteers limits pool made stop ends answer is = right 
     right (IsBudget line spends e) =
         subst (IsRight (MakeMeans seed volunteers limits)) (sym e) (subst (λ (it : Pool). SpendsBudget limits it line) made spends)
 
--- the sizes that are told are those of the last table
+-- a summary with the sizes of the last table, as the run returns them, is the one with `sizes_of`
 pub sizes_are : (pool : Pool) (answer : Answer) (sizes : RunSizes) (last : Table) → sizes ≡ sizes_in last →
     summary_text pool answer (record { classes = sizes.classes; columns = sizes.columns; pivots = sizes.pivots }) ≡ summary_text pool answer (sizes_of last)
 sizes_are pool answer sizes last is =

@@ -1,4 +1,5 @@
--- What the search and the run say of a pool, and how a stop of the run is answered.
+-- What the search for a first panel says of a pool, and how a stop of the run is answered. Contracts in src/panel.rt and src/lottery.rt
+-- cite it.
 use Rattle.std.specs.Prelude.{◌≡◌, ◌<◌, ◌≤◌, ℕ, List, [], Option, Some, None, Result, Ok, Err, ⊤}
 use Rattle.define_pools.specs.Pool.{Pool, panels}
 use Rattle.define_spreads.specs.Spreading.{TotalPass}
@@ -13,14 +14,14 @@ use Rattle.command_shell.specs.Answers.{Saying, Stops}
 use Rattle.command_meanings.specs.Lines.{nodes_spent_line, pivots_spent_line, total_line, wide_line}
 use Rattle.command_meanings.specs.Panel.{IsFirstPanel, visits_of}
 
--- what the search for a first panel says of a pool
+-- a panel or None if the search takes at most `nodes` visits, else a stop; want of memory may come at any time
 abbrev pub FirstSays : ℕ → Pool → Result (Option (List ℕ)) SearchStop → Type 0
 FirstSays nodes pool (Ok (Some panel)) = (visits_of pool ≤ nodes) × IsFirstPanel pool panel
 FirstSays nodes pool (Ok None) = (visits_of pool ≤ nodes) × (panels pool ≡ [])
 FirstSays nodes pool (Err search.Spent) = nodes < visits_of pool
 FirstSays nodes pool (Err search.OutOfMemory) = ⊤
 
--- the answer that tells a stop; there is none for want of memory
+-- the answer is the one for this stop. Want of memory has no answer: the command returns an error then
 abbrev pub TellsStop : Limits → Stop → Saying → Type 0
 TellsStop limits (TooWide at pass) answer = answer ≡ Stops Wide (wide_line (stood at) pass)
 TellsStop limits (TotalPasses at place total den) answer = (pass : TotalPass) → IsTotalPass pass place total den → answer ≡ Stops Wide (total_line pass)

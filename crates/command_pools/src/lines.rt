@@ -1,4 +1,4 @@
-//! The lines of `panel` and `lottery`: a panel's members, and why the search or the run stops.
+//! The lines of `panel` and `lottery`: a panel's members, and why the search or the run stops. `make` tells the latter too.
 
 ghost use Rattle.std.specs.Prelude.{◌≡◌, ◌++◌, IfOk, OnOk, IsTrue};
 ghost use Rattle.define_pools.specs.Pool.{is_quota_panel};
@@ -21,7 +21,7 @@ use pool_model::{Panel, Pool};
 use std::alloc::{AllocError, Global};
 use text_lines::{end_line, push_field, push_number, push_signed};
 
-/// The line of a quota panel: the ids of its members.
+/// Returns the line of a quota panel: the ids of its members.
 pub(crate) fn panel_line(alloc: Global, pool: &Pool, panel: &Panel) -> Result<Vec<u8>, AllocError>
     requires { IsTrue (is_quota_panel pool.now panel.now) }
     ensures { IfOk result (λ line. line.items ≡ words_of_panel pool.now panel.now) }
@@ -35,7 +35,7 @@ pub(crate) fn panel_line(alloc: Global, pool: &Pool, panel: &Panel) -> Result<Ve
     Ok(line)
 }
 
-/// An operation passes the width.
+/// Returns the line of an operation that passes the width: how far the run got, the row, the operation and its two numbers.
 pub(crate) fn wide_line(alloc: Global, at: &At, pass: &Pass) -> Result<Vec<u8>, AllocError>
     ensures { IfOk result (λ line. line.items ≡ words_of_wide (stood at.now) pass.now) }
 {
@@ -50,7 +50,8 @@ pub(crate) fn wide_line(alloc: Global, at: &At, pass: &Pass) -> Result<Vec<u8>, 
     Ok(line)
 }
 
-/// The total passes at a composition: its number, the total of those before it, and the denominator of its fraction.
+/// Returns the line of a total that passes 10^38: the number of the composition at which it does, the total of those before it, and the
+/// denominator of its fraction.
 pub(crate) fn total_line(
     alloc: Global,
     place: usize,
@@ -68,7 +69,7 @@ pub(crate) fn total_line(
     Ok(line)
 }
 
-/// As many pivots were made as may be.
+/// Returns the line of a run that spent its `pivots` pivots, with how far it got.
 pub(crate) fn pivots_spent_line(alloc: Global, pivots: u64, at: &At) -> Result<Vec<u8>, AllocError>
     ensures { IfOk result (λ line. line.items ≡ words_of_pivots_spent pivots (stood at.now)) }
 {
@@ -80,7 +81,7 @@ pub(crate) fn pivots_spent_line(alloc: Global, pivots: u64, at: &At) -> Result<V
     Ok(line)
 }
 
-/// A search takes more visits than it may.
+/// Returns the line of a search that takes more than `nodes` visits, with how far the run got.
 pub(crate) fn nodes_spent_line(alloc: Global, nodes: u64, at: &At) -> Result<Vec<u8>, AllocError>
     ensures { IfOk result (λ line. line.items ≡ words_of_nodes_spent nodes (stood at.now)) }
 {
@@ -92,7 +93,7 @@ pub(crate) fn nodes_spent_line(alloc: Global, nodes: u64, at: &At) -> Result<Vec
     Ok(line)
 }
 
-/// Adds the stages, columns and pivots of the run.
+/// Adds how far the run got: its stages, columns and pivots, or three zeros before it has a table.
 fn push_place(line: &mut Vec<u8>, at: &At) -> Result<(), AllocError>
     ensures { OnOk result (line.new.items ≡ line.old.items ++ tabbed (words_of_place (stood at.now))) }
 {

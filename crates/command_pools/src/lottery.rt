@@ -29,7 +29,7 @@ use std::thread::Threads;
 pub struct Lottery {
     /// How wide the run's numbers may be, and how many pivots and visits it may make.
     pub limits: Limits,
-    /// By how many workers it prices, on threads. Nothing that is answered depends on that.
+    /// How many workers price, on threads. The answer doesn't depend on it.
     pub workers: Workers,
 }
 
@@ -42,7 +42,7 @@ impl Meaning for Lottery {
     ghost means = { λ command pool. IsTheAnswer (LotteryMeans command.limits pool) };
 }
 
-/// One call of `lottery`. It is answered by a function, since its run starts threads.
+/// Makes one call of `lottery`. A closure answers it, since the run starts threads, which a method of a trait can't.
 pub fn call_lottery<R: Threads + Sync, W: Watch + Sync, S: Source, O: Sink, E: Sink>(
     resources: &Resources<'_, R, W>,
     command: &Lottery,
@@ -55,7 +55,8 @@ pub fn call_lottery<R: Threads + Sync, W: Watch + Sync, S: Source, O: Sink, E: S
         (object (O.written out.old) (O.written out.new) (O.faults out.old) (O.faults out.new))
         (object (E.written errs.old) (E.written errs.new) (E.faults errs.old) (E.faults errs.new))) }
 {
-    // The closure takes the resources apart: of one that captures a value whose type names a lifetime, Rattle drops the `ensures`.
+    // The resources are taken apart before the closure: Rattle drops the `ensures` of a closure that captures a value whose type names a
+    // lifetime.
     let Resources { rt, alloc, watch } = *resources;
     call_answered_by(
         alloc,
@@ -70,7 +71,7 @@ pub fn call_lottery<R: Threads + Sync, W: Watch + Sync, S: Source, O: Sink, E: S
     )
 }
 
-/// What `lottery` answers about a pool.
+/// Returns the one right answer of `lottery` about `pool`.
 fn answered<R: Threads + Sync, W: Watch + Sync>(
     resources: &Resources<'_, R, W>,
     command: &Lottery,
@@ -82,7 +83,7 @@ fn answered<R: Threads + Sync, W: Watch + Sync>(
     solved(resources, command.limits, command.workers, pool)
 }
 
-/// The same, by how the run ends.
+/// Runs over `pool`, and returns an answer that is right for how the run ends. `answered` adds that no other is.
 fn solved<R: Threads + Sync, W: Watch + Sync>(
     resources: &Resources<'_, R, W>,
     limits: Limits,
@@ -103,7 +104,8 @@ fn solved<R: Threads + Sync, W: Watch + Sync>(
     }
 }
 
-/// What is answered where a step of the run is refused.
+/// Returns the answer for a run that stops early: a number is too wide, or a budget is spent. Want of memory is `Err`. `make` answers so
+/// too.
 pub(crate) fn stopped(alloc: Global, limits: Limits, stop: &Stop) -> Result<Answer, AllocError>
     ensures { IfOk result (λ answer. TellsStop limits stop.now (saying answer)) }
 {

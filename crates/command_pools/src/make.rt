@@ -1,4 +1,4 @@
-//! The command `make`: the summary of the run over a pool that is made from a number.
+//! The command `make`: the summary of the run over a pool that is made from a seed and a number of volunteers.
 
 ghost use Rattle.std.specs.Prelude.{◌≡◌, ◌≤◌, ◌&&◌, ℕ, if◌then◌else◌, nat_le, None, Some, IfOk};
 ghost use Rattle.std.specs.Thread.{IsSync};
@@ -34,7 +34,7 @@ pub struct Make {
     pub volunteers: Volunteers,
     /// How wide the run's numbers may be, and how many pivots and visits it may make.
     pub limits: Limits,
-    /// By how many workers it prices, on threads. Nothing that is answered depends on that.
+    /// How many workers price, on threads. The answer doesn't depend on it.
     pub workers: Workers,
 }
 
@@ -57,7 +57,7 @@ impl Model for Volunteers {
 }
 
 impl Volunteers {
-    /// So many, or None exactly where the number is out of its range.
+    /// Returns `number` as a number of volunteers, or None if it is not from 1 to 400.
     pub fn new(number: u64) -> Option<Volunteers>
         ensures { result ≡ (if nat_le 1 number && nat_le number 400 then Some number else None) }
     {
@@ -87,7 +87,7 @@ impl Meaning for Make {
     ghost means = { λ command nothing. IsTheAnswer (MakeMeans command.seed command.volunteers command.limits) };
 }
 
-/// One call of `make`. It is answered by a function, since its run starts threads.
+/// Makes one call of `make`. A closure answers it, since the run starts threads, which a method of a trait can't.
 pub fn call_make<R: Threads + Sync, W: Watch + Sync, O: Sink, E: Sink>(
     resources: &Resources<'_, R, W>,
     command: &Make,
@@ -110,7 +110,7 @@ pub fn call_make<R: Threads + Sync, W: Watch + Sync, O: Sink, E: Sink>(
     )
 }
 
-/// What `make` answers.
+/// Returns the one right answer of `make`.
 fn answered<R: Threads + Sync, W: Watch + Sync>(
     resources: &Resources<'_, R, W>,
     made: &Make,
@@ -121,7 +121,7 @@ fn answered<R: Threads + Sync, W: Watch + Sync>(
     made_summary(resources, made)
 }
 
-/// The same, by how the run ends.
+/// Runs over the made pool, and returns an answer that is right for how the run ends. `answered` adds that no other is.
 fn made_summary<R: Threads + Sync, W: Watch + Sync>(
     resources: &Resources<'_, R, W>,
     made: &Make,

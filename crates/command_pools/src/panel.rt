@@ -38,7 +38,7 @@ impl Command for FirstPanel {
     }
 }
 
-/// What `panel` answers about a pool.
+/// Returns what `panel` answers about `pool`.
 fn panel(alloc: Global, nodes: u64, pool: &Pool) -> Result<Answer, AllocError>
     ensures { IfOk result (λ answer. IsRight (PanelMeans nodes pool.now) (saying answer)) }
 {
@@ -56,7 +56,8 @@ fn panel(alloc: Global, nodes: u64, pool: &Pool) -> Result<Answer, AllocError>
     }
 }
 
-/// The first members of the first composition's classes, if the search makes at most `nodes` visits.
+/// Returns the panel of the first composition, with the first members of each class, or None if there is no quota panel. Stops if the
+/// search takes more than `nodes` visits.
 fn first_of(alloc: Global, nodes: u64, pool: &Pool) -> Result<Option<Panel>, SearchStop>
     ensures { FirstSays nodes pool.now result }
 {

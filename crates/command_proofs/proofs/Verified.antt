@@ -1,4 +1,4 @@
--- The verdict on a proof is told rightly.
+-- The answer for a verdict on a proof is right by `VerifyMeans`.
 use Rattle.std.proofs.Common.{◌≡◌, List, [], refl, sym, subst}
 use Rattle.define_pools.specs.Certificate.{Answer, Certifies}
 use Rattle.define_pools.specs.Lottery.{LeximinGreatest}

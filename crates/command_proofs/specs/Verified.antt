@@ -1,4 +1,4 @@
--- What is answered where a check of a proof comes to a verdict.
+-- What `verify` answers for each verdict on a proof.
 use Rattle.std.specs.Prelude.{◌≡◌}
 use Rattle.define_checks.specs.Reasons.{Refused, Valid, Verdict}
 use Rattle.define_additions.specs.ProofVerdict.{Proof}

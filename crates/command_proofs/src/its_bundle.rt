@@ -32,14 +32,14 @@ impl Command for ItsBundle {
     }
 }
 
-/// What `bundle` answers about a proof.
+/// Returns what `bundle` answers about `proof`.
 fn its_bundle(alloc: Global, proof: &Proof) -> Result<Answer, AllocError>
     ensures { IfOk result (λ answer. IsRight (BundleMeans proof.now) (saying answer)) }
 {
     told(alloc, proof.parts())
 }
 
-/// What is answered of a proof of these parts.
+/// Returns what `bundle` answers about a proof of these parts.
 fn told(alloc: Global, parts: &Parts) -> Result<Answer, AllocError>
     ensures { IfOk result (λ answer. IsRight (BundleMeans (seen parts.now)) (saying answer)) }
 {

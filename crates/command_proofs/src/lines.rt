@@ -7,7 +7,7 @@ ghost use Rattle.command_meanings.specs.Verify.{valid_none_line as words_of_vali
 use std::alloc::{AllocError, Global};
 use text_lines::push_line;
 
-/// The line of a valid proof that there is no quota panel.
+/// Returns the line of a valid proof that there is no quota panel.
 pub(crate) fn valid_none_line(alloc: Global) -> Result<Vec<u8>, AllocError>
     ensures { IfOk result (λ line. line.items ≡ words_of_valid_none) }
 {
@@ -16,7 +16,7 @@ pub(crate) fn valid_none_line(alloc: Global) -> Result<Vec<u8>, AllocError>
     Ok(line)
 }
 
-/// The rule that a proof that there is no quota panel has no lottery.
+/// Returns the line of the rule that refuses a proof without a lottery: one that there is no quota panel.
 pub(crate) fn no_lottery_line(alloc: Global) -> Result<Vec<u8>, AllocError>
     ensures { IfOk result (λ line. line.items ≡ words_of_no_lottery) }
 {

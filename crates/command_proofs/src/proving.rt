@@ -51,7 +51,7 @@ impl Command for Prove {
     }
 }
 
-/// What `prove` answers by a run with a budget of its own.
+/// Returns what `prove` answers by a run with a new budget.
 fn proved(
     alloc: Global,
     pivots: u64,
@@ -64,7 +64,7 @@ fn proved(
     prove_within(alloc, &mut budget, about)
 }
 
-/// What `prove` answers by a run under a budget, and what that leaves of it.
+/// Returns what `prove` answers by a run under `budget`, which keeps what the run leaves of it.
 ///
 /// # Errors
 ///
@@ -83,7 +83,7 @@ pub fn prove_within(
     }
 }
 
-/// What `prove` answers about a pool.
+/// Returns what `prove` answers about `pool`.
 fn about_pool(alloc: Global, budget: &mut Budget, pool: &Pool) -> Result<Answer, AllocError>
     ensures right { IfOk result (λ answer. IsRight (ProveMeans budget.new (either.Pool pool.now)) (saying answer)) }
     ensures spends { SpendsOn budget.old budget.new }
@@ -94,7 +94,7 @@ fn about_pool(alloc: Global, budget: &mut Budget, pool: &Pool) -> Result<Answer,
     }
 }
 
-/// What `prove` answers about a bundle.
+/// Returns what `prove` answers about `bundle`.
 fn about_bundle(alloc: Global, budget: &mut Budget, bundle: &Bundle) -> Result<Answer, AllocError>
     ensures right { IfOk result (λ answer. IsRight (ProveMeans budget.new (either.Bundle bundle.now)) (saying answer)) }
     ensures spends { SpendsOn budget.old budget.new }
@@ -105,7 +105,7 @@ fn about_bundle(alloc: Global, budget: &mut Budget, bundle: &Bundle) -> Result<A
     }
 }
 
-/// What is told of a proof of a pool, which is verified first.
+/// Verifies a proof of a pool, and returns the answer for the verdict.
 fn told_of_pool(alloc: Global, proof: &Proof) -> Result<Answer, AllocError>
     ensures { IfOk result (λ answer. (left : Left) (pool : SeenPool) → IsOfPool pool proof.now → IsRight (ProveMeans left (either.Pool pool)) (saying answer)) }
 {
@@ -113,7 +113,7 @@ fn told_of_pool(alloc: Global, proof: &Proof) -> Result<Answer, AllocError>
     proof_or_lost(alloc, proof, &verdict)
 }
 
-/// What is told of a proof of a bundle, which is verified first.
+/// Verifies a proof of a bundle, and returns the answer for the verdict.
 fn told_of_bundle(alloc: Global, proof: &Proof) -> Result<Answer, AllocError>
     ensures { IfOk result (λ answer. (left : Left) (bundle : SeenBundle) → IsOfBundle bundle proof.now → IsRight (ProveMeans left (either.Bundle bundle)) (saying answer)) }
 {
@@ -121,7 +121,7 @@ fn told_of_bundle(alloc: Global, proof: &Proof) -> Result<Answer, AllocError>
     proof_or_refusal(alloc, proof, &verdict)
 }
 
-/// The text of a valid proof, and else that a step of the run was lost.
+/// Returns the text of a valid proof, else the answer that a step of the run was lost.
 fn proof_or_lost(alloc: Global, proof: &Proof, verdict: &Verdict) -> Result<Answer, AllocError>
     ensures { IfOk result (λ answer. TellsOfPool proof.now verdict.now (saying answer)) }
 {
@@ -131,7 +131,7 @@ fn proof_or_lost(alloc: Global, proof: &Proof, verdict: &Verdict) -> Result<Answ
     }
 }
 
-/// The text of a valid proof, and else why it is refused.
+/// Returns the text of a valid proof, else the answer why it is refused.
 fn proof_or_refusal(alloc: Global, proof: &Proof, verdict: &Verdict) -> Result<Answer, AllocError>
     ensures { IfOk result (λ answer. TellsOfBundle proof.now verdict.now (saying answer)) }
 {
@@ -153,7 +153,7 @@ fn proof_text(alloc: Global, proof: &Proof) -> Result<Answer, AllocError>
     })
 }
 
-/// How the command ends with a proof of these parts.
+/// Returns how the command ends with a valid proof of these parts.
 fn ending_of(parts: &Parts) -> Printed
     ensures { result ≡ ending (seen parts.now) }
 {

@@ -1,4 +1,4 @@
-//! The lines of `prove` where no proof is made. `proving` tells them.
+//! The answers of `prove` if no proof is made. `proving` returns them.
 
 ghost use Rattle.std.specs.Prelude.{◌≡◌, codes, IfOk};
 ghost use Rattle.command_shell.specs.declared.status.Cause.TheVariants as cause;
@@ -13,10 +13,10 @@ use proof_limits::{Budget, Limit, Op, Pass, ProveStop};
 use std::alloc::{AllocError, Global};
 use text_lines::{end_line, push_field, push_number, push_signed};
 
-/// How many turns of tries there are to make the lottery of a point out of panels.
+/// How many turns of peeling the run tries to make the lottery of a point out of panels: those of all rounds in `proof_peeling`.
 const LOTTERY_TRIES: u64 = 168;
 
-/// What is answered where a run stops that leaves this of its budget.
+/// Returns the answer for a run that stops and leaves `left` of its budget. Want of memory is `Err`.
 pub(crate) fn stopped(alloc: Global, left: &Budget, stop: &ProveStop) -> Result<Answer, AllocError>
     requires { StopsSo left.now stop.now }
     ensures { IfOk result (λ answer. (about : PoolOrBundle) → IsRight (ProveMeans left.now about) (saying answer)) }
@@ -32,14 +32,14 @@ pub(crate) fn stopped(alloc: Global, left: &Budget, stop: &ProveStop) -> Result<
     }
 }
 
-/// A step of the run was lost, or its proof is refused.
+/// Returns the answer that a step of the run was lost, or that its proof is refused.
 pub(crate) fn lost(alloc: Global) -> Result<Answer, AllocError>
     ensures { IfOk result (λ answer. saying answer ≡ Stops cause.Spent (proof_spent_line (codes "lost") 0)) }
 {
     spent(alloc, b"lost", 0)
 }
 
-/// An operation passes 2^62.
+/// Returns the answer that an operation passes 2^62.
 fn wide(alloc: Global, pass: &Pass) -> Result<Answer, AllocError>
     ensures passes { Passes pass.now }
     ensures line { IfOk result (λ answer. saying answer ≡ Stops cause.Wide (proof_wide_line pass.now)) }
@@ -51,7 +51,7 @@ fn wide(alloc: Global, pass: &Pass) -> Result<Answer, AllocError>
     })
 }
 
-/// Nothing is left of what may be spent.
+/// Returns the answer that `what` is spent, of which there was `most`.
 fn spent(alloc: Global, what: &[u8], most: u64) -> Result<Answer, AllocError>
     ensures { IfOk result (λ answer. saying answer ≡ Stops cause.Spent (proof_spent_line what.now most)) }
 {
@@ -72,7 +72,7 @@ fn spent_line(alloc: Global, what: &[u8], most: u64) -> Result<Vec<u8>, AllocErr
     Ok(line)
 }
 
-/// The operation and its two numbers.
+/// Returns the line of an operation that passes 2^62: the operation and its two numbers.
 fn wide_line(alloc: Global, pass: Pass) -> Result<Vec<u8>, AllocError>
     ensures { IfOk result (λ line. line.items ≡ proof_wide_line pass) }
 {

@@ -1,4 +1,4 @@
-//! The command `verify`: whether a proof is valid, and why it is refused where it isn't.
+//! The command `verify`: whether a proof is valid, and why it is refused if it isn't.
 
 ghost use Rattle.std.specs.Prelude.{◌≡◌, IfOk};
 ghost use Rattle.command_shell.specs.Answers.{IsRight, saying};
@@ -34,7 +34,7 @@ impl Command for Verify {
     }
 }
 
-/// What `verify` answers about a proof.
+/// Returns what `verify` answers about `proof`.
 fn verified(alloc: Global, proof: &Proof) -> Result<Answer, AllocError>
     ensures { IfOk result (λ answer. IsRight (VerifyMeans proof.now) (saying answer)) }
 {
@@ -42,7 +42,7 @@ fn verified(alloc: Global, proof: &Proof) -> Result<Answer, AllocError>
     told(alloc, proof.parts(), &verdict)
 }
 
-/// What is answered where a proof of these parts has this verdict.
+/// Returns the answer for a verdict on a proof of these parts.
 fn told(alloc: Global, parts: &Parts, verdict: &Verdict) -> Result<Answer, AllocError>
     ensures { IfOk result (λ answer. TellsVerdict (seen parts.now) verdict.now (saying answer)) }
 {
@@ -58,7 +58,7 @@ fn told(alloc: Global, parts: &Parts, verdict: &Verdict) -> Result<Answer, Alloc
     }
 }
 
-/// The line of a valid proof of these parts.
+/// Returns the line of a valid proof of these parts.
 fn shown_line(alloc: Global, parts: &Parts) -> Result<Vec<u8>, AllocError>
     ensures { IfOk result (λ line. line.items ≡ shown_line (seen parts.now)) }
 {

@@ -1,4 +1,4 @@
--- An answer that is told makes an outcome.
+-- If an answer is right and is told, whole or cut off, the call ends as `Outcome` says.
 use Rattle.std.proofs.Common.{◌≡◌, ⊎_elim}
 use Rattle.command_shell.specs.Told.{Told}
 use Rattle.command_shell.specs.Answers.{Saying, Prints, Stops, printed_number}

@@ -1,4 +1,4 @@
--- A text is put line by line.
+-- What out gains if a text is put in pieces.
 use Rattle.std.proofs.Common.{ℕ, ◌+◌, List, take, drop, subst, sym, Option}
 use Rattle.std.specs.Io.KnownBytes.{Appends}
 use Rattle.std.proofs.KnownBytes.{Appends-trans}
@@ -7,7 +7,7 @@ use Rattle.std.proofs.lemmas.List.{take-append-drop}
 use Rattle.outside.specs.Content.{AppendsPart}
 use Rattle.outside.proofs.ContentLaws.{AppendsPart-after, AppendsPart-append}
 
--- a part of what follows the first bytes of a text is a part of the text
+-- if a sink gained the first `start` bytes of a text and then a part of the next ones, it gained a part of the text
 pub part_of_text : (a b c : Option (List ℕ)) (text : List ℕ) (start count : ℕ) → Appends a b (take start text) → AppendsPart b c (take count (drop start text)) → AppendsPart a c text
 part_of_text a b c text start count whole part =
     let rest = drop start text in
@@ -15,7 +15,7 @@ part_of_text a b c text start count whole part =
     subst (AppendsPart b c) (take-append-drop count rest) (AppendsPart-append b c (take count rest) (drop count rest) part) in
     subst (AppendsPart a c) (take-append-drop start text) (AppendsPart-after a b c (take start text) rest whole later)
 
--- the first bytes of a text, and then the next ones
+-- if a sink gained the first `start` bytes of a text and then the next `count`, it gained the first `start + count`
 pub more_of_text : (a b c : Option (List ℕ)) (text : List ℕ) (start count : ℕ) → Appends a b (take start text) → Appends b c (take count (drop start text)) → Appends a c (take (start + count) text)
 more_of_text a b c text start count first next =
     subst (Appends a c) (sym (take-add start count text)) (Appends-trans a b c (take start text) (take count (drop start text)) first next)

@@ -1,5 +1,6 @@
--- What a command answers, the number of its status, and what makes an answer right. It stands on nothing; every meaning of a command
--- is written in its words.
+-- What a command answers, the number of its status, and what makes an answer right. It imports lists and numbers, and the types `Answer`,
+-- `Printed`, `Cause` and `Status` of this crate's code; no other definition of the program. Every meaning of a command is written in its
+-- words.
 use Rattle.std.specs.Prelude.{◌≡◌, ℕ, List}
 use Rattle.command_shell.specs.declared.answer.Answer.{Answer}
 use Rattle.command_shell.specs.declared.answer.Answer.TheVariants as answer
@@ -54,7 +55,9 @@ pub record Meaning : Type 1 where
   pub done : List ℕ → Type 0
   -- 1: no quota panel exists
   pub no_panel : List ℕ → Type 0
-  -- 3: the input is not of its format
+  -- 3: the input was read as a value that the command doesn't take. Of `draw` alone: a bundle whose weights don't sum to its total. The
+  -- other two statuses 3 are no part of a meaning: a text outside its format is `AboutFault` (Subjects), and one that is too long
+  -- `IsTooLong` (Outcomes)
   pub input : List ℕ → Type 0
   -- 4: a number passes its width
   pub wide : List ℕ → Type 0
@@ -69,7 +72,7 @@ pub record Meaning : Type 1 where
 abbrev pub never : List ℕ → Type 0
 never text = ⊥
 
--- a meaning by which no answer is right; a command names the statuses that it has
+-- a meaning by which no answer is right. The meaning of a command starts from it and names the statuses that the command has
 abbrev pub no_answer : Meaning
 no_answer = record { done = never; no_panel = never; input = never; wide = never; spent = never; rule = never; refused = never }
 

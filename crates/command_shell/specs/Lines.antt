@@ -7,7 +7,7 @@ use Rattle.define_lines.specs.Lines.{Fault, line_of, text_of}
 abbrev pub line : List (List ℕ) → List ℕ
 line fields = text_of (line_of fields ∷ [])
 
--- where the input first goes wrong, and how
+-- the line that tells where the input first goes wrong: the number of its line, and the kind of fault
 abbrev pub input_line : Fault → List ℕ
 input_line fault = line (codes "input" ∷ decimal fault.line ∷ decimal fault.kind ∷ [])
 
@@ -15,7 +15,7 @@ input_line fault = line (codes "input" ∷ decimal fault.line ∷ decimal fault.
 abbrev pub input_limit : ℕ
 input_limit = 16777216
 
--- an input that is too long: line 0, kind 10
+-- the line for an input that is too long, which is told as line 0 and kind 10
 abbrev pub too_long_line : List ℕ
 too_long_line = line (codes "input" ∷ codes "0" ∷ codes "10" ∷ [])
 

@@ -1,5 +1,5 @@
 -- What an input is read as, and what is right to answer about a text.
--- Stands on: Answers, Lines. Cited by the meaning of every command that reads its source.
+-- Over Answers and Lines. The contract of every call that reads its source cites it.
 use Rattle.std.specs.Prelude.{◌≡◌, ℕ, List, Result, Ok, Err, ⊤}
 use Rattle.define_lines.specs.Lines.{Fault}
 use Rattle.command_shell.specs.declared.status.Cause.TheVariants.{Input}
@@ -9,7 +9,7 @@ use Rattle.text_lines.specs.declared.faults.TextStop.TheVariants as stop
 use Rattle.command_shell.specs.Answers.{Saying, Stops}
 use Rattle.command_shell.specs.Lines.{input_line}
 
--- A format of texts: the value that a text says, or where it first goes wrong; and which texts are those of a value.
+-- A format of texts: `read` is the value that a text says, or where it first goes wrong; `spells` says which texts are those of a value.
 pub record Format (Value : Type 0) : Type 1 where
   pub read : List ℕ → Result Value Fault
   pub spells : Value → List ℕ → Type 0
@@ -18,16 +18,16 @@ pub record Format (Value : Type 0) : Type 1 where
 pub data About {Value : Type 0} (format : Format Value) (Means : Value → Saying → Type 0) (bytes : List ℕ) (answer : Saying) : Type 0 where
   -- the bytes are the text of a value, and the answer is right about it
   AboutValue : (value : Value) → format.read bytes ≡ Ok value → format.spells value bytes → Means value answer → About format Means bytes answer
-  -- 3: the bytes are no text of the format, and the line tells where they first go wrong
+  -- 3: `read` fails on the bytes, and the line tells where they first go wrong
   AboutFault : (fault : Fault) → format.read bytes ≡ Err fault → answer ≡ Stops Input (input_line fault) → About format Means bytes answer
 
--- what reading some bytes says
+-- what the code that reads these bytes may return; want of memory may come at any time
 abbrev pub IsRead : {Value : Type 0} → Format Value → List ℕ → Result Value TextStop → Type 0
 IsRead format bytes (Ok value) = (format.read bytes ≡ Ok value) × format.spells value bytes
 IsRead format bytes (Err (stop.Fault fault)) = format.read bytes ≡ Err (record { line = fault.line; kind = fault.kind })
 IsRead format bytes (Err stop.OutOfMemory) = ⊤
 
--- what a command is asked about that reads nothing
+-- the value that a command is asked about if it reads nothing
 abbrev pub no_input : Nothing
 no_input = record {}
 

@@ -1,12 +1,12 @@
 -- What one call of the program told of the outside: its status, and the objects that it was handed, before and after.
--- Stands on the definitions of `outside`; cited by Outcomes and by every contract of a call.
+-- Over the definitions of `outside`. Outcomes and every contract of a call cite it.
 use Rattle.std.specs.Prelude.{◌≡◌, ℕ, List, Option}
 use Rattle.std.specs.Io.KnownBytes.{Appends}
 use Rattle.outside.specs.Faults.{Rose}
 use Rattle.outside.specs.Content.{AppendsPart, LosesMore, ReadsAll}
 
--- an object of the outside before and after the call: what it tells of its meaning (a source the bytes still to come, a sink
--- those written), and its count of faults
+-- an object of the outside before and after the call: what it tells of its content, if it can (a source the bytes still to come, a sink the
+-- bytes written), and its count of faults
 pub record Object (Meaning : Type 0) : Type 0 where
   pub before : Option Meaning
   pub after : Option Meaning
@@ -38,16 +38,16 @@ HasFaulted object = Rose object.faults_before object.faults_after
 abbrev pub HasNoFault : {Meaning : Type 0} → Object Meaning → Type 0
 HasNoFault object = object.faults_after ≡ object.faults_before
 
--- nothing was asked of the object
+-- the object's content, as far as it tells it, and its count of faults are as before the call
 pub record IsUntouched {Meaning : Type 0} (object : Object Meaning) : Type 0 where
   pub same : object.after ≡ object.before
   pub no_fault : HasNoFault object
 
--- these bytes are all that the source held, and it was read to its end
+-- these bytes are all that the source held, and it was read to its end; of a source that tells nothing this holds of any bytes
 abbrev pub HeldAll : Bytes → List ℕ → Type 0
 HeldAll source bytes = ReadsAll source.before source.after bytes
 
--- the source held more bytes than this, and more than this were read
+-- the source held more than `limit` bytes, and more than `limit` were read
 abbrev pub HeldMore : Bytes → ℕ → Type 0
 HeldMore source limit = LosesMore limit source.before source.after
 

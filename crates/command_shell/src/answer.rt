@@ -2,7 +2,7 @@
 
 use crate::status::{Cause, Printed};
 
-/// What a command answers, made whole before any of it is told.
+/// What a command answers. It is made whole before any of it is told.
 #[derive(Debug, Drop)]
 pub enum Answer {
     /// A text for `out`.

@@ -1,4 +1,4 @@
-//! One call of a command. The three calls here are the promises of this crate: every command of the program ends as they say.
+//! One call of a command. The three public calls here are promises: every command of the program ends as they say.
 
 ghost use Rattle.std.specs.Fn.{FnOnceReturns, FnOnceReturnsAt};
 ghost use Rattle.std.specs.Prelude.{◌≡◌, IfOk};
@@ -22,8 +22,8 @@ use text_lines::{TextFault, TextStop};
 /// The most bytes that an input may have.
 const INPUT_LIMIT: usize = 16_777_216;
 
-/// One call of a command that reads the source: to its end, or past the limit, before the command is asked about its bytes. The answer is
-/// told once it is whole.
+/// Makes one call of a command that reads the source and starts no threads. The source is read to its end, or past the limit, before the
+/// command is asked about its bytes. The answer is told once it is whole.
 pub fn call<C: Command, S: Source, O: Sink, E: Sink>(
     alloc: Global,
     command: &C,
@@ -47,7 +47,8 @@ pub fn call<C: Command, S: Source, O: Sink, E: Sink>(
     }
 }
 
-/// The same of a command that a function answers, so that it can start threads, which no method of a trait may.
+/// Makes one call of a command that reads the source, as `call` does, but with a closure that answers. A closure can start threads, and a
+/// method of a trait can't; so the body of `call` is here once more.
 pub fn call_answered_by<
     C: Meaning,
     F: FnOnce(&C::About) -> Result<Answer, AllocError>,
@@ -73,7 +74,7 @@ pub fn call_answered_by<
     }
 }
 
-/// One call of a command that reads nothing and that a function answers: the source is left alone.
+/// Makes one call of a command that reads nothing, with a closure that answers. It takes no source, so every source stays untouched.
 pub fn call_silent<
     C: Meaning<About = Nothing>,
     F: FnOnce() -> Result<Answer, AllocError>,
@@ -92,7 +93,7 @@ pub fn call_silent<
     }
 }
 
-/// What a command answers about some bytes: about the value that they say, or where they first go wrong.
+/// Returns what a command answers about the value that `bytes` say, or else where they first go wrong.
 fn answer_about<C: Command>(alloc: Global, command: &C, bytes: &[u8]) -> Result<Answer, AllocError>
     ensures { IfOk result (λ answer. About C.About.format (C.means command.now) bytes.now (saying answer)) }
 {
@@ -103,7 +104,7 @@ fn answer_about<C: Command>(alloc: Global, command: &C, bytes: &[u8]) -> Result<
     }
 }
 
-/// The same of a command that a function answers.
+/// Returns what the closure answers about the value that `bytes` say, or else where they first go wrong.
 fn answer_by<C: Meaning, F: FnOnce(&C::About) -> Result<Answer, AllocError>>(
     alloc: Global,
     command: &C,
@@ -121,7 +122,7 @@ fn answer_by<C: Meaning, F: FnOnce(&C::About) -> Result<Answer, AllocError>>(
     }
 }
 
-/// What is answered where a text first goes wrong there.
+/// Returns the answer for a text that first goes wrong at `fault`.
 fn at_fault(alloc: Global, fault: TextFault) -> Result<Answer, AllocError>
     ensures { IfOk result (λ answer. saying answer ≡ Stops Input (words_of_input (record { line = fault.line; kind = fault.kind }))) }
 {

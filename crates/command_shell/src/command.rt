@@ -1,4 +1,4 @@
-//! What a command is: its arguments, what its answers mean, and how it answers. `calling` reads the source for it and tells its answer.
+//! What a command is: its arguments, what its answers mean, and how it answers. `calling.rt` reads the source for it and tells its answer.
 
 ghost use Rattle.std.specs.Prelude.{IfOk};
 ghost use Rattle.command_shell.specs.Answers.{Saying, saying};
@@ -7,7 +7,7 @@ use crate::answer::Answer;
 use crate::subject::Subject;
 use std::alloc::{AllocError, Global};
 
-/// What a command that starts threads takes from the machine to do its work.
+/// What a command that starts threads needs from the machine.
 #[derive(Drop)]
 pub struct Resources<'a, R, W> {
     /// Starts threads.
@@ -18,7 +18,7 @@ pub struct Resources<'a, R, W> {
     pub watch: &'a W,
 }
 
-/// A command with its arguments, as far as its answers go.
+/// A command with its arguments: what it reads, and which answers are right.
 pub trait Meaning {
     /// What its input is read as.
     type About: Subject;
@@ -30,7 +30,7 @@ pub trait Meaning {
 /// A command with its arguments that starts no threads. It is a function from what its input says to an answer; it sees neither `out` nor
 /// `errs`.
 pub trait Command: Meaning {
-    /// An answer that is right about the value that the text says.
+    /// Returns an answer that is right about the value that `text` says.
     ///
     /// # Errors
     ///

@@ -9,7 +9,7 @@ use proof_text::read_proof;
 use std::alloc::Global;
 use text_lines::{TextFault, TextStop};
 
-/// A text that begins so is read as that of a bundle.
+/// A text that begins with this word is read as a bundle's.
 const BUNDLE: &[u8] = b"bundle";
 
 impl Subject for Pool {
@@ -56,7 +56,7 @@ impl Subject for Proof {
     }
 }
 
-/// A pool, or a bundle over one. A text that begins as a bundle's is read as one.
+/// A pool, or a bundle over one. A text that begins with `bundle` is read as a bundle's, and any other as a pool's.
 #[derive(Drop)]
 pub enum PoolOrBundle {
     /// A pool.

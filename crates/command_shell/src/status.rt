@@ -3,27 +3,27 @@
 ghost use Rattle.std.specs.Prelude.{◌≡◌};
 ghost use Rattle.command_shell.specs.Answers.{cause_number, number_of, printed_number};
 
-/// How a command ends that has a text for `out`.
+/// How a command ends whose answer is a text for `out`.
 #[derive(Clone, Copy, Debug, PartialEq, Eq)]
 pub enum Printed {
-    /// It did what it does.
+    /// It did what it is for.
     Done,
     /// No quota panel exists.
     NoPanel,
-    /// A certificate is refused.
+    /// A certificate or a proof is refused.
     Refused,
 }
 
 /// Why a command stops.
 #[derive(Clone, Copy, Debug, PartialEq, Eq)]
 pub enum Cause {
-    /// The input is not of its format.
+    /// The input is not of its format, is too long, or says a value that the command doesn't take.
     Input,
     /// A number passes its width.
     Wide,
     /// A budget is spent.
     Spent,
-    /// A rule refuses.
+    /// A rule of `draw` or of `bundle` refuses.
     Rule,
 }
 
@@ -45,7 +45,7 @@ pub enum Status {
 }
 
 impl Status {
-    /// The number that the program answers.
+    /// Returns the number of the status, with which the program ends.
     pub fn number(self) -> u8
         ensures { result ≡ number_of self }
     {

@@ -7,19 +7,19 @@ use text_lines::TextStop;
 
 /// A value that a text says: a pool, a bundle, a proof.
 pub trait Subject: Sized + Drop {
-    /// Which texts say which values, and where another text first goes wrong.
+    /// Which texts say which values, and where any other text first goes wrong.
     ghost format: { Format Self };
 
     /// Reads the value that some bytes say.
     ///
     /// # Errors
     ///
-    /// `Fault` exactly where the bytes are no text of the format, with its first faulty line; `OutOfMemory`.
+    /// `Fault` if the format's own `read` fails on the bytes, with the same line and kind. `OutOfMemory` may come for any bytes.
     fn read(alloc: Global, bytes: &[u8]) -> Result<Self, TextStop>
         ensures { IsRead format bytes.now result };
 }
 
-/// What a command reads that reads nothing.
+/// The input of a command that reads nothing.
 #[derive(Clone, Copy, Debug, Drop)]
 pub struct Nothing;
 

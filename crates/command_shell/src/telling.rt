@@ -23,7 +23,7 @@ const WRITE_FAULT_LINE: &[u8] = b"write fault\n";
 
 const WANT_OF_MEMORY_LINE: &[u8] = b"want of memory\n";
 
-/// Tells an answer. Where `out` fails on the way, the status is that of a write fault, and `errs` gets its line.
+/// Tells an answer. If `out` fails on the way, the status is that of a write fault, and `errs` gets its line.
 pub(crate) fn tell<O: Sink, E: Sink>(out: &mut O, errs: &mut E, answer: &Answer) -> Status
     ensures { (source : Bytes) → IsToldOrCutOff (saying answer.now) (told (number_of result) source
         (object (O.written out.old) (O.written out.new) (O.faults out.old) (O.faults out.new))
@@ -57,7 +57,7 @@ fn put_lines<O: Sink>(out: &mut O, text: &[u8]) -> Result<(), Failed>
     Ok(())
 }
 
-/// Where the line that begins at a place ends: behind its LF, or with the text.
+/// Returns the end of the line that begins at `start`: the place after its LF, or the end of the text.
 fn line_end(text: &[u8], start: usize) -> usize
     requires { start < length text.now }
     ensures later { start < result }
@@ -69,7 +69,7 @@ fn line_end(text: &[u8], start: usize) -> usize
     }
 }
 
-/// Puts a line to `errs`, whose failing changes no status. It is one call, which is not tried again.
+/// Puts a line to `errs`, in one call that isn't tried again. If it fails, the status is the same.
 fn complain<E: Sink>(errs: &mut E, line: &[u8])
     ensures { GainsLine (object (E.written errs.old) (E.written errs.new) (E.faults errs.old) (E.faults errs.new)) line.now }
 {

@@ -1,4 +1,4 @@
--- `clap`'s rule is stated for the program of each table: it is simple, and no argument has a rule on another.
+-- `clap`'s definitions cover the program of each table: it is simple, and no argument has a rule about another.
 use Rattle.std.proofs.Common.{◌≡◌, ◌∙◌, ℕ, true, false, not, ◌&&◌, refl, ap, ap₂, sym, List, [], ◌∷◌, ◌++◌, map, append_assoc, append-nil}
 use Rattle.std.specs.List.{fold, list_all, list_any}
 use Rattle.clap.specs.Words.{App, Rule, Shape, is_simple, is_simple_and_free, with_subcommand}
@@ -14,7 +14,7 @@ options_simple : (os : List OptionEntry) → list_all (λ a. a.is_simple) (map o
 options_simple [] = refl
 options_simple (o ∷ os) = options_simple os
 
--- what building makes of a command's options, with the flag for help
+-- a command's options after `clap` has built the program, with the flag for help
 abbrev built_options : ℕ → List OptionEntry → List Rule
 built_options i os = filled_from i (map option_rule os ++ help_rule ∷ [])
 
@@ -26,7 +26,7 @@ built_free : (i : ℕ) (os : List OptionEntry) → list_all (λ a. a.is_free) (b
 built_free i [] = refl
 built_free i (o ∷ os) = built_free i os
 
--- none has a place among the words
+-- none is a positional that takes several values too early, since none is positional
 built_unplaced : (n i : ℕ) (os : List OptionEntry) → list_any (is_early_multiple n) (built_options i os) ≡ false
 built_unplaced n i [] = refl
 built_unplaced n i (o ∷ os) = built_unplaced n i os

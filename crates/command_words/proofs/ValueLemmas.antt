@@ -13,7 +13,7 @@ use Rattle.command_words.specs.declared.given.OptionValue.{OptionValue}
 use Rattle.command_words.specs.declared.given.Value.{Value}
 use Rattle.command_words.specs.declared.words.OptionWords.{OptionWords}
 
--- behind what was read stands what is to come
+-- the values that were read, followed by those that are still to come, if there are any to have
 abbrev pub behind : List (Text × Value) → Option (List (Text × Value)) → Option (List (Text × Value))
 behind read = option_map (λ values. read ++ values)
 

@@ -1,4 +1,4 @@
--- What a parse by `clap` says of the words.
+-- What the result of a parse by `clap` shows of what the words give.
 use Rattle.std.proofs.Common.{◌≡◌, ◌≢◌, ◌∙◌, refl, ap, sym, subst, inl, inr, List, [], ◌∷◌, Option, None, Err}
 use Rattle.clap.specs.Words.{App, HasKind, IsAmong, Kinds, Row, Text, fault_of, kind_of, subcommand_of}
 use Rattle.clap.specs.declared.error.Error.{Error}
@@ -12,7 +12,7 @@ use Rattle.command_words.specs.declared.reading.WordsStop.TheVariants.{Usage, Ou
 use Rattle.command_words.specs.Table.{CommandEntry}
 
 module _ (commands : List CommandEntry) (a : App) (words : List Text) (app : a ≡ program_app commands) where
-  -- words that are taken
+  -- if `clap` finds no fault in the words, they give what the subcommand's values give
   pub given_taken : (met : Option (Text × List Row)) → fault_of a words ≡ [] → met ≡ subcommand_of a words → given_by commands words ≡ given_of commands met
   given_taken met none rows =
       let clear : fault_of (program_app commands) words ≡ [] = ap (λ b. fault_of b words) (sym app) ∙ none in
@@ -23,7 +23,7 @@ module _ (commands : List CommandEntry) (a : App) (words : List Text) (app : a �
   some_kind k [] o h = absurd h
   some_kind k (x ∷ xs) o h = refl
 
-  -- words that are refused
+  -- if `clap` finds a fault in the words, they give nothing
   pub given_refused : (e : Error) → HasKind (fault_of a words) e → kind_of e ≢ kind.OutOfMemory → given_by commands words ≡ None
   given_refused e has other = elim has [
     | inl memory ↦ absurd (other memory)
@@ -31,7 +31,7 @@ module _ (commands : List CommandEntry) (a : App) (words : List Text) (app : a �
         (subst (λ (b : App). IsAmong (kind_of e) (fault_of b words)) app some)
   ]
 
-  -- an error of `clap`, as the reason why the words give nothing
+  -- the stop that an error of `clap` is turned into is right
   pub stop_is_right : (e : Error) (stop : WordsStop) → HasKind (fault_of a words) e → StopSays e stop → MatchesSay commands words (Err stop)
   stop_is_right e (Usage text) has says = given_refused e has says
   stop_is_right e OutOfMemory has says = tt

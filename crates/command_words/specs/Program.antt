@@ -1,4 +1,4 @@
--- The program of a table of commands, in the words of `clap`'s rule.
+-- The program of a table of commands, as `clap`'s own definitions describe a program. Over Table. Words and src/program.rt cite it.
 use Rattle.std.specs.Prelude.{true, List, [], ◌∷◌, Option, Some, None, codes, fold, is_none, map}
 use Rattle.clap.specs.Words.{App, Rule, new_app, new_rule, with_subcommand}
 use Rattle.clap.specs.Simple.{new_shape, on_top}
@@ -17,7 +17,7 @@ abbrev pub default_texts : Option Text → List Text
 default_texts (Some text) = text ∷ []
 default_texts None = []
 
--- an option is named by two hyphens and its name, and is required where it has no default
+-- an option is named by two hyphens and its name, and is required if it has no default
 abbrev pub option_rule : OptionEntry → Rule
 option_rule option = record (new_rule option.name) {
   long = Some option.name;
@@ -26,17 +26,17 @@ option_rule option = record (new_rule option.name) {
   required = is_none option.default;
 }
 
--- a command of this name has a rule for each option
+-- a command of this name, with a rule for each option
 abbrev pub command_with : Text → List OptionEntry → App
 command_with name options = record { top = record (new_shape name) { rules = map option_rule options }; subs = [] }
 
 abbrev pub command_app : CommandEntry → App
 command_app command = command_with command.name command.options
 
--- the program, of which one subcommand is required; the words don't include its name
+-- the program without its commands: a subcommand is required, and the words don't include the program's name
 abbrev pub program_alone : App
 program_alone = on_top (λ top. record top { no_binary_name = true; subcommand_required = true }) (new_app (codes "sortition"))
 
--- and with each command as a subcommand
+-- the program with each command as a subcommand
 abbrev pub program_app : List CommandEntry → App
 program_app commands = fold (λ app command. with_subcommand app (command_app command).top) program_alone commands

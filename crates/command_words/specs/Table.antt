@@ -1,4 +1,4 @@
--- The words of commands and options, with their texts in the place of what holds them.
+-- The words of commands and options, with lists of bytes in place of the references that the code has. Over the constants of src/table.rt.
 use Rattle.std.specs.Prelude.{ℕ, List, ◌++◌, map, option_map}
 use Rattle.std.specs.Borrow.{Bor}
 use Rattle.command_words.specs.declared.words.CommandWords.{CommandWords}
@@ -27,14 +27,14 @@ command_as text options command = record {
   options = map (option_as text) (options command.options);
 }
 
--- of a table that code holds
+-- an option, or a command, of a table in the code
 abbrev pub option_entry : OptionWords (Bor Text) → OptionEntry
 option_entry = option_as (λ text. text.now)
 
 abbrev pub command_entry : CommandWords (Bor Text) (Bor (List (OptionWords (Bor Text)))) → CommandEntry
 command_entry = command_as (λ text. text.now) (λ options. options.now)
 
--- the program's own commands: those about proofs and draws, and those about the stated run
+-- the program's own table: the commands about proofs and draws, and those about the stated run
 unfoldable pub proof_commands : List CommandEntry
 proof_commands = map (command_as (λ text. text.now) (λ options. options.now)) PROOF_COMMANDS.now
 

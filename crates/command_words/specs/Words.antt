@@ -1,4 +1,6 @@
--- What the words of a call give, as `clap`'s rule for a simple command reads them by a table of commands.
+-- What the words of a call give: `clap`'s own definitions say how the words of a simple program are parsed, and this file what the parsed
+-- values give by a table of commands. Over Given, Program and Table. The contract of `read_words` cites it, and that of `office` by
+-- `given_in`.
 use Rattle.std.specs.Prelude.{◌≡◌, ◌≢◌, ◌^◌, ◌&&◌, ℕ, Bool, List, [], ◌∷◌, Option, Some, None, Result, Ok, Err, length, if◌then◌else◌, find, nat_le, nat_lt, option_and_then, option_map, ⊤}
 use Rattle.std.specs.List.{list_all}
 use Rattle.std.specs.Char.{digit_value}
@@ -18,7 +20,7 @@ use Rattle.command_words.specs.declared.reading.WordsStop.TheVariants.{Usage, Ou
 use Rattle.command_words.specs.declared.words.Form.{Form}
 use Rattle.command_words.specs.declared.words.Form.TheVariants as form
 
--- some digits of a number below 2 ^ 64
+-- there is a digit, all are decimal digits, and their number is below 2 ^ 64
 abbrev pub is_number : Text → Bool
 is_number digits = nat_lt 0 (length digits) && list_all (λ d. nat_lt (digit_value d) 10) digits && nat_lt (digits_value 10 digits) (2 ^ 64)
 
@@ -28,18 +30,18 @@ number_in text =
     let digits = without_leading_plus text in
     if is_number digits then Some (digits_value 10 digits) else None
 
--- the number that an option has
+-- the number that the option of this name has
 abbrev pub number_at : Text → List Row → Option ℕ
 number_at name rows = option_and_then number_in (one_of name rows)
 
 abbrev pub within : ℕ → ℕ → ℕ → Option ℕ
 within least most n = if nat_le least n && nat_le n most then Some n else None
 
--- the same, where it is from the least to the most
+-- the number that the option of this name has, if it is from `least` to `most`
 abbrev pub number_within : Text → ℕ → ℕ → List Row → Option ℕ
 number_within name least most rows = option_and_then (within least most) (number_at name rows)
 
--- the value that the option of this name has, where it is of the form
+-- the value that the option of this name has, if it has this form
 abbrev pub form_value : Form → Text → List Row → Option Value
 form_value (form.Number least most) name rows = option_map value.Number (number_within name least most rows)
 form_value form.Text name rows = option_map value.Text (first_of name rows)
@@ -47,7 +49,7 @@ form_value form.Text name rows = option_map value.Text (first_of name rows)
 abbrev pub option_value : List Row → OptionEntry → Option Value
 option_value rows option = form_value option.form option.name rows
 
--- each option's name with its value, where all values are of their forms
+-- each option's name with its value, if all values have their options' forms
 abbrev pub option_values : List Row → List OptionEntry → Option (List (Text × Value))
 option_values rows [] = Some []
 option_values rows (option ∷ options) =
@@ -69,27 +71,28 @@ abbrev pub unless_any : Kinds → Option Given → Option Given
 unless_any [] given = given
 unless_any (kind ∷ kinds) given = None
 
--- what the words give by a table of commands, where `clap` refuses nothing in them and each value is of its form; else nothing
+-- what the words give by a table of commands: a command with its values if `clap` finds no fault in the words and each value has its form,
+-- else nothing
 abbrev pub given_by : List CommandEntry → List Text → Option Given
 given_by commands words = unless_any (fault_of (program_app commands) words) (given_of commands (subcommand_of (program_app commands) words))
 
--- what they give by the program's own
+-- what the words give by the program's own table
 unfoldable pub given_in : List Text → Option Given
 given_in words = given_by command_table words
 
--- what reading says of words that give this; want of memory may come at any time
+-- what reading may return for words that give this; want of memory may come at any time
 abbrev pub Says : {X : Type 0} → Option X → Result X WordsStop → Type 0
 Says given (Ok it) = given ≡ Some it
 Says given (Err (Usage text)) = given ≡ None
 Says given (Err OutOfMemory) = ⊤
 
--- the same of what `clap` made of them, before the values were tested for their forms
+-- what parsing by `clap` may return for these words, before the values are tested for their forms; want of memory may come at any time
 abbrev pub MatchesSay : List CommandEntry → List Text → Result ArgMatches WordsStop → Type 0
 MatchesSay commands words (Ok matches) = given_by commands words ≡ given_of commands (subcommand_rows_of matches)
 MatchesSay commands words (Err (Usage text)) = given_by commands words ≡ None
 MatchesSay commands words (Err OutOfMemory) = ⊤
 
--- an error of `clap` for want of memory stays one
+-- an error that `clap` has for want of memory is not returned as wrong usage
 abbrev pub StopSays : Error → WordsStop → Type 0
 StopSays error (Usage text) = kind_of error ≢ kind.OutOfMemory
 StopSays error OutOfMemory = ⊤

@@ -1,5 +1,5 @@
--- What some lists of words give, as the program's users count on it: each command's name, its defaults, and the ends of its ranges. They pin the
--- table of words, which is code. Proved by computing, in `worked`.
+-- What some lists of words give, as the program's users rely on it: each command's name, its defaults, and the ends of its ranges. They pin
+-- the table of words, which is code. Proved by computing, in src/worked.rt.
 use Rattle.std.specs.Prelude.{◌≡◌, ℕ, List, [], ◌∷◌, None, Some, codes}
 use Rattle.command_words.specs.Words.{given_in}
 use Rattle.command_words.specs.declared.given.Value.{Value}
@@ -18,7 +18,7 @@ GiveNothing words = given_in words ≡ None
 abbrev pub number : List ℕ → ℕ → List ℕ × Value
 number name value = (name, Number value)
 
--- a budget of the run that proves: pivots up to 10 ^ 9, nodes up to 10 ^ 12
+-- the budget of the run that makes a proof: pivots up to 10 ^ 9, nodes up to 10 ^ 12
 pub record ProveGives : Type 0 where
   pub defaults : Give (codes "prove" ∷ []) name.Prove (number (codes "pivots") 1000000 ∷ number (codes "nodes") 200000 ∷ [])
   pub least : Give (codes "prove" ∷ codes "--pivots" ∷ codes "0" ∷ codes "--nodes" ∷ codes "0" ∷ []) name.Prove (number (codes "pivots") 0 ∷ number (codes "nodes") 0 ∷ [])
@@ -32,7 +32,7 @@ pub record PlainGive : Type 0 where
   pub bundle : Give (codes "bundle" ∷ []) name.Bundle []
   pub seal : Give (codes "seal" ∷ []) name.Seal []
 
--- both texts are required
+-- both texts, the seal and the digits, are required
 pub record DrawGives : Type 0 where
   pub texts : Give (codes "draw" ∷ codes "--seal" ∷ codes "s" ∷ codes "--digits" ∷ codes "97" ∷ []) name.Draw
       ((codes "seal", Text (codes "s")) ∷ (codes "digits", Text (codes "97")) ∷ [])
@@ -80,7 +80,7 @@ pub record MakeGives : Type 0 where
   pub too_many : GiveNothing (codes "make" ∷ codes "--seed" ∷ codes "0" ∷ codes "--volunteers" ∷ codes "401" ∷ [])
   pub more_bits : GiveNothing (codes "make" ∷ codes "--seed" ∷ codes "0" ∷ codes "--volunteers" ∷ codes "1" ∷ codes "--bits" ∷ codes "128" ∷ [])
 
--- no command, another word, and words that ask for help
+-- no command, a word that is no command, the word `help`, and an option that the command doesn't have
 pub record OthersGive : Type 0 where
   pub none : GiveNothing []
   pub another : GiveNothing (codes "solve" ∷ [])

@@ -7,7 +7,7 @@ ghost use Rattle.command_words.specs.Given.{named, number_of, text_of, value_at}
 use crate::words::CommandName;
 use std::marker::Model;
 
-/// A text of the words. Contracts see its bytes.
+/// A text that is borrowed from the words. Contracts see its bytes.
 #[derive(Debug, Drop)]
 pub struct Word<'a> {
     text: &'a str,
@@ -22,14 +22,14 @@ impl<'a> Model for Word<'a> {
 }
 
 impl<'a> Word<'a> {
-    /// The word of a text.
+    /// Returns `text` as a word.
     pub fn new(text: &'a str) -> Word<'a>
         ensures { result ≡ text.entry.now }
     {
         Word { text }
     }
 
-    /// Its text.
+    /// Returns the text.
     pub fn as_str(&self) -> &'a str
         ensures { result.now ≡ self.now }
     {
@@ -46,14 +46,14 @@ pub enum Value<'a> {
     Text(Word<'a>),
 }
 
-/// The value of the option of this name.
+/// The name of an option, with its value.
 #[derive(Debug, Drop)]
 pub(crate) struct OptionValue<'a> {
     pub(crate) name: &'static str,
     pub(crate) value: Value<'a>,
 }
 
-/// A command, with a value for each of its options. Contracts see them as `specs/Given.antt` does.
+/// A command, with a value for each of its options. Contracts see the record `Given` of `specs/Given.antt`.
 #[derive(Debug, Drop)]
 pub struct Given<'a> {
     command: CommandName,
@@ -70,21 +70,21 @@ impl<'a> Model for Given<'a> {
 }
 
 impl<'a> Given<'a> {
-    /// A command with these values.
+    /// Returns a command with these values of its options.
     pub(crate) fn new(command: CommandName, values: Vec<OptionValue<'a>>) -> Given<'a>
         ensures { result ≡ record { command = command; values = map named values.entry.items } }
     {
         Given { command, values }
     }
 
-    /// Which command it is.
+    /// Returns which command it is.
     pub fn command(&self) -> CommandName
         ensures { result ≡ self.now.command }
     {
         self.command
     }
 
-    /// The number that the option of this name has. None where there is no such option, or its value is a text.
+    /// Returns the number that the option `name` has, or None if there is no such option or its value is a text.
     pub fn number(&self, name: &str) -> Option<u64>
         ensures { result ≡ number_of name.now self.now }
     {
@@ -94,7 +94,7 @@ impl<'a> Given<'a> {
         }
     }
 
-    /// The text that the option of this name has. None where there is no such option, or its value is a number.
+    /// Returns the text that the option `name` has, or None if there is no such option or its value is a number.
     pub fn text(&self, name: &str) -> Option<Word<'a>>
         ensures { result ≡ text_of name.now self.now }
     {
@@ -105,7 +105,7 @@ impl<'a> Given<'a> {
     }
 }
 
-/// The value of the first option of this name.
+/// Returns the value of the first option that is called `name`.
 fn value_named<'v, 'a>(values: &'v [OptionValue<'a>], name: &str) -> Option<&'v Value<'a>>
     ensures { option_map (λ value. value.now) result ≡ value_at name.now (map named values.now) }
 {

@@ -3,8 +3,8 @@
 //! The commands are a table (`table.rt`), and a command's words are one entry of it. Building the program for `clap` (`program.rt`), reading
 //! the values of its options (`values.rt`) and the rule that says what words give (`specs/Words.antt`) are proved once for every table.
 //!
-//! Below stands `clap` alone. Above stands `sortition`, which makes its own command of what it gets. `read_words` and the calls of `Given`
-//! and `Word` are promises.
+//! Below is `clap` alone. Above is `sortition`, which makes a command with typed arguments of a `Given`. `read_words` and the calls of
+//! `Given` and `Word` are promises.
 #![tactic(auto)]
 
 mod given;

@@ -1,4 +1,4 @@
-//! The program of a table, as `clap` knows it.
+//! Builds the program of a table for `clap`.
 
 ghost use Rattle.std.specs.Prelude.{◌≡◌, false, IfOk, map};
 ghost use Rattle.clap.specs.Words.{app_of, new_app, rule_of};
@@ -17,7 +17,7 @@ use clap::builder::ValueParser;
 use clap::{Arg, Command};
 use std::alloc::{AllocError, Global};
 
-/// The program with a subcommand for each command.
+/// Returns the program with a subcommand for each command.
 pub(crate) fn program_of<'a>(
     alloc: Global,
     commands: &[TableCommand],
@@ -41,7 +41,7 @@ fn program_alone<'a>(alloc: Global) -> Result<Command<'a>, AllocError>
         .bin_name("sortition")
 }
 
-/// A command with its options.
+/// Returns the subcommand of a command, with its options.
 fn command_of<'a>(alloc: Global, words: &TableCommand) -> Result<Command<'a>, AllocError>
     ensures { IfOk result (λ command. (app_of command ≡ command_app (command_entry words.now)) × ((out-Command command).has_globals ≡ false)) }
 {

@@ -14,7 +14,7 @@ use clap::error::ErrorKind;
 use std::alloc::Global;
 use thiserror::Error;
 
-/// The text for a value that `clap` took and that hasn't its option's form: no words lead there.
+/// The text for a value that `clap` accepts and that doesn't have its option's form. No words lead to it, since `clap` tests the forms.
 const OUT_OF_FORM: &str = "error: a value is out of its range\n";
 
 /// Why the words give nothing.
@@ -28,7 +28,7 @@ pub enum WordsStop {
     OutOfMemory,
 }
 
-/// Reads the words of a call, which don't include the program's name.
+/// Reads the words of a call by the program's own table. `words` don't include the program's name.
 pub fn read_words<'a>(alloc: Global, words: &'a [String]) -> Result<Given<'a>, WordsStop>
     ensures { Says (given_in (map string_bytes words.entry.now)) result }
 {
@@ -61,7 +61,7 @@ fn out_of_form(alloc: Global) -> WordsStop {
     }
 }
 
-/// What `clap` makes of the words.
+/// Returns what `clap` finds in the words: the subcommand, with the values of its options.
 fn matches_of<'a>(
     alloc: Global,
     commands: &[TableCommand],

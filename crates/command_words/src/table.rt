@@ -1,7 +1,6 @@
 //! The words of the program: its commands with their options, in the order in which people need them.
 //!
-//! They are parted into some constants of at most ten commands, as the cost of a proof that takes a constant grows faster than the
-//! constant does.
+//! They are in several constants of at most ten commands each, since the cost of a proof about a constant grows faster than the constant.
 
 ghost use Rattle.std.specs.Prelude.{◌≡◌, IfOk, map};
 ghost use Rattle.command_words.specs.Table.{
@@ -14,7 +13,7 @@ ghost use Rattle.command_words.specs.Table.{
 use crate::words::{CommandName, CommandWords, Form, OptionWords, TableCommand, TableOption};
 use std::alloc::{AllocError, Global};
 
-/// The commands of the program.
+/// Returns the commands of the program.
 pub(crate) fn command_table(alloc: Global) -> Result<Vec<TableCommand>, AllocError>
     ensures { IfOk result (λ table. map command_entry table.items ≡ words_of_command_table) }
 {
@@ -24,14 +23,14 @@ pub(crate) fn command_table(alloc: Global) -> Result<Vec<TableCommand>, AllocErr
     Ok(table)
 }
 
-/// Those about proofs and draws.
+/// Returns the commands about proofs and draws.
 fn proof_commands() -> &'static [TableCommand]
     ensures { map command_entry result.now ≡ words_of_proof_commands }
 {
     PROOF_COMMANDS
 }
 
-/// Those about the stated run.
+/// Returns the commands about the stated run.
 fn run_commands() -> &'static [TableCommand]
     ensures { map command_entry result.now ≡ words_of_run_commands }
 {

@@ -1,4 +1,4 @@
-//! The values of the subcommand that was met, where each has the form of its option.
+//! Reads the values of the subcommand that `clap` found. Each must have the form of its option, else the words give nothing.
 
 ghost use Rattle.std.specs.Prelude.{◌≡◌, find, IfOk, map, option_map};
 ghost use Rattle.std.specs.Str.{bytes_eq};
@@ -20,7 +20,8 @@ use crate::words::{Form, TableCommand, TableOption};
 use clap::ArgMatches;
 use std::alloc::{AllocError, Global};
 
-/// What the subcommand that was met gives, where each value has its form.
+/// Returns the command of the subcommand that `clap` found, with its values. None if it found none, or if a value doesn't have its option's
+/// form.
 pub(crate) fn given_of<'a>(
     alloc: Global,
     commands: &[TableCommand],
@@ -34,7 +35,7 @@ pub(crate) fn given_of<'a>(
     }
 }
 
-/// What the command of this name gives.
+/// Returns the command of this name with its values, or None if there is no such command or a value doesn't have its option's form.
 fn named_given<'a>(
     alloc: Global,
     commands: &[TableCommand],
@@ -55,7 +56,7 @@ fn command_named<'w>(commands: &'w [TableCommand], name: &str) -> Option<&'w Tab
     commands.iter().find(|words| words.name == name)
 }
 
-/// The command with the values of its options, where all have their forms.
+/// Returns the command with the values of its options, or None if a value doesn't have its option's form.
 fn command_given<'a>(
     alloc: Global,
     words: &TableCommand,
@@ -70,7 +71,7 @@ fn command_given<'a>(
     }
 }
 
-/// The value of each option, where all have their forms.
+/// Returns the value of each option, or None if a value doesn't have its option's form.
 fn values_of<'a>(
     alloc: Global,
     options: &[TableOption],
@@ -92,7 +93,7 @@ fn values_of<'a>(
     Ok(Some(values))
 }
 
-/// The value of an option, where it has the option's form.
+/// Returns the value of an option, or None if it doesn't have the option's form.
 fn value_of<'a>(option: &TableOption, matches: &ArgMatches<'a>) -> Option<Value<'a>>
     ensures { result ≡ option_value (rows_of (found_of matches.now)) (option_entry option.now) }
 {
@@ -117,7 +118,7 @@ fn text_at<'a>(matches: &ArgMatches<'a>, name: &str) -> Option<Word<'a>>
     }
 }
 
-/// The number that an option has, where it is from `least` to `most`.
+/// Returns the number that the option `name` has, or None if it is not from `least` to `most`.
 fn number_within(matches: &ArgMatches, name: &str, least: u64, most: u64) -> Option<u64>
     ensures { result ≡ number_said_within name.now least most (rows_of (found_of matches.now)) }
 {

@@ -1,4 +1,4 @@
-//! What a table of words is made of: commands with their options.
+//! The types of a table of words: commands with their options.
 
 /// A command of the program.
 #[derive(Clone, Copy, Debug)]
@@ -37,16 +37,17 @@ pub enum Form {
     Text,
 }
 
-/// The words of an option. They are generic in what a text is, as definitions can name no constant of a struct that has references.
+/// The words of an option. `Text` is a parameter, since definitions can't name a constant of a struct with reference fields. They put a list
+/// of bytes in its place.
 #[derive(Clone, Copy, Debug)]
 pub struct OptionWords<Text> {
-    /// The name behind the two hyphens.
+    /// The name after the two hyphens.
     pub name: Text,
     /// What help says of it.
     pub help: Text,
     /// What its value has to be.
     pub form: Form,
-    /// The value without the option. None where the option is required.
+    /// The value of an option that isn't given. None if the option is required.
     pub default: Option<Text>,
 }
 
@@ -59,9 +60,9 @@ pub struct CommandWords<Text, Options> {
     pub name: Text,
     /// What help says of it.
     pub help: Text,
-    /// The last line of its help, with a call.
+    /// The last line of its help, with an example of a call.
     pub example: Text,
-    /// Its options, each with another name.
+    /// Its options, of different names.
     pub options: Options,
 }
 

@@ -1,4 +1,4 @@
-//! Worked words: what some lists of words give by the program's own table. A function without a body, whose contract is the law.
+//! Worked words: what some lists of words give by the program's own table. The one function has an empty body, and its contract is the law.
 
 ghost use Rattle.command_words.specs.WorkedWords.{DrawGives, LotteryGives, MakeGives, OthersGive, PlainGive, ProveGives, SearchesGive};
 

@@ -9,7 +9,7 @@ use Rattle.sortition.specs.declared.asked.Asked.{Asked}
 pub as_asked : (asked it : Asked) (told : Told) → asked ≡ it → AnswersRightly (Some it) told → AnswersRightly (Some asked) told
 as_asked asked it told is right = subst (λ one. AnswersRightly (Some one) told) (sym is) right
 
--- a draw by the seal and the digits that the words give
+-- what is right for a draw is right for one with an equal seal and equal digits
 pub draws_so : (seal digits given_seal given_digits : List ℕ) (told : Told) → seal ≡ given_seal → digits ≡ given_digits →
     Answers bundle_format (DrawMeans seal digits) told → Answers bundle_format (DrawMeans given_seal given_digits) told
 draws_so seal digits given_seal given_digits told same_seal same_digits answers =

@@ -1,4 +1,4 @@
--- What the checkers answer about a text that the source told, and that the number of workers changes nothing.
+-- What `check` and `verify` answer about a text that the source told.
 use Rattle.std.proofs.Common.{◌≡◌, ◌∙◌, ◌+◌, ◌≤◌, ℕ, List, length, Option, Some, None, Ok, ap, subst, arith}
 use Rattle.std.specs.Prelude.{◌≢◌, ◌↔◌}
 use Rattle.std.proofs.lemmas.List.{length-append}
@@ -24,12 +24,12 @@ use Rattle.sortition.specs.Headline.{ToldText}
 use Rattle.sortition.specs.Office.{Answers}
 use Rattle.sortition.proofs.Reading.{its_status}
 
--- what is read of a text that is told is this text
+-- if the source told that it held `text`, the bytes that were read are `text`
 pub same_text : (before after : Option (List ℕ)) (text bytes : List ℕ) → before ≡ Some text → ReadsAll before after bytes → bytes ≡ text
 same_text None after text bytes told held = absurd (cc (told))
 same_text (Some left) after text bytes told held = let same : left ≡ text = cc (told) in held.0 ∙ same
 
--- a text that is told and is no longer than the limit can't lose more
+-- a source that told a text of at most `limit` bytes can't lose more than `limit`
 pub not_longer : (before after : Option (List ℕ)) (text : List ℕ) (limit : ℕ) → before ≡ Some text → length text ≤ limit → LosesMore limit before after → ⊥
 not_longer None after text limit told within loses = cc (told)
 not_longer (Some left) None text limit told within loses = loses.2
@@ -41,7 +41,7 @@ not_longer (Some left) (Some rest) text limit told within loses =
     absurd (omega arith)
 
 module _ {Value : Type 0} (format : Format Value) (Means : Value → Meaning) (told : Told) where
-  -- the one right answer about the value that a told text says
+  -- there is a right answer about `value` with the status of the call
   pub record IsDue (value : Value) : Type 0 where
     pub answer : Saying
     pub right : IsRight (Means value) answer
@@ -64,7 +64,7 @@ module _ {Value : Type 0} (format : Format Value) (Means : Value → Meaning) (t
   due value text reads_so from n8 n12 (TooLong long) = absurd (not_longer told.source.before told.source.after text input_limit from.told from.within long.held)
   due value text reads_so from n8 n12 (ReadFault fault) = absurd (from.no_fault fault.faulted)
 
--- `check` says valid exactly where the certificate holds
+-- if no budget is spent, the status of `check` is 0 exactly if the certificate holds
 certified : (nodes status : ℕ) (bundle : Bundle) (answer : Saying) → IsRight (CheckMeans nodes bundle) answer → status ≡ status_of answer → status ≢ 5 →
     status ≡ 0 ↔ Certifies bundle.pool bundle.answer.lottery bundle.answer.stages
 certified nodes status bundle (Prints Done text) right is n5 = (λ s. right.greatest.certified, λ holds. is)
@@ -78,7 +78,7 @@ check_is_exact nodes told outcome bundle is from n5 n8 n12 =
     let it = due bundle_format (CheckMeans nodes) told bundle (bundle_spelling bundle) (bundle_is_read bundle is) from n8 n12 outcome in
     certified nodes told.status bundle it.answer it.right it.status n5
 
--- `verify` says valid exactly where the proof is
+-- the status of `verify` is 0 exactly if the proof is valid
 proved : (status : ℕ) (proof : Proof) (answer : Saying) → IsRight (VerifyMeans proof) answer → status ≡ status_of answer → status ≡ 0 ↔ verdict proof ≡ Valid
 proved status proof (Prints Done text) right is = (λ s. right.valid, λ holds. is)
 proved status proof (Prints Rejected text) right is = (λ s. absurd (cc (is, s)), λ holds. absurd (cc (right.refuses, holds)))

@@ -12,7 +12,7 @@ use Rattle.sortition.proofs.Checkers.{check_is_exact, verify_is_exact}
 use Rattle.sortition.proofs.Promises as promise
 use Rattle.sortition.proofs.Workers.{tell_the_same}
 
--- what is right for what the words ask is right for the command that they ask for
+-- if the words ask for `it`, what is right for the words is right for `it`
 as_asks : (words : List (List ℕ)) (told : Told) (it : Asked) → asked words ≡ Some it → AnswersRightly (asked words) told → AnswersRightly (Some it) told
 as_asks words told it is right = subst (λ one. AnswersRightly one told) is right
 

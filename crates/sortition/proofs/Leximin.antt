@@ -1,4 +1,4 @@
--- A lottery that is leximin greatest is what the headline says.
+-- A lottery that is leximin greatest has each part of the headline's `IsLeximin`.
 use Rattle.std.proofs.Common.{◌≡◌, ◌∙◌, ◌&&◌, ℕ, Bool, true, List, [], ◌∷◌, length, ltb, refl, sym, subst}
 use Rattle.std.specs.Prelude.{◌≢◌}
 use Rattle.std.specs.List.{AllByRecursion, list_all}
@@ -8,7 +8,7 @@ use Rattle.define_pools.specs.Pool.{Pool, is_of_size, is_quota_panel, keeps_hous
 use Rattle.define_pools.proofs.AllPanels.{each_panel}
 use Rattle.sortition.specs.Headline.{IsLeximin}
 
--- what follows of each panel, where another test holds of it
+-- if `part` follows from `test` for each panel, and the panels of all rows pass `test`, they all pass `part`
 each_row : (test part : List ℕ → Bool) → ((panel : List ℕ) → test panel ≡ true → part panel ≡ true) → (rows : List LotteryRow) →
     list_all (λ row. test row.panel) rows ≡ true → list_all (λ row. part row.panel) rows ≡ true
 each_row test part follows [] all = refl
@@ -41,7 +41,7 @@ module _ (pool : Pool) where
   keeps_apart : (panel : List ℕ) → is_quota_panel pool panel ≡ true → apart panel ≡ true
   keeps_apart panel is = (and_parts (sized panel && standing panel && quotas panel) (apart panel) is).1
 
-  -- a pool that a quota panel is listed of has one
+  -- if there is a row, and all rows list quota panels of the pool, the pool has a quota panel
   has_some : (rows : List LotteryRow) → ltb 0 (length rows) ≡ true → list_all (λ row. is_quota_panel pool row.panel) rows ≡ true → panels pool ≢ []
   has_some [] some all none = absurd (cc)
   has_some (row ∷ rows) some all none =

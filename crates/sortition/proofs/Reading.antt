@@ -16,7 +16,7 @@ pub its_status : (answer : Saying) (told : Told) → IsTold answer told → told
 its_status (Prints printed text) told is = is.status
 its_status (Stops cause line) told is = is.status
 
--- the answer of a status
+-- the form of an answer, by its status
 pub is_done : (answer : Saying) → status_of answer ≡ 0 → (text : List ℕ) × (answer ≡ Prints Done text)
 is_done (Prints Done text) s = (text, refl)
 is_done (Stops Input line) s = absurd (cc)
@@ -54,7 +54,7 @@ is_refused answer s = absurd (cc)
 
 -- ---- the value that an answer is about
 
--- an answer about a value whose text the source held
+-- the answer is right about a value whose text the source held
 pub record IsAbout {Value : Type 0} (format : Format Value) (Means : Value → Saying → Type 0) (told : Told) (answer : Saying) : Type 0 where
   pub value : Value
   pub bytes : List ℕ
@@ -127,7 +127,7 @@ module _ {Value : Type 0} (format : Format Value) (Means : Value → Saying → 
       let is = is_refused at.0 at.1 in
       (is.0, subst (IsAbout format Means told) is.1 at.2)
 
--- a read fault and a write fault
+-- status 7 comes only if the source counted a fault, and 8 only if out did
 pub reads_not : {Means : List ℕ → Saying → Type 0} (told : Told) → TextOutcome Means told → told.status ≡ 7 → HasFaulted told.source
 reads_not told (Ends (Answered (Prints Done text) right is)) s = absurd (cc (is.status, s))
 reads_not told (Ends (Answered (Prints NoPanel text) right is)) s = absurd (cc (is.status, s))
@@ -223,7 +223,7 @@ said_at told number n8 n12 status (Answered answer right is) = (answer, sym (its
 said_at told number n8 n12 status (WriteFault printed text right cut) = absurd (n8 (sym status ∙ cut.status))
 said_at told number n8 n12 status (WantOfMemory want) = absurd (n12 (sym status ∙ want.status))
 
--- an answer of status 3: the text is none of the format, or the source held too much, or a value's answer is of this status
+-- why a call has status 3: the format's `read` fails on the text, the source held too much, or the command's meaning has 3 for the value
 pub data IsInput {Value : Type 0} (format : Format Value) (Means : Value → Saying → Type 0) (told : Told) : Type 0 where
   NoText : (bytes : List ℕ) (fault : Fault) → HeldAll told.source bytes → format.read bytes ≡ Err fault → IsInput format Means told
   Long : HeldMore told.source input_limit → IsInput format Means told

@@ -1,5 +1,5 @@
 -- What the words of a call ask for: a command with its arguments.
--- Stands on the words' own definitions (`given_in`); cited by the contract of `office`.
+-- Over `given_in`, which says what the words give by the program's table. The contract of `office` cites it.
 use Rattle.std.specs.Prelude.{◌&&◌, ℕ, List, Option, Some, None, codes, if◌then◌else◌, nat_le, option_and_then, option_map}
 use Rattle.define_runs.specs.Run.{Limits}
 use Rattle.command_words.specs.Given.{Given, number_of, text_of}
@@ -25,14 +25,14 @@ limits_in given =
 abbrev pub workers_from : ℕ → Option ℕ
 workers_from number = if nat_le 1 number && nat_le number 64 then Some number else None
 
--- by how many workers a run prices
+-- how many workers price
 abbrev pub workers_in : Given → Option ℕ
 workers_in given = option_and_then workers_from (number_of (codes "workers") given)
 
 abbrev pub volunteers_from : ℕ → Option ℕ
 volunteers_from number = if nat_le 1 number && nat_le number 400 then Some number else None
 
--- how many volunteers a made pool has
+-- how many volunteers a made pool is to have
 abbrev pub volunteers_in : Given → Option ℕ
 volunteers_in given = option_and_then volunteers_from (number_of (codes "volunteers") given)
 
@@ -59,10 +59,10 @@ command_asked name.Lottery given =
 command_asked name.Check given = option_map (λ nodes. asks.Check (record { nodes = nodes })) (number_of (codes "nodes") given)
 command_asked name.Make given = make_asked given
 
--- the command of the values that the words give
+-- the command with the values that the words give
 abbrev pub asked_by : Given → Option Asked
 asked_by given = command_asked given.command given
 
--- what the words ask for, where they are of the forms; else nothing
+-- what the words ask for; nothing if they are not of the forms, or ask for help
 abbrev pub asked : List (List ℕ) → Option Asked
 asked words = option_and_then asked_by (given_in words)

@@ -2,6 +2,10 @@
 -- `office` keeps them. To believe them a reader needs, beside this file, what a pool, a quota panel, a lottery and a certificate are
 -- (define_pools: Pool, Lottery, Certificate), when a proof holds (define_additions: ProofVerdict, Refusals), how they are spelled (PoolText,
 -- BundleText, ProofText), what the words ask for (Asked), what was read and printed (Told), and the limits and lines that the imports below name.
+--
+-- The sentences on statuses say what holds if a status comes; only those on `check` and `verify` also say when status 0 comes. When the
+-- others come, and that out is untouched at 2 to 7 and at 12 and errs at 0, 1 and 11, is said by the contract of `office` (Office): the
+-- latter in command_shell/specs/Outcomes.antt alone, by `IsStopped` and `IsPrinted`.
 use Rattle.std.specs.Prelude.{◌≡◌, ◌≢◌, ◌↔◌, ◌⊎◌, ◌≤◌, ◌==◌, ℕ, nat_lt, Bool, IsTrue, IsFalse, List, [], ◌∷◌, length, Option, Some, None, Err}
 use Rattle.std.specs.List.{list_all, list_any}
 use Rattle.define_additions.specs.ProofVerdict.{OfLottery, OfNoPanel, Proof, verdict}
@@ -43,9 +47,9 @@ use Rattle.sortition.specs.declared.asked.Asked.TheVariants as asks
 -- ---- what is promised of a lottery over the quota panels of a pool
 
 pub record IsLeximin (pool : Pool) (lottery : Lottery) : Type 0 where
-  -- it is a lottery over quota panels: different ones, each with a weight. What that says is told part by part
+  -- it is a lottery over quota panels: different ones, each with a weight. The fields down to `fractions` say in parts what that means
   pub is_lottery : IsLottery pool lottery
-  -- it has a panel, and each has the stated size: so many different volunteers of the pool
+  -- it has a panel, and each panel has as many different volunteers of the pool as the pool's size says
   pub some : IsTrue (nat_lt 0 (length lottery.rows))
   pub sized : IsTrue (list_all (λ row. is_of_size pool row.panel) lottery.rows)
   -- each panel meets every quota
@@ -61,8 +65,8 @@ pub record IsLeximin (pool : Pool) (lottery : Lottery) : Type 0 where
   -- so there is a quota panel
   pub exists : panels pool ≢ []
 
--- ---- what the source held, all of which was read. What a source doesn't tell, as a terminal, a file or a pipe, no contract can say: of such a source
--- these hold of every text
+-- ---- what the source held, all of which was read. What a terminal, a file or a pipe held no contract can say: for such a source these
+-- records hold of every pool, bundle and proof
 
 pub record HeldPool (source : Bytes) (pool : Pool) : Type 0 where
   pub is_pool : IsPool pool
@@ -82,7 +86,7 @@ HeldEither source pool = HeldPool source pool ⊎ ((answer : Answer) × HeldBund
 
 -- ---- a lottery is answered
 
--- `lottery`: the bundle of the pool that the source held, by the stated run
+-- `lottery`: the bundle of a leximin greatest lottery over the pool that the source held
 pub record TellsBundle (told : Told) : Type 0 where
   pub pool : Pool
   pub held : HeldPool told.source pool
@@ -91,7 +95,7 @@ pub record TellsBundle (told : Told) : Type 0 where
   pub certified : Certifies pool answer.lottery answer.stages
   pub leximin : IsLeximin pool answer.lottery
 
--- `prove`: a valid proof of a lottery over the pool that the source held, or of the lottery of the bundle that it held
+-- `prove`: a valid proof of a lottery over the pool that the source held, or of the lottery of the bundle that the source held
 pub record TellsProof (told : Told) : Type 0 where
   pub pool : Pool
   pub answer : Answer
@@ -101,7 +105,7 @@ pub record TellsProof (told : Told) : Type 0 where
   pub valid : verdict (OfLottery pool answer trees) ≡ Valid
   pub leximin : IsLeximin pool answer.lottery
 
--- `make`: the summary of a lottery over the pool that the number makes
+-- `make`: the summary of a lottery over the made pool
 pub record TellsSummary (pool : Pool) (told : Told) : Type 0 where
   pub answer : Answer
   pub sizes : Sizes
@@ -144,7 +148,7 @@ pub record TellsSeal (told : Told) : Type 0 where
   pub held : HeldBundle told.source bundle
   pub out : Gains told.out (seal_line bundle)
 
--- `bundle`: the bundle of the proof that the source held, as it stands there
+-- `bundle`: the bundle in the proof that the source held. Nothing is verified
 pub record TellsItsBundle (told : Told) : Type 0 where
   pub pool : Pool
   pub answer : Answer
@@ -185,18 +189,20 @@ TellsNone other told = ⊥
 
 -- ---- every other answer is a refusal whose cause holds
 
--- the source held bytes that are no text of the format, or more bytes than an input may have
+-- `format.read` fails on the bytes that the source held, or the source held more bytes than an input may have. This says that `read` fails,
+-- and not that no value spells the bytes. The laws `pool_or_fault`, `bundle_or_fault` and `proof_or_fault` (define_pool_texts,
+-- define_bundles, define_proof_texts) say that such bytes spell no value
 abbrev pub HeldNoText : {Value : Type 0} → Format Value → Told → Type 0
 HeldNoText format told =
     ((bytes : List ℕ) × (fault : Fault) × HeldAll told.source bytes × (format.read bytes ≡ Err fault)) ⊎ HeldMore told.source input_limit
 
--- 3: a text outside its form
+-- 3: a text outside its format, or too long. `make` reads nothing, so 3 never comes
 abbrev pub TextIsWrong : Option Asked → Told → Type 0
 TextIsWrong (Some (asks.Prove it)) told = HeldNoText pool_or_bundle_format told
 TextIsWrong (Some (asks.Verify it)) told = HeldNoText proof_format told
 TextIsWrong (Some (asks.Bundle it)) told = HeldNoText proof_format told
 TextIsWrong (Some (asks.Seal it)) told = HeldNoText bundle_format told
--- or a bundle whose weights don't sum to its total
+-- for `draw` also a bundle whose weights don't sum to its total
 TextIsWrong (Some (asks.Draw seal digits)) told =
     HeldNoText bundle_format told ⊎ ((bundle : Bundle) × HeldBundle told.source bundle × (TotalAgrees bundle.answer.lottery → ⊥))
 TextIsWrong (Some (asks.Panel it)) told = HeldNoText pool_format told
@@ -205,14 +211,14 @@ TextIsWrong (Some (asks.Check it)) told = HeldNoText bundle_format told
 TextIsWrong (Some (asks.Make it)) told = ⊥
 TextIsWrong None told = ⊥
 
--- 4: the operation, or the total, that passed its limit, as errs tells it
+-- 4: the operation, or the total, that passed its limit, as errs tells it. For `prove` the operation may be any that passes
 abbrev pub NumberPassed : Option Asked → Told → Type 0
 NumberPassed (Some (asks.Lottery it)) told = (pool : Pool) × HeldPool told.source pool × (line : List ℕ) × GainsLine told.errs line × PassesWidth it.limits pool line
 NumberPassed (Some (asks.Make it)) told = (line : List ℕ) × GainsLine told.errs line × PassesWidth it.limits (made_pool it.seed it.volunteers) line
 NumberPassed (Some (asks.Prove it)) told = (line : List ℕ) × GainsLine told.errs line × PassesProofWidth line
 NumberPassed other told = ⊥
 
--- 5: the budget that was spent, as errs tells it
+-- 5: the budget that was spent, as errs tells it. For `prove` the turns of peeling, or a lost step, may always be told
 abbrev pub BudgetSpent : Option Asked → Told → Type 0
 BudgetSpent (Some (asks.Panel it)) told = (pool : Pool) × HeldPool told.source pool × (line : List ℕ) × GainsLine told.errs line × SpendsVisits it.nodes pool line
 BudgetSpent (Some (asks.Lottery it)) told = (pool : Pool) × HeldPool told.source pool × (line : List ℕ) × GainsLine told.errs line × SpendsBudget it.limits pool line
@@ -227,8 +233,9 @@ RuleBroken (Some (asks.Draw seal digits)) told = (bundle : Bundle) × HeldBundle
 RuleBroken (Some (asks.Bundle it)) told = (pool : Pool) × (lines : List TreeLine) × HeldProof told.source (OfNoPanel pool lines) × GainsLine told.errs no_lottery_line
 RuleBroken other told = ⊥
 
--- 11: the certificate, or the proof, that doesn't hold. Of `prove`: with some trees the bundle makes a proof that is refused, and the printed reason is true
--- of it; a reason that is one of these trees says nothing of the certificate
+-- 11: the certificate, or the proof, that doesn't hold. For `prove`: there are trees with which the bundle is a proof that is refused for
+-- the printed reason. If the reason is below 11, the certificate doesn't hold; the reasons from 11 on are of the trees, which may be bad
+-- ones, and say nothing of the certificate
 abbrev pub CheckFailed : Option Asked → Told → Type 0
 CheckFailed (Some (asks.Check it)) told =
     (bundle : Bundle) × HeldBundle told.source bundle × (Certifies bundle.pool bundle.answer.lottery bundle.answer.stages → ⊥)
@@ -240,7 +247,7 @@ CheckFailed other told = ⊥
 
 -- ---- a checker
 
--- the source told a text, of which all was to be had
+-- the source told that it held this text, which is within the limit, and counted no fault
 pub record ToldText (source : Bytes) (text : List ℕ) : Type 0 where
   pub told : source.before ≡ Some text
   pub within : length text ≤ input_limit
@@ -248,7 +255,7 @@ pub record ToldText (source : Bytes) (text : List ℕ) : Type 0 where
 
 -- ---- the promises
 
--- the statuses of the program without a store
+-- the statuses of the program
 abbrev pub is_status : ℕ → Bool
 is_status number = list_any (λ status. number == status) (0 ∷ 1 ∷ 2 ∷ 3 ∷ 4 ∷ 5 ∷ 6 ∷ 7 ∷ 8 ∷ 11 ∷ 12 ∷ [])
 
@@ -256,37 +263,41 @@ is_status number = list_any (λ status. number == status) (0 ∷ 1 ∷ 2 ∷ 3 �
 pub record Headline (words : List (List ℕ)) (told : Told) : Type 0 where
   -- where a lottery is answered, it is leximin greatest over the quota panels of its pool; and what else status 0 says
   pub done : told.status ≡ 0 → TellsDone (asked words) told
-  -- 'no panel' is answered only where none exists
+  -- 1, 'no panel', comes only if the pool has no quota panel
   pub no_panel : told.status ≡ 1 → TellsNone (asked words) told
-  -- every other answer is a refusal whose cause holds: words outside their form,
+  -- every other answer is a refusal whose cause holds. 2 comes only if the words ask for nothing: they are outside their form, or ask for
+  -- help. (That such words get 2, unless memory is wanting, is said in Office, not here.)
   pub usage : told.status ≡ 2 → asked words ≡ None
-  -- a text outside its form,
+  -- 3 comes only for a text outside its format or too long, or for a bundle that `draw` doesn't take;
   pub text : told.status ≡ 3 → TextIsWrong (asked words) told
-  -- a number that passed its limit,
+  -- 4 only for a number that passed its limit;
   pub number : told.status ≡ 4 → NumberPassed (asked words) told
-  -- a budget that was spent,
+  -- 5 only for a budget that was spent;
   pub budget : told.status ≡ 5 → BudgetSpent (asked words) told
-  -- a broken rule,
+  -- 6 only for a broken rule;
   pub rule : told.status ≡ 6 → RuleBroken (asked words) told
-  -- a fault that the source or out counted,
+  -- 7 and 8 only for a fault that the source or out counted;
   pub read_fault : told.status ≡ 7 → HasFaulted told.source
   pub write_fault : told.status ≡ 8 → HasFaulted told.out
-  -- or a certificate or a proof that doesn't hold;
+  -- and 11 only for a certificate or a proof that doesn't hold (of `prove` see `CheckFailed`)
   pub check : told.status ≡ 11 → CheckFailed (asked words) told
-  -- and want of memory, 12, needs no cause: there is no other status. The run of `prove` is no definition, so which of its refusals comes is not said
+  -- 12, want of memory, needs no cause. There is no other status. The run of `prove` is no definition, so which of its refusals comes is
+  -- not said
   pub statuses : IsTrue (is_status told.status)
-  -- memory and budget aside, `check` says valid exactly where the certificate holds,
+  -- if the source told the text of a bundle, and the status is none of 5, 8 and 12, `check` says valid exactly if the certificate holds
   pub certificate : (it : Check) → asked words ≡ Some (asks.Check it) → (bundle : Bundle) → IsBundle bundle → ToldText told.source (bundle_spelling bundle) →
       told.status ≢ 5 → told.status ≢ 8 → told.status ≢ 12 → told.status ≡ 0 ↔ Certifies bundle.pool bundle.answer.lottery bundle.answer.stages
-  -- and `verify` exactly where the proof does
+  -- if the source told the text of a proof, and the status is neither 8 nor 12, `verify` says valid exactly if the proof is valid
   pub proof : (it : Verify) → asked words ≡ Some (asks.Verify it) → (proof : Proof) → IsProof proof → ToldText told.source (proof_spelling proof) →
       told.status ≢ 8 → told.status ≢ 12 → told.status ≡ 0 ↔ verdict proof ≡ Valid
 
--- two calls told the same
+-- two calls told the same answer, or both that the input is too long
 abbrev pub TellTheSame : Told → Told → Type 0
 TellTheSame first second = ((answer : Saying) × IsTold answer first × IsTold answer second) ⊎ (IsTooLong first × IsTooLong second)
 
--- every number of workers gives the same bytes: two calls of `lottery` with equal limits about one text, faults and memory aside
+-- the number of workers changes nothing: two calls of `lottery` with equal limits about one text tell the same, faults and want of memory
+-- aside. This speaks of `lottery` alone, and not of `make`, which has workers too. That they change nothing there follows from Office: its
+-- line of `make` names no workers, and only one answer is right
 abbrev pub WorkersChangeNothing : Type 0
 WorkersChangeNothing =
     (words other_words : List (List ℕ)) (first second : Told) → OfficeIsRight words first → OfficeIsRight other_words second →

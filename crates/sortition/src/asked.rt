@@ -20,10 +20,10 @@ use command_words::{CommandName, Given, Word, WordsStop, read_words};
 use define_runs::{Limits, Workers};
 use std::alloc::Global;
 
-/// The text for a number that `clap` took out of its range: no words lead there.
+/// The text for a number that `clap` accepts and that is out of its range. No words lead to it, since `clap` tests the ranges.
 const OUT_OF_RANGE: &str = "error: a number is out of its range\n";
 
-/// What the words of a call ask for. Texts are lent from the words.
+/// What the words of a call ask for. Texts are borrowed from the words.
 #[derive(Debug, Drop)]
 pub(crate) enum Asked<'a> {
     /// The lottery of a pool or of a bundle, with a proof.
@@ -51,7 +51,7 @@ pub(crate) enum Asked<'a> {
     Make(Make),
 }
 
-/// The command that the words ask for. They don't include the program's name.
+/// Returns the command that the words ask for. `words` don't include the program's name. `Usage` if they ask for nothing.
 pub(crate) fn read_asked<'a>(alloc: Global, words: &'a [String]) -> Result<Asked<'a>, WordsStop>
     ensures { Says (asked (map string_bytes words.entry.now)) result }
 {
@@ -65,7 +65,7 @@ pub(crate) fn read_asked<'a>(alloc: Global, words: &'a [String]) -> Result<Asked
     }
 }
 
-/// The command with the values that the words give.
+/// Returns the command with the values that the words give, or None if a value is missing or out of its range.
 fn asked_by<'a>(given: &Given<'a>) -> Option<Asked<'a>>
     ensures { result ≡ words_of_asked given.now }
 {
@@ -115,14 +115,14 @@ fn make_of<'a>(given: &Given<'a>) -> Option<Asked<'a>>
     }))
 }
 
-/// How many volunteers a made pool has.
+/// Returns how many volunteers a made pool is to have.
 fn volunteers_of(given: &Given<'_>) -> Option<Volunteers>
     ensures { result ≡ volunteers_in given.now }
 {
     Volunteers::new(given.number("volunteers")?)
 }
 
-/// The limits of a run.
+/// Returns the limits of a run.
 fn limits_of(given: &Given<'_>) -> Option<Limits>
     ensures { result ≡ limits_in given.now }
 {
@@ -138,7 +138,7 @@ fn limits_from(bits: u64, pivots: u64, nodes: u64) -> Option<Limits>
     Limits::new(u32::try_from(bits).ok()?, pivots, nodes)
 }
 
-/// By how many workers a run prices.
+/// Returns how many workers price.
 fn workers_of(given: &Given<'_>) -> Option<Workers>
     ensures { result ≡ workers_in given.now }
 {

@@ -1,4 +1,4 @@
-//! The words that the program is called with, and what is told where they can't be had.
+//! The words that the program is called with, and what is told if they can't be had.
 
 ghost use Rattle.std.specs.Prelude.{◌≡◌, ◌≢◌};
 ghost use Rattle.std.specs.declared.io.ErrorKind.TheVariants.{InvalidData};
@@ -13,7 +13,7 @@ use std::io;
 
 const WORDS_NOT_UTF8_LINE: &[u8] = b"error: invalid UTF-8 was detected in one or more arguments\n";
 
-/// The words of the call, without the program's name.
+/// Returns the words of the call, without the program's name.
 pub(crate) fn given_words(rt: &HostRuntime) -> io::Result<Vec<String>> {
     let words = std::env::args(rt)?.skip(1).collect(rt.alloc())?;
     Ok(words)

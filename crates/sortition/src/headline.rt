@@ -1,4 +1,4 @@
-//! The promises of the program, as laws over the contract of `office`: functions without a body, whose contracts are the laws.
+//! The promises of the program, as laws about the contract of `office`: functions with an empty body, whose contracts are the laws.
 
 ghost use Rattle.std.specs.Prelude.{ℕ, List};
 ghost use Rattle.command_shell.specs.Told.{Told};
@@ -10,7 +10,7 @@ pub fn headline()
     ensures { (words : List (List ℕ)) (told : Told) → OfficeIsRight words told → Headline words told }
 {}
 
-/// Every number of workers gives the same bytes.
+/// The number of workers changes no byte of what `lottery` answers. This law doesn't speak of `make`.
 pub fn workers_change_nothing()
     ensures { WorkersChangeNothing }
 {}

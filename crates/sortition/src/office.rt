@@ -14,11 +14,12 @@ use outside::{Sink, Source, Watch};
 use std::alloc::Global;
 use std::thread::Threads;
 
-/// One call of the program with its words, which do not include its name. The answer is the program's status.
+/// Makes one call of the program, and returns the program's status. `words` don't include the program's name.
 ///
 /// The contract says what each status means and what `out` and `errs` gained then, for each list of words.
 ///
-/// Pieces of a pricing are worked on threads, and the watch is told as they start; nothing that is told depends on that.
+/// For `lottery` and `make`, workers search the pieces of a pricing on threads, and `watch` is told of each piece as it starts. No answer
+/// depends on that.
 pub fn office<R: Threads + Sync, S: Source, O: Sink, E: Sink, W: Watch + Sync>(
     rt: &R,
     alloc: Global,
@@ -43,7 +44,7 @@ pub fn office<R: Threads + Sync, S: Source, O: Sink, E: Sink, W: Watch + Sync>(
     }
 }
 
-/// One call of a command.
+/// Makes one call of the command that the words ask for.
 fn run<R: Threads + Sync, W: Watch + Sync, S: Source, O: Sink, E: Sink>(
     resources: &Resources<'_, R, W>,
     asked: Asked<'_>,

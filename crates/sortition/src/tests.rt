@@ -13,7 +13,7 @@ use std::thread::Threads;
 const FOUR: &[u8] =
     b"pool\t1\nsize\t2\ncategory\tgender\nvalue\tfemale\t1\t1\nvalue\tmale\t1\t1\nvolunteer\ta\tfemale\nvolunteer\tb\tfemale\nvolunteer\tc\tmale\nvolunteer\td\tmale\nend\n";
 
-/// Two seats, and each of four volunteers has another value. The first pricing makes 12 visits, in one wave of three pieces.
+/// Two seats and four volunteers, each with a value of their own. The first pricing makes 12 visits, in one wave of three pieces.
 const APART: &[u8] =
     b"pool\t1\nsize\t2\ncategory\tvalue\nvalue\tp\t0\t1\nvalue\tq\t0\t1\nvalue\tr\t0\t1\nvalue\ts\t0\t1\nvolunteer\ta\tp\nvolunteer\tb\tq\nvolunteer\tc\tr\nvolunteer\td\ts\nend\n";
 
@@ -25,15 +25,15 @@ const PAIR: &[u8] =
 const SHORT: &[u8] =
     b"pool\t1\nsize\t2\ncategory\tgender\nvalue\tfemale\t2\t2\nvalue\tmale\t0\t2\nvolunteer\ta\tfemale\nvolunteer\tb\tmale\nvolunteer\tc\tmale\nend\n";
 
-/// Of x is only a, who is of q, and of p is only b, who is of y. The search makes 2 visits.
+/// One seat that needs x and p. Only a has x, and only b has p, so there is no quota panel. The search makes 2 visits.
 const CROSSED: &[u8] =
     b"pool\t1\nsize\t1\ncategory\tone\nvalue\tx\t1\t1\nvalue\ty\t0\t1\ncategory\ttwo\nvalue\tp\t1\t1\nvalue\tq\t0\t1\nvolunteer\ta\tx\tq\nvolunteer\tb\ty\tp\nend\n";
 
-/// The first two volunteers don't fit, nor the first and the third.
+/// The first quota panel is a and d: b has q, which no panel may have, and a and c both have x, which only one member may have.
 const LATER: &[u8] =
     b"pool\t1\nsize\t2\ncategory\tone\nvalue\tx\t0\t1\nvalue\ty\t0\t2\ncategory\ttwo\nvalue\tp\t2\t2\nvalue\tq\t0\t0\nvolunteer\ta\tx\tp\nvolunteer\tb\ty\tq\nvolunteer\tc\tx\tp\nvolunteer\td\ty\tp\nend\n";
 
-/// A couple of one household, of whom two are asked for; and a proof that there is no quota panel.
+/// A proof that there is no quota panel: both seats would go to a couple of one household.
 const COUPLE_PROOF: &[u8] =
     b"proof\t1\npool\t2\nsize\t2\ncategory\tgender\nvalue\tfemale\t0\t2\nvalue\tmale\t0\t2\nvolunteer\ta\tfemale\nvolunteer\tb\tmale\nhousehold\ta\th\nhousehold\tb\th\nend\nnone\ntree\t0\nbound\t0\t0\t-1\t3\t1\nclose\n";
 
@@ -41,7 +41,7 @@ const COUPLE_PROOF: &[u8] =
 const FOUR_PROOF: &[u8] =
     b"proof\t1\nbundle\t1\npool\t1\nsize\t2\ncategory\tgender\nvalue\tfemale\t1\t1\nvalue\tmale\t1\t1\nvolunteer\ta\tfemale\nvolunteer\tb\tfemale\nvolunteer\tc\tmale\nvolunteer\td\tmale\nend\ntotal\t2\npanel\t1\t0\t2\npanel\t1\t1\t3\nstage\t1\t1\t1\t0\t0\nstage\t0\t-1\t-1\t1\t1\ndone\ntree\t1\nbound\t1\t1\t1\ntree\t2\nbound\t1\t2\t1\t3\t-1\nclose\n";
 
-/// The same with a multiplier of 2 in the first stage.
+/// `FOUR_PROOF` with a multiplier of 2 in the first stage, which doesn't show the cap.
 const DOUBLED_PROOF: &[u8] =
     b"proof\t1\nbundle\t1\npool\t1\nsize\t2\ncategory\tgender\nvalue\tfemale\t1\t1\nvalue\tmale\t1\t1\nvolunteer\ta\tfemale\nvolunteer\tb\tfemale\nvolunteer\tc\tmale\nvolunteer\td\tmale\nend\ntotal\t2\npanel\t1\t0\t2\npanel\t1\t1\t3\nstage\t1\t1\t1\t0\t0\nstage\t0\t-1\t-1\t1\t1\ndone\ntree\t1\nbound\t1\t1\t2\ntree\t2\nbound\t1\t2\t1\t3\t-1\nclose\n";
 
@@ -49,11 +49,12 @@ const DOUBLED_PROOF: &[u8] =
 const FOUR_PROVED: &[u8] =
     b"proof\t1\nbundle\t1\npool\t1\nsize\t2\ncategory\tgender\nvalue\tfemale\t1\t1\nvalue\tmale\t1\t1\nvolunteer\ta\tfemale\nvolunteer\tb\tfemale\nvolunteer\tc\tmale\nvolunteer\td\tmale\nend\ntotal\t2\npanel\t1\t0\t3\npanel\t1\t1\t2\nstage\t1\t1\t1\t0\t0\nstage\t1\t0\t0\t1\t1\ndone\ntree\t1\nbound\t1\t1\t1\ntree\t2\nbound\t1\t0\t1\t1\t-1\nclose\n";
 
-/// The proof that it makes of the bundle over them: the size less twice the women is the weight of the second stage.
+/// The proof that `prove` makes for `FOUR_BUNDLE`. The weights of the second stage are the coefficients of the size less twice those of the
+/// women.
 const FOUR_BUNDLE_PROVED: &[u8] =
     b"proof\t1\nbundle\t1\npool\t1\nsize\t2\ncategory\tgender\nvalue\tfemale\t1\t1\nvalue\tmale\t1\t1\nvolunteer\ta\tfemale\nvolunteer\tb\tfemale\nvolunteer\tc\tmale\nvolunteer\td\tmale\nend\ntotal\t2\npanel\t1\t0\t2\npanel\t1\t1\t3\nstage\t1\t1\t1\t0\t0\nstage\t0\t-1\t-1\t1\t1\ndone\ntree\t1\nbound\t1\t1\t1\ntree\t2\nbound\t1\t0\t1\t1\t-2\nclose\n";
 
-/// The proof that it makes where two women are asked for and one is there.
+/// The proof that `prove` makes for `SHORT`.
 const SHORT_PROVED: &[u8] =
     b"proof\t1\npool\t1\nsize\t2\ncategory\tgender\nvalue\tfemale\t2\t2\nvalue\tmale\t0\t2\nvolunteer\ta\tfemale\nvolunteer\tb\tmale\nvolunteer\tc\tmale\nend\nnone\ntree\t0\nbound\t0\t1\t-1\nclose\n";
 
@@ -63,15 +64,15 @@ const NOBODY: &[u8] = b"pool\t1\nsize\t1\nend\n";
 const FOUR_BUNDLE: &[u8] =
     b"bundle\t1\npool\t1\nsize\t2\ncategory\tgender\nvalue\tfemale\t1\t1\nvalue\tmale\t1\t1\nvolunteer\ta\tfemale\nvolunteer\tb\tfemale\nvolunteer\tc\tmale\nvolunteer\td\tmale\nend\ntotal\t2\npanel\t1\t0\t2\npanel\t1\t1\t3\nstage\t1\t1\t1\t0\t0\nstage\t0\t-1\t-1\t1\t1\ndone\n";
 
-/// The same with a first stage whose cap a quota panel of a and d passes.
+/// `FOUR_BUNDLE` with a first stage whose cap the quota panel of a and d is above.
 const PASSED_CAP: &[u8] =
     b"bundle\t1\npool\t1\nsize\t2\ncategory\tgender\nvalue\tfemale\t1\t1\nvalue\tmale\t1\t1\nvolunteer\ta\tfemale\nvolunteer\tb\tfemale\nvolunteer\tc\tmale\nvolunteer\td\tmale\nend\ntotal\t2\npanel\t1\t0\t2\npanel\t1\t1\t3\nstage\t1\t1\t0\t0\t1\nstage\t0\t-1\t-1\t1\t1\ndone\n";
 
-/// The same with a total of 3.
+/// `FOUR_BUNDLE` with a total of 3.
 const TOTAL_OF_THREE: &[u8] =
     b"bundle\t1\npool\t1\nsize\t2\ncategory\tgender\nvalue\tfemale\t1\t1\nvalue\tmale\t1\t1\nvolunteer\ta\tfemale\nvolunteer\tb\tfemale\nvolunteer\tc\tmale\nvolunteer\td\tmale\nend\ntotal\t3\npanel\t1\t0\t2\npanel\t1\t1\t3\nstage\t1\t1\t1\t0\t0\nstage\t0\t-1\t-1\t1\t1\ndone\n";
 
-/// The same without the last stage, which settles the men.
+/// `FOUR_BUNDLE` without the last stage, which settles the men.
 const MEN_LEFT: &[u8] =
     b"bundle\t1\npool\t1\nsize\t2\ncategory\tgender\nvalue\tfemale\t1\t1\nvalue\tmale\t1\t1\nvolunteer\ta\tfemale\nvolunteer\tb\tfemale\nvolunteer\tc\tmale\nvolunteer\td\tmale\nend\ntotal\t2\npanel\t1\t0\t2\npanel\t1\t1\t3\nstage\t1\t1\t1\t0\t0\ndone\n";
 
@@ -79,39 +80,39 @@ const MEN_LEFT: &[u8] =
 const ONE_WOMAN: &[u8] =
     b"pool\t1\nsize\t2\ncategory\tgender\nvalue\tfemale\t1\t1\nvalue\tmale\t1\t1\nvolunteer\tw\tfemale\nvolunteer\tx\tmale\nvolunteer\ty\tmale\nvolunteer\tz\tmale\nend\n";
 
-/// One seat, which the first of three may not have.
+/// One seat and three volunteers. The first has a value that no member may have.
 const BARRED: &[u8] =
     b"pool\t1\nsize\t1\ncategory\tone\nvalue\tx\t0\t0\nvalue\ty\t0\t1\nvolunteer\ta\tx\nvolunteer\tb\ty\nvolunteer\tc\ty\nend\n";
 
-/// One of three and one of two.
+/// Two seats: one for x, which three volunteers have, and one for y, which two have.
 const FIVE: &[u8] =
     b"pool\t1\nsize\t2\ncategory\tone\nvalue\tx\t1\t1\nvalue\ty\t1\t1\nvolunteer\ta\tx\nvolunteer\tb\tx\nvolunteer\tc\tx\nvolunteer\td\ty\nvolunteer\te\ty\nend\n";
 
-/// Two seats, for at most two of p and at most one of each other value, of two volunteers each.
+/// Two seats, for at most two members with p, one with q and one with r. Two volunteers have each value.
 const SIX: &[u8] =
     b"pool\t1\nsize\t2\ncategory\tone\nvalue\tp\t0\t2\nvalue\tq\t0\t1\nvalue\tr\t0\t1\nvolunteer\ta\tp\nvolunteer\tb\tp\nvolunteer\tc\tq\nvolunteer\td\tq\nvolunteer\te\tr\nvolunteer\tf\tr\nend\n";
 
-/// One seat for one of two.
+/// One seat and two volunteers.
 const EITHER: &[u8] =
     b"pool\t1\nsize\t1\ncategory\tone\nvalue\tx\t0\t1\nvalue\ty\t0\t1\nvolunteer\ta\tx\nvolunteer\tb\ty\nend\n";
 
-/// The bundle of one seat for one of two.
+/// The bundle of `EITHER`.
 const EITHER_BUNDLE: &[u8] =
     b"bundle\t1\npool\t1\nsize\t1\ncategory\tone\nvalue\tx\t0\t1\nvalue\ty\t0\t1\nvolunteer\ta\tx\nvolunteer\tb\ty\nend\ntotal\t2\npanel\t1\t0\npanel\t1\t1\nstage\t1\t1\t1\ndone\n";
 
-/// Two women and two men, of whom one woman dropped out and one man has his seat.
+/// Two women and two men. One woman is gone, and one man is seated.
 const REPLACED: &[u8] =
     b"pool\t1\nsize\t2\ncategory\tgender\nvalue\tfemale\t1\t1\nvalue\tmale\t1\t1\nvolunteer\ta\tfemale\nvolunteer\tb\tfemale\nvolunteer\tc\tmale\nvolunteer\td\tmale\ngone\ta\nseated\tc\nend\n";
 
-/// Two women and two men, of whom a woman and a man are of one household.
+/// Two women and two men. One woman and one man are of one household.
 const FAMILY: &[u8] =
     b"pool\t2\nsize\t2\ncategory\tgender\nvalue\tfemale\t1\t1\nvalue\tmale\t1\t1\nvolunteer\ta\tfemale\nvolunteer\tb\tfemale\nvolunteer\tc\tmale\nvolunteer\td\tmale\nhousehold\ta\th\nhousehold\tc\th\nend\n";
 
-/// A couple of one household, of whom two are asked for.
+/// Two seats, and a couple of one household alone.
 const COUPLE: &[u8] =
     b"pool\t2\nsize\t2\ncategory\tgender\nvalue\tfemale\t0\t2\nvalue\tmale\t0\t2\nvolunteer\ta\tfemale\nvolunteer\tb\tmale\nhousehold\ta\th\nhousehold\tb\th\nend\n";
 
-/// Both women dropped out.
+/// Two women and two men. Both women are gone, and one man is seated.
 const WOMEN_GONE: &[u8] =
     b"pool\t1\nsize\t2\ncategory\tgender\nvalue\tfemale\t1\t1\nvalue\tmale\t1\t1\nvolunteer\ta\tfemale\nvolunteer\tb\tfemale\nvolunteer\tc\tmale\nvolunteer\td\tmale\ngone\ta\ngone\tb\nseated\tc\nend\n";
 
@@ -119,7 +120,7 @@ const WOMEN_GONE: &[u8] =
 const ONE_WOMAN_BUNDLE: &[u8] =
     b"bundle\t1\npool\t1\nsize\t2\ncategory\tgender\nvalue\tfemale\t1\t1\nvalue\tmale\t1\t1\nvolunteer\tw\tfemale\nvolunteer\tx\tmale\nvolunteer\ty\tmale\nvolunteer\tz\tmale\nend\ntotal\t3\npanel\t1\t0\t1\npanel\t1\t0\t2\npanel\t1\t0\t3\nstage\t1\t0\t1\t1\t1\nstage\t2\t3\t-1\t-1\t-1\ndone\n";
 
-/// The same with a total that the weights don't sum to.
+/// `ONE_WOMAN_BUNDLE` with a total that the weights don't sum to.
 const WRONG_TOTAL: &[u8] =
     b"bundle\t1\npool\t1\nsize\t2\ncategory\tgender\nvalue\tfemale\t1\t1\nvalue\tmale\t1\t1\nvolunteer\tw\tfemale\nvolunteer\tx\tmale\nvolunteer\ty\tmale\nvolunteer\tz\tmale\nend\ntotal\t4\npanel\t1\t0\t1\npanel\t1\t0\t2\npanel\t1\t0\t3\nstage\t1\t0\t1\t1\t1\nstage\t2\t3\t-1\t-1\t-1\ndone\n";
 
@@ -131,7 +132,8 @@ const SURE_BUNDLE: &[u8] =
 const WIDE_BUNDLE: &[u8] =
     b"bundle\t1\npool\t1\nsize\t2\ncategory\tgender\nvalue\tfemale\t1\t1\nvalue\tmale\t1\t1\nvolunteer\tw\tfemale\nvolunteer\tx\tmale\nvolunteer\ty\tmale\nend\ntotal\t100000000000000000000000000000000000000\npanel\t10000000000000000000000000000000000000\t0\t1\npanel\t90000000000000000000000000000000000000\t0\t2\nstage\t1\t1\t0\t0\ndone\n";
 
-/// One call: its words, what the source holds, the calls of each object that fail, counted from 1, and how many bytes `out` takes.
+/// One call: its words; the text that the source holds; which reads of the source, which puts of `out` and which puts of `errs` (`lines`)
+/// fail, counted from 1; and how many bytes `out` takes.
 #[derive(Clone, Copy)]
 struct Call<'a> {
     words: &'a [&'a str],
@@ -142,7 +144,7 @@ struct Call<'a> {
     room: usize,
 }
 
-/// A call with these words and no failing object.
+/// Returns a call with these words over this text, in which nothing fails.
 fn asking<'a>(words: &'a [&'a str], text: &'a [u8]) -> Call<'a> {
     Call {
         words,
@@ -187,10 +189,11 @@ fn answer_watched<R: Threads + Sync, W: Watch + Sync>(
     Ok(Answer { status, out, errs })
 }
 
-/// How often a piece looks whether another one has started.
+/// How often a held piece looks whether a piece 2 has started.
 const TURNS: u64 = 1_000_000_000;
 
-/// Holds each piece but piece 2 of a pricing until a piece 2 has started, for so many turns at most; and keeps whether one was held in vain.
+/// Holds each piece of a pricing but piece 2 until a piece 2 has started, for at most `TURNS` looks. `in_vain` is true if the looks ran out
+/// for some piece.
 #[derive(Drop)]
 struct Holding {
     started: AtomicBool,
@@ -212,7 +215,7 @@ impl Watch for Holding {
     }
 }
 
-/// Words, a text, and the status, the gain of `out` and the gain of `errs`.
+/// Calls of `panel` and `lottery`: the words, the text of the source, the status, and what `out` and `errs` gained.
 const ROWS: &[(&[&str], &[u8], u8, &[u8], &[u8])] = &[
     (&["panel"], FOUR, 0, b"panel\ta\tc\n", b""),
     (&["panel"], LATER, 0, b"panel\ta\td\n", b""),
@@ -305,7 +308,7 @@ const ROWS: &[(&[&str], &[u8], u8, &[u8], &[u8])] = &[
     ),
 ];
 
-/// The same of words that ask for nothing, with the texts of `clap`.
+/// The same for words that ask for nothing, with the texts of `clap`.
 const USAGE_ROWS: &[(&[&str], &[u8], u8, &[u8], &[u8])] = &[
     (
         &[],
@@ -337,7 +340,7 @@ const USAGE_ROWS: &[(&[&str], &[u8], u8, &[u8], &[u8])] = &[
     ),
 ];
 
-/// The same of commands about a bundle. The seals are those that `sha256sum` prints.
+/// The same for commands about a bundle. The seals are those that `sha256sum` prints.
 const BUNDLE_ROWS: &[(&[&str], &[u8], u8, &[u8], &[u8])] = &[
     (
         &["seal"],
@@ -493,7 +496,7 @@ const BUNDLE_ROWS: &[(&[&str], &[u8], u8, &[u8], &[u8])] = &[
     ),
 ];
 
-/// The same of checks.
+/// The same for `check`.
 const CHECK_ROWS: &[(&[&str], &[u8], u8, &[u8], &[u8])] = &[
     (&["check"], FOUR_BUNDLE, 0, b"valid\n", b""),
     (&["check"], PASSED_CAP, 11, b"refused\t1\t8\t0\t3\n", b""),
@@ -510,7 +513,7 @@ const CHECK_ROWS: &[(&[&str], &[u8], u8, &[u8], &[u8])] = &[
     (&["check"], FOUR, 3, b"", b"input\t1\t13\n"),
 ];
 
-/// The same of proofs.
+/// The same for `verify` and `bundle`.
 const PROOF_ROWS: &[(&[&str], &[u8], u8, &[u8], &[u8])] = &[
     (&["verify"], FOUR_PROOF, 0, b"valid\n", b""),
     (&["verify"], COUPLE_PROOF, 0, b"valid\tnone\n", b""),
@@ -522,7 +525,7 @@ const PROOF_ROWS: &[(&[&str], &[u8], u8, &[u8], &[u8])] = &[
     (&["bundle"], FOUR, 3, b"", b"input\t1\t21\n"),
 ];
 
-/// The same of the proofs that are made.
+/// The same for `prove`.
 const PROVE_ROWS: &[(&[&str], &[u8], u8, &[u8], &[u8])] = &[
     (&["prove"], FOUR, 0, FOUR_PROVED, b""),
     (&["prove"], SHORT, 1, SHORT_PROVED, b""),
@@ -548,7 +551,7 @@ const PROVE_ROWS: &[(&[&str], &[u8], u8, &[u8], &[u8])] = &[
     (&["prove"], b"bundle\t3\n", 3, b"", b"input\t1\t13\n"),
 ];
 
-/// The same of made pools, for which the source holds what isn't read.
+/// The same for `make`, which doesn't read what the source holds.
 const MAKE_ROWS: &[(&[&str], &[u8], u8, &[u8], &[u8])] = &[
     (
         &["make", "--seed", "0", "--volunteers", "1"],
@@ -632,7 +635,7 @@ fn the_third_worker_starts_while_two_are_held(rt: HostRuntime) -> Result<(), All
     Ok(())
 }
 
-/// A text that is cut off runs out before its end, after as many lines as are whole; and 16 MiB are the most that is read.
+/// A text that is cut off is faulty in the line after its whole lines, of the kind for a missing end (12). A text above 16 MiB is too long.
 #[test]
 fn each_cut_is_told(rt: HostRuntime) -> Result<(), AllocError> {
     let alloc = rt.alloc();
@@ -651,8 +654,8 @@ fn each_cut_is_told(rt: HostRuntime) -> Result<(), AllocError> {
     Ok(())
 }
 
-/// Calls where an object fails: the reads of the source, the puts of `out` with its room and of `errs` that do; and the status, how much of
-/// the answer `out` gained, and what `errs` gained. Nothing is tried again.
+/// Calls of `lottery` in which something fails: which reads of the source, which puts of `out`, how many bytes `out` takes, and which puts
+/// of `errs`; then the status, how many bytes of the answer `out` gained, and what `errs` gained. No put or read is tried again.
 const FAILING: &[(&[u64], &[u64], usize, &[u64], u8, usize, &[u8])] = &[
     (&[1], &[], 1000, &[], 7, 0, b"read fault\n"),
     (&[2], &[], 1000, &[], 7, 0, b"read fault\n"),
@@ -714,7 +717,7 @@ fn words_that_cannot_be_had(rt: HostRuntime) -> Result<(), AllocError> {
     Ok(())
 }
 
-/// The first line of a bundle's text, pools, and the lines behind the pool in what `lottery` prints of it.
+/// What `lottery` prints: the first line of the bundle, the pool that is read, and the lines after the pool.
 const LOTTERIES: &[(&[u8], &[u8], &[u8])] = &[
     (
         b"bundle\t1\n",

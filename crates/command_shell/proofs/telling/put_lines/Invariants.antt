@@ -2,7 +2,7 @@ use Rattle.std.proofs.Common.{◌≡◌, length, take, ◌-◌, ◌≤◌}
 use Rattle.std.specs.Io.KnownBytes.{Appends}
 use Rattle.command_shell.proofs.telling.put_lines.Given as goal
 
--- the text up to the line's start went to out, which counted no fault
+-- the text before `start` went to out, which counted no fault
 abbrev pub invariant-loop-start : goal.invariant-loop-start
 invariant-loop-start g l = record {
   inside : l.start ≤ length l.text;
