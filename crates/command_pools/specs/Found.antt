@@ -14,7 +14,7 @@ use Rattle.command_shell.specs.Answers.{Saying, Stops}
 use Rattle.command_meanings.specs.Lines.{nodes_spent_line, pivots_spent_line, total_line, wide_line}
 use Rattle.command_meanings.specs.Panel.{IsFirstPanel, visits_of}
 
--- a panel or None if the search takes at most `nodes` visits, else a stop; want of memory may come at any time
+-- a panel or None if the search takes at most `nodes` visits, else a stop; running out of memory is allowed at any time
 abbrev pub FirstSays : ℕ → Pool → Result (Option (List ℕ)) SearchStop → Type 0
 FirstSays nodes pool (Ok (Some panel)) = (visits_of pool ≤ nodes) × IsFirstPanel pool panel
 FirstSays nodes pool (Ok None) = (visits_of pool ≤ nodes) × (panels pool ≡ [])

@@ -21,7 +21,7 @@ pub data About {Value : Type 0} (format : Format Value) (Means : Value → Sayin
   -- 3: `read` fails on the bytes, and the line tells where they first go wrong
   AboutFault : (fault : Fault) → format.read bytes ≡ Err fault → answer ≡ Stops Input (input_line fault) → About format Means bytes answer
 
--- what the code that reads these bytes may return; want of memory may come at any time
+-- what the code that reads these bytes may return; running out of memory is allowed at any time
 abbrev pub IsRead : {Value : Type 0} → Format Value → List ℕ → Result Value TextStop → Type 0
 IsRead format bytes (Ok value) = (format.read bytes ≡ Ok value) × format.spells value bytes
 IsRead format bytes (Err (stop.Fault fault)) = format.read bytes ≡ Err (record { line = fault.line; kind = fault.kind })

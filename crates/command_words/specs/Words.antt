@@ -80,13 +80,13 @@ given_by commands words = unless_any (fault_of (program_app commands) words) (gi
 unfoldable pub given_in : List Text → Option Given
 given_in words = given_by command_table words
 
--- what reading may return for words that give this; want of memory may come at any time
+-- what reading may return for words that give this; running out of memory is allowed at any time
 abbrev pub Says : {X : Type 0} → Option X → Result X WordsStop → Type 0
 Says given (Ok it) = given ≡ Some it
 Says given (Err (Usage text)) = given ≡ None
 Says given (Err OutOfMemory) = ⊤
 
--- what parsing by `clap` may return for these words, before the values are tested for their forms; want of memory may come at any time
+-- what parsing by `clap` may return for these words, before the values are tested for their forms; running out of memory is allowed at any time
 abbrev pub MatchesSay : List CommandEntry → List Text → Result ArgMatches WordsStop → Type 0
 MatchesSay commands words (Ok matches) = given_by commands words ≡ given_of commands (subcommand_rows_of matches)
 MatchesSay commands words (Err (Usage text)) = given_by commands words ≡ None

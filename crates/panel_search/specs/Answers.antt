@@ -8,7 +8,7 @@ use Rattle.panel_search.specs.declared.searching.BudgetSpent.{BudgetSpent}
 use Rattle.panel_search.specs.declared.searching.SearchStop.{SearchStop}
 use Rattle.panel_search.specs.declared.searching.SearchStop.TheVariants.{Spent, OutOfMemory}
 
--- what a search finds if its visits are within the budget, else that the budget is spent; want of memory may come at any time
+-- what a search finds if its visits are within the budget, else that the budget is spent; running out of memory is allowed at any time
 abbrev pub Answers : Search → ℕ → Result (Option (List ℕ)) SearchStop → Type 0
 Answers search nodes (Ok found) = (search.visits ≤ nodes) × (found ≡ search.found)
 Answers search nodes (Err Spent) = nodes < search.visits

@@ -15,7 +15,7 @@ abbrev pub heavier : Option (List ℕ × ℤ) → Pricing → Pricing
 heavier None now = now
 heavier (Some (counts, weight)) now = if int_lt now.floor weight then record now { floor = weight; kept = Some counts } else now
 
--- to take an outcome adds it, or the visits are more than the budget `nodes`; want of memory may come at any time
+-- to take an outcome adds it, or the visits are more than the budget `nodes`; running out of memory is allowed at any time
 abbrev pub CameTo : Outcome → ℕ → Result (Unit {0}) SearchStop → Pricing → Pricing → Type 0
 CameTo (Ok (found, visits)) nodes (Ok done) before after = (after ≡ heavier found (record before { visits = before.visits + visits })) × (after.visits ≤ nodes)
 CameTo (Ok (found, visits)) nodes (Err Spent) before after = nodes < before.visits + visits
