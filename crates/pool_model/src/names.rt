@@ -56,8 +56,8 @@ pub(crate) fn are_known(categories: &[Category], names: &[&[u8]]) -> bool
         .all(|(category, name)| is_value(category.values(), name))
 }
 
-/// True if each name is that of a value of its category, for names that the caller owns.
-pub(crate) fn are_named(categories: &[Category], names: &[Name]) -> bool
+/// True if each name that is given for a category is one of its values.
+pub fn are_named(categories: &[Category], names: &[Name]) -> bool
     ensures { result ≡ each_is_known categories.now names.now }
 {
     categories.iter().zip(names).all(|(category, name)| is_value(
@@ -95,4 +95,16 @@ pub(crate) fn bytes_of(alloc: Global, names: &[Name]) -> Result<Vec<&[u8]>, Allo
     ensures { IfOk result (λ v. map (λ name. name.now) v.items ≡ names.now) }
 {
     names.iter().map(|name| name.as_bytes()).collect(alloc)
+}
+
+/// Returns for each category the place of the value of the name that is given for it, counted from 0; or 0 if there is none.
+pub fn places_named(
+    alloc: Global,
+    categories: &[Category],
+    names: &[Name],
+) -> Result<Vec<usize>, AllocError>
+    ensures { IfOk result (λ places. places.items ≡ places_of categories.now names.now) }
+{
+    let names = bytes_of(alloc, names)?;
+    places(alloc, categories, &names)
 }

@@ -222,6 +222,24 @@ impl Volunteer {
         }
     }
 
+    /// Returns the volunteer of these parts: an id, for each category the place of a value among the category's values, a standing, and
+    /// the name of a household if one is known.
+    pub fn from_parts(
+        id: Name,
+        values: Vec<usize>,
+        standing: Standing,
+        household: Option<Name>,
+    ) -> Volunteer
+        ensures { result ≡ record { id = id; values = values.items; standing = standing; household = household } }
+    {
+        Volunteer {
+            id,
+            values,
+            standing,
+            household,
+        }
+    }
+
     /// Returns the volunteer's id.
     pub fn id(&self) -> &Name
         ensures { result.now ≡ self.now.id }
@@ -275,7 +293,8 @@ impl Volunteer {
     }
 }
 
-fn copied_name(name: &Option<Name>) -> Result<Option<Name>, AllocError>
+/// Returns an equal name, or None if there is none.
+pub fn copied_name(name: &Option<Name>) -> Result<Option<Name>, AllocError>
     ensures { IfOk result (λ copied. copied ≡ name.now) }
 {
     match name {

@@ -91,6 +91,18 @@ impl Pool {
 }
 
 impl Pool {
+    /// Returns the pool of these parts. The caller knows that they keep the limits of a pool.
+    pub fn from_parts(size: usize, categories: Vec<Category>, volunteers: Vec<Volunteer>) -> Pool
+        requires { IsPool (record { size = size; categories = categories.items; volunteers = volunteers.items }) }
+        ensures { result ≡ record { size = size; categories = categories.items; volunteers = volunteers.items } }
+    {
+        Pool {
+            size,
+            categories,
+            volunteers,
+        }
+    }
+
     /// Returns a pool with no category and no volunteer, whose panels have `size` members.
     ///
     /// Stops with kind 2 exactly if the size is not from 1 to 200, and never for want of memory.

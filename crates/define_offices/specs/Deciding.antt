@@ -1,0 +1,351 @@
+-- What a command comes to, by the cases of each command in their order. All but a solve of an open round is decided by the tables and the
+-- command alone; a solve of an open round is decided by the stated run over the round's pool.
+use Rattle.std.specs.Prelude.{ℕ, ◌+◌, ◌==◌, nat_le, if◌then◌else◌, Bool, true, false, not, ◌&&◌, List, [], ◌∷◌, ◌++◌, length, codes, bytes_eq, Option, Some, None, Result, Ok, Err}
+use Rattle.std.specs.List.{find, list_all}
+use Rattle.define_lines.specs.Lines.{text_of}
+use Rattle.define_pools.specs.declared.Standing.{Standing}
+use Rattle.define_pools.specs.declared.Standing.TheVariants as standing
+use Rattle.define_pools.specs.Building.{are_known}
+use Rattle.define_pools.specs.Certificate.{Answer}
+use Rattle.define_pools.specs.Lists.{includes_list}
+use Rattle.define_pools.specs.Pool.{Category, Pool, volunteer}
+use Rattle.define_bundles.specs.BundleText.{Bundle, bundle_spelling}
+use Rattle.define_draws.specs.declared.DiceStop.TheVariants as dice
+use Rattle.define_draws.specs.Draw as draws
+use Rattle.define_draws.specs.Draw.{drawn_with}
+use Rattle.define_draws.specs.Seal.{is_seal, seal_of}
+use Rattle.define_pool_texts.specs.PoolText.{spelling}
+use Rattle.define_checks.specs.Reasons as reasons
+use Rattle.define_checks.specs.Reasons.{Verdict}
+use Rattle.define_additions.specs.ProofVerdict.{OfLottery, OfNoPanel, Proof, verdict}
+use Rattle.define_runs.specs.Run as run
+use Rattle.define_runs.specs.Run.{Ending}
+use Rattle.define_offices.specs.declared.Part.TheVariants as part
+use Rattle.define_offices.specs.declared.Phase.TheVariants as phase
+use Rattle.define_offices.specs.Tables.{Charter, Entry, Round, Open, Solved, Sealed, Drawn, Tables, is_enrolling, last_phase, named_round, same_charter, same_household, same_names, same_rules, same_shape}
+use Rattle.define_offices.specs.Commands.{Given, Command, SetCharter, SetRules, Register, Solve, Keep, Seal, Draw, Drop, NextRound, Show, Withdraw, Change, CharterSet, RulesSet, Added, SolvedWith, SealTold, DrawnWith, DroppedOut, Begun, Withdrawn, Lines, NoPanel, Refusal, NoRound, Incomplete, WrongPhase, RowDiffers, KeyTaken, RegisterFull, NotSealed, SealDiffers, DrawDiffers, BadDigit, MoreDigits, NotSeated, RoundClosed, OtherPool, UnknownKey, TooLate, Outcome, Replies, Refuses, Stops, Unproved}
+use Rattle.define_offices.specs.Lines.{bundle_seal, charter_line, drawn_lines, dropped_line, member_ids, one_line, register_line, round_line, rules_line, seal_line, solved_line}
+use Rattle.define_offices.specs.Pools.{drawn_of, pool_of}
+
+-- a reply of one line, with no change
+abbrev pub tells : List ℕ → Outcome
+tells line = Replies None (one_line line)
+
+-- the same, with a change
+abbrev pub changes : Change → List ℕ → Outcome
+changes change line = Replies (Some change) (one_line line)
+
+-- ---- charter and rules
+
+abbrev pub is_charter_kept : Option Charter → Charter → Bool
+is_charter_kept None charter = false
+is_charter_kept (Some kept) charter = same_charter kept charter
+
+abbrev pub decide_charter : Tables → Charter → Outcome
+decide_charter tables charter =
+    if is_charter_kept tables.charter charter then tells (charter_line (codes "same"))
+    else if is_enrolling tables.rounds then changes (CharterSet charter) (charter_line (codes "set"))
+    else Refuses (WrongPhase (last_phase tables.rounds))
+
+abbrev pub are_rules_kept : Option (List Category) → List Category → Bool
+are_rules_kept None rules = false
+are_rules_kept (Some kept) rules = same_rules kept rules
+
+-- no row is there yet, or the names and their order stay
+abbrev pub fit_rows : List Entry → Option (List Category) → List Category → Bool
+fit_rows [] kept rules = true
+fit_rows (entry ∷ register) None rules = false
+fit_rows (entry ∷ register) (Some kept) rules = same_shape kept rules
+
+abbrev pub decide_rules : Tables → List Category → Outcome
+decide_rules tables rules =
+    if are_rules_kept tables.rules rules then tells (rules_line (codes "same"))
+    else if not (is_enrolling tables.rounds) then Refuses (WrongPhase (last_phase tables.rounds))
+    else if fit_rows tables.register tables.rules rules then changes (RulesSet rules) (rules_line (codes "set"))
+    else Refuses (RowDiffers (codes "rules"))
+
+-- ---- the register
+
+-- just one value of each category
+abbrev pub fits_rules : List Category → List (List ℕ) → Bool
+fits_rules categories values = (length values == length categories) && are_known categories values
+
+-- a row as it is kept
+abbrev pub entry_of : Given → Entry
+entry_of given = record { id = given.id; hash = seal_of given.key; values = given.values; household = given.household; withdrawn = false }
+
+-- the row of an id, and of a key's digest
+abbrev pub with_id : List Entry → List ℕ → Option Entry
+with_id register id = find (λ entry. bytes_eq id entry.id) register
+
+abbrev pub with_hash : List Entry → List ℕ → Option Entry
+with_hash register hash = find (λ entry. bytes_eq hash entry.hash) register
+
+-- the row is kept so, with the same key, values and household
+abbrev pub is_kept_so : Entry → Given → Bool
+is_kept_so entry given = bytes_eq (seal_of given.key) entry.hash && same_names given.values entry.values && same_household given.household entry.household
+
+-- what a row comes to
+pub data RowCase : Type 0 where
+  IsNew : RowCase
+  IsRepeated : RowCase
+  IsRefused : (refusal : Refusal) → RowCase
+
+-- a row whose id is new, and whose key another row has or not
+abbrev pub new_row : List Round → List Entry → Option Entry → RowCase
+new_row rounds register (Some other) = IsRefused (KeyTaken other.id)
+new_row rounds register None =
+    if not (is_enrolling rounds) then IsRefused (WrongPhase (last_phase rounds))
+    else if nat_le 400 (length register) then IsRefused (RegisterFull 400)
+    else IsNew
+
+-- a row whose id is known or not
+abbrev pub row_case : List Round → List Entry → Given → Option Entry → RowCase
+row_case rounds register given (Some entry) = if is_kept_so entry given then IsRepeated else IsRefused (RowDiffers given.id)
+row_case rounds register given None = new_row rounds register (with_hash register (seal_of given.key))
+
+-- the rows that are added, and how many were there
+pub record Sorted : Type 0 where
+  pub added : List Entry
+  pub repeated : ℕ
+
+abbrev pub one_more_added : Entry → Result Sorted Refusal → Result Sorted Refusal
+one_more_added entry (Ok later) = Ok (record { added = entry ∷ later.added; repeated = later.repeated })
+one_more_added entry (Err refusal) = Err refusal
+
+abbrev pub one_more_repeated : Result Sorted Refusal → Result Sorted Refusal
+one_more_repeated (Ok later) = Ok (record { added = later.added; repeated = later.repeated + 1 })
+one_more_repeated (Err refusal) = Err refusal
+
+-- the register after a row
+abbrev pub register_after : RowCase → List Entry → Given → List Entry
+register_after IsNew register given = register ++ entry_of given ∷ []
+register_after IsRepeated register given = register
+register_after (IsRefused refusal) register given = register
+
+-- a row in its case, with what the later rows come to
+abbrev pub sorted_by : RowCase → Given → Result Sorted Refusal → Result Sorted Refusal
+sorted_by IsNew given later = one_more_added (entry_of given) later
+sorted_by IsRepeated given later = one_more_repeated later
+sorted_by (IsRefused refusal) given later = Err refusal
+
+-- rows one by one, each against the register with the rows added before it
+abbrev pub sorted_rows : List Round → List Entry → List Given → Result Sorted Refusal
+sorted_rows rounds register [] = Ok (record { added = []; repeated = 0 })
+sorted_rows rounds register (given ∷ rows) =
+    let this = row_case rounds register given (with_id register given.id) in
+    sorted_by this given (sorted_rows rounds (register_after this register given) rows)
+
+-- no change where nothing is added
+abbrev pub addition : List Entry → Option Change
+addition [] = None
+addition (entry ∷ added) = Some (Added (entry ∷ added))
+
+abbrev pub registered : Tables → Result Sorted Refusal → Outcome
+registered tables (Ok sorted) =
+    Replies (addition sorted.added) (one_line (register_line (length sorted.added) sorted.repeated (length tables.register + length sorted.added)))
+registered tables (Err refusal) = Refuses refusal
+
+abbrev pub register_by : Tables → List Given → Option (List Category) → Outcome
+register_by tables rows None = Refuses (Incomplete part.Rules)
+register_by tables rows (Some categories) =
+    if list_all (λ given. fits_rules categories given.values) rows then registered tables (sorted_rows tables.rounds tables.register rows)
+    else Refuses (RowDiffers (codes "rules"))
+
+abbrev pub decide_register : Tables → List Given → Outcome
+decide_register tables rows = register_by tables rows tables.rules
+
+-- ---- seal, draw and drop
+
+abbrev pub no_round : Tables → Outcome
+no_round tables = Refuses (NoRound (length tables.rounds))
+
+abbrev pub seal_in : Tables → ℕ → Option Round → Outcome
+seal_in tables number None = no_round tables
+seal_in tables number (Some Open) = Refuses (WrongPhase phase.Open)
+seal_in tables number (Some (Solved bundle)) = changes (SealTold number) (seal_line bundle)
+seal_in tables number (Some (Sealed bundle)) = tells (seal_line bundle)
+seal_in tables number (Some (Drawn bundle digits dropped)) = tells (seal_line bundle)
+
+abbrev pub draw_refusal : Bundle → List ℕ → draws.Refused → Refusal
+draw_refusal bundle given draws.SealDiffers = SealDiffers given (bundle_seal bundle)
+draw_refusal bundle given (draws.NoTicket (dice.BadDigit place)) = BadDigit place
+draw_refusal bundle given (draws.NoTicket (dice.MoreDigits read)) = MoreDigits read
+
+-- what these digits draw from a bundle, or why they draw nothing
+abbrev pub new_draw : ℕ → Bundle → List ℕ → List ℕ → Result draws.Drawn draws.Refused → Outcome
+new_draw number bundle given digits (Ok drawn) = Replies (Some (DrawnWith number digits)) (Lines (text_of (drawn_lines bundle drawn)))
+new_draw number bundle given digits (Err refused) = Refuses (draw_refusal bundle given refused)
+
+-- a draw again: the seal is asked first, then the digits
+abbrev pub same_draw : Bundle → List ℕ → List ℕ → List ℕ → Outcome
+same_draw bundle kept given digits =
+    if not (is_seal (bundle_seal bundle) given) then Refuses (SealDiffers given (bundle_seal bundle))
+    else if bytes_eq kept digits then Replies None (Lines (text_of (drawn_lines bundle (drawn_of bundle kept))))
+    else Refuses (DrawDiffers kept)
+
+abbrev pub draw_in : Tables → ℕ → List ℕ → List ℕ → Option Round → Outcome
+draw_in tables number given digits None = no_round tables
+draw_in tables number given digits (Some Open) = Refuses (NotSealed phase.Open)
+draw_in tables number given digits (Some (Solved bundle)) = Refuses (NotSealed phase.Solved)
+draw_in tables number given digits (Some (Sealed bundle)) = new_draw number bundle given digits (draws.draw bundle.answer.lottery (bundle_seal bundle) given digits)
+draw_in tables number given digits (Some (Drawn bundle kept dropped)) = same_draw bundle kept given digits
+
+-- the ids of the panel that was drawn
+abbrev pub drawn_ids : Bundle → List ℕ → List (List ℕ)
+drawn_ids bundle digits = member_ids bundle.pool (drawn_of bundle digits).panel
+
+abbrev pub drop_in : Tables → ℕ → List ℕ → Option Round → Outcome
+drop_in tables number id None = no_round tables
+drop_in tables number id (Some Open) = Refuses (WrongPhase phase.Open)
+drop_in tables number id (Some (Solved bundle)) = Refuses (WrongPhase phase.Solved)
+drop_in tables number id (Some (Sealed bundle)) = Refuses (WrongPhase phase.Sealed)
+drop_in tables number id (Some (Drawn bundle digits dropped)) =
+    if not (includes_list (drawn_ids bundle digits) id) then Refuses (NotSeated id)
+    else if includes_list dropped id then tells (dropped_line number id)
+    else if number == length tables.rounds then changes (DroppedOut number id) (dropped_line number id)
+    else Refuses (RoundClosed (length tables.rounds))
+
+-- ---- the next round, and what a round shows
+
+abbrev pub next_after : ℕ → Round → Outcome
+next_after number Open = Refuses (WrongPhase phase.Open)
+next_after number (Solved bundle) = Refuses (WrongPhase phase.Solved)
+next_after number (Sealed bundle) = Refuses (WrongPhase phase.Sealed)
+next_after number (Drawn bundle digits []) = Refuses (Incomplete part.Drops)
+next_after number (Drawn bundle digits (id ∷ dropped)) = changes Begun (round_line (number + 1))
+
+abbrev pub next_in : Tables → ℕ → Option Round → Outcome
+next_in tables number None = no_round tables
+next_in tables number (Some round) = if number == length tables.rounds then next_after number round else tells (round_line (number + 1))
+
+abbrev pub show_in : Tables → Option Round → Outcome
+show_in tables None = no_round tables
+show_in tables (Some Open) = Refuses (WrongPhase phase.Open)
+show_in tables (Some (Solved bundle)) = Replies None (Lines (bundle_spelling bundle))
+show_in tables (Some (Sealed bundle)) = Replies None (Lines (bundle_spelling bundle))
+show_in tables (Some (Drawn bundle digits dropped)) = Replies None (Lines (bundle_spelling bundle))
+
+-- ---- withdrawals
+
+-- the place of the row of a key's digest, counted from a number on
+abbrev pub place_of_hash : List Entry → List ℕ → ℕ → Option (ℕ × Entry)
+place_of_hash [] hash place = None
+place_of_hash (entry ∷ register) hash place = if bytes_eq hash entry.hash then Some (place, entry) else place_of_hash register hash (place + 1)
+
+abbrev pub is_seated : Standing → Bool
+is_seated standing.Open = false
+is_seated standing.Seated = true
+is_seated standing.Gone = false
+
+-- seated in the pool, if there is one
+abbrev pub is_seated_in : Result Pool Refusal → ℕ → Bool
+is_seated_in (Ok pool) place = is_seated (volunteer pool.volunteers place).standing
+is_seated_in (Err refusal) place = false
+
+abbrev pub is_last_open : List Round → Bool
+is_last_open [] = false
+is_last_open (Open ∷ []) = true
+is_last_open (Solved bundle ∷ []) = false
+is_last_open (Sealed bundle ∷ []) = false
+is_last_open (Drawn bundle digits dropped ∷ []) = false
+is_last_open (round ∷ next ∷ later) = is_last_open (next ∷ later)
+
+abbrev pub withdraw_at : Tables → Option (ℕ × Entry) → Outcome
+withdraw_at tables None = Refuses UnknownKey
+withdraw_at tables (Some (place, entry)) =
+    if entry.withdrawn then Replies None (Lines [])
+    else if is_last_open tables.rounds && not (is_seated_in (pool_of tables (length tables.rounds)) place) then Replies (Some (Withdrawn place)) (Lines [])
+    else Refuses TooLate
+
+-- ---- an answer over the pool of an open round
+
+-- a lottery with its stages, or that there is no quota panel
+pub data Answered : Type 0 where
+  Finds : (answer : Answer) → Answered
+  FindsNone : Answered
+
+-- the round keeps the pool with its answer; without a quota panel the tables stay
+abbrev pub answered : ℕ → Pool → Answered → Outcome
+answered number pool (Finds answer) =
+    let bundle : Bundle = record { pool = pool; answer = answer } in changes (SolvedWith number bundle) (solved_line number bundle)
+answered number pool FindsNone = Replies None NoPanel
+
+-- ---- solve
+
+-- what a command asks of the tables: it is decided at once, or the stated run over a pool decides
+pub data Asked : Type 0 where
+  IsDecided : (outcome : Outcome) → Asked
+  NeedsRun : (pool : Pool) → Asked
+
+abbrev pub asked_over : Result Pool Refusal → Asked
+asked_over (Ok pool) = NeedsRun pool
+asked_over (Err refusal) = IsDecided (Refuses refusal)
+
+abbrev pub solve_in : Tables → ℕ → Option Round → Asked
+solve_in tables number None = IsDecided (no_round tables)
+solve_in tables number (Some Open) = asked_over (pool_of tables number)
+solve_in tables number (Some (Solved bundle)) = IsDecided (tells (solved_line number bundle))
+solve_in tables number (Some (Sealed bundle)) = IsDecided (tells (solved_line number bundle))
+solve_in tables number (Some (Drawn bundle digits dropped)) = IsDecided (tells (solved_line number bundle))
+
+-- what a solve of an open round comes to where the run over its pool ends so
+abbrev pub solved : ℕ → Pool → Ending → Outcome
+solved number pool (run.Found last answer) = answered number pool (Finds answer)
+solved number pool run.NoPanel = answered number pool FindsNone
+solved number pool (run.TooWide stood pass) = Stops (run.TooWide stood pass)
+solved number pool (run.TotalPasses stood pass) = Stops (run.TotalPasses stood pass)
+solved number pool (run.PivotsSpent stood) = Stops (run.PivotsSpent stood)
+solved number pool (run.NodesSpent stood) = Stops (run.NodesSpent stood)
+
+-- ---- keep
+
+-- the pool that a proof speaks of
+abbrev pub proof_pool : Proof → Pool
+proof_pool (OfLottery pool answer trees) = pool
+proof_pool (OfNoPanel pool lines) = pool
+
+-- what a valid proof shows
+abbrev pub shown : Proof → Answered
+shown (OfLottery pool answer trees) = Finds answer
+shown (OfNoPanel pool lines) = FindsNone
+
+-- each pool has one text, so pools of one text are the same
+abbrev pub is_same_pool : Pool → Pool → Bool
+is_same_pool one other = bytes_eq (spelling one) (spelling other)
+
+-- a proof with this verdict, for an open round with this pool
+abbrev pub kept_by : Verdict → ℕ → Pool → Proof → Outcome
+kept_by (reasons.Refused refusal) number pool proof = Unproved refusal
+kept_by reasons.Valid number pool proof = if is_same_pool (proof_pool proof) pool then answered number pool (shown proof) else Refuses (OtherPool number)
+
+abbrev pub kept_over : ℕ → Proof → Result Pool Refusal → Outcome
+kept_over number proof (Ok pool) = kept_by (verdict proof) number pool proof
+kept_over number proof (Err refusal) = Refuses refusal
+
+abbrev pub keep_in : Tables → ℕ → Proof → Option Round → Outcome
+keep_in tables number proof None = no_round tables
+keep_in tables number proof (Some Open) = kept_over number proof (pool_of tables number)
+keep_in tables number proof (Some (Solved bundle)) = tells (solved_line number bundle)
+keep_in tables number proof (Some (Sealed bundle)) = tells (solved_line number bundle)
+keep_in tables number proof (Some (Drawn bundle digits dropped)) = tells (solved_line number bundle)
+
+-- ---- each command
+
+abbrev pub asked : Tables → Command → Asked
+asked tables (SetCharter charter) = IsDecided (decide_charter tables charter)
+asked tables (SetRules rules) = IsDecided (decide_rules tables rules)
+asked tables (Register rows) = IsDecided (decide_register tables rows)
+asked tables (Solve number limits) = solve_in tables number (named_round tables.rounds number)
+asked tables (Keep number proof) = IsDecided (keep_in tables number proof (named_round tables.rounds number))
+asked tables (Seal number) = IsDecided (seal_in tables number (named_round tables.rounds number))
+asked tables (Draw number given digits) = IsDecided (draw_in tables number given digits (named_round tables.rounds number))
+asked tables (Drop number id) = IsDecided (drop_in tables number id (named_round tables.rounds number))
+asked tables (NextRound after) = IsDecided (next_in tables after (named_round tables.rounds after))
+asked tables (Show number) = IsDecided (show_in tables (named_round tables.rounds number))
+asked tables (Withdraw key) = IsDecided (withdraw_at tables (place_of_hash tables.register (seal_of key) 0))
+
+-- what the report of a round is refused for, if it is; it is no command of the machine, since it changes nothing
+abbrev pub report_refusal : Result Pool Refusal → Option Refusal
+report_refusal (Ok pool) = None
+report_refusal (Err refusal) = Some refusal

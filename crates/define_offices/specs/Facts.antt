@@ -1,0 +1,130 @@
+-- What the tables of an office keep, and what its commands keep.
+use Rattle.std.specs.Prelude.{◌≡◌, ℕ, nat_le, Bool, true, false, not, ◌&&◌, ◌||◌, IsTrue, List, [], ◌∷◌, map, length, codes, bytes_eq, Option, Some, None, is_some, is_ok, ⊤}
+use Rattle.std.specs.List.{list_all}
+use Rattle.define_pools.specs.Building.{category_names, ids}
+use Rattle.define_pools.specs.Certificate.{Certifies}
+use Rattle.define_pools.specs.Lists.{all_different, includes_list}
+use Rattle.define_pools.specs.Lottery.{TotalAgrees, LeximinGreatest}
+use Rattle.define_pools.specs.Pool.{Category, is_category, is_household, is_name, is_size}
+use Rattle.define_bundles.specs.BundleText.{Bundle, IsBundle}
+use Rattle.define_draws.specs.Dice.{name_ticket}
+use Rattle.define_proof_texts.specs.ProofText.{IsProof}
+use Rattle.define_runs.specs.Keeps.{AreLimits}
+use Rattle.define_offices.specs.Tables.{Charter, Entry, Round, Open, Solved, Sealed, Drawn, Tables, bundle_of, round_at}
+use Rattle.define_offices.specs.Commands.{Given, Command, SetCharter, SetRules, Register, Solve, Keep, Seal, Draw, Drop, NextRound, Show, Withdraw}
+use Rattle.define_offices.specs.Deciding.{drawn_ids, fits_rules}
+
+-- ---- tables
+
+-- a title is a name
+abbrev pub is_charter : Charter → Bool
+is_charter charter = is_name charter.title && is_size charter.size
+
+-- two columns of a register have these names
+abbrev pub is_reserved : List ℕ → Bool
+is_reserved name = bytes_eq name (codes "id") || bytes_eq name (codes "key")
+
+-- the categories of a pool may be rules: there is one, each has a value, and none has the name of a column
+abbrev pub are_rules : List Category → Bool
+are_rules categories =
+    nat_le 1 (length categories) && list_all (λ category. nat_le 1 (length category.values)) categories && list_all (λ category. not (is_reserved category.name)) categories
+
+-- categories as a pool has them, which may be rules
+pub record AreRules (categories : List Category) : Type 0 where
+  pub few : IsTrue (nat_le (length categories) 20)
+  pub each : IsTrue (list_all is_category categories)
+  pub different : IsTrue (all_different (category_names categories))
+  pub are : IsTrue (are_rules categories)
+
+abbrev pub is_entry : Entry → Bool
+is_entry entry = is_name entry.id && is_household entry.household
+
+-- rows are there only with rules, and each has a value of each category
+abbrev pub rows_fit : Option (List Category) → List Entry → Bool
+rows_fit None [] = true
+rows_fit None (entry ∷ register) = false
+rows_fit (Some categories) register = list_all (λ entry. fits_rules categories entry.values) register
+
+abbrev pub entry_ids : List Entry → List (List ℕ)
+entry_ids register = map (λ entry. entry.id) register
+
+abbrev pub entry_hashes : List Entry → List (List ℕ)
+entry_hashes register = map (λ entry. entry.hash) register
+
+-- charter and rules are there, and the bundle's weights sum to its total, and its volunteers are the register's
+pub record KeepsBundle (tables : Tables) (bundle : Bundle) : Type 0 where
+  pub charter : IsTrue (is_some tables.charter)
+  pub rules : IsTrue (is_some tables.rules)
+  pub is_bundle : IsBundle bundle
+  pub total_agrees : TotalAgrees bundle.answer.lottery
+  pub same_ids : ids bundle.pool.volunteers ≡ entry_ids tables.register
+
+-- the digits name a ticket, and who dropped out is from its panel
+pub record KeepsDraw (bundle : Bundle) (digits : List ℕ) (dropped : List (List ℕ)) : Type 0 where
+  pub named : IsTrue (is_ok (name_ticket bundle.answer.lottery.total digits))
+  pub from_panel : IsTrue (list_all (includes_list (drawn_ids bundle digits)) dropped)
+
+abbrev pub KeepsRound : Tables → Round → Type 0
+KeepsRound tables Open = ⊤
+KeepsRound tables (Solved bundle) = KeepsBundle tables bundle
+KeepsRound tables (Sealed bundle) = KeepsBundle tables bundle
+KeepsRound tables (Drawn bundle digits dropped) = KeepsBundle tables bundle × KeepsDraw bundle digits dropped
+
+-- somebody dropped out after the draw
+abbrev pub has_drop : Round → Bool
+has_drop Open = false
+has_drop (Solved bundle) = false
+has_drop (Sealed bundle) = false
+has_drop (Drawn bundle digits []) = false
+has_drop (Drawn bundle digits (id ∷ dropped)) = true
+
+-- there is a round, and each but the last is drawn and has a drop
+abbrev pub closed_but_last : List Round → Bool
+closed_but_last [] = false
+closed_but_last (round ∷ []) = true
+closed_but_last (round ∷ next ∷ later) = has_drop round && closed_but_last (next ∷ later)
+
+pub record IsTables (tables : Tables) : Type 0 where
+  pub charter : (charter : Charter) → tables.charter ≡ Some charter → IsTrue (is_charter charter)
+  pub rules : (categories : List Category) → tables.rules ≡ Some categories → AreRules categories
+  pub few_rows : IsTrue (nat_le (length tables.register) 400)
+  pub rows : IsTrue (list_all is_entry tables.register)
+  pub fit : IsTrue (rows_fit tables.rules tables.register)
+  pub different_ids : IsTrue (all_different (entry_ids tables.register))
+  pub different_keys : IsTrue (all_different (entry_hashes tables.register))
+  pub closed : IsTrue (closed_but_last tables.rounds)
+  pub rounds : (place : ℕ) (round : Round) → round_at tables.rounds place ≡ Some round → KeepsRound tables round
+
+-- ---- commands
+
+abbrev pub is_key : List ℕ → Bool
+is_key key = nat_le 1 (length key) && nat_le (length key) 200 && list_all (λ byte. nat_le 33 byte && nat_le byte 126) key
+
+abbrev pub is_given : Given → Bool
+is_given given = is_name given.id && is_key given.key && is_household given.household
+
+-- what an import hands over keeps the limits, and the limits of a run are in their ranges
+abbrev pub IsCommand : Command → Type 0
+IsCommand (SetCharter charter) = IsTrue (is_charter charter)
+IsCommand (SetRules categories) = AreRules categories
+IsCommand (Register rows) = IsTrue (list_all is_given rows)
+IsCommand (Solve round limits) = AreLimits limits
+IsCommand (Keep round proof) = IsProof proof
+IsCommand (Seal round) = ⊤
+IsCommand (Draw round given digits) = ⊤
+IsCommand (Drop round id) = ⊤
+IsCommand (NextRound after) = ⊤
+IsCommand (Show round) = ⊤
+IsCommand (Withdraw key) = ⊤
+
+-- ---- certificates
+
+-- the lottery of each bundle that is kept is certified by its stages
+abbrev pub AreCertified : Tables → Type 0
+AreCertified tables = (place : ℕ) (round : Round) (bundle : Bundle) → round_at tables.rounds place ≡ Some round → bundle_of round ≡ Some bundle →
+    Certifies bundle.pool bundle.answer.lottery bundle.answer.stages
+
+-- so no lottery over the quota panels of its pool is above it
+abbrev pub AreGreatest : Tables → Type 0
+AreGreatest tables = (place : ℕ) (round : Round) (bundle : Bundle) → round_at tables.rounds place ≡ Some round → bundle_of round ≡ Some bundle →
+    LeximinGreatest bundle.pool bundle.answer.lottery

@@ -1,0 +1,91 @@
+-- The lines that the replies and refusals of an office print, each without its LF.
+use Rattle.std.specs.Prelude.{ℕ, List, [], ◌∷◌, length, map, codes}
+use Rattle.std.specs.Fmt.{decimal}
+use Rattle.define_pools.specs.Pool.{Pool, volunteer}
+use Rattle.define_lines.specs.Lines.{line_of, text_of}
+use Rattle.define_bundles.specs.BundleText.{Bundle, bundle_spelling}
+use Rattle.define_draws.specs.Draw.{Drawn}
+use Rattle.define_draws.specs.Seal.{seal_of}
+use Rattle.define_offices.specs.declared.Part.{Part}
+use Rattle.define_offices.specs.declared.Part.TheVariants as part
+use Rattle.define_offices.specs.declared.Phase.{Phase}
+use Rattle.define_offices.specs.declared.Phase.TheVariants as phase
+use Rattle.define_offices.specs.Commands.{Reply, Lines, Refusal, NoRound, Incomplete, WrongPhase, RowDiffers, KeyTaken, RegisterFull, NotSealed, SealDiffers, DrawDiffers, BadDigit, MoreDigits, NotSeated, RoundClosed, OtherPool, UnknownKey, TooLate}
+
+abbrev pub phase_name : Phase → List ℕ
+phase_name phase.Open = codes "Open"
+phase_name phase.Solved = codes "Solved"
+phase_name phase.Sealed = codes "Sealed"
+phase_name phase.Drawn = codes "Drawn"
+
+-- ---- replies
+
+abbrev pub one_line : List ℕ → Reply
+one_line line = Lines (text_of (line ∷ []))
+
+abbrev pub charter_line : List ℕ → List ℕ
+charter_line word = line_of (codes "charter" ∷ word ∷ [])
+
+abbrev pub rules_line : List ℕ → List ℕ
+rules_line word = line_of (codes "rules" ∷ word ∷ [])
+
+-- how many rows were added, how many were there, and how many the register has afterwards
+abbrev pub register_line : ℕ → ℕ → ℕ → List ℕ
+register_line added repeated all =
+    line_of (codes "register" ∷ codes "added" ∷ decimal added ∷ codes "repeated" ∷ decimal repeated ∷ codes "all" ∷ decimal all ∷ [])
+
+-- how many panels the lottery of a round has, and its total
+abbrev pub solved_line : ℕ → Bundle → List ℕ
+solved_line round bundle =
+    line_of (codes "solved" ∷ decimal round ∷ decimal (length bundle.answer.lottery.rows) ∷ decimal bundle.answer.lottery.total ∷ [])
+
+-- the seal of a bundle: that of its text
+abbrev pub bundle_seal : Bundle → List ℕ
+bundle_seal bundle = seal_of (bundle_spelling bundle)
+
+abbrev pub seal_line : Bundle → List ℕ
+seal_line bundle = line_of (codes "seal" ∷ bundle_seal bundle ∷ [])
+
+-- the ids of a panel's members
+abbrev pub member_ids : Pool → List ℕ → List (List ℕ)
+member_ids pool panel = map (λ i. (volunteer pool.volunteers i).id) panel
+
+-- the ticket and how many digits were read; the ids of the panel's members
+abbrev pub drawn_lines : Bundle → Drawn → List (List ℕ)
+drawn_lines bundle drawn =
+    line_of (codes "ticket" ∷ decimal drawn.ticket ∷ decimal drawn.used ∷ []) ∷ line_of (codes "panel" ∷ member_ids bundle.pool drawn.panel) ∷ []
+
+abbrev pub dropped_line : ℕ → List ℕ → List ℕ
+dropped_line round id = line_of (codes "dropped" ∷ decimal round ∷ id ∷ [])
+
+abbrev pub round_line : ℕ → List ℕ
+round_line number = line_of (codes "round" ∷ decimal number ∷ [])
+
+-- ---- refusals
+
+abbrev pub part_name : Part → List ℕ
+part_name part.Charter = codes "charter"
+part_name part.Rules = codes "rules"
+part_name part.Drops = codes "drops"
+
+-- a refusal's name, and its value
+abbrev pub refusal_fields : Refusal → List (List ℕ)
+refusal_fields (NoRound last) = codes "NoRound" ∷ decimal last ∷ []
+refusal_fields (Incomplete what) = codes "Incomplete" ∷ part_name what ∷ []
+refusal_fields (WrongPhase phase) = codes "WrongPhase" ∷ phase_name phase ∷ []
+refusal_fields (RowDiffers what) = codes "RowDiffers" ∷ what ∷ []
+refusal_fields (KeyTaken id) = codes "KeyTaken" ∷ id ∷ []
+refusal_fields (RegisterFull rows) = codes "RegisterFull" ∷ decimal rows ∷ []
+refusal_fields (NotSealed phase) = codes "NotSealed" ∷ phase_name phase ∷ []
+refusal_fields (SealDiffers given kept) = codes "SealDiffers" ∷ given ∷ kept ∷ []
+refusal_fields (DrawDiffers kept) = codes "DrawDiffers" ∷ kept ∷ []
+refusal_fields (BadDigit place) = codes "BadDigit" ∷ decimal place ∷ []
+refusal_fields (MoreDigits read) = codes "MoreDigits" ∷ decimal read ∷ []
+refusal_fields (NotSeated id) = codes "NotSeated" ∷ id ∷ []
+refusal_fields (RoundClosed last) = codes "RoundClosed" ∷ decimal last ∷ []
+refusal_fields (OtherPool round) = codes "OtherPool" ∷ decimal round ∷ []
+refusal_fields UnknownKey = codes "UnknownKey" ∷ []
+refusal_fields TooLate = codes "TooLate" ∷ []
+
+abbrev pub rule_line : Refusal → List ℕ
+rule_line refusal = line_of (codes "rule" ∷ refusal_fields refusal)

@@ -1,0 +1,124 @@
+-- The tables of an office: all that it keeps of one assembly.
+use Rattle.std.specs.Prelude.{ℕ, zero, suc, Bool, true, false, ◌&&◌, ◌==◌, List, [], ◌∷◌, map, bytes_eq, Option, Some, None}
+use Rattle.define_pools.specs.Pool.{BoundedValue, Category}
+use Rattle.define_bundles.specs.BundleText.{Bundle}
+use Rattle.define_offices.specs.declared.Phase.{Phase}
+use Rattle.define_offices.specs.declared.Phase.TheVariants as phase
+
+-- what the assembly is called, and the size of its panels
+pub record Charter : Type 0 where
+  pub title : List ℕ
+  pub size : ℕ
+
+-- a row of the register: the digest of the volunteer's key, for each category the name of a value, a household if one is known, and
+-- whether the volunteer withdrew
+pub record Entry : Type 0 where
+  pub id : List ℕ
+  pub hash : List ℕ
+  pub values : List (List ℕ)
+  pub household : Option (List ℕ)
+  pub withdrawn : Bool
+
+-- a round, by how far it has come: with its bundle, and from the draw on with the digits of the dice and the ids of who dropped out
+pub data Round : Type 0 where
+  Open : Round
+  Solved : (bundle : Bundle) → Round
+  Sealed : (bundle : Bundle) → Round
+  Drawn : (bundle : Bundle) (digits : List ℕ) (dropped : List (List ℕ)) → Round
+
+-- the categories are the rules; rounds are numbered from 1
+pub record Tables : Type 0 where
+  pub charter : Option Charter
+  pub rules : Option (List Category)
+  pub register : List Entry
+  pub rounds : List Round
+
+abbrev pub first_tables : Tables
+first_tables = record { charter = None; rules = None; register = []; rounds = Open ∷ [] }
+
+abbrev pub phase_of : Round → Phase
+phase_of Open = phase.Open
+phase_of (Solved bundle) = phase.Solved
+phase_of (Sealed bundle) = phase.Sealed
+phase_of (Drawn bundle digits dropped) = phase.Drawn
+
+-- the bundle that a round keeps
+abbrev pub bundle_of : Round → Option Bundle
+bundle_of Open = None
+bundle_of (Solved bundle) = Some bundle
+bundle_of (Sealed bundle) = Some bundle
+bundle_of (Drawn bundle digits dropped) = Some bundle
+
+-- the round of a place, counted from 0
+abbrev pub round_at : List Round → ℕ → Option Round
+round_at [] place = None
+round_at (round ∷ rounds) zero = Some round
+round_at (round ∷ rounds) (suc place) = round_at rounds place
+
+-- rounds of which the one of a place is changed so
+abbrev pub changed_at : (Round → Round) → List Round → ℕ → List Round
+changed_at change [] place = []
+changed_at change (round ∷ rounds) zero = change round ∷ rounds
+changed_at change (round ∷ rounds) (suc place) = round ∷ changed_at change rounds place
+
+-- the round of a number
+abbrev pub named_round : List Round → ℕ → Option Round
+named_round rounds zero = None
+named_round rounds (suc place) = round_at rounds place
+
+abbrev pub changed_named : (Round → Round) → List Round → ℕ → List Round
+changed_named change rounds zero = rounds
+changed_named change rounds (suc place) = changed_at change rounds place
+
+abbrev pub last_phase : List Round → Phase
+last_phase [] = phase.Open
+last_phase (round ∷ []) = phase_of round
+last_phase (round ∷ next ∷ later) = last_phase (next ∷ later)
+
+-- the first round is the last, and nothing is answered yet: charter, rules and rows may still come
+abbrev pub is_enrolling : List Round → Bool
+is_enrolling [] = false
+is_enrolling (Open ∷ []) = true
+is_enrolling (Open ∷ next ∷ later) = false
+is_enrolling (Solved bundle ∷ later) = false
+is_enrolling (Sealed bundle ∷ later) = false
+is_enrolling (Drawn bundle digits dropped ∷ later) = false
+
+-- ---- tests of equality
+
+abbrev pub same_names : List (List ℕ) → List (List ℕ) → Bool
+same_names [] [] = true
+same_names [] (other ∷ others) = false
+same_names (name ∷ names) [] = false
+same_names (name ∷ names) (other ∷ others) = bytes_eq name other && same_names names others
+
+abbrev pub same_charter : Charter → Charter → Bool
+same_charter one other = bytes_eq one.title other.title && (one.size == other.size)
+
+abbrev pub same_values : List BoundedValue → List BoundedValue → Bool
+same_values [] [] = true
+same_values [] (other ∷ others) = false
+same_values (value ∷ values) [] = false
+same_values (value ∷ values) (other ∷ others) =
+    bytes_eq value.name other.name && (value.lower == other.lower) && (value.upper == other.upper) && same_values values others
+
+abbrev pub same_rules : List Category → List Category → Bool
+same_rules [] [] = true
+same_rules [] (other ∷ others) = false
+same_rules (category ∷ categories) [] = false
+same_rules (category ∷ categories) (other ∷ others) =
+    bytes_eq category.name other.name && same_values category.values other.values && same_rules categories others
+
+-- the same names of categories and values in the same order, whatever the bounds
+abbrev pub same_shape : List Category → List Category → Bool
+same_shape [] [] = true
+same_shape [] (other ∷ others) = false
+same_shape (category ∷ categories) [] = false
+same_shape (category ∷ categories) (other ∷ others) =
+    bytes_eq category.name other.name && same_names (map (λ value. value.name) category.values) (map (λ value. value.name) other.values) && same_shape categories others
+
+abbrev pub same_household : Option (List ℕ) → Option (List ℕ) → Bool
+same_household None None = true
+same_household None (Some other) = false
+same_household (Some name) None = false
+same_household (Some name) (Some other) = bytes_eq name other

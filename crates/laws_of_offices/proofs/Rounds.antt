@@ -1,0 +1,85 @@
+-- Rounds of which one is changed, and one more round.
+use Rattle.std.proofs.Common.{◌≡◌, ℕ, zero, suc, true, List, [], ◌∷◌, ◌++◌, length, Some, ◌⊎◌, inl, inr, refl, ap, ◌∙◌, arith}
+use Rattle.std.proofs.lemmas.Bool.{and_from, and_parts, false≢true}
+use Rattle.define_bundles.specs.BundleText.{Bundle}
+use Rattle.define_offices.specs.Tables.{Round, Open, Solved, Sealed, Drawn, changed_at, round_at}
+use Rattle.define_offices.specs.Facts.{closed_but_last, has_drop}
+
+-- a round of changed rounds is as it was, or is the changed one
+pub record IsChanged (change : Round → Round) (rounds : List Round) (place : ℕ) (round : Round) : Type 0 where
+  pub old : Round
+  pub there : round_at rounds place ≡ Some old
+  pub is : round ≡ change old
+
+pub round_at-changed : (change : Round → Round) (rounds : List Round) (p q : ℕ) (round : Round) → round_at (changed_at change rounds p) q ≡ Some round →
+    (round_at rounds q ≡ Some round) ⊎ IsChanged change rounds p round
+round_at-changed change [] p q round h = inl h
+round_at-changed change (first ∷ rounds) zero zero round h = inr (record { old = first; there = refl; is = cc })
+round_at-changed change (first ∷ rounds) zero (suc q) round h = inl h
+round_at-changed change (first ∷ rounds) (suc p) zero round h = inl h
+round_at-changed change (first ∷ rounds) (suc p) (suc q) round h =
+    elim (round_at-changed change rounds p q round h) [ inl same ↦ inl same | inr changed ↦ inr (record { old = changed.old; there = changed.there; is = changed.is }) ]
+
+-- the rounds but the last stay closed by a change that takes no drop away
+pub closed-changed : (change : Round → Round) → ((round : Round) → has_drop round ≡ true → has_drop (change round) ≡ true) → (rounds : List Round) (p : ℕ) →
+    closed_but_last rounds ≡ true → closed_but_last (changed_at change rounds p) ≡ true
+closed-changed change keeps [] p h = h
+closed-changed change keeps (round ∷ []) zero h = refl
+closed-changed change keeps (round ∷ []) (suc p) h = refl
+closed-changed change keeps (round ∷ next ∷ later) zero h =
+    let parts = and_parts (has_drop round) (closed_but_last (next ∷ later)) h in
+    and_from (has_drop (change round)) (closed_but_last (next ∷ later)) (keeps round parts.0) parts.1
+closed-changed change keeps (round ∷ next ∷ later) (suc zero) h =
+    let parts = and_parts (has_drop round) (closed_but_last (next ∷ later)) h in
+    and_from (has_drop round) (closed_but_last (change next ∷ later)) parts.0 (closed-changed change keeps (next ∷ later) zero parts.1)
+closed-changed change keeps (round ∷ next ∷ later) (suc (suc p)) h =
+    let parts = and_parts (has_drop round) (closed_but_last (next ∷ later)) h in
+    and_from (has_drop round) (closed_but_last (next ∷ changed_at change later p)) parts.0 (closed-changed change keeps (next ∷ later) (suc p) parts.1)
+
+-- a round is as it was, or is the one that was pushed
+pub round_at-push : (rounds : List Round) (last : Round) (q : ℕ) (round : Round) → round_at (rounds ++ last ∷ []) q ≡ Some round →
+    (round_at rounds q ≡ Some round) ⊎ (round ≡ last)
+round_at-push [] last zero round h = inr (cc)
+round_at-push [] last (suc q) round h = inl h
+round_at-push (first ∷ rounds) last zero round h = inl h
+round_at-push (first ∷ rounds) last (suc q) round h = round_at-push rounds last q round h
+
+-- behind a last round with a drop another one may begin
+pub closed-push : (rounds : List Round) (place : ℕ) (round last : Round) → closed_but_last rounds ≡ true → round_at rounds place ≡ Some round → suc place ≡ length rounds → has_drop round ≡ true →
+    closed_but_last (rounds ++ last ∷ []) ≡ true
+closed-push [] place round last h at end drop = absurd (cc)
+closed-push (first ∷ []) zero round last h at end drop = let same : first ≡ round = cc in and_from (has_drop first) true (ap has_drop same ∙ drop) refl
+closed-push (first ∷ []) (suc place) round last h at end drop = absurd (cc)
+closed-push (first ∷ next ∷ later) zero round last h at end drop = absurd (omega arith)
+closed-push (first ∷ next ∷ later) (suc place) round last h at end drop =
+    let parts = and_parts (has_drop first) (closed_but_last (next ∷ later)) h in
+    and_from (has_drop first) (closed_but_last ((next ∷ later) ++ last ∷ [])) parts.0 (closed-push (next ∷ later) place round last parts.1 at (omega arith) drop)
+
+-- a round before another one was drawn
+pub record IsDrawn (round : Round) : Type 0 where
+  pub bundle : Bundle
+  pub digits : List ℕ
+  pub dropped : List (List ℕ)
+  pub is : round ≡ Drawn bundle digits dropped
+
+pub drop_means_drawn : (round : Round) → has_drop round ≡ true → IsDrawn round
+drop_means_drawn Open h = absurd (false≢true h)
+drop_means_drawn (Solved bundle) h = absurd (false≢true h)
+drop_means_drawn (Sealed bundle) h = absurd (false≢true h)
+drop_means_drawn (Drawn bundle digits dropped) h = record { bundle = bundle; digits = digits; dropped = dropped; is = refl }
+
+pub record DrawnBefore (rounds : List Round) (place : ℕ) : Type 0 where
+  pub bundle : Bundle
+  pub digits : List ℕ
+  pub dropped : List (List ℕ)
+  pub there : round_at rounds place ≡ Some (Drawn bundle digits dropped)
+
+pub drawn_before : (rounds : List Round) (place : ℕ) (round : Round) → closed_but_last rounds ≡ true → round_at rounds (suc place) ≡ Some round → DrawnBefore rounds place
+drawn_before [] place round h at = absurd (cc)
+drawn_before (first ∷ []) place round h at = absurd (cc)
+drawn_before (first ∷ next ∷ later) zero round h at =
+    let drawn = drop_means_drawn first (and_parts (has_drop first) (closed_but_last (next ∷ later)) h).0 in
+    record { bundle = drawn.bundle; digits = drawn.digits; dropped = drawn.dropped; there = ap Some drawn.is }
+drawn_before (first ∷ next ∷ later) (suc place) round h at =
+    let before = drawn_before (next ∷ later) place round (and_parts (has_drop first) (closed_but_last (next ∷ later)) h).1 at in
+    record { bundle = before.bundle; digits = before.digits; dropped = before.dropped; there = before.there }

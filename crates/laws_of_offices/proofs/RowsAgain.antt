@@ -1,0 +1,256 @@
+-- Rows that were registered are counted as repeated later, and who withdrew has withdrawn.
+use Rattle.std.proofs.Common.{◌≡◌, ℕ, zero, suc, ◌+◌, ◌≤◌, Bool, true, false, cond, leb, not, ◌&&◌, List, [], ◌∷◌, ◌++◌, length, Option, Some, None, Result, Ok, Err, refl, sym, ap, ◌∙◌, arith, subst, add-one, add-zero}
+use Rattle.std.specs.List.{AllByRecursion, list_all}
+use Rattle.std.specs.Str.{bytes_eq}
+use Rattle.std.proofs.lemmas.Bool.{and_from, and_parts, false≢true}
+use Rattle.std.proofs.lemmas.List.{append_assoc}
+use Rattle.std.proofs.lemmas.List.Folds.{find-append}
+use Rattle.std.proofs.lemmas.Slice.Eq.{bytes_eq-Decides}
+use Rattle.laws_basic.proofs.Each.{each_from_list_all, each_map, list_all_from_each}
+use Rattle.laws_basic.proofs.Found.{find-each}
+use Rattle.define_pools.specs.Pool.{Category}
+use Rattle.define_draws.specs.Seal.{seal_of}
+use Rattle.define_offices.specs.Tables.{Entry, Round, Tables, is_enrolling, last_phase, same_household, same_names}
+use Rattle.define_offices.specs.Commands.{Added, Change, Given, Lines, Refusal, Refuses, RegisterFull, Replies, Reply, TooLate, Withdrawn, WrongPhase}
+use Rattle.define_offices.specs.Deciding.{IsNew, IsRefused, IsRepeated, RowCase, Sorted, addition, decide_register, entry_of, fits_rules, is_kept_so, is_last_open, is_seated_in, new_row, one_more_repeated, place_of_hash, register_after, register_by, registered, row_case, sorted_by, sorted_rows, with_hash, with_id, withdraw_at}
+use Rattle.define_offices.specs.Facts.{IsTables, rows_fit}
+use Rattle.define_offices.specs.Lines.{one_line, register_line}
+use Rattle.define_offices.specs.Pools.{pool_of}
+use Rattle.define_offices.specs.Steps.{apply, withdrawn_at}
+use Rattle.laws_of_offices.proofs.Later.{IsSameRow, RowsStay}
+use Rattle.laws_of_offices.proofs.Register.{IsSortedAs, row_case_new, sorted_first}
+
+-- ---- tests of equality
+
+same_bytes : (xs : List ℕ) → bytes_eq xs xs ≡ true
+same_bytes xs = (bytes_eq-Decides xs xs).1 refl
+
+same_names_itself : (names : List (List ℕ)) → same_names names names ≡ true
+same_names_itself [] = refl
+same_names_itself (name ∷ names) = and_from (bytes_eq name name) (same_names names names) (same_bytes name) (same_names_itself names)
+
+same_names_are : (one other : List (List ℕ)) → same_names one other ≡ true → one ≡ other
+same_names_are [] [] h = refl
+same_names_are [] (name ∷ other) h = absurd (false≢true h)
+same_names_are (name ∷ one) [] h = absurd (false≢true h)
+same_names_are (name ∷ one) (name' ∷ other) h =
+    let parts = and_parts (bytes_eq name name') (same_names one other) h in
+    let first = (bytes_eq-Decides name name').0 parts.0 in
+    let rest = same_names_are one other parts.1 in
+    cc
+
+same_household_itself : (household : Option (List ℕ)) → same_household household household ≡ true
+same_household_itself None = refl
+same_household_itself (Some name) = same_bytes name
+
+-- ---- a row that is kept
+
+pub record KeptRow (register : List Entry) (given : Given) : Type 0 where
+  pub entry : Entry
+  pub there : with_id register given.id ≡ Some entry
+  pub so : is_kept_so entry given ≡ true
+
+kept_append : (register more : List Entry) (given : Given) → KeptRow register given → KeptRow (register ++ more) given
+kept_append register more given kept = record {
+  entry = kept.entry;
+  there = find-append (λ (e : Entry). bytes_eq given.id e.id) register more ∙ (rw kept.there refl);
+  so = kept.so;
+}
+
+kept_itself : (given : Given) → is_kept_so (entry_of given) given ≡ true
+kept_itself given =
+    and_from (bytes_eq (seal_of given.key) (seal_of given.key) && same_names given.values given.values) (same_household given.household given.household)
+    (and_from (bytes_eq (seal_of given.key) (seal_of given.key)) (same_names given.values given.values) (same_bytes (seal_of given.key)) (same_names_itself given.values))
+    (same_household_itself given.household)
+
+kept_new : (register : List Entry) (given : Given) → with_id register given.id ≡ None → KeptRow (register ++ entry_of given ∷ []) given
+kept_new register given none = record {
+  entry = entry_of given;
+  there = find-append (λ (e : Entry). bytes_eq given.id e.id) register (entry_of given ∷ []) ∙ (rw (none, same_bytes given.id) refl);
+  so = kept_itself given;
+}
+
+is_repeated_by : (kept : Bool) (refusal : Refusal) → cond kept IsRepeated (IsRefused refusal) ≡ IsRepeated → kept ≡ true
+is_repeated_by true refusal h = refl
+is_repeated_by false refusal h = absurd (cc)
+
+new_is_not_repeated_by : (late full : Bool) (one two : Refusal) → cond late (IsRefused one) (cond full (IsRefused two) IsNew) ≡ IsRepeated → ⊥
+new_is_not_repeated_by true full one two h = cc
+new_is_not_repeated_by false true one two h = cc
+new_is_not_repeated_by false false one two h = cc
+
+new_is_not_repeated : (rounds : List Round) (register : List Entry) (other : Option Entry) → new_row rounds register other ≡ IsRepeated → ⊥
+new_is_not_repeated rounds register (Some other) h = cc
+new_is_not_repeated rounds register None h = new_is_not_repeated_by (not (is_enrolling rounds)) (leb 400 (length register)) (WrongPhase (last_phase rounds)) (RegisterFull 400) h
+
+kept_repeated : (rounds : List Round) (register : List Entry) (given : Given) (found : Option Entry) → with_id register given.id ≡ found → row_case rounds register given found ≡ IsRepeated → KeptRow register given
+kept_repeated rounds register given (Some entry) at h = record { entry = entry; there = at; so = is_repeated_by (is_kept_so entry given) _ h }
+kept_repeated rounds register given None at h = absurd (new_is_not_repeated rounds register (with_hash register (seal_of given.key)) h)
+
+-- each row that was sorted is kept
+pub all_kept : (rounds : List Round) (register : List Entry) (rows : List Given) (sorted : Sorted) → sorted_rows rounds register rows ≡ Ok sorted → AllByRecursion (KeptRow (register ++ sorted.added)) rows
+all_kept rounds register [] sorted h = tt
+all_kept rounds register (given ∷ rows) sorted h =
+    by (row_case rounds register given (with_id register given.id)) refl (sorted_first rounds register given rows sorted h) (λ register' later there. all_kept rounds register' rows later there)
+  where
+    by : (this : RowCase) → row_case rounds register given (with_id register given.id) ≡ this → IsSortedAs rounds register given rows sorted this →
+        ((register' : List Entry) (later : Sorted) → sorted_rows rounds register' rows ≡ Ok later → AllByRecursion (KeptRow (register' ++ later.added)) rows) →
+        AllByRecursion (KeptRow (register ++ sorted.added)) (given ∷ rows)
+    by IsNew e s again =
+        let new = row_case_new rounds register given (with_id register given.id) refl e in
+        let added : entry_of given ∷ s.later.added ≡ sorted.added = let is = s.is in cc in
+        let same : (register ++ entry_of given ∷ []) ++ s.later.added ≡ register ++ sorted.added = append_assoc register (entry_of given ∷ []) s.later.added ∙ ap (λ added. register ++ added) added in
+        subst (λ them. AllByRecursion (KeptRow them) (given ∷ rows)) same
+        (kept_append (register ++ entry_of given ∷ []) s.later.added given (kept_new register given new.id), again (register ++ entry_of given ∷ []) s.later s.there)
+    by IsRepeated e s again =
+        let added : s.later.added ≡ sorted.added = let is = s.is in cc in
+        subst (λ added. AllByRecursion (KeptRow (register ++ added)) (given ∷ rows)) added
+        (kept_append register s.later.added given (kept_repeated rounds register given (with_id register given.id) refl e), again register s.later s.there)
+    by (IsRefused refusal) e s again = absurd (let is = s.is in cc)
+
+-- ---- the same, later
+
+pub record FoundLater (register : List Entry) (id : List ℕ) (entry : Entry) : Type 0 where
+  pub later : Entry
+  pub there : with_id register id ≡ Some later
+  pub same : IsSameRow entry later
+
+found_later : (old new : List Entry) (id : List ℕ) (entry : Entry) → RowsStay old new → with_id old id ≡ Some entry → FoundLater new id entry
+found_later [] new id entry stay h = absurd (cc)
+found_later (e ∷ old) [] id entry stay h = absurd stay
+found_later (e ∷ old) (f ∷ new) id entry stay h = by (bytes_eq id e.id) refl h (λ k. found_later old new id entry stay.1 k)
+  where
+    by : (b : Bool) → bytes_eq id e.id ≡ b → cond b (Some e) (with_id old id) ≡ Some entry → (with_id old id ≡ Some entry → FoundLater new id entry) → FoundLater (f ∷ new) id entry
+    by true eq k again =
+        let same : e ≡ entry = cc in
+        let test : bytes_eq id f.id ≡ true = subst (λ i. bytes_eq id i ≡ true) stay.0.id eq in
+        record { later = f; there = rw test refl; same = subst (λ x. IsSameRow x f) same stay.0 }
+    by false eq k again =
+        let rest = again k in
+        let test : bytes_eq id f.id ≡ false = subst (λ i. bytes_eq id i ≡ false) stay.0.id eq in
+        record { later = rest.later; there = rw test rest.there; same = rest.same }
+
+kept_later : (old new : List Entry) (given : Given) → RowsStay old new → KeptRow old given → KeptRow new given
+kept_later old new given stay kept =
+    let found = found_later old new given.id kept.entry stay kept.there in
+    let same = found.same in
+    let so : is_kept_so found.later given ≡ true = rw (← same.hash, ← same.values, ← same.household) kept.so in
+    record { entry = found.later; there = found.there; so = so }
+
+-- rows that are kept are all repeated
+all_repeated : (rounds : List Round) (register : List Entry) (rows : List Given) → AllByRecursion (KeptRow register) rows → sorted_rows rounds register rows ≡ Ok (record { added = []; repeated = length rows })
+all_repeated rounds register [] kept = refl
+all_repeated rounds register (given ∷ rows) kept =
+    let this : row_case rounds register given (with_id register given.id) ≡ IsRepeated = rw (kept.0.there, kept.0.so) refl in
+    let rest = all_repeated rounds register rows kept.1 in
+    let turned : sorted_rows rounds register (given ∷ rows) ≡ one_more_repeated (sorted_rows rounds register rows) =
+    ap (λ t. sorted_by t given (sorted_rows rounds (register_after t register given) rows)) this in
+    turned ∙ (ap one_more_repeated rest ∙ ap (λ n. Ok (record { added = []; repeated = n })) (add-one (length rows)))
+
+kept_fits : (categories : List Category) (register : List Entry) (given : Given) → list_all (λ (e : Entry). fits_rules categories e.values) register ≡ true → KeptRow register given → fits_rules categories given.values ≡ true
+kept_fits categories register given fit kept =
+    let each = find-each (λ (e : Entry). bytes_eq given.id e.id) (λ (e : Entry). fits_rules categories e.values ≡ true) register kept.entry (each_from_list_all (λ (e : Entry). fits_rules categories e.values) register fit) kept.there in
+    let parts = and_parts (bytes_eq (seal_of given.key) kept.entry.hash && same_names given.values kept.entry.values) (same_household given.household kept.entry.household) kept.so in
+    let values = same_names_are given.values kept.entry.values (and_parts (bytes_eq (seal_of given.key) kept.entry.hash) (same_names given.values kept.entry.values) parts.0).1 in
+    subst (λ v. fits_rules categories v ≡ true) (sym values) each
+
+-- ---- the import again
+
+-- rows are there, so rules are
+rules_with_rows : (rules : Option (List Category)) (register : List Entry) (old added : List Entry) (change : Change) → addition added ≡ Some change → RowsStay (old ++ added) register → rows_fit rules register ≡ true →
+    (categories : List Category) × (rules ≡ Some categories)
+rules_with_rows (Some categories) register old added change some stay fit = (categories, refl)
+rules_with_rows None (e ∷ register) old added change some stay fit = absurd (false≢true fit)
+rules_with_rows None [] old [] change some stay fit = absurd (cc)
+rules_with_rows None [] [] (entry ∷ added) change some stay fit = absurd stay
+rules_with_rows None [] (e ∷ old) (entry ∷ added) change some stay fit = absurd stay
+
+pub is_added : (added : List Entry) (change : Change) → addition added ≡ Some change → Added added ≡ change
+is_added [] change h = absurd (cc)
+is_added (entry ∷ added) change h = cc
+
+module _ (before later : Tables) (keeps : IsTables later) where
+  kept_again : (rows : List Given) → (categories : List Category) → later.rules ≡ Some categories → AllByRecursion (KeptRow later.register) rows →
+      decide_register later rows ≡ Replies None (one_line (register_line 0 (length rows) (length later.register)))
+  kept_again rows categories has kept =
+      let fit : list_all (λ (e : Entry). fits_rules categories e.values) later.register ≡ true = rw has at keeps.fit in
+      let fits = list_all_from_each (λ (g : Given). fits_rules categories g.values) rows
+      (each_map (KeptRow later.register) (λ (g : Given). fits_rules categories g.values ≡ true) (λ g k. kept_fits categories later.register g fit k) rows kept) in
+      let sorted = all_repeated later.rounds later.register rows kept in
+      rw (has, fits, sorted, add-zero) refl
+
+  registered_again : (rows : List Given) (change : Change) (reply : Reply) (result : Result Sorted Refusal) → sorted_rows before.rounds before.register rows ≡ result → registered before result ≡ Replies (Some change) reply →
+      RowsStay (apply before change).register later.register → decide_register later rows ≡ Replies None (one_line (register_line 0 (length rows) (length later.register)))
+  registered_again rows change reply (Err refusal) e h stay = absurd (cc)
+  registered_again rows change reply (Ok sorted) e h stay =
+      let some : addition sorted.added ≡ Some change = cc in
+      let same = is_added sorted.added change some in
+      let stay' : RowsStay (before.register ++ sorted.added) later.register = subst (λ c. RowsStay (apply before c).register later.register) (sym same) stay in
+      let rules = rules_with_rows later.rules later.register before.register sorted.added change some stay' keeps.fit in
+      let kept = all_kept before.rounds before.register rows sorted e in
+      kept_again rows rules.0 rules.1 (each_map (KeptRow (before.register ++ sorted.added)) (KeptRow later.register) (λ g k. kept_later (before.register ++ sorted.added) later.register g stay' k) rows kept)
+
+  checked_again : (rows : List Given) (change : Change) (reply : Reply) (fits : Bool) (refusal : Refusal) → cond fits (registered before (sorted_rows before.rounds before.register rows)) (Refuses refusal) ≡ Replies (Some change) reply →
+      RowsStay (apply before change).register later.register → decide_register later rows ≡ Replies None (one_line (register_line 0 (length rows) (length later.register)))
+  checked_again rows change reply true refusal h stay = registered_again rows change reply (sorted_rows before.rounds before.register rows) refl h stay
+  checked_again rows change reply false refusal h stay = absurd (cc)
+
+  pub register_again : (rows : List Given) (change : Change) (reply : Reply) (rules : Option (List Category)) → register_by before rows rules ≡ Replies (Some change) reply →
+      RowsStay (apply before change).register later.register → decide_register later rows ≡ Replies None (one_line (register_line 0 (length rows) (length later.register)))
+  register_again rows change reply None h stay = absurd (cc)
+  register_again rows change reply (Some categories) h stay = checked_again rows change reply (list_all (λ (g : Given). fits_rules categories g.values) rows) _ h stay
+
+-- ---- a withdrawal again
+
+pub place_from : (register : List Entry) (hash : List ℕ) (i : ℕ) (found : ℕ × Entry) → place_of_hash register hash i ≡ Some found → i ≤ found.0
+place_from [] hash i found h = absurd (cc)
+place_from (entry ∷ register) hash i found h = by (bytes_eq hash entry.hash) h (λ k. place_from register hash (i + 1) found k)
+  where
+    by : (b : Bool) → cond b (Some (i, entry)) (place_of_hash register hash (i + 1)) ≡ Some found → (place_of_hash register hash (i + 1) ≡ Some found → i + 1 ≤ found.0) → i ≤ found.0
+    by true k again = let same : (i, entry) ≡ found = cc in subst (λ (f : ℕ × Entry). i ≤ f.0) same (omega arith)
+    by false k again = let l = again k in omega arith
+
+record HasWithdrawn (register : List Entry) (hash : List ℕ) (i place : ℕ) : Type 0 where
+  entry : Entry
+  there : place_of_hash register hash i ≡ Some (place, entry)
+  withdrawn : entry.withdrawn ≡ true
+
+withdrawn_later : (old new : List Entry) (hash : List ℕ) (i q place : ℕ) (entry : Entry) → place_of_hash old hash i ≡ Some (place, entry) → place ≡ i + q → RowsStay (withdrawn_at old q) new → HasWithdrawn new hash i place
+withdrawn_later [] new hash i q place entry h at stay = absurd (cc)
+withdrawn_later (e ∷ old) [] hash i zero place entry h at stay = absurd stay
+withdrawn_later (e ∷ old) [] hash i (suc q) place entry h at stay = absurd stay
+withdrawn_later (e ∷ old) (f ∷ new) hash i zero place entry h at stay = by (bytes_eq hash e.hash) refl h
+  where
+    by : (b : Bool) → bytes_eq hash e.hash ≡ b → cond b (Some (i, e)) (place_of_hash old hash (i + 1)) ≡ Some (place, entry) → HasWithdrawn (f ∷ new) hash i place
+    by true eq k =
+        let test : bytes_eq hash f.hash ≡ true = subst (λ x. bytes_eq hash x ≡ true) stay.0.hash eq in
+        let here : i ≡ place = omega arith in
+        record { entry = f; there = rw test (ap (λ p. Some (p, f)) here); withdrawn = stay.0.withdrawn refl }
+    by false eq k = absurd (let l = place_from old hash (i + 1) (place, entry) k in omega arith)
+withdrawn_later (e ∷ old) (f ∷ new) hash i (suc q) place entry h at stay = by (bytes_eq hash e.hash) refl h (λ k l. withdrawn_later old new hash (i + 1) q place entry k l stay.1)
+  where
+    by : (b : Bool) → bytes_eq hash e.hash ≡ b → cond b (Some (i, e)) (place_of_hash old hash (i + 1)) ≡ Some (place, entry) →
+        (place_of_hash old hash (i + 1) ≡ Some (place, entry) → place ≡ i + 1 + q → HasWithdrawn new hash (i + 1) place) → HasWithdrawn (f ∷ new) hash i place
+    by true eq k again = absurd
+        (let pair : (i, e) ≡ (place, entry) = cc in
+        let same : i ≡ place = ap (λ (p : ℕ × Entry). p.0) pair in
+        omega arith)
+    by false eq k again =
+        let test : bytes_eq hash f.hash ≡ false = subst (λ x. bytes_eq hash x ≡ false) stay.0.hash eq in
+        let rest = again k (omega arith) in
+        record { entry = rest.entry; there = rw test rest.there; withdrawn = rest.withdrawn }
+
+pub withdrawal : (place : ℕ) (change : Change) (reply : Reply) (already open_now : Bool) → cond already (Replies None (Lines [])) (cond open_now (Replies (Some (Withdrawn place)) (Lines [])) (Refuses TooLate)) ≡ Replies (Some change) reply →
+    (Withdrawn place ≡ change) × (Lines [] ≡ reply)
+withdrawal place change reply true open_now h = absurd (cc)
+withdrawal place change reply false true h = (cc, cc)
+withdrawal place change reply false false h = absurd (cc)
+
+pub withdraw_again : (before later : Tables) (hash : List ℕ) (change : Change) (reply : Reply) (found : Option (ℕ × Entry)) → place_of_hash before.register hash 0 ≡ found → withdraw_at before found ≡ Replies (Some change) reply →
+    RowsStay (apply before change).register later.register → withdraw_at later (place_of_hash later.register hash 0) ≡ Replies None reply
+withdraw_again before later hash change reply None at h stay = absurd (cc)
+withdraw_again before later hash change reply (Some (place, entry)) at h stay =
+    let is = withdrawal place change reply entry.withdrawn (is_last_open before.rounds && not (is_seated_in (pool_of before (length before.rounds)) place)) h in
+    let stay' : RowsStay (withdrawn_at before.register place) later.register = subst (λ c. RowsStay (apply before c).register later.register) (sym is.0) stay in
+    let has = withdrawn_later before.register later.register hash 0 place place entry at (omega arith) stay' in
+    rw (has.there, has.withdrawn) (ap (λ r. Replies None r) is.1)
