@@ -12,7 +12,7 @@ It prints, as fields parted by TABs,
     read fault, why                   status 7, on standard error: the file can't be read
 
 Of several files each line begins with the file's name, and the status is the greatest of theirs. Wrong words have status 2, and a fault of
-writing has 8. docs/PROOFS.md says what a proof is, how it is checked, why that suffices, and what each reason and kind means. This program
+writing has 8. docs/FORMATS.md says what a proof is, how it is checked, why that suffices, and what each reason and kind means. This program
 follows that page, uses nothing of `sortition`, and isn't proved.
 """
 import os
