@@ -1,5 +1,5 @@
 -- A command that is given again: what it answers then.
-use Rattle.std.specs.Prelude.{◌≡◌, List, [], ◌∷◌, codes, length, Option, Some, None}
+use Rattle.std.specs.Prelude.{◌≡◌, List, codes, length, Option, Some, None}
 use Rattle.define_pools.specs.Pool.{Category}
 use Rattle.define_offices.specs.Tables.{Charter, Tables}
 use Rattle.define_offices.specs.Commands.{Command, SetCharter, SetRules, Register, Solve, Keep, Seal, Draw, Drop, NextRound, Show, Withdraw, Change, Reply, Replies}

@@ -1,7 +1,6 @@
 -- Each step leaves tables that keep the facts, and so does each list of commands. A command comes to one outcome.
 use Rattle.std.proofs.Common.{◌≡◌, ℕ, zero, suc, Bool, true, false, cond, List, [], ◌∷◌, ◌++◌, Option, Some, None, is_some, Result, Ok, Err, refl, sym, ap, ◌∙◌, subst}
 use Rattle.std.specs.List.{AllByRecursion}
-use Rattle.std.specs.Str.{bytes_eq}
 use Rattle.std.proofs.lemmas.Bool.{false≢true}
 use Rattle.std.proofs.lemmas.Slice.Eq.{bytes_eq-Decides}
 use Rattle.define_pools.specs.Certificate.{Answer, Certifies}
@@ -27,7 +26,7 @@ use Rattle.laws_of_runs.proofs.NoPanels.{none_where_no_panel}
 use Rattle.laws_of_runs.proofs.Ranges.{found_in_ranges}
 use Rattle.define_offices.specs.Tables.{Round, Open, Solved, Sealed, Drawn, Tables, first_tables, named_round, round_at}
 use Rattle.define_offices.specs.Commands.{Command, SetCharter, SetRules, Register, Solve, Keep, Seal, Draw, Drop, NextRound, Show, Withdraw, Outcome, Replies, Refuses, Refusal, Stops, Unproved}
-use Rattle.define_offices.specs.Deciding.{Answered, Finds, FindsNone, Asked, IsDecided, NeedsRun, answered, asked, asked_over, is_same_pool, keep_in, kept_by, kept_over, no_round, proof_pool, shown, solve_in, solved, place_of_hash, tells}
+use Rattle.define_offices.specs.Deciding.{Answered, Finds, FindsNone, IsDecided, NeedsRun, answered, asked, asked_over, is_same_pool, keep_in, kept_by, kept_over, no_round, proof_pool, shown, solve_in, solved, place_of_hash, tells}
 use Rattle.define_offices.specs.Facts.{IsCommand, IsTables, KeepsBundle, KeepsRound, has_drop}
 use Rattle.define_offices.specs.Lines.{solved_line}
 use Rattle.define_offices.specs.Pools.{pool_of}
@@ -118,7 +117,7 @@ run_settles tables number limits pool (run.NodesSpent stood) is ranges open_roun
 -- ---- a proof
 
 -- pools of one text are the same
-same_pools : (one other : Pool) → IsPool one → IsPool other → is_same_pool one other ≡ true → one ≡ other
+pub same_pools : (one other : Pool) → IsPool one → IsPool other → is_same_pool one other ≡ true → one ≡ other
 same_pools one other is also same =
     let texts = (bytes_eq-Decides (spelling one) (spelling other)).0 same in
     let first = spelled_is_read one is in

@@ -1,0 +1,2 @@
+mod Actions
+mod Runs

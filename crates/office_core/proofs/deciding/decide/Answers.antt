@@ -1,0 +1,58 @@
+use Rattle.std.proofs.Common.{refl}
+use Rattle.define_draws.specs.Seal.{seal_of}
+use Rattle.define_offices.specs.Commands.{SetCharter, SetRules, Register, Keep, Seal, Draw, Drop, NextRound, Show, Withdraw}
+use Rattle.define_offices.specs.Deciding.{decide_charter, decide_register, decide_rules, draw_in, drop_in, keep_in, next_in, place_of_hash, seal_in, show_in, withdraw_at}
+use Rattle.define_offices.specs.Tables.{named_round}
+use Rattle.office_core.proofs.Runs.{at_once}
+use Rattle.office_core.proofs.deciding.decide.Goals as goal
+
+pub returns-in-Charter : goal.returns-in-Charter
+returns-in-Charter g c =
+    let tables = c.args.tables.now in
+    rw c.in-Charter.is (at_once tables (SetCharter c.in-Charter.charter) (decide_charter tables c.in-Charter.charter) c.stepped.result refl (c.stepped.ensures _ c.set_charter.ensures))
+
+pub returns-in-Rules : goal.returns-in-Rules
+returns-in-Rules g c =
+    let tables = c.args.tables.now in
+    rw c.in-Rules.is (at_once tables (SetRules c.in-Rules.rules) (decide_rules tables c.in-Rules.rules) c.stepped-in-Rules.result refl (c.stepped-in-Rules.ensures _ c.set_rules.ensures))
+
+pub returns-in-Register : goal.returns-in-Register
+returns-in-Register g c =
+    let tables = c.args.tables.now in
+    rw c.in-Register.is (at_once tables (Register c.in-Register.rows) (decide_register tables c.in-Register.rows) c.stepped-in-Register.result refl (c.stepped-in-Register.ensures _ c.register.ensures))
+
+pub returns-in-Seal : goal.returns-in-Seal
+returns-in-Seal g c =
+    let tables = c.args.tables.now in
+    rw c.in-Seal.is (at_once tables (Seal c.in-Seal.round) (seal_in tables c.in-Seal.round (named_round tables.rounds c.in-Seal.round)) c.stepped-in-Seal.result refl (c.stepped-in-Seal.ensures _ c.seal_round.ensures))
+
+pub returns-in-Draw : goal.returns-in-Draw
+returns-in-Draw g c =
+    let tables = c.args.tables.now in
+    rw c.in-Draw.is (at_once tables (Draw c.in-Draw.round c.in-Draw.seal c.in-Draw.digits.items) (draw_in tables c.in-Draw.round c.in-Draw.seal c.in-Draw.digits.items (named_round tables.rounds c.in-Draw.round)) c.stepped-in-Draw.result refl (c.stepped-in-Draw.ensures _ (rw (c.as_str.ensures, c.deref.ensures.value) at c.draw_round.ensures)))
+
+pub returns-in-Drop : goal.returns-in-Drop
+returns-in-Drop g c =
+    let tables = c.args.tables.now in
+    rw c.in-Drop.is (at_once tables (Drop c.in-Drop.round c.in-Drop.id) (drop_in tables c.in-Drop.round c.in-Drop.id (named_round tables.rounds c.in-Drop.round)) c.stepped-in-Drop.result refl (c.stepped-in-Drop.ensures _ c.drop_member.ensures))
+
+pub returns-in-NextRound : goal.returns-in-NextRound
+returns-in-NextRound g c =
+    let tables = c.args.tables.now in
+    rw c.in-NextRound.is (at_once tables (NextRound c.in-NextRound.after) (next_in tables c.in-NextRound.after (named_round tables.rounds c.in-NextRound.after)) c.stepped-in-NextRound.result refl (c.stepped-in-NextRound.ensures _ c.next_round.ensures))
+
+pub returns-in-Show : goal.returns-in-Show
+returns-in-Show g c =
+    let tables = c.args.tables.now in
+    rw c.in-Show.is (at_once tables (Show c.in-Show.round) (show_in tables (named_round tables.rounds c.in-Show.round)) c.stepped-in-Show.result refl (c.stepped-in-Show.ensures _ c.show_round.ensures))
+
+pub returns-in-Withdraw : goal.returns-in-Withdraw
+returns-in-Withdraw g c =
+    let tables = c.args.tables.now in
+    rw c.in-Withdraw.is (at_once tables (Withdraw c.in-Withdraw.key) (withdraw_at tables (place_of_hash tables.register (seal_of c.in-Withdraw.key) 0)) c.stepped-in-Withdraw.result refl (c.stepped-in-Withdraw.ensures _ c.withdraw.ensures))
+
+pub returns-in-Keep : goal.returns-in-Keep
+returns-in-Keep g c =
+    let tables = c.args.tables.now in
+    let round = c.in-Keep.round in
+    rw c.in-Keep.is (at_once tables (Keep round c.in-Keep.proof) (keep_in tables round c.in-Keep.proof (named_round tables.rounds round)) c.keep_proof.result refl c.keep_proof.ensures)

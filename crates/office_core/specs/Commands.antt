@@ -1,0 +1,33 @@
+-- Commands as values of the program, and those of the definitions that they are.
+use Rattle.std.specs.Prelude.{◌≤◌, ⊤}
+use Rattle.define_offices.specs.Commands as office
+use Rattle.office_core.specs.declared.commands.Command.{Command}
+use Rattle.office_core.specs.declared.commands.Command.TheVariants.{Charter, Rules, Register, Solve, Keep, Seal, Draw, Drop, NextRound, Show, Withdraw}
+
+-- the number of workers is no part of a command's meaning
+abbrev pub seen_command : Command → office.Command
+seen_command (Charter charter) = office.SetCharter charter
+seen_command (Rules rules) = office.SetRules rules
+seen_command (Register rows) = office.Register rows
+seen_command (Solve round limits workers) = office.Solve round limits
+seen_command (Keep round proof) = office.Keep round proof
+seen_command (Seal round) = office.Seal round
+seen_command (Draw round seal digits) = office.Draw round seal digits.items
+seen_command (Drop round id) = office.Drop round id
+seen_command (NextRound after) = office.NextRound after
+seen_command (Show round) = office.Show round
+seen_command (Withdraw key) = office.Withdraw key
+
+-- from 1 to 64 workers are asked to price
+abbrev pub HasWorkers : Command → Type 0
+HasWorkers (Solve round limits workers) = (1 ≤ workers) × (workers ≤ 64)
+HasWorkers (Charter charter) = ⊤
+HasWorkers (Rules rules) = ⊤
+HasWorkers (Register rows) = ⊤
+HasWorkers (Keep round proof) = ⊤
+HasWorkers (Seal round) = ⊤
+HasWorkers (Draw round seal digits) = ⊤
+HasWorkers (Drop round id) = ⊤
+HasWorkers (NextRound after) = ⊤
+HasWorkers (Show round) = ⊤
+HasWorkers (Withdraw key) = ⊤

@@ -1,0 +1,34 @@
+-- What a call of a keeper says. The trait `Keeper` cites it.
+use Rattle.std.specs.Prelude.{◌≡◌, ◌≤◌, ℕ, List, Option, Result, Ok, Err, option_map}
+use Rattle.outside.specs.Faults.{Rose}
+use Rattle.define_offices.specs.Commands.{Change}
+use Rattle.define_offices.specs.Steps.{applied, apply}
+use Rattle.define_offices.specs.Tables.{Tables}
+use Rattle.office_core.specs.declared.keeper.KeeperStop.{KeeperStop}
+use Rattle.office_core.specs.declared.keeper.KeeperStop.TheVariants.{Failed, OutOfMemory}
+
+-- the call failed and the count rose, or it ended otherwise and counted nothing
+abbrev pub HasCause : {T : Type 0} → ℕ → ℕ → Result T KeeperStop → Type 0
+HasCause before now (Ok value) = now ≡ before
+HasCause before now (Err Failed) = (before ≤ now) × Rose before now
+HasCause before now (Err OutOfMemory) = now ≡ before
+
+-- where a keeper is attached: it doesn't tell, nowhere yet, or at a path
+pub data Place : Type 0 where
+  Untold : Place
+  Nowhere : Place
+  At : (path : List ℕ) → Place
+
+-- the place of a keeper that was attached at a path
+abbrev pub at : Place → List ℕ → Place
+at Untold path = Untold
+at Nowhere path = At path
+at (At other) path = At path
+
+-- the tables told, after a change was stored
+abbrev pub stored : Option Tables → Change → Option Tables
+stored kept change = option_map (λ tables. apply tables change) kept
+
+-- the same, if there was a change
+abbrev pub changed : Option Tables → Option Change → Option Tables
+changed kept change = option_map (λ tables. applied tables change) kept

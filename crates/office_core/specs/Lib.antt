@@ -1,0 +1,4 @@
+pub mod Keeping
+pub mod Commands
+pub mod Deciding
+pub mod Acting

@@ -1,0 +1,94 @@
+//! A command over a keeper: the tables are loaded, the command is decided, and its change is stored.
+
+ghost use Rattle.std.specs.Prelude.{◌≡◌, IfSome, OnErr, OnOk, option_map};
+ghost use Rattle.define_offices.specs.Facts.{IsTables};
+ghost use Rattle.define_offices.specs.Steps.{applied};
+ghost use Rattle.office_tables.specs.Changes.{seen_change};
+ghost use Rattle.office_core.specs.Acting.{ActsOn, GoesOn, HasFault, stop_of_decision};
+ghost use Rattle.office_core.specs.Commands.{HasWorkers, seen_command};
+ghost use Rattle.office_core.specs.Keeping.{HasCause, changed};
+
+use crate::commands::Command;
+use crate::deciding::decide;
+use crate::keeper::{Keeper, KeeperStop};
+use crate::stops::{ActStop, DecideStop};
+use office_steps::Reply;
+use office_tables::Change;
+use outside::Watch;
+use std::alloc::Global;
+use std::thread::Threads;
+
+/// Does a command over a keeper that is attached. Returns the reply, after the change was stored if there is one. At every stop the tables that
+/// are kept stay.
+pub fn act<K: Keeper, R: Threads + Sync, W: Watch + Sync>(
+    rt: &R,
+    alloc: Global,
+    keeper: &mut K,
+    command: &Command,
+    watch: &W,
+) -> Result<Reply, ActStop>
+    requires { HasWorkers command.now }
+    ensures step { ActsOn (K.tables keeper.old) (seen_command command.now) result (K.tables keeper.new) }
+    // So over every list of commands the tables are what those leave that ended with a reply or a refusal.
+    ensures fold { GoesOn (K.tables keeper.old) (seen_command command.now) result (K.tables keeper.new) }
+    ensures place { K.place keeper.new ≡ K.place keeper.old }
+    ensures fault { HasFault (K.faults keeper.old) (K.faults keeper.new) result }
+{
+    acted(rt, alloc, keeper, command, watch)
+}
+
+/// Does the command.
+fn acted<K: Keeper, R: Threads + Sync, W: Watch + Sync>(
+    rt: &R,
+    alloc: Global,
+    keeper: &mut K,
+    command: &Command,
+    watch: &W,
+) -> Result<Reply, ActStop>
+    requires { HasWorkers command.now }
+    ensures step { ActsOn (K.tables keeper.old) (seen_command command.now) result (K.tables keeper.new) }
+    ensures place { K.place keeper.new ≡ K.place keeper.old }
+    ensures fault { HasFault (K.faults keeper.old) (K.faults keeper.new) result }
+{
+    command.facts();
+    let tables = keeper.load(alloc)?;
+    tables.facts();
+    match decide(rt, alloc, &tables, command, watch) {
+        Ok(decided) => {
+            let (change, reply) = decided;
+            store(alloc, keeper, &change)?;
+            Ok(reply)
+        }
+        Err(stop) => Err(stopped(stop)),
+    }
+}
+
+/// Stores a change, if there is one.
+fn store<K: Keeper>(
+    alloc: Global,
+    keeper: &mut K,
+    change: &Option<Change>,
+) -> Result<(), KeeperStop>
+    requires { IfSome (K.tables keeper.old) (λ kept. IsTables (applied kept (option_map seen_change change.now))) }
+    ensures ok { OnOk result (K.tables keeper.new ≡ changed (K.tables keeper.old) (option_map seen_change change.now)) }
+    ensures err { OnErr result (K.tables keeper.new ≡ K.tables keeper.old) }
+    ensures place { K.place keeper.new ≡ K.place keeper.old }
+    ensures cause { HasCause (K.faults keeper.old) (K.faults keeper.new) result }
+{
+    match change {
+        Some(change) => keeper.store(alloc, change),
+        None => Ok(()),
+    }
+}
+
+/// Returns the stop of a decision as one of the call.
+fn stopped(stop: DecideStop) -> ActStop
+    ensures { result ≡ stop_of_decision stop }
+{
+    match stop {
+        DecideStop::Refused(refusal) => ActStop::Refused(refusal),
+        DecideStop::Solve(stop) => ActStop::Solve(stop),
+        DecideStop::Unproved(verdict) => ActStop::Unproved(verdict),
+        DecideStop::OutOfMemory => ActStop::OutOfMemory,
+    }
+}

@@ -1,0 +1,66 @@
+//! What a command comes to over tables.
+
+ghost use Rattle.std.specs.Prelude.{◌≡◌};
+ghost use Rattle.office_core.specs.Commands.{HasWorkers, seen_command};
+ghost use Rattle.define_offices.specs.Commands.{Outcome};
+ghost use Rattle.office_steps.specs.Steps.{Says as StepSays};
+ghost use Rattle.office_core.specs.Deciding.{Decides, Says};
+
+use crate::commands::Command;
+use crate::solving::{keep_proof, solve_round};
+use crate::stops::DecideStop;
+use office_steps::{
+    OfficeStop, Reply, draw_round, drop_member, next_round, register, seal_round, set_charter,
+    set_rules, show_round, withdraw,
+};
+use office_tables::{Change, Tables};
+use outside::Watch;
+use std::alloc::Global;
+use std::thread::Threads;
+
+/// Decides a command: returns the reply with the change, if the tables don't stay as they are; or stops with the refusal.
+pub fn decide<R: Threads + Sync, W: Watch + Sync>(
+    rt: &R,
+    alloc: Global,
+    tables: &Tables,
+    command: &Command,
+    watch: &W,
+) -> Result<(Option<Change>, Reply), DecideStop>
+    requires { HasWorkers command.now }
+    ensures { Decides tables.now (seen_command command.now) result }
+{
+    match command {
+        Command::Charter(charter) => stepped(set_charter(alloc, tables, charter)),
+        Command::Rules(rules) => stepped(set_rules(alloc, tables, rules)),
+        Command::Register(rows) => stepped(register(alloc, tables, rows)),
+        Command::Solve {
+            round,
+            limits,
+            workers,
+        } => solve_round(rt, alloc, tables, *round, *limits, *workers, watch),
+        Command::Keep { round, proof } => keep_proof(alloc, tables, *round, proof),
+        Command::Seal { round } => stepped(seal_round(alloc, tables, *round)),
+        Command::Draw {
+            round,
+            seal,
+            digits,
+        } => stepped(draw_round(alloc, tables, *round, seal.as_str(), digits)),
+        Command::Drop { round, id } => stepped(drop_member(alloc, tables, *round, id)),
+        Command::NextRound { after } => stepped(next_round(alloc, tables, *after)),
+        Command::Show { round } => stepped(show_round(alloc, tables, *round)),
+        Command::Withdraw { key } => stepped(withdraw(alloc, tables, key)),
+    }
+}
+
+/// Returns the same decision, with its stop as one of `decide`.
+fn stepped(
+    decided: Result<(Option<Change>, Reply), OfficeStop>,
+) -> Result<(Option<Change>, Reply), DecideStop>
+    ensures { (outcome : Outcome) → StepSays outcome decided → Says outcome result }
+{
+    match decided {
+        Ok(decided) => Ok(decided),
+        Err(OfficeStop::Refused(refusal)) => Err(DecideStop::Refused(refusal)),
+        Err(OfficeStop::OutOfMemory) => Err(DecideStop::OutOfMemory),
+    }
+}

@@ -1,0 +1,57 @@
+//! What keeps the tables of an office.
+
+ghost use Rattle.std.specs.Prelude.{◌≡◌, ℕ, IfOk, IfSome, OnErr, OnOk, Option};
+ghost use Rattle.define_offices.specs.Facts.{IsTables};
+ghost use Rattle.define_offices.specs.Steps.{apply};
+ghost use Rattle.define_offices.specs.Tables.{Tables as Seen};
+ghost use Rattle.office_tables.specs.Changes.{seen_change};
+ghost use Rattle.office_core.specs.Keeping.{HasCause, Place, at, stored};
+
+use office_tables::{Change, Tables};
+use std::alloc::Global;
+use thiserror::Error;
+
+/// Why a keeper does not answer.
+#[derive(Clone, Copy, Debug, PartialEq, Eq, Error)]
+pub enum KeeperStop {
+    /// The call failed, and the keeper counted a fault.
+    #[error("the keeper failed")]
+    Failed,
+    /// No memory was left.
+    #[error("out of memory")]
+    OutOfMemory,
+}
+
+/// What keeps the tables of an office. Its count of faults never falls. A call fails only where the count rose, and counts none else.
+pub trait Keeper {
+    /// The tables that are kept, if the keeper can tell.
+    ghost tables: { Self → Option Seen };
+
+    /// Where the keeper is attached, if it can tell.
+    ghost place: { Self → Place };
+
+    /// How many faults the keeper has counted.
+    ghost faults: { Self → ℕ };
+
+    /// Goes to where the tables are kept. They stay.
+    fn attach(&mut self, alloc: Global, path: &str) -> Result<(), KeeperStop>
+        ensures same { tables self.new ≡ tables self.old }
+        ensures place { OnOk result (place self.new ≡ at (place self.old) path.now) }
+        ensures stays { OnErr result (place self.new ≡ place self.old) }
+        ensures cause { HasCause (faults self.old) (faults self.new) result };
+
+    /// Returns the tables that are kept.
+    fn load(&mut self, alloc: Global) -> Result<Tables, KeeperStop>
+        ensures same { tables self.new ≡ tables self.old }
+        ensures place { place self.new ≡ place self.old }
+        ensures loaded { IfOk result (λ loaded. IfSome (tables self.old) (λ kept. loaded ≡ kept)) }
+        ensures cause { HasCause (faults self.old) (faults self.new) result };
+
+    /// Changes the tables that are kept; they stay if it stops. Where they are told, the change leaves tables.
+    fn store(&mut self, alloc: Global, change: &Change) -> Result<(), KeeperStop>
+        requires { IfSome (tables self.old) (λ kept. IsTables (apply kept (seen_change change.now))) }
+        ensures place { place self.new ≡ place self.old }
+        ensures ok { OnOk result (tables self.new ≡ stored (tables self.old) (seen_change change.now)) }
+        ensures err { OnErr result (tables self.new ≡ tables self.old) }
+        ensures cause { HasCause (faults self.old) (faults self.new) result };
+}

@@ -1,0 +1,108 @@
+//! The pool of each round of an office: from the charter, the rules and the register, or from the round before. Stands on `office_tables` and
+//! `rounds`. `office_core` stands on it.
+//!
+//! Promise: `pool_of` returns exactly the pool of the definitions, or exactly why there is none.
+#![tactic(auto)]
+
+mod drawn;
+mod registered;
+
+ghost use Rattle.std.specs.Prelude.{◌≡◌, ◌<◌, length, Some, IfOk, option_map};
+ghost use Rattle.define_offices.specs.Pools.{open_pool as pool_while_open, pool_of as pool_of_round};
+ghost use Rattle.define_offices.specs.Tables.{named_round};
+ghost use Rattle.office_pools.specs.Told.{TellsPool};
+
+use crate::drawn::later_pool;
+use crate::registered::first_pool;
+use office_tables::{Charter, Part, Round, Rules, Tables};
+use pool_model::Pool;
+use std::alloc::{AllocError, Global};
+use thiserror::Error;
+
+/// Why a round has no pool.
+#[derive(Clone, Copy, Debug, PartialEq, Eq, Error)]
+pub enum PoolStop {
+    /// There is no round of this number.
+    #[error("there is no such round; the last is {last}")]
+    NoRound {
+        /// The number of the last round.
+        last: usize,
+    },
+    /// A part is missing: the charter or the rules.
+    #[error("a part is missing: {what:?}")]
+    Incomplete {
+        /// The part.
+        what: Part,
+    },
+    /// No memory was left.
+    #[error("out of memory")]
+    OutOfMemory,
+}
+
+impl From<AllocError> for PoolStop {
+    ghost use Rattle.std.specs.Prelude.{◌≡◌};
+    ghost use Rattle.office_pools.specs.declared.PoolStop.TheVariants.{OutOfMemory};
+
+    ghost from_gives = { λ _ e. e ≡ OutOfMemory };
+
+    fn from(_error: AllocError) -> PoolStop {
+        PoolStop::OutOfMemory
+    }
+}
+
+/// Returns the pool of a round. While round 1 is open, it has the charter's size, the rules and the rows of the register, gone if they withdrew;
+/// while a later round is open, it is the next pool after the round before, where those who withdrew meanwhile are gone; past `Open` it is that
+/// of the round's bundle. Stops without a round of this number, then without a charter, and then without rules. Running out of memory is
+/// allowed at any time.
+pub fn pool_of(alloc: Global, tables: &Tables, round: usize) -> Result<Pool, PoolStop>
+    ensures { TellsPool (pool_of_round tables.now round) result }
+{
+    let Some(kept) = round_named(tables, round) else {
+        let last = tables.rounds().len();
+        return Err(PoolStop::NoRound { last });
+    };
+    let Some(charter) = tables.charter() else {
+        return Err(PoolStop::Incomplete {
+            what: Part::Charter,
+        });
+    };
+    let Some(rules) = tables.rules() else {
+        return Err(PoolStop::Incomplete { what: Part::Rules });
+    };
+    match kept.bundle() {
+        Some(bundle) => Ok(bundle.pool().copy()?),
+        None => Ok(open_pool(alloc, tables, charter, rules, round - 1)?),
+    }
+}
+
+/// Returns the round of a number, counted from 1, if there is one.
+pub fn round_named(tables: &Tables, number: usize) -> Option<&Round>
+    ensures { option_map (λ round. round.now) result ≡ named_round tables.now.rounds number }
+{
+    if number == 0 {
+        None
+    } else {
+        tables.rounds().get(number - 1)
+    }
+}
+
+/// Returns the pool of the open round of a place, counted from 0.
+fn open_pool(
+    alloc: Global,
+    tables: &Tables,
+    charter: &Charter,
+    rules: &Rules,
+    place: usize,
+) -> Result<Pool, AllocError>
+    requires charter { tables.now.charter ≡ Some charter.now }
+    requires rules { tables.now.rules ≡ Some rules.now }
+    requires place { place < length tables.now.rounds }
+    ensures { IfOk result (λ pool. pool ≡ pool_while_open charter.now rules.now tables.now place) }
+{
+    tables.facts();
+    if place == 0 {
+        first_pool(alloc, charter, rules, tables.register())
+    } else {
+        later_pool(alloc, tables.register(), &tables.rounds()[place - 1])
+    }
+}

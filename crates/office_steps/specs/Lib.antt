@@ -1,0 +1,5 @@
+pub mod DrawStops
+pub mod Replies
+pub mod Rows
+pub mod Steps
+pub mod Withdrawals

@@ -1,0 +1,224 @@
+//! Seals, draws and dropouts.
+
+ghost use Rattle.std.specs.Prelude.{◌≡◌, IfOk, IsTrue, Some, is_ok};
+ghost use Rattle.define_pools.specs.Lists.{includes_list};
+ghost use Rattle.define_pools.specs.Lottery.{TotalAgrees};
+ghost use Rattle.define_draws.specs.Dice.{name_ticket};
+ghost use Rattle.define_draws.specs.Draw.{draw as draw_of};
+ghost use Rattle.define_offices.specs.Deciding.{draw_in, drawn_ids, drop_in, new_draw as new_draw_of, same_draw as same_draw_of, seal_in};
+ghost use Rattle.define_offices.specs.Facts.{KeepsRound};
+ghost use Rattle.define_offices.specs.Lines.{bundle_seal as seal_of_bundle, dropped_line as line_of_dropout, one_line, seal_line as line_of_seal};
+ghost use Rattle.define_offices.specs.Tables.{named_round};
+ghost use Rattle.office_steps.specs.Replies.{seen_reply};
+ghost use Rattle.office_steps.specs.Steps.{Says};
+
+use crate::drawn::{draw_refusal, drawn_reply};
+use crate::lines::line;
+use crate::named::{no_round, round_named};
+use crate::replies::{Refusal, Reply};
+use crate::stops::OfficeStop;
+use bundle_text::{Bundle, write_bundle};
+use itoa::Buffer;
+use office_tables::{Change, Phase, Round, Tables, drawn_by, is_member};
+use pool_model::Name;
+use sealed_draw::{draw, seal};
+use std::alloc::{AllocError, Global};
+
+/// Decides a seal.
+pub fn seal_round(
+    alloc: Global,
+    tables: &Tables,
+    number: usize,
+) -> Result<(Option<Change>, Reply), OfficeStop>
+    ensures { Says (seal_in tables.now number (named_round tables.now.rounds number)) result }
+{
+    let Some(round) = round_named(tables, number) else {
+        return Err(OfficeStop::Refused(no_round(tables)));
+    };
+    let Some(bundle) = round.bundle() else {
+        return Err(OfficeStop::Refused(Refusal::WrongPhase { phase: Phase::Open }));
+    };
+    let reply = seal_reply(alloc, bundle)?;
+    match round.phase() {
+        Phase::Solved => Ok((Some(Change::Sealed { round: number }), reply)),
+        _ => Ok((None, reply)),
+    }
+}
+
+/// Returns the reply of a seal: that of the bundle's text.
+fn seal_reply(alloc: Global, bundle: &Bundle) -> Result<Reply, AllocError>
+    ensures { IfOk result (λ reply. seen_reply reply ≡ one_line (line_of_seal bundle.now)) }
+{
+    let seal = bundle_seal(alloc, bundle)?;
+    line(alloc, b"seal", &[seal.as_bytes()])
+}
+
+/// Returns the seal of a bundle.
+fn bundle_seal(alloc: Global, bundle: &Bundle) -> Result<Name, AllocError>
+    ensures { IfOk result (λ seal. seal ≡ seal_of_bundle bundle.now) }
+{
+    let text = write_bundle(alloc, bundle.pool(), bundle.answer())?;
+    let seal = seal(alloc, &text)?;
+    Name::new(alloc, seal.as_str())
+}
+
+/// Decides a draw.
+pub fn draw_round(
+    alloc: Global,
+    tables: &Tables,
+    number: usize,
+    given: &str,
+    digits: &[u8],
+) -> Result<(Option<Change>, Reply), OfficeStop>
+    ensures { Says (draw_in tables.now number given.now digits.now (named_round tables.now.rounds number)) result }
+{
+    let Some(round) = round_named(tables, number) else {
+        return Err(OfficeStop::Refused(no_round(tables)));
+    };
+    tables.facts();
+    let Some(bundle) = round.bundle() else {
+        return Err(OfficeStop::Refused(Refusal::NotSealed { phase: Phase::Open }));
+    };
+    match round.phase() {
+        Phase::Sealed => new_draw(alloc, number, bundle, given, digits),
+        Phase::Drawn => same_draw(alloc, bundle, round.digits(), given, digits),
+        phase => Err(OfficeStop::Refused(Refusal::NotSealed { phase })),
+    }
+}
+
+/// Decides a draw from a sealed round.
+fn new_draw(
+    alloc: Global,
+    number: usize,
+    bundle: &Bundle,
+    given: &str,
+    digits: &[u8],
+) -> Result<(Option<Change>, Reply), OfficeStop>
+    requires { TotalAgrees bundle.now.answer.lottery }
+    ensures { Says (new_draw_of number bundle.now given.now digits.now
+        (draw_of bundle.now.answer.lottery (seal_of_bundle bundle.now) given.now digits.now)) result }
+{
+    bundle.facts();
+    let kept = bundle_seal(alloc, bundle)?;
+    match draw(alloc, bundle, kept.as_str(), given, digits) {
+        Ok(drawn) => {
+            let change = Change::Drawn {
+                round: number,
+                digits: Vec::from_slice(alloc, digits)?,
+            };
+            Ok((Some(change), drawn_reply(alloc, bundle, &drawn)?))
+        }
+        Err(stop) => Err(OfficeStop::Refused(draw_refusal(alloc, &stop)?)),
+    }
+}
+
+/// Decides a draw from a round that was drawn by the digits `thrown`: the seal is asked first, and then the digits.
+fn same_draw(
+    alloc: Global,
+    bundle: &Bundle,
+    thrown: &[u8],
+    given: &str,
+    digits: &[u8],
+) -> Result<(Option<Change>, Reply), OfficeStop>
+    requires agrees { TotalAgrees bundle.now.answer.lottery }
+    requires named { IsTrue (is_ok (name_ticket bundle.now.answer.lottery.total thrown.now)) }
+    ensures { Says (same_draw_of bundle.now thrown.now given.now digits.now) result }
+{
+    bundle.facts();
+    let kept = bundle_seal(alloc, bundle)?;
+    match draw(alloc, bundle, kept.as_str(), given, thrown) {
+        Ok(drawn) => {
+            if thrown == digits {
+                Ok((None, drawn_reply(alloc, bundle, &drawn)?))
+            } else {
+                Err(OfficeStop::Refused(Refusal::DrawDiffers {
+                    kept: Vec::from_slice(alloc, thrown)?,
+                }))
+            }
+        }
+        Err(stop) => Err(OfficeStop::Refused(draw_refusal(alloc, &stop)?)),
+    }
+}
+
+/// Decides a dropout.
+pub fn drop_member(
+    alloc: Global,
+    tables: &Tables,
+    number: usize,
+    id: &Name,
+) -> Result<(Option<Change>, Reply), OfficeStop>
+    ensures { Says (drop_in tables.now number id.now (named_round tables.now.rounds number)) result }
+{
+    let Some(round) = round_named(tables, number) else {
+        return Err(OfficeStop::Refused(no_round(tables)));
+    };
+    tables.facts();
+    drop_from(alloc, tables, number, round, id)
+}
+
+/// Decides a dropout from a round.
+fn drop_from(
+    alloc: Global,
+    tables: &Tables,
+    number: usize,
+    round: &Round,
+    id: &Name,
+) -> Result<(Option<Change>, Reply), OfficeStop>
+    requires { KeepsRound tables.now round.now }
+    ensures { Says (drop_in tables.now number id.now (Some round.now)) result }
+{
+    let Some(bundle) = round.bundle() else {
+        return Err(OfficeStop::Refused(Refusal::WrongPhase { phase: Phase::Open }));
+    };
+    if round.phase() != Phase::Drawn {
+        return Err(OfficeStop::Refused(Refusal::WrongPhase {
+            phase: round.phase(),
+        }));
+    }
+    if !is_drawn(alloc, bundle, round.digits(), id)? {
+        return Err(OfficeStop::Refused(Refusal::NotSeated { id: id.copy()? }));
+    }
+    if is_among(round.dropped(), id) {
+        return Ok((None, dropped_reply(alloc, number, id)?));
+    }
+    if number != tables.rounds().len() {
+        return Err(OfficeStop::Refused(Refusal::RoundClosed {
+            last: tables.rounds().len(),
+        }));
+    }
+    let change = Change::Dropped {
+        round: number,
+        id: id.copy()?,
+    };
+    Ok((Some(change), dropped_reply(alloc, number, id)?))
+}
+
+/// True if the digits draw a panel with this member.
+fn is_drawn(alloc: Global, bundle: &Bundle, digits: &[u8], id: &Name) -> Result<bool, AllocError>
+    requires { TotalAgrees bundle.now.answer.lottery }
+    ensures { IfOk result (λ is. is ≡ includes_list (drawn_ids bundle.now digits.now) id.now) }
+{
+    match drawn_by(alloc, bundle, digits)? {
+        Some(drawn) => Ok(is_member(bundle.pool(), &drawn.panel, id)),
+        None => Ok(false),
+    }
+}
+
+/// True if the id is among these.
+fn is_among(ids: &[Name], id: &Name) -> bool
+    ensures { result ≡ includes_list ids.now id.now }
+{
+    ids.iter().any(|one| id.as_bytes() == one.as_bytes())
+}
+
+/// Returns the reply that names a dropout.
+fn dropped_reply(alloc: Global, number: usize, id: &Name) -> Result<Reply, AllocError>
+    ensures { IfOk result (λ reply. seen_reply reply ≡ one_line (line_of_dropout number id.now)) }
+{
+    let mut digits = Buffer::new();
+    line(
+        alloc,
+        b"dropped",
+        &[digits.format(number).as_bytes(), id.as_bytes()],
+    )
+}

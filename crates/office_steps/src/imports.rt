@@ -1,0 +1,171 @@
+//! The imports of charter and rules.
+
+ghost use Rattle.std.specs.Prelude.{◌≡◌, ◌&&◌, ◌==◌, bytes_eq, codes};
+ghost use Rattle.std.specs.List.{list_all, zip};
+ghost use Rattle.define_pools.specs.Building.{value_names};
+ghost use Rattle.define_offices.specs.Deciding.{are_rules_kept as rules_are_kept, decide_charter, decide_rules, fit_rows as rows_fit, is_charter_kept as charter_is_kept};
+ghost use Rattle.define_offices.specs.Tables.{same_names as are_same_names, same_rules as are_same_rules, same_shape as are_of_one_shape, same_values as are_same_values};
+ghost use Rattle.define_offices.specs.Commands.{Refuses, RowDiffers};
+ghost use Rattle.office_steps.specs.Steps.{Says, Stops};
+
+use crate::lines::line;
+use crate::named::{is_enrolling, last_phase};
+use crate::replies::{Refusal, Reply};
+use crate::stops::OfficeStop;
+use office_tables::{Change, Charter, Entry, Rules, Tables};
+use pool_model::{BoundedValue, Category, Name};
+use std::alloc::Global;
+
+/// Decides a charter.
+pub fn set_charter(
+    alloc: Global,
+    tables: &Tables,
+    charter: &Charter,
+) -> Result<(Option<Change>, Reply), OfficeStop>
+    ensures { Says (decide_charter tables.now charter.now) result }
+{
+    if is_charter_kept(tables.charter(), charter) {
+        return Ok((None, line(alloc, b"charter", &[b"same"])?));
+    }
+    if !is_enrolling(tables.rounds()) {
+        return Err(OfficeStop::Refused(Refusal::WrongPhase {
+            phase: last_phase(tables.rounds()),
+        }));
+    }
+    let change = Change::Charter(charter.copy()?);
+    Ok((Some(change), line(alloc, b"charter", &[b"set"])?))
+}
+
+/// True if the charter is kept as it is given.
+fn is_charter_kept(kept: &Option<Charter>, charter: &Charter) -> bool
+    ensures { result ≡ charter_is_kept kept.now charter.now }
+{
+    match kept {
+        Some(kept) => {
+            kept.title().as_bytes() == charter.title().as_bytes() && kept.size() == charter.size()
+        }
+        None => false,
+    }
+}
+
+/// Decides rules.
+pub fn set_rules(
+    alloc: Global,
+    tables: &Tables,
+    rules: &Rules,
+) -> Result<(Option<Change>, Reply), OfficeStop>
+    ensures { Says (decide_rules tables.now rules.now) result }
+{
+    if are_rules_kept(tables.rules(), rules) {
+        return Ok((None, line(alloc, b"rules", &[b"same"])?));
+    }
+    if !is_enrolling(tables.rounds()) {
+        return Err(OfficeStop::Refused(Refusal::WrongPhase {
+            phase: last_phase(tables.rounds()),
+        }));
+    }
+    if !fit_rows(tables.register(), tables.rules(), rules) {
+        return Err(rules_differ(alloc));
+    }
+    let change = Change::Rules(rules.copy()?);
+    Ok((Some(change), line(alloc, b"rules", &[b"set"])?))
+}
+
+/// Returns the refusal of rows and rules that don't fit.
+pub(crate) fn rules_differ(alloc: Global) -> OfficeStop
+    ensures { Stops (Refuses (RowDiffers (codes "rules"))) result }
+{
+    match Name::new(alloc, "rules") {
+        Ok(what) => OfficeStop::Refused(Refusal::RowDiffers { what }),
+        Err(_) => OfficeStop::OutOfMemory,
+    }
+}
+
+/// True if the rules are kept as they are given.
+fn are_rules_kept(kept: &Option<Rules>, rules: &Rules) -> bool
+    ensures { result ≡ rules_are_kept kept.now rules.now }
+{
+    match kept {
+        Some(kept) => same_rules(kept.categories(), rules.categories()),
+        None => false,
+    }
+}
+
+/// True if no row is kept, or the rules that are kept have the same names in the same order.
+fn fit_rows(register: &[Entry], kept: &Option<Rules>, rules: &Rules) -> bool
+    ensures { result ≡ rows_fit register.now kept.now rules.now }
+{
+    if register.is_empty() {
+        return true;
+    }
+    match kept {
+        Some(kept) => same_shape(kept.categories(), rules.categories()),
+        None => false,
+    }
+}
+
+/// True if these are the same categories with the same bounds, in the same order.
+fn same_rules(one: &[Category], other: &[Category]) -> bool
+    ensures { result ≡ are_same_rules one.now other.now }
+{
+    one.len() == other.len() && rules_agree(one, other)
+}
+
+/// True if the categories of each place are the same.
+fn rules_agree(one: &[Category], other: &[Category]) -> bool
+    ensures { result ≡ list_all (λ pair. bytes_eq pair.0.name pair.1.name && are_same_values pair.0.values pair.1.values) (zip one.now other.now) }
+{
+    one.iter().zip(other).all(|(one, other)| {
+        one.name().as_bytes() == other.name().as_bytes()
+            && same_values(one.values(), other.values())
+    })
+}
+
+/// True if these are the same values with the same bounds, in the same order.
+fn same_values(one: &[BoundedValue], other: &[BoundedValue]) -> bool
+    ensures { result ≡ are_same_values one.now other.now }
+{
+    one.len() == other.len() && values_agree(one, other)
+}
+
+/// True if the values of each place are the same.
+fn values_agree(one: &[BoundedValue], other: &[BoundedValue]) -> bool
+    ensures { result ≡ list_all (λ pair. bytes_eq pair.0.name pair.1.name && (pair.0.lower == pair.1.lower) && (pair.0.upper == pair.1.upper)) (zip one.now other.now) }
+{
+    one.iter().zip(other).all(|(one, other)| {
+        one.name().as_bytes() == other.name().as_bytes()
+            && one.lower() == other.lower()
+            && one.upper() == other.upper()
+    })
+}
+
+/// True if these are the same names of categories and values in the same order, whatever the bounds.
+fn same_shape(one: &[Category], other: &[Category]) -> bool
+    ensures { result ≡ are_of_one_shape one.now other.now }
+{
+    one.len() == other.len() && shapes_agree(one, other)
+}
+
+/// True if the names of each place are the same.
+fn shapes_agree(one: &[Category], other: &[Category]) -> bool
+    ensures { result ≡ list_all (λ pair. bytes_eq pair.0.name pair.1.name && are_same_names (value_names pair.0.values) (value_names pair.1.values)) (zip one.now other.now) }
+{
+    one.iter().zip(other).all(|(one, other)| {
+        one.name().as_bytes() == other.name().as_bytes()
+            && have_same_names(one.values(), other.values())
+    })
+}
+
+/// True if these values have the same names, in the same order.
+fn have_same_names(one: &[BoundedValue], other: &[BoundedValue]) -> bool
+    ensures { result ≡ are_same_names (value_names one.now) (value_names other.now) }
+{
+    one.len() == other.len() && value_names_agree(one, other)
+}
+
+/// True if the values of each place have the same name.
+fn value_names_agree(one: &[BoundedValue], other: &[BoundedValue]) -> bool
+    ensures { result ≡ list_all (λ pair. bytes_eq pair.0.name pair.1.name) (zip one.now other.now) }
+{
+    one.iter().zip(other).all(|(one, other)| one.name().as_bytes() == other.name().as_bytes())
+}

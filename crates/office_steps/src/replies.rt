@@ -1,0 +1,94 @@
+//! What a command answers: a reply, or a refusal.
+
+use define_offices::{Part, Phase};
+use pool_model::Name;
+
+/// What a command replies.
+#[derive(Debug, Drop)]
+pub enum Reply {
+    /// The lines that are printed, as one text, each ended by LF. A withdrawal has none.
+    Lines(Vec<u8>),
+    /// The pool of the round has no quota panel.
+    NoPanel,
+}
+
+/// Why a command is refused by a rule of the office or of the draw.
+#[derive(Debug, Drop)]
+pub enum Refusal {
+    /// There is no round of this number.
+    NoRound {
+        /// The number of the last round.
+        last: usize,
+    },
+    /// A part is missing.
+    Incomplete {
+        /// The part.
+        what: Part,
+    },
+    /// The round, or for an import the last one, hasn't come far enough, or too far.
+    WrongPhase {
+        /// How far it has come.
+        phase: Phase,
+    },
+    /// A row differs from the one of its id that is kept, or rows and rules don't fit.
+    RowDiffers {
+        /// The row's id, or `rules`.
+        what: Name,
+    },
+    /// Another row has this key.
+    KeyTaken {
+        /// The id of that row.
+        id: Name,
+    },
+    /// The register is full.
+    RegisterFull {
+        /// How many rows it has.
+        rows: usize,
+    },
+    /// The round's seal wasn't told yet.
+    NotSealed {
+        /// How far the round has come.
+        phase: Phase,
+    },
+    /// The seal that was given isn't the one of the round's bundle.
+    SealDiffers {
+        /// The seal as it was given.
+        given: Name,
+        /// The seal of the bundle.
+        kept: Name,
+    },
+    /// The round was drawn by other digits.
+    DrawDiffers {
+        /// The digits that drew it.
+        kept: Vec<u8>,
+    },
+    /// A byte isn't one of the digits `0` to `9`.
+    BadDigit {
+        /// The place of the first such byte, from 1.
+        place: usize,
+    },
+    /// The digits name no ticket: more dice must be thrown.
+    MoreDigits {
+        /// How many digits were given.
+        read: usize,
+    },
+    /// The volunteer isn't in the drawn panel.
+    NotSeated {
+        /// The volunteer's id.
+        id: Name,
+    },
+    /// A later round has begun.
+    RoundClosed {
+        /// The number of the last round.
+        last: usize,
+    },
+    /// The proof is of another pool than the round's.
+    OtherPool {
+        /// The round's number.
+        round: usize,
+    },
+    /// No row of the register has this key.
+    UnknownKey,
+    /// The volunteer can't withdraw any more.
+    TooLate,
+}

@@ -1,0 +1,74 @@
+-- The facts of tables, from tests of their parts and back.
+use Rattle.std.proofs.Common.{◌≡◌, ◌↔◌, ℕ, zero, suc, Bool, true, ◌&&◌, leb, List, [], ◌∷◌, length, Option, Some, refl, subst}
+use Rattle.std.specs.List.{AllByRecursion, list_all}
+use Rattle.std.proofs.lemmas.Bool.{and_from, and_parts}
+use Rattle.define_pools.specs.Lists.{all_different}
+use Rattle.define_pools.specs.Pool.{Category}
+use Rattle.define_offices.specs.Facts.{AreRules, IsTables, KeepsRound, closed_but_last, entry_hashes, entry_ids, is_charter, is_entry, rows_fit}
+use Rattle.define_offices.specs.Tables.{Charter, Entry, Round, Tables, round_at}
+
+-- what a register keeps under rules
+abbrev pub is_register : Option (List Category) → List Entry → Bool
+is_register rules register =
+    leb (length register) 400 && list_all is_entry register && rows_fit rules register && all_different (entry_ids register) && all_different (entry_hashes register)
+
+round_keeps : (P : Round → Type 0) (rounds : List Round) (place : ℕ) (round : Round) → AllByRecursion P rounds → round_at rounds place ≡ Some round → P round
+round_keeps P [] place round each e = absurd cc
+round_keeps P (first ∷ rounds) zero round each e = let same : first ≡ round = cc in subst P same each.0
+round_keeps P (first ∷ rounds) (suc place) round each e = round_keeps P rounds place round each.1 e
+
+rounds_keep : (P : Round → Type 0) (rounds : List Round) → ((place : ℕ) (round : Round) → round_at rounds place ≡ Some round → P round) → AllByRecursion P rounds
+rounds_keep P [] each = tt
+rounds_keep P (first ∷ rounds) each = (each 0 first refl, rounds_keep P rounds (λ place round e. each (suc place) round e))
+
+-- the parts of a register's test
+record RegisterKeeps (rules : Option (List Category)) (register : List Entry) : Type 0 where
+  few : leb (length register) 400 ≡ true
+  rows : list_all is_entry register ≡ true
+  fit : rows_fit rules register ≡ true
+  different_ids : all_different (entry_ids register) ≡ true
+  different_keys : all_different (entry_hashes register) ≡ true
+
+register_keeps : (rules : Option (List Category)) (register : List Entry) → is_register rules register ≡ true → RegisterKeeps rules register
+register_keeps rules register h =
+    let A = leb (length register) 400 in let B = list_all is_entry register in let C = rows_fit rules register in
+    let D = all_different (entry_ids register) in let E = all_different (entry_hashes register) in
+    let four = and_parts (A && B && C && D) E h in
+    let three = and_parts (A && B && C) D four.0 in
+    let two = and_parts (A && B) C three.0 in
+    let one = and_parts A B two.0 in
+    record { few = one.0; rows = one.1; fit = two.1; different_ids = three.1; different_keys = four.1 }
+
+pub register_of_tables : (tables : Tables) → IsTables tables → is_register tables.rules tables.register ≡ true
+register_of_tables tables is =
+    let register = tables.register in
+    let A = leb (length register) 400 in let B = list_all is_entry register in let C = rows_fit tables.rules register in
+    let D = all_different (entry_ids register) in let E = all_different (entry_hashes register) in
+    and_from (A && B && C && D) E (and_from (A && B && C) D (and_from (A && B) C (and_from A B is.few_rows is.rows) is.fit) is.different_ids) is.different_keys
+
+rounds_of_tables : (tables : Tables) → IsTables tables → AllByRecursion (KeepsRound tables) tables.rounds
+rounds_of_tables tables is = rounds_keep (KeepsRound tables) tables.rounds is.rounds
+
+tables_of_parts : (tables : Tables) → ((charter : Charter) → tables.charter ≡ Some charter → is_charter charter ≡ true) →
+    ((rules : List Category) → tables.rules ≡ Some rules → AreRules rules) → is_register tables.rules tables.register ≡ true → closed_but_last tables.rounds ≡ true →
+    AllByRecursion (KeepsRound tables) tables.rounds → IsTables tables
+tables_of_parts tables charter rules register closed rounds =
+    let keeps = register_keeps tables.rules tables.register register in
+    record {
+      charter = charter;
+      rules = rules;
+      few_rows = keeps.few;
+      rows = keeps.rows;
+      fit = keeps.fit;
+      different_ids = keeps.different_ids;
+      different_keys = keeps.different_keys;
+      closed = closed;
+      rounds = λ place round e. round_keeps (KeepsRound tables) tables.rounds place round rounds e;
+    }
+
+-- where all other facts hold, the parts are tables exactly if each round keeps its facts
+pub left_to_rounds : (tables : Tables) (keep : Bool) → ((charter : Charter) → tables.charter ≡ Some charter → is_charter charter ≡ true) →
+    ((rules : List Category) → tables.rules ≡ Some rules → AreRules rules) → is_register tables.rules tables.register ≡ true → closed_but_last tables.rounds ≡ true →
+    (keep ≡ true ↔ AllByRecursion (KeepsRound tables) tables.rounds) → (keep ≡ true ↔ IsTables tables)
+left_to_rounds tables keep charter rules register closed rounds =
+    ((λ t. tables_of_parts tables charter rules register closed (rounds.0 t)), (λ is. rounds.1 (rounds_of_tables tables is)))

@@ -1,0 +1,4 @@
+mod ChangedPlaces
+mod DrawnPanels
+mod FactsOfTables
+mod KeptParts

@@ -1,0 +1,29 @@
+-- A change as a value of the program, and the change of the definitions that it is.
+use Rattle.define_offices.specs.Commands as office
+use Rattle.define_offices.specs.Steps.{drawn_by, dropped_out, seal_told, solved_with}
+use Rattle.define_offices.specs.Tables.{Round}
+use Rattle.office_tables.specs.declared.changes.Change.{Change}
+use Rattle.office_tables.specs.declared.changes.Change.TheVariants.{Charter, Rules, Added, Solved, Sealed, Drawn, Dropped, Next, Withdrawn}
+
+abbrev pub seen_change : Change → office.Change
+seen_change (Charter charter) = office.CharterSet charter
+seen_change (Rules rules) = office.RulesSet rules
+seen_change (Added entries) = office.Added entries.items
+seen_change (Solved round bundle) = office.SolvedWith round bundle
+seen_change (Sealed round) = office.SealTold round
+seen_change (Drawn round digits) = office.DrawnWith round digits.items
+seen_change (Dropped round id) = office.DroppedOut round id
+seen_change Next = office.Begun
+seen_change (Withdrawn place) = office.Withdrawn place
+
+-- a round after a change of it
+abbrev pub round_after : office.Change → Round → Round
+round_after (office.SolvedWith number bundle) round = solved_with bundle round
+round_after (office.SealTold number) round = seal_told round
+round_after (office.DrawnWith number digits) round = drawn_by digits round
+round_after (office.DroppedOut number id) round = dropped_out id round
+round_after (office.CharterSet charter) round = round
+round_after (office.RulesSet rules) round = round
+round_after (office.Added entries) round = round
+round_after office.Begun round = round
+round_after (office.Withdrawn place) round = round

@@ -1,0 +1,4 @@
+pub mod Parts
+pub mod Changes
+pub mod Drawn
+pub mod Seen

@@ -1,0 +1,39 @@
+-- A round by its parts, as callers give it and as a store keeps it.
+use Rattle.std.specs.Prelude.{ℕ, Bool, ◌&&◌, ◌==◌, List, [], length, Option, Some, None, is_some, is_none}
+use Rattle.define_bundles.specs.BundleText.{Bundle}
+use Rattle.define_offices.specs.declared.Phase.{Phase}
+use Rattle.define_offices.specs.declared.Phase.TheVariants as phase
+use Rattle.define_offices.specs.Tables.{Round, Open, Solved, Sealed, Drawn}
+
+-- the round of these parts; parts that don't fit are an open round
+abbrev pub round_of : Phase → Option Bundle → List ℕ → List (List ℕ) → Round
+round_of phase.Open bundle digits dropped = Open
+round_of phase.Solved (Some bundle) digits dropped = Solved bundle
+round_of phase.Solved None digits dropped = Open
+round_of phase.Sealed (Some bundle) digits dropped = Sealed bundle
+round_of phase.Sealed None digits dropped = Open
+round_of phase.Drawn (Some bundle) digits dropped = Drawn bundle digits dropped
+round_of phase.Drawn None digits dropped = Open
+
+abbrev pub is_nil : {A : Type 0} → List A → Bool
+is_nil xs = length xs == 0
+
+-- an open round has nothing, a later one has a bundle, and only one that was drawn has digits and dropouts
+abbrev pub parts_fit : Phase → Option Bundle → List ℕ → List (List ℕ) → Bool
+parts_fit phase.Open bundle digits dropped = is_none bundle && is_nil digits && is_nil dropped
+parts_fit phase.Solved bundle digits dropped = is_some bundle && is_nil digits && is_nil dropped
+parts_fit phase.Sealed bundle digits dropped = is_some bundle && is_nil digits && is_nil dropped
+parts_fit phase.Drawn bundle digits dropped = is_some bundle
+
+-- the digits and the dropouts of a round, which only one that was drawn has
+abbrev pub digits_of : Round → List ℕ
+digits_of Open = []
+digits_of (Solved bundle) = []
+digits_of (Sealed bundle) = []
+digits_of (Drawn bundle digits dropped) = digits
+
+abbrev pub dropped_of : Round → List (List ℕ)
+dropped_of Open = []
+dropped_of (Solved bundle) = []
+dropped_of (Sealed bundle) = []
+dropped_of (Drawn bundle digits dropped) = dropped

@@ -1,0 +1,179 @@
+//! The charter and the rules of an assembly.
+
+ghost use Rattle.std.specs.Prelude.{◌≡◌, nat_le, not, ◌&&◌, length, if◌then◌else◌, Some, None, IfOk, IsTrue};
+ghost use Rattle.std.specs.List.{list_all};
+ghost use Rattle.define_pools.specs.Pool.{is_size as is_panel_size};
+ghost use Rattle.define_offices.specs.Facts.{AreRules, are_rules as make_rules, is_charter, is_reserved as is_taken};
+
+use crate::names::is_name;
+use pool_model::{Category, Name, Pool};
+use std::alloc::{AllocError, Global};
+use std::marker::Model;
+
+/// The most members that a panel may have.
+const MAX_SIZE: usize = 200;
+
+/// What an assembly is called, and how many members its panel has, from 1 to 200. The title has the limits of a name.
+#[derive(Debug, Drop)]
+pub struct Charter {
+    title: Name,
+    size: usize,
+}
+
+impl Model for Charter {
+    ghost use Rattle.std.specs.Prelude.{IsTrue};
+    ghost use Rattle.define_offices.specs.Tables.{Charter as Seen};
+    ghost use Rattle.define_offices.specs.Facts.{is_charter};
+
+    ghost Value = { Seen };
+
+    ghost view = { λ c. record { title = c.title; size = c.size } };
+
+    ghost invariant = { λ c. IsTrue (is_charter (record { title = c.title; size = c.size })) };
+}
+
+impl Charter {
+    /// Returns the charter of this title and size, or None exactly if one of them is out of its limits.
+    pub fn new(title: Name, size: usize) -> Option<Charter>
+        ensures { result ≡ (if is_charter (record { title = title; size = size }) then Some (record { title = title; size = size }) else None) }
+    {
+        if is_name(title.as_str()) && is_size(size) {
+            Some(Charter { title, size })
+        } else {
+            None
+        }
+    }
+
+    /// What the assembly is called.
+    pub fn title(&self) -> &Name
+        ensures { result.now ≡ self.now.title }
+    {
+        &self.title
+    }
+
+    /// How many members a panel has.
+    pub fn size(&self) -> usize
+        ensures { result ≡ self.now.size }
+    {
+        self.size
+    }
+
+    /// Does nothing; its contract says what holds of each charter.
+    pub fn facts(&self)
+        ensures { IsTrue (is_charter self.now) }
+    {
+        let _title = &self.title;
+    }
+
+    /// Returns an equal charter.
+    pub fn copy(&self) -> Result<Charter, AllocError>
+        ensures { IfOk result (λ copied. copied ≡ self.now) }
+    {
+        Ok(Charter {
+            title: self.title.copy()?,
+            size: self.size,
+        })
+    }
+}
+
+/// True if a panel may have so many members.
+fn is_size(size: usize) -> bool
+    ensures { result ≡ is_panel_size size }
+{
+    1 <= size && size <= MAX_SIZE
+}
+
+/// The categories of an assembly with the bounds of their values: those of a pool, at least one, each with a value, and none named `id` or
+/// `key`, which are columns of a register.
+#[derive(Debug, Drop)]
+pub struct Rules {
+    categories: Vec<Category>,
+}
+
+impl Model for Rules {
+    ghost use Rattle.std.specs.Prelude.{List};
+    ghost use Rattle.define_pools.specs.Pool.{Category as SeenCategory};
+    ghost use Rattle.define_offices.specs.Facts.{AreRules};
+
+    ghost Value = { List SeenCategory };
+
+    ghost view = { λ r. r.categories.items };
+
+    ghost invariant = { λ r. AreRules r.categories.items };
+}
+
+impl Rules {
+    /// Returns the categories of a pool as rules, or None exactly if there is none, one has no value, or one is named `id` or `key`.
+    pub fn of_pool(alloc: Global, pool: &Pool) -> Result<Option<Rules>, AllocError>
+        ensures { IfOk result (λ rules. rules ≡ (if make_rules pool.now.categories then Some pool.now.categories else None)) }
+    {
+        pool.facts();
+        if !are_rules(pool.categories()) {
+            return Ok(None);
+        }
+        let categories = copied_categories(alloc, pool.categories())?;
+        Ok(Some(Rules { categories }))
+    }
+
+    /// The categories, in order.
+    pub fn categories(&self) -> &[Category]
+        ensures value { result.now ≡ self.now }
+        ensures rules { AreRules self.now }
+    {
+        &self.categories
+    }
+
+    /// Returns equal rules.
+    pub fn copy(&self) -> Result<Rules, AllocError>
+        ensures { IfOk result (λ copied. copied ≡ self.now) }
+    {
+        let categories = copied_categories(*self.categories.allocator(), &self.categories)?;
+        Ok(Rules { categories })
+    }
+}
+
+/// True if the categories of a pool may be rules.
+fn are_rules(categories: &[Category]) -> bool
+    ensures { result ≡ make_rules categories.now }
+{
+    1 <= categories.len() && have_values(categories) && have_free_names(categories)
+}
+
+/// True if each category has a value.
+fn have_values(categories: &[Category]) -> bool
+    ensures { result ≡ list_all (λ category. nat_le 1 (length category.values)) categories.now }
+{
+    categories
+        .iter()
+        .all(|category| 1 <= category.values().len())
+}
+
+/// True if no category has the name of a column.
+fn have_free_names(categories: &[Category]) -> bool
+    ensures { result ≡ list_all (λ category. not (is_taken category.name)) categories.now }
+{
+    categories
+        .iter()
+        .all(|category| !is_reserved(category.name().as_bytes()))
+}
+
+/// True for the names of the two columns that a register has beside its categories.
+fn is_reserved(name: &[u8]) -> bool
+    ensures { result ≡ is_taken name.now }
+{
+    name == b"id".as_slice() || name == b"key".as_slice()
+}
+
+/// Returns equal categories.
+pub fn copied_categories(
+    alloc: Global,
+    categories: &[Category],
+) -> Result<Vec<Category>, AllocError>
+    ensures { IfOk result (λ copies. copies.items ≡ categories.now) }
+{
+    let mut copies = Vec::new(alloc);
+    for category in categories {
+        copies.push(category.copy()?)?;
+    }
+    Ok(copies)
+}

@@ -1,0 +1,244 @@
+//! Whether parts keep the facts of tables.
+
+ghost use Rattle.std.specs.Prelude.{◌≡◌, ◌↔◌, ◌&&◌, nat_le, nat_lt, List, length, bytes_eq, IsTrue, Some, IfOk};
+ghost use Rattle.std.specs.List.{AllByRecursion, list_all, zip};
+ghost use Rattle.define_pools.specs.Building.{ids};
+ghost use Rattle.define_pools.specs.Lists.{all_different, includes_list};
+ghost use Rattle.define_pools.specs.Lottery.{TotalAgrees};
+ghost use Rattle.define_pools.specs.Pool.{Category as SeenCategory};
+ghost use Rattle.define_offices.specs.Deciding.{fits_rules};
+ghost use Rattle.define_offices.specs.Facts.{AreRules, IsTables, KeepsBundle, KeepsDraw, KeepsRound, closed_but_last as each_is_closed_but_last, entry_hashes, entry_ids, has_drop, is_charter, is_entry as keeps_limits, rows_fit as all_fit};
+ghost use Rattle.define_offices.specs.Lines.{member_ids};
+ghost use Rattle.define_offices.specs.Tables.{Charter as SeenCharter};
+ghost use Rattle.office_tables.specs.Seen.{seen_parts};
+
+use crate::charters::Rules;
+use crate::drawn::{drawn_by, is_member};
+use crate::kept_rounds::Round;
+use crate::names::{is_household, is_name};
+use crate::rows::Entry;
+use crate::tables::Parts;
+use bundle_text::Bundle;
+use define_offices::Phase;
+use pool_model::{Category, Name, Panel, Pool, Volunteer, are_named};
+use sealed_draw::total_agrees;
+use std::alloc::{AllocError, Global};
+
+/// The most rows that a register has.
+const MAX_ROWS: usize = 400;
+
+/// True if the parts keep all facts of tables.
+pub(crate) fn are_tables(alloc: Global, parts: &Parts) -> Result<bool, AllocError>
+    ensures { IfOk result (λ are. IsTrue are ↔ IsTables (seen_parts parts.now)) }
+{
+    charter_and_rules_keep(parts);
+    Ok(
+        is_register(&parts.register, &parts.rules)
+            && closed_but_last(&parts.rounds)
+            && rounds_keep(alloc, parts)?,
+    )
+}
+
+/// Does nothing; its contract says what holds of charter and rules, which keep their facts by themselves.
+fn charter_and_rules_keep(parts: &Parts)
+    ensures charter { (charter : SeenCharter) → parts.now.charter ≡ Some charter → IsTrue (is_charter charter) }
+    ensures rules { (rules : List SeenCategory) → parts.now.rules ≡ Some rules → AreRules rules }
+{
+    if let Some(charter) = &parts.charter {
+        charter.facts();
+    }
+    if let Some(rules) = &parts.rules {
+        let _categories = rules.categories();
+    }
+}
+
+/// True if the rows keep all facts of a register under these rules. Each id and each digest is compared with all behind it, which is fast
+/// enough at 400 rows.
+fn is_register(register: &[Entry], rules: &Option<Rules>) -> bool
+    ensures { result ≡ (nat_le (length register.now) 400 && list_all keeps_limits register.now && all_fit rules.now register.now
+        && all_different (entry_ids register.now) && all_different (entry_hashes register.now)) }
+{
+    register.len() <= MAX_ROWS
+        && are_entries(register)
+        && rows_fit(rules, register)
+        && ids_differ(register)
+        && hashes_differ(register)
+}
+
+/// True if the ids and households of all rows are names.
+fn are_entries(register: &[Entry]) -> bool
+    ensures { result ≡ list_all keeps_limits register.now }
+{
+    register.iter().all(|entry| is_entry(entry))
+}
+
+fn is_entry(entry: &Entry) -> bool
+    ensures { result ≡ keeps_limits entry.now }
+{
+    is_name(entry.id().as_str()) && is_household(entry.household())
+}
+
+/// True if there are no rows, or there are rules and each row has a value of each category.
+fn rows_fit(rules: &Option<Rules>, register: &[Entry]) -> bool
+    ensures { result ≡ all_fit rules.now register.now }
+{
+    match rules {
+        Some(rules) => have_values(rules.categories(), register),
+        None => register.is_empty(),
+    }
+}
+
+/// True if each row has just one value of each category.
+fn have_values(categories: &[Category], register: &[Entry]) -> bool
+    ensures { result ≡ list_all (λ entry. fits_rules categories.now entry.values) register.now }
+{
+    register
+        .iter()
+        .all(|entry| are_values(categories, entry.values()))
+}
+
+fn are_values(categories: &[Category], values: &[Name]) -> bool
+    ensures { result ≡ fits_rules categories.now values.now }
+{
+    values.len() == categories.len() && are_named(categories, values)
+}
+
+/// True if no id comes twice.
+fn ids_differ(register: &[Entry]) -> bool
+    ensures { result ≡ all_different (entry_ids register.now) }
+{
+    for (i, entry) in register.iter().enumerate() {
+        if has_id(&register[i + 1..], entry.id()) {
+            return false;
+        }
+    }
+    true
+}
+
+/// True if a row has this id.
+fn has_id(register: &[Entry], id: &Name) -> bool
+    ensures { result ≡ includes_list (entry_ids register.now) id.now }
+{
+    register
+        .iter()
+        .any(|entry| id.as_bytes() == entry.id().as_bytes())
+}
+
+/// True if no digest of a key comes twice.
+fn hashes_differ(register: &[Entry]) -> bool
+    ensures { result ≡ all_different (entry_hashes register.now) }
+{
+    for (i, entry) in register.iter().enumerate() {
+        if has_hash(&register[i + 1..], entry.hash()) {
+            return false;
+        }
+    }
+    true
+}
+
+/// True if a row has this digest of a key.
+fn has_hash(register: &[Entry], hash: &Name) -> bool
+    ensures { result ≡ includes_list (entry_hashes register.now) hash.now }
+{
+    register
+        .iter()
+        .any(|entry| hash.as_bytes() == entry.hash().as_bytes())
+}
+
+/// True if there is a round, and each but the last is drawn and has a dropout.
+fn closed_but_last(rounds: &[Round]) -> bool
+    ensures { result ≡ each_is_closed_but_last rounds.now }
+{
+    !rounds.is_empty() && have_drops(&rounds[..rounds.len() - 1])
+}
+
+fn have_drops(rounds: &[Round]) -> bool
+    ensures { result ≡ list_all has_drop rounds.now }
+{
+    rounds.iter().all(|round| round.has_drop())
+}
+
+/// True if each round keeps its facts beside the other parts.
+fn rounds_keep(alloc: Global, parts: &Parts) -> Result<bool, AllocError>
+    ensures { IfOk result (λ keep. IsTrue keep ↔ AllByRecursion (KeepsRound (seen_parts parts.now)) parts.now.rounds.items) }
+{
+    for round in &parts.rounds {
+        if !round_keeps(alloc, parts, round)? {
+            return Ok(false);
+        }
+    }
+    Ok(true)
+}
+
+/// True if a round keeps its facts beside the other parts.
+fn round_keeps(alloc: Global, parts: &Parts, round: &Round) -> Result<bool, AllocError>
+    ensures { IfOk result (λ keeps. IsTrue keeps ↔ KeepsRound (seen_parts parts.now) round.now) }
+{
+    match round.bundle() {
+        None => Ok(true),
+        Some(bundle) => {
+            if !bundle_keeps(parts, bundle) {
+                return Ok(false);
+            }
+            match round.phase() {
+                Phase::Drawn => draw_keeps(alloc, bundle, round.digits(), round.dropped()),
+                _ => Ok(true),
+            }
+        }
+    }
+}
+
+/// True if there are charter and rules, the weights of the bundle sum to its total, and its ids are those of the register, in order.
+fn bundle_keeps(parts: &Parts, bundle: &Bundle) -> bool
+    ensures { IsTrue result ↔ KeepsBundle (seen_parts parts.now) bundle.now }
+{
+    bundle.facts();
+    parts.charter.is_some()
+        && parts.rules.is_some()
+        && total_agrees(bundle)
+        && have_ids(bundle.pool().volunteers(), &parts.register)
+}
+
+/// True if the volunteers have the ids of the rows, in order.
+fn have_ids(volunteers: &[Volunteer], register: &[Entry]) -> bool
+    ensures { IsTrue result ↔ (ids volunteers.now ≡ entry_ids register.now) }
+{
+    volunteers.len() == register.len() && ids_agree(volunteers, register)
+}
+
+/// True if the ids are equal as far as both lists go.
+fn ids_agree(volunteers: &[Volunteer], register: &[Entry]) -> bool
+    ensures { result ≡ list_all (λ pair. bytes_eq pair.0.id pair.1.id) (zip volunteers.now register.now) }
+{
+    volunteers.iter().zip(register).all(|(volunteer, entry)| volunteer.id().as_bytes()
+        == entry.id().as_bytes())
+}
+
+/// True if the digits name a ticket of the bundle, and those who dropped out are from the panel of that ticket.
+fn draw_keeps(
+    alloc: Global,
+    bundle: &Bundle,
+    digits: &[u8],
+    dropped: &[Name],
+) -> Result<bool, AllocError>
+    requires { TotalAgrees bundle.now.answer.lottery }
+    ensures { IfOk result (λ keeps. IsTrue keeps ↔ KeepsDraw bundle.now digits.now dropped.now) }
+{
+    match drawn_by(alloc, bundle, digits)? {
+        Some(drawn) => Ok(are_members(bundle.pool(), &drawn.panel, dropped)),
+        None => Ok(false),
+    }
+}
+
+/// True if each id is that of a member of the panel.
+fn are_members(pool: &Pool, panel: &Panel, ids: &[Name]) -> bool
+    requires { IsTrue (list_all (λ i. nat_lt i (length pool.now.volunteers)) panel.now) }
+    ensures { result ≡ list_all (includes_list (member_ids pool.now panel.now)) ids.now }
+{
+    for id in ids {
+        if !is_member(pool, panel, id) {
+            return false;
+        }
+    }
+    true
+}

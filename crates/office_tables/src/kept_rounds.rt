@@ -1,0 +1,236 @@
+//! Rounds: how far each has come, and what it keeps.
+
+ghost use Rattle.std.specs.Prelude.{◌≡◌, ◌++◌, [], ◌∷◌, if◌then◌else◌, IfOk, Some, None};
+ghost use Rattle.define_offices.specs.Facts.{has_drop};
+ghost use Rattle.define_offices.specs.Steps.{drawn_by, dropped_out, seal_told, solved_with};
+ghost use Rattle.define_offices.specs.Tables.{Open, bundle_of, phase_of};
+ghost use Rattle.office_tables.specs.Parts.{digits_of, dropped_of, parts_fit, round_of};
+
+use crate::names::copied_names;
+use bundle_text::Bundle;
+use define_offices::Phase;
+use pool_model::Name;
+use std::alloc::{AllocError, Global};
+use std::marker::Model;
+
+/// A round. An open one has nothing; from `Solved` on it has a bundle; one that was drawn has the digits of the dice, and the ids of those who
+/// dropped out since.
+#[derive(Debug, Drop)]
+pub struct Round {
+    phase: Phase,
+    bundle: Option<Bundle>,
+    digits: Vec<u8>,
+    dropped: Vec<Name>,
+}
+
+impl Model for Round {
+    ghost use Rattle.std.specs.Prelude.{IsTrue};
+    ghost use Rattle.define_offices.specs.Tables.{Round as Seen};
+    ghost use Rattle.office_tables.specs.Parts.{parts_fit, round_of};
+
+    ghost Value = { Seen };
+
+    ghost view = { λ r. round_of r.phase r.bundle r.digits.items r.dropped.items };
+
+    ghost invariant = { λ r. IsTrue (parts_fit r.phase r.bundle r.digits.items r.dropped.items) };
+}
+
+impl Round {
+    /// Returns an open round.
+    pub fn open(alloc: Global) -> Round
+        ensures { result ≡ Open }
+    {
+        Round {
+            phase: Phase::Open,
+            bundle: None,
+            digits: Vec::new(alloc),
+            dropped: Vec::new(alloc),
+        }
+    }
+
+    /// Returns the round of these parts, or None exactly if they don't fit: an open round has no bundle, a later one has one, and only one that
+    /// was drawn has digits and dropouts.
+    pub fn from_parts(
+        phase: Phase,
+        bundle: Option<Bundle>,
+        digits: Vec<u8>,
+        dropped: Vec<Name>,
+    ) -> Option<Round>
+        ensures { result ≡ (if parts_fit phase bundle digits.items dropped.items then Some (round_of phase bundle digits.items dropped.items) else None) }
+    {
+        if !fit(phase, &bundle, &digits, &dropped) {
+            return None;
+        }
+        Some(Round {
+            phase,
+            bundle,
+            digits,
+            dropped,
+        })
+    }
+
+    /// How far the round has come.
+    pub fn phase(&self) -> Phase
+        ensures { result ≡ phase_of self.now }
+    {
+        self.phase
+    }
+
+    /// The bundle that the round keeps, if it is past `Open`.
+    pub fn bundle(&self) -> &Option<Bundle>
+        ensures { result.now ≡ bundle_of self.now }
+    {
+        &self.bundle
+    }
+
+    /// The digits of the dice; none before the round was drawn.
+    pub fn digits(&self) -> &[u8]
+        ensures { result.now ≡ digits_of self.now }
+    {
+        &self.digits
+    }
+
+    /// The ids of those who dropped out after the draw, in the order in which they did.
+    pub fn dropped(&self) -> &[Name]
+        ensures { result.now ≡ dropped_of self.now }
+    {
+        &self.dropped
+    }
+
+    /// True if somebody dropped out after the draw.
+    pub fn has_drop(&self) -> bool
+        ensures { result ≡ has_drop self.now }
+    {
+        match self.phase {
+            Phase::Drawn => !self.dropped.is_empty(),
+            _ => false,
+        }
+    }
+
+    /// Returns an equal round.
+    pub fn copy(&self) -> Result<Round, AllocError>
+        ensures { IfOk result (λ copied. copied ≡ self.now) }
+    {
+        let alloc = *self.digits.allocator();
+        Ok(Round {
+            phase: self.phase,
+            bundle: copied_bundle(&self.bundle)?,
+            digits: Vec::from_slice(alloc, &self.digits)?,
+            dropped: copied_names(alloc, &self.dropped)?,
+        })
+    }
+
+    /// Returns the round with this bundle if it is open, else an equal one.
+    pub(crate) fn copy_solved(&self, bundle: &Bundle) -> Result<Round, AllocError>
+        ensures { IfOk result (λ copied. copied ≡ solved_with bundle.now self.now) }
+    {
+        match self.phase {
+            Phase::Open => {
+                let alloc = *self.digits.allocator();
+                Ok(Round {
+                    phase: Phase::Solved,
+                    bundle: Some(bundle.copy()?),
+                    digits: Vec::new(alloc),
+                    dropped: Vec::new(alloc),
+                })
+            }
+            _ => self.copy(),
+        }
+    }
+
+    /// Returns the round as sealed if it is solved, else an equal one.
+    pub(crate) fn copy_sealed(&self) -> Result<Round, AllocError>
+        ensures { IfOk result (λ copied. copied ≡ seal_told self.now) }
+    {
+        match self.phase {
+            Phase::Solved => {
+                let alloc = *self.digits.allocator();
+                Ok(Round {
+                    phase: Phase::Sealed,
+                    bundle: copied_bundle(&self.bundle)?,
+                    digits: Vec::new(alloc),
+                    dropped: Vec::new(alloc),
+                })
+            }
+            _ => self.copy(),
+        }
+    }
+
+    /// Returns the round as drawn by these digits if it is sealed, else an equal one.
+    pub(crate) fn copy_drawn(&self, digits: &[u8]) -> Result<Round, AllocError>
+        ensures { IfOk result (λ copied. copied ≡ drawn_by digits.now self.now) }
+    {
+        match self.phase {
+            Phase::Sealed => {
+                let alloc = *self.digits.allocator();
+                Ok(Round {
+                    phase: Phase::Drawn,
+                    bundle: copied_bundle(&self.bundle)?,
+                    digits: Vec::from_slice(alloc, digits)?,
+                    dropped: Vec::new(alloc),
+                })
+            }
+            _ => self.copy(),
+        }
+    }
+
+    /// Returns the round with one more dropout if it was drawn, else an equal one.
+    pub(crate) fn copy_dropped(&self, id: &Name) -> Result<Round, AllocError>
+        ensures { IfOk result (λ copied. copied ≡ dropped_out id.now self.now) }
+    {
+        match self.phase {
+            Phase::Drawn => {
+                let alloc = *self.digits.allocator();
+                Ok(Round {
+                    phase: Phase::Drawn,
+                    bundle: copied_bundle(&self.bundle)?,
+                    digits: Vec::from_slice(alloc, &self.digits)?,
+                    dropped: with_one_more(alloc, &self.dropped, id)?,
+                })
+            }
+            _ => self.copy(),
+        }
+    }
+}
+
+/// True if these are the parts of a round.
+fn fit(phase: Phase, bundle: &Option<Bundle>, digits: &[u8], dropped: &[Name]) -> bool
+    ensures { result ≡ parts_fit phase bundle.now digits.now dropped.now }
+{
+    match phase {
+        Phase::Open => bundle.is_none() && digits.is_empty() && dropped.is_empty(),
+        Phase::Solved => bundle.is_some() && digits.is_empty() && dropped.is_empty(),
+        Phase::Sealed => bundle.is_some() && digits.is_empty() && dropped.is_empty(),
+        Phase::Drawn => bundle.is_some(),
+    }
+}
+
+/// Returns an equal bundle, or None if there is none.
+fn copied_bundle(bundle: &Option<Bundle>) -> Result<Option<Bundle>, AllocError>
+    ensures { IfOk result (λ copied. copied ≡ bundle.now) }
+{
+    match bundle {
+        Some(bundle) => Ok(Some(bundle.copy()?)),
+        None => Ok(None),
+    }
+}
+
+/// Returns the names and one more at their end.
+fn with_one_more(alloc: Global, names: &[Name], last: &Name) -> Result<Vec<Name>, AllocError>
+    ensures { IfOk result (λ all. all.items ≡ names.now ++ last.now ∷ []) }
+{
+    let mut all = copied_names(alloc, names)?;
+    all.push(last.copy()?)?;
+    Ok(all)
+}
+
+/// Returns equal rounds.
+pub(crate) fn copied_rounds(alloc: Global, rounds: &[Round]) -> Result<Vec<Round>, AllocError>
+    ensures { IfOk result (λ copies. copies.items ≡ rounds.now) }
+{
+    let mut copies = Vec::new(alloc);
+    for round in rounds {
+        copies.push(round.copy()?)?;
+    }
+    Ok(copies)
+}

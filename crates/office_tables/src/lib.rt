@@ -1,0 +1,23 @@
+//! The tables of an office as values: charter, rules, rows of the register and rounds, and how a change changes them. Contracts see them as
+//! the tables of `define_offices`, whose facts they keep at every moment. Stands on `pool_model`, `bundle_text` and `sealed_draw`.
+//! `office_core` stands on it.
+//!
+//! Promises: `tables_of` returns tables exactly of parts that keep the facts, and `apply` exactly the changed tables.
+#![tactic(auto)]
+
+mod changes;
+mod charters;
+mod checking;
+mod drawn;
+mod kept_rounds;
+mod names;
+mod rows;
+mod tables;
+
+pub use changes::{Change, apply};
+pub use charters::{Charter, Rules, copied_categories};
+pub use define_offices::{Part, Phase};
+pub use drawn::{drawn_by, is_member};
+pub use kept_rounds::Round;
+pub use rows::{Entry, Given, Rows};
+pub use tables::{Parts, Tables, tables_of};

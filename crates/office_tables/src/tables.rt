@@ -1,0 +1,164 @@
+//! The tables of an office.
+
+ghost use Rattle.std.specs.Prelude.{◌≡◌, IfOk};
+ghost use Rattle.define_offices.specs.Facts.{IsTables};
+ghost use Rattle.define_offices.specs.Tables.{first_tables};
+ghost use Rattle.office_tables.specs.Seen.{TellsTables, seen_parts};
+
+use crate::charters::{Charter, Rules};
+use crate::checking::are_tables;
+use crate::kept_rounds::{Round, copied_rounds};
+use crate::rows::{Entry, copied_entries};
+use std::alloc::{AllocError, Global};
+use std::marker::Model;
+
+/// The parts of tables.
+#[derive(Debug, Drop)]
+pub struct Parts {
+    /// What the assembly is called, and the size of its panels.
+    pub charter: Option<Charter>,
+    /// The categories with their bounds.
+    pub rules: Option<Rules>,
+    /// The rows of the register, in order.
+    pub register: Vec<Entry>,
+    /// The rounds, numbered from 1.
+    pub rounds: Vec<Round>,
+}
+
+/// The tables of an office. They keep the facts of tables at every moment: see `tables_of`.
+#[derive(Debug, Drop)]
+pub struct Tables {
+    parts: Parts,
+}
+
+impl Model for Tables {
+    ghost use Rattle.define_offices.specs.Tables.{Tables as Seen};
+    ghost use Rattle.define_offices.specs.Facts.{IsTables};
+    ghost use Rattle.office_tables.specs.Seen.{seen_parts};
+
+    ghost Value = { Seen };
+
+    ghost view = { λ t. seen_parts t.parts };
+
+    ghost invariant = { λ t. IsTables (seen_parts t.parts) };
+}
+
+impl Tables {
+    /// Returns the first tables: round 1 is open, and there is nothing else.
+    pub fn first(alloc: Global) -> Result<Tables, AllocError>
+        ensures { IfOk result (λ tables. tables ≡ first_tables) }
+    {
+        let mut rounds = Vec::new(alloc);
+        rounds.push(Round::open(alloc))?;
+        let parts = Parts {
+            charter: None,
+            rules: None,
+            register: Vec::new(alloc),
+            rounds,
+        };
+        Ok(Tables::from_parts(parts))
+    }
+
+    /// Returns the tables of parts that keep the facts.
+    pub(crate) fn from_parts(parts: Parts) -> Tables
+        requires { IsTables (seen_parts parts) }
+        ensures { result ≡ seen_parts parts }
+    {
+        Tables { parts }
+    }
+
+    /// Does nothing; its contract says what holds of all tables.
+    pub fn facts(&self)
+        ensures { IsTables self.now }
+    {
+        let _parts = &self.parts;
+    }
+
+    /// What the assembly is called, and the size of its panels, if it is known.
+    pub fn charter(&self) -> &Option<Charter>
+        ensures { result.now ≡ self.now.charter }
+    {
+        &self.parts.charter
+    }
+
+    /// The categories with their bounds, if they are known.
+    pub fn rules(&self) -> &Option<Rules>
+        ensures { result.now ≡ self.now.rules }
+    {
+        &self.parts.rules
+    }
+
+    /// The rows of the register, in order.
+    pub fn register(&self) -> &[Entry]
+        ensures { result.now ≡ self.now.register }
+    {
+        &self.parts.register
+    }
+
+    /// The rounds, numbered from 1: the first has number 1.
+    pub fn rounds(&self) -> &[Round]
+        ensures { result.now ≡ self.now.rounds }
+    {
+        &self.parts.rounds
+    }
+
+    /// Returns equal tables.
+    pub fn copy(&self) -> Result<Tables, AllocError>
+        ensures { IfOk result (λ copied. copied ≡ self.now) }
+    {
+        Ok(Tables {
+            parts: copied_parts(&self.parts)?,
+        })
+    }
+}
+
+/// Returns equal parts.
+fn copied_parts(parts: &Parts) -> Result<Parts, AllocError>
+    ensures { IfOk result (λ copied. seen_parts copied ≡ seen_parts parts.now) }
+{
+    let alloc = *parts.rounds.allocator();
+    Ok(Parts {
+        charter: copied_charter(&parts.charter)?,
+        rules: copied_rules(&parts.rules)?,
+        register: copied_entries(alloc, &parts.register)?,
+        rounds: copied_rounds(alloc, &parts.rounds)?,
+    })
+}
+
+/// Returns an equal charter, or None if there is none.
+pub(crate) fn copied_charter(charter: &Option<Charter>) -> Result<Option<Charter>, AllocError>
+    ensures { IfOk result (λ copied. copied ≡ charter.now) }
+{
+    match charter {
+        Some(charter) => Ok(Some(charter.copy()?)),
+        None => Ok(None),
+    }
+}
+
+/// Returns equal rules, or None if there are none.
+pub(crate) fn copied_rules(rules: &Option<Rules>) -> Result<Option<Rules>, AllocError>
+    ensures { IfOk result (λ copied. copied ≡ rules.now) }
+{
+    match rules {
+        Some(rules) => Ok(Some(rules.copy()?)),
+        None => Ok(None),
+    }
+}
+
+/// Returns the tables of these parts, or None exactly if they don't keep a fact of tables:
+///
+/// - At most 400 rows, whose ids and households are names. Ids are different, and so are the digests of keys. Rows are there only with rules,
+///   and each has the name of one value of each category.
+/// - At least one round; each but the last is drawn and has a dropout.
+/// - With a round past `Open` there are charter and rules; the weights of its bundle sum to the total, and the ids of the bundle's pool are those of
+///   the register, in order.
+/// - The digits of a round that was drawn name a ticket, and its dropouts are from the panel of that ticket.
+pub fn tables_of(alloc: Global, parts: Parts) -> Result<Option<Tables>, AllocError>
+    ensures { TellsTables (seen_parts parts) result }
+{
+    if are_tables(alloc, &parts)? {
+        Ok(Some(Tables::from_parts(parts)))
+    } else {
+        Ok(None)
+    }
+}
