@@ -54,7 +54,7 @@ map-take_more f (x ∷ xs) (suc k) d l = ap (λ rest. f x ∷ rest) (map-take_mo
 
 -- ---- weights
 
--- the weight of one place times `places` is at most the total
+-- bounds: `den * places` is at most the total; and so is the weight of one place, `num * (total / (den * places))`, also times `places`
 pub record PlaceWeight (num den places total : ℕ) : Type 0 where
   pub product : den * places ≤ total
   pub whole : places * (num * (total / (den * places))) ≤ total
@@ -70,7 +70,7 @@ place_weighs num den places total over has some h share =
     let one : 1 * (num * unit) ≤ places * (num * unit) = mul-le-mul_right (num * unit) has in
     record { product = le_of_dvd some h; whole = all; small = omega arith }
 
--- the rows of the arcs are those of the composition
+-- the rows made arc by arc are the definition's rows of the composition
 pub rows_are : (all : Classes) (counts : List ℕ) (fraction : Fraction) (total place_weight : ℕ) → fraction.den * dial all counts ∣ total → place_weight ≡ fraction.num * (total / (fraction.den * dial all counts)) →
     map (arc_row all counts place_weight) (arcs all counts) ≡ rows_of all total (counts, fraction)
 rows_are all counts fraction total place_weight h e =
@@ -91,11 +91,11 @@ arc_of all counts xs places k e f l =
     let below = each_map (Cut all counts) (λ x. x < dial all counts) (λ x cut. cut.0) (cuts all counts) (cuts_are all counts) in
     arc_at places xs k up (subst (λ zs. AllByRecursion (λ x. x < places) zs) (sym e) (subst (λ n. AllByRecursion (λ x. x < n) (cuts all counts)) (sym f) below)) l
 
--- an arc weighs at most the whole dial
+-- if the whole dial weighs at most `limit`, so does an arc
 pub arc_weighs : (places at next place_weight limit : ℕ) → next ≤ places → places * place_weight ≤ limit → (next - at) * place_weight ≤ limit
 arc_weighs places at next place_weight limit l whole = let less : (next - at) * place_weight ≤ places * place_weight = mul-le-mul_right {m = next - at} {n = places} place_weight (omega arith) in omega arith
 
--- the next row is pushed
+-- if the rows so far are those of the first `k` arcs, pushing the row of arc `k` makes them those of the first `k + 1`
 pub row_added : (all : Classes) (counts xs : List ℕ) (places k place_weight next : ℕ) (rows before : List LotteryRow) (row : LotteryRow) (panel : List ℕ) (weight : ℕ) → xs ≡ cuts all counts → places ≡ dial all counts → k < length xs →
     panel ≡ panel_at all counts (get_or xs k 0) → next ≡ slice_index_or xs (k + 1) places → weight ≡ (next - get_or xs k 0) * place_weight → row ≡ (let made : LotteryRow = record { panel = panel; weight = weight } in made) →
     rows ≡ before ++ map (arc_row all counts place_weight) (take k (arcs all counts)) → rows ++ row ∷ [] ≡ before ++ map (arc_row all counts place_weight) (take (k + 1) (arcs all counts))

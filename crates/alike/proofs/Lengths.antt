@@ -8,7 +8,7 @@ use Rattle.frac128.specs.Divisors.{lcm_of, IsLeastCommonMultiple}
 use Rattle.frac128.proofs.DivisorLaws.{IsLeastCommonMultiple-lcm_of}
 use Rattle.define_spreads.proofs.CommonTotals.{lcm_of-positive}
 
--- both numbers are at most their least common multiple
+-- two numbers above 0 are at most their least common multiple
 pub lcm_of-beyond : (x y : ℕ) → 0 < x → 0 < y → (x ≤ lcm_of x y) × (y ≤ lcm_of x y)
 unfolding IsLeastCommonMultiple
 lcm_of-beyond x y some more =
@@ -26,7 +26,8 @@ fold-beyond a (x ∷ xs) some each =
 pub fold-positive : (a : ℕ) (xs : List ℕ) → 0 < a → AllByRecursion (λ x. 0 < x) xs → 0 < fold lcm_of a xs
 fold-positive a xs some each = let beyond = fold-beyond a xs some each in omega arith
 
--- the dial's length with the next size
+-- if `size` is the size at `k`, the least common multiple of `places` and the sizes from `k` on is that of `lcm_of places size` and the
+-- sizes after `k`
 pub fold-next : (places : ℕ) (sizes : List ℕ) (k size : ℕ) → k < length sizes → size ≡ get_or sizes k size → fold lcm_of places (drop k sizes) ≡ fold lcm_of (lcm_of places size) (drop (suc k) sizes)
 fold-next places sizes k size within at =
     let cut : drop k sizes ≡ size ∷ drop (suc k) sizes = drop-cons sizes k size within ∙ ap (λ s. s ∷ drop (suc k) sizes) (sym at) in
@@ -53,7 +54,7 @@ product_passes den places limit some high =
     let more : places * (limit / places + 1) ≤ places * den = mul-le-mul_left {m = limit / places + 1} {n = den} places (omega arith) in
     omega (arith, beyond, more)
 
--- if `places` or `den * places` is above the limit, so is the least common multiple of a total with the product
+-- if `places` or `den * places` is above the limit, so is the least common multiple of `total` and `den * places`
 pub next_passes : (total den places limit : ℕ) → 0 < total → 0 < den → 0 < places → (limit < places) ⊎ (limit < den * places) → lcm_of total (den * places) ≤ limit → ⊥
 next_passes total den places limit some over has high low =
     let beyond = (lcm_of-beyond total (den * places) some (mul-pos over has)).1 in

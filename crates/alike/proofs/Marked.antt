@@ -1,4 +1,4 @@
--- Marks at volunteers' numbers, and the list of the numbers that are marked.
+-- A window of members is marked in two pieces: up to the end of the members, then on from their beginning.
 use Rattle.std.proofs.Common.{◌≡◌, ℕ, ◌+◌, ◌-◌, ◌≤◌, ◌<◌, Bool, false, ◌||◌, List, ◌++◌, take, drop, length, slice_index_or, sym, ap, ◌∙◌, ⊎_elim, arith, min}
 use Rattle.std.proofs.lemmas.Bool.{cases_lt}
 use Rattle.std.proofs.lemmas.List.{take-append-le, take_all, append-nil}
@@ -9,11 +9,9 @@ use Rattle.alike.specs.Steps.{AreMarked}
 use Rattle.define_spreads.specs.Spreading.{turned}
 use Rattle.define_spreads.proofs.Cuts.{includes-append}
 
--- ---- the numbers that pass
-
 -- ---- windows in two pieces
 
--- the first `c` of two lists, one after the other
+-- the first `c` elements of `xs ++ ys` are the first ones of `xs`, and then, if these are fewer than `c`, the first ones of `ys`
 take-both : (c : ℕ) (xs ys : List ℕ) → take c (xs ++ ys) ≡ take (min c (length xs)) xs ++ take (min (length ys) (c - min c (length xs))) ys
 take-both c xs ys = ⊎_elim beyond within (cases_lt (length xs) c)
   where
@@ -36,7 +34,7 @@ take-both c xs ys = ⊎_elim beyond within (cases_lt (length xs) c)
         ∙ ap (λ zs. zs ++ take (c - length xs) ys) (sym (take_all (length xs) xs (omega arith)))
         ∙ ap (λ zs. take (length xs) xs ++ zs) (sym (cut (c - length xs) ys)))
 
--- marking a window in two pieces, up to the end of the members and from their beginning
+-- if the first piece of a window, up to the end of the members, is marked, and then the second, from their beginning, the window is marked
 pub window_marked : (before mid after : List Bool) (start count : ℕ) (members first second : List ℕ) → first ≡ take (min count (length (drop start members))) (drop start members) →
     second ≡ take (min (length (take start members)) (count - min count (length (drop start members)))) (take start members) →
     AreMarked before mid (includes first) → AreMarked mid after (includes second) → AreMarked before after (includes (turned start count members))

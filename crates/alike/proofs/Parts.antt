@@ -11,7 +11,7 @@ use Rattle.define_searches.specs.Classes.{Class, Classes}
 use Rattle.define_spreads.specs.Spreading.{dial, is_given, is_partly_taken, partly_taken, turned}
 use Rattle.define_spreads.proofs.Dials.{Divided, IsPartly, divided_dial, each_partly}
 
--- the sizes with the next class
+-- `partly_taken` of the first `k + 1` classes is that of the first `k`, and then the size of class `k` if it is taken in part
 pub partly-more : (classes : List Class) (counts : List ℕ) (k : ℕ) (class : Class) (count : ℕ) → k < length classes → k < length counts → class ≡ get_or classes k class → count ≡ get_or counts k count →
     partly_taken (take (suc k) classes) (take (suc k) counts) ≡ partly_taken (take k classes) (take k counts) ++ cond (is_partly_taken class count) (length class.members ∷ []) []
 partly-more [] counts k class count l m e f = absurd (omega arith)
@@ -31,7 +31,7 @@ partly-more (x ∷ classes) (c ∷ counts) (suc k) class count l m e f =
       | false ↦ rest
     ]
 
--- after the last class, these are the sizes of all classes
+-- if `k` is past the last class or the last count, the sizes so far are those of all classes
 pub partly-whole : (classes : List Class) (counts : List ℕ) (k : ℕ) → (length classes ≤ k) ⊎ (length counts ≤ k) → partly_taken (take k classes) (take k counts) ≡ partly_taken classes counts
 partly-whole [] counts zero l = refl
 partly-whole [] counts (suc k) l = refl
@@ -42,7 +42,7 @@ partly-whole (x ∷ classes) (c ∷ counts) zero (inr l) = absurd (omega arith)
 partly-whole (x ∷ classes) (c ∷ counts) (suc k) (inl l) = ap (λ zs. cond (is_partly_taken x c) (length x.members ∷ []) [] ++ zs) (partly-whole classes counts k (inl (omega arith)))
 partly-whole (x ∷ classes) (c ∷ counts) (suc k) (inr l) = ap (λ zs. cond (is_partly_taken x c) (length x.members ∷ []) [] ++ zs) (partly-whole classes counts k (inr (omega arith)))
 
--- the volunteers given by the first `k + 1` classes are those of the first `k` and those of class `k`
+-- the volunteers given by the first `k + 1` classes are those given by the first `k` and those given by class `k`
 pub given-more : (len at : ℕ) (classes : List Class) (counts : List ℕ) (k : ℕ) (class : Class) (count i : ℕ) → k < length classes → k < length counts → class ≡ get_or classes k class → count ≡ get_or counts k count →
     is_given len at (take (suc k) classes) (take (suc k) counts) i ≡ (is_given len at (take k classes) (take k counts) i || includes (turned (at * length class.members / len) count class.members) i)
 given-more len at [] counts k class count i l m e f = absurd (omega arith)

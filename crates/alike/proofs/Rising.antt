@@ -13,7 +13,7 @@ use Rattle.define_pools.proofs.Increasing.{is_increasing-from_neighbours}
 use Rattle.define_spreads.specs.Spreading.{once_each}
 use Rattle.define_spreads.proofs.Cuts.{once_increases, includes-once_rising}
 
--- a number below all numbers of a list is not in the list
+-- if `x` is below all numbers of a list and `z` is at most `x`, then `z` is not in the list
 none_above : (x z : ℕ) (xs : List ℕ) → list_all (λ y. ltb x y) xs ≡ true → z ≤ x → includes xs z ≡ false
 none_above x z [] h l = refl
 none_above x z (y ∷ xs) h l =
@@ -73,7 +73,7 @@ same_includes xs ys f g z = ⊎_elim
     (λ (h : includes xs z ≡ false). ⊎_elim (λ (k : includes ys z ≡ true). absurd (false≢true (sym h ∙ included xs z (g z (contained ys z k))))) (λ (k : includes ys z ≡ false). h ∙ sym k) (cases_Bool (includes ys z)))
     (cases_Bool (includes xs z))
 
--- the marks sorted, and each kept once, are the cuts
+-- sorting the marks and dropping repeated ones gives the cuts
 pub cuts_made : (marks sorted kept : List ℕ) → IsPermutation marks sorted → IsSorted nat_cmp sorted → kept ≡ dedup eqb sorted → kept ≡ once_each (rising marks)
 cuts_made marks sorted kept moved order e =
     e ∙ same_rising (dedup eqb sorted) (once_each (rising marks)) (is_increasing-from_neighbours (dedup eqb sorted) (IsStrictlyIncreasing-dedup sorted order)) (once_increases marks)

@@ -1,4 +1,4 @@
--- What spreading answers from a common total, and where it stops.
+-- What spreading returns with a common total, and where it stops.
 use Rattle.std.proofs.Common.{◌≡◌, ℕ, List, Ok, sym, ap, ◌∙◌}
 use Rattle.std.specs.List.{flat_map}
 use Rattle.frac128.specs.Fractions.{Fraction}
@@ -14,7 +14,7 @@ unfolding spread
 stop_told all parts (TotalPasses place before den) (pass, e, f, g, h) = (pass, ap (lottery_of all parts) e, f, g, h)
 stop_told all parts OutOfMemory told = tt
 
--- the lottery made of the common total and its rows is the lottery that was sought
+-- the lottery made of the common total and the rows for it is the definition's
 pub lottery_made : (all : Classes) (parts : List (List ℕ × Fraction)) (total z : ℕ) (rows : List LotteryRow) (lottery : Lottery) → total_from all 0 1 parts ≡ Ok total →
     rows ≡ flat_map (rows_of all total) parts → z ≡ total → lottery ≡ (let made : Lottery = record { total = z; rows = rows } in made) → spread all parts ≡ Ok lottery
 unfolding spread

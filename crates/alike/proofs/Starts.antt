@@ -1,4 +1,4 @@
--- Where the windows of classes begin, and whom the classes give.
+-- Where the window of a class begins, and which members the classes give.
 use Rattle.std.proofs.Common.{◌≡◌, ◌⊎◌, inl, inr, ℕ, zero, suc, ◌+◌, ◌*◌, ◌/◌, ◌≤◌, ◌<◌, Bool, true, false, ◌&&◌, ◌||◌, ltb, List, [], ◌∷◌, ◌++◌, map, filter, take, drop, length, get_or, slice_index_or, replicate, refl, sym, ap, ◌∙◌, ⊎_elim, arith, subst, length-append, length-drop, mul-le-mul_right}
 use Rattle.std.specs.Int.{◌∣◌}
 use Rattle.std.specs.List.{range_with_len}
@@ -63,7 +63,7 @@ size_divides all counts k class count l m e f taken =
     let d : Divided (length class.members) (dial all counts) = each_included (λ size. Divided size (dial all counts)) (partly_taken all.classes counts) (length class.members) (divided_dial all counts) there in
     subst (λ n. length class.members ∣ n) d.is (dvd-mul_left (length class.members) d.step)
 
--- after marking the window of the next class, the marks are those of the first `k + 1` classes
+-- if the marks are those of the first `k` classes, then after marking the window of class `k` they are those of the first `k + 1` classes
 pub given_more : (len at : ℕ) (classes : List Class) (counts : List ℕ) (k n : ℕ) (class : Class) (count start : ℕ) (before mid after : List Bool) → k < length classes → k < length counts →
     class ≡ get_or classes k class → count ≡ get_or counts k count → n ≡ suc k →
     ((i : ℕ) → includes (turned start count class.members) i ≡ includes (turned (at * length class.members / len) count class.members) i) →
@@ -90,7 +90,7 @@ given_all len at classes counts k before after l marked = record {
 
 -- ---- lists of truth values
 
--- a list of truth values is given by its value at each place
+-- if a list of truth values has at each place `i` the value of `p` at `first + i`, it is the list of these values
 pub told_by_places : (p : ℕ → Bool) (first : ℕ) (xs : List Bool) → ((i : ℕ) → i < length xs → get_or xs i false ≡ p (first + i)) → xs ≡ map p (range_with_len first (length xs))
 told_by_places p first [] h = refl
 told_by_places p first (x ∷ xs) h =
@@ -99,7 +99,7 @@ told_by_places p first (x ∷ xs) h =
     let rest = told_by_places p (first + 1) xs (λ i l. let e : first + suc i ≡ first + 1 + i = omega arith in h (suc i) (omega arith) ∙ ap p e) in
     ap (λ b. b ∷ xs) here ∙ ap (λ zs. p first ∷ zs) rest
 
--- marks set in a list without marks are exactly the places that pass
+-- if the places that pass `p` are marked in a list without marks, the marks are the values of `p`
 pub first_marks : (p : ℕ → Bool) (n : ℕ) (before after : List Bool) → before ≡ replicate n false → AreMarked before after p → after ≡ map p (range_with_len 0 n)
 first_marks p n before after e marked =
     let none : length before ≡ n = ap (λ (xs : List Bool). length xs) e ∙ length-replicate n false in
@@ -120,7 +120,7 @@ at_place p first zero i l = absurd (omega arith)
 at_place p first (suc n) zero l = let e : first ≡ first + 0 = omega arith in ap p e
 at_place p first (suc n) (suc i) l = let e : first + 1 + i ≡ first + suc i = omega arith in at_place p (first + 1) n i (omega arith) ∙ ap p e
 
--- the numbers that are marked are those that pass
+-- if the marks are the values of `p`, the marked numbers are those that pass `p`
 pub passing_numbers : (p : ℕ → Bool) (n : ℕ) (given : List Bool) (numbers : List ℕ) → given ≡ map p (range_with_len 0 n) → numbers ≡ filter (λ i. slice_index_or given i false) (range_with_len 0 (length given)) →
     numbers ≡ filter p (range_with_len 0 n)
 passing_numbers p n given numbers e f =

@@ -1,4 +1,4 @@
--- What the helpers of spreading know of one part, and which marks they set.
+-- What the helpers of spreading require of one part, and which marks they set.
 use Rattle.std.specs.Prelude.{◌≡◌, ℕ, ◌*◌, ◌/◌, ◌<◌, ◌≤◌, Bool, false, ◌||◌, List, length, slice_index_or}
 use Rattle.std.specs.Int.{◌∣◌}
 use Rattle.frac128.specs.Fractions.{Fraction}
@@ -6,8 +6,8 @@ use Rattle.define_pools.specs.Lottery.{LotteryRow}
 use Rattle.define_searches.specs.Classes.{Classes}
 use Rattle.define_spreads.specs.Spreading.{dial, greatest_total, panel_at}
 
--- `total` suits the part: it is from 1 to 10 ^ 38, a multiple of the part's denominator times its dial's length, and at least the part's
--- fraction of it
+-- `total` suits the part: it is from 1 to 10 ^ 38 and a multiple of the part's denominator times its dial's length, and the part's fraction
+-- of it is at most `total`
 pub record IsTotalOf (all : Classes) (total : ℕ) (part : List ℕ × Fraction) : Type 0 where
   pub some : 0 < total
   pub within : total ≤ greatest_total
@@ -19,7 +19,7 @@ pub record IsTotalOf (all : Classes) (total : ℕ) (part : List ℕ × Fraction)
 abbrev pub arc_row : Classes → List ℕ → ℕ → ℕ × ℕ → LotteryRow
 arc_row all counts place_weight (at, arc) = record { panel = panel_at all counts at; weight = arc * place_weight }
 
--- the list after marking: each place that passes the test is marked, and each that was marked still is
+-- `after` is the list `before` with each place that passes the test marked; places that were marked stay marked
 pub record AreMarked (before after : List Bool) (passes : ℕ → Bool) : Type 0 where
   pub long : length after ≡ length before
   pub marked : (i : ℕ) → i < length before → slice_index_or after i false ≡ (slice_index_or before i false || passes i)

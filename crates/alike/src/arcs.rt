@@ -65,8 +65,8 @@ fn mark_given(given: &mut [bool], classes: &Classes, counts: &[usize], places: u
     }
 }
 
-// Returns the place in the class's members at which its window begins on the arc at `at`. If all members are taken, or none, it answers 0,
-// since every start gives the same members.
+// Returns the place in the class's members at which its window begins on the arc at `at`. Returns 0 if all members are taken, or none,
+// since then every start gives the same members.
 fn window_start(class: &Class, count: usize, places: u128, at: u128) -> usize
     requires places { IsTrue (is_partly_taken class.now count) → length class.now.members ∣ places }
     requires at { at < places }

@@ -9,8 +9,8 @@ use define_rows::Composition;
 use pool_model::Panel;
 use std::alloc::{AllocError, Global};
 
-/// Returns the panel of the first members of each class, as many as the composition takes of the class. For a composition of these classes it
-/// is a quota panel.
+/// Returns the panel of the first members of each class, as many as the composition takes of the class. For a composition of these classes
+/// it is a quota panel.
 pub fn first_panel(
     alloc: Global,
     classes: &Classes,
@@ -30,7 +30,7 @@ pub fn first_panel(
     }
 }
 
-/// Returns the volunteers below `volunteers` who are taken, in rising order.
+/// Returns the volunteers below `volunteers` whom `counts` takes, in rising order.
 fn first_members(
     alloc: Global,
     groups: &[Class],

@@ -8,8 +8,7 @@ use define_pools::Standing;
 use define_searches::Bounds;
 use std::marker::Model;
 
-/// Volunteers with the same values and standing; a panel takes some number of them. Someone who shares a household with another volunteer
-/// is in a class alone.
+/// Volunteers with the same values and standing. Someone who shares a household with another volunteer is in a class alone.
 #[derive(Debug, Drop)]
 pub struct Class {
     members: Vec<usize>,

@@ -3,8 +3,8 @@
 //! `define_rows` for `Composition`, and `frac128`. Above: `panel_search` and `pricing_pool`, which search over classes;
 //! `leximin_run`, which spreads; the command `panel`; the engine of `prove`.
 //!
-//! Promises: `classes`, `class_numbers`, `first_panel` and `spread`, each exactly the definition's. `facts` and `class_at` hand on what
-//! each `Classes` keeps; the modules `arcs` and `dials` are helpers.
+//! Promises: `classes`, `class_numbers`, `first_panel` and `spread`, each exactly the definition's. The contracts of `facts` and `class_at`
+//! say what holds of each `Classes`. The modules `arcs` and `dials` are helpers.
 #![tactic(auto)]
 
 mod arcs;

@@ -133,8 +133,8 @@ fn all_rows(
     Ok(rows)
 }
 
-// Adds the rows of a composition: a panel for each arc of its dial. Of the composition's weight, an arc has the part that it has of the
-// dial's length.
+// Adds the rows of a composition: a panel for each arc of its dial. An arc's weight is the composition's weight, times the arc's length,
+// over the dial's length.
 fn push_rows(
     rows: &mut Vec<LotteryRow>,
     alloc: Global,

@@ -16,7 +16,7 @@ with_none (Some number) = refl
 
 -- `all` reads each field by `one`
 module _ {A : Type 0} (one : List ℕ → Option A) (all : List (List ℕ) → Option (List A)) (nil : all [] ≡ Some []) (cons : (field : List ℕ) (fields : List (List ℕ)) → all (field ∷ fields) ≡ with_number (one field) (all fields)) where
-  -- the next field spells a number, which is added at the end
+  -- if the next field spells a number, this number is added at the end
   all_more : (done : List (List ℕ)) (field : List ℕ) (numbers : List A) (number : A) → all done ≡ Some numbers → one field ≡ Some number → all (done ++ field ∷ []) ≡ Some (numbers ++ number ∷ [])
   all_more [] field numbers number h k =
       let none : [] ≡ numbers = cc in
@@ -32,12 +32,12 @@ module _ {A : Type 0} (one : List ℕ → Option A) (all : List (List ℕ) → O
           cons first (done ++ field ∷ [])
           ∙ (ap (λ o. with_number o (all (done ++ field ∷ []))) e ∙ (ap (with_number (Some m)) (again ms f) ∙ ap (λ ns. Some (ns ++ number ∷ [])) same))
 
-  -- a field spells no number, so the list gives none
+  -- if a field spells no number, the list of fields spells none
   all_fail : (done : List (List ℕ)) (field : List ℕ) (later : List (List ℕ)) → one field ≡ None → all (done ++ field ∷ later) ≡ None
   all_fail [] field later k = cons field later ∙ ap (λ o. with_number o (all later)) k
   all_fail (first ∷ done) field later k = cons first (done ++ field ∷ later) ∙ (ap (with_number (one first)) (all_fail done field later k) ∙ with_none (one first))
 
-  -- `all_more` for borrowed fields
+  -- if the first `i` borrowed fields spell `numbers` and field `i` spells `number`, the first `i + 1` spell `numbers` and then `number`
   pub lent_more : (fields : List (Bor (List ℕ))) (i : ℕ) (d : Bor (List ℕ)) (numbers : List A) (number : A) → i < length fields → all (map (λ field. field.now) (take i fields)) ≡ Some numbers →
       one (get_or fields i d).now ≡ Some number → all (map (λ field. field.now) (take (i + 1) fields)) ≡ Some (numbers ++ number ∷ [])
   lent_more fields i d numbers number l h k =
@@ -45,6 +45,7 @@ module _ {A : Type 0} (one : List ℕ → Option A) (all : List (List ℕ) → O
       ∙ (ap all (map-append (λ (field : Bor (List ℕ)). field.now) (take i fields) (get_or fields i d ∷ []))
       ∙ all_more (map (λ field. field.now) (take i fields)) (get_or fields i d).now numbers number h k)
 
+  -- if a borrowed field spells no number, the list of fields spells none
   pub lent_fail : (fields : List (Bor (List ℕ))) (i : ℕ) (d : Bor (List ℕ)) → i < length fields → one (get_or fields i d).now ≡ None → all (map (λ field. field.now) fields) ≡ None
   lent_fail fields i d l k =
       let parted : fields ≡ take i fields ++ get_or fields i d ∷ drop (i + 1) fields = sym (take-append-drop i fields) ∙ ap (λ rest. take i fields ++ rest) (drop_more fields i d l) in
@@ -52,7 +53,7 @@ module _ {A : Type 0} (one : List ℕ → Option A) (all : List (List ℕ) → O
       ∙ (ap all (map-append (λ (field : Bor (List ℕ)). field.now) (take i fields) (get_or fields i d ∷ drop (i + 1) fields))
       ∙ all_fail (map (λ field. field.now) (take i fields)) (get_or fields i d).now (map (λ field. field.now) (drop (i + 1) fields)) k)
 
--- `lent_more` for numbers up to a limit
+-- if the first `i` fields spell `numbers` up to `limit` and field `i` spells `number`, the first `i + 1` spell `numbers` and then `number`
 pub numbers_more : (limit : ℕ) (fields : List (Bor (List ℕ))) (i : ℕ) (d : Bor (List ℕ)) (numbers : List ℕ) (number : ℕ) → i < length fields →
     numbers_up_to limit (map (λ field. field.now) (take i fields)) ≡ Some numbers → number_up_to limit (get_or fields i d).now ≡ Some number →
     numbers_up_to limit (map (λ field. field.now) (take (i + 1) fields)) ≡ Some (numbers ++ number ∷ [])
@@ -62,7 +63,7 @@ pub numbers_fail : (limit : ℕ) (fields : List (Bor (List ℕ))) (i : ℕ) (d :
     numbers_up_to limit (map (λ field. field.now) fields) ≡ None
 numbers_fail limit = lent_fail (number_up_to limit) (numbers_up_to limit) refl (λ field fields. refl)
 
--- `lent_more` for numbers with a sign
+-- if the first `i` fields spell `numbers` with a sign and field `i` spells `number`, the first `i + 1` spell `numbers` and then `number`
 pub signed_more : (fields : List (Bor (List ℕ))) (i : ℕ) (d : Bor (List ℕ)) (numbers : List ℤ) (number : ℤ) → i < length fields → signed_of (map (λ field. field.now) (take i fields)) ≡ Some numbers →
     signed_up_to stage_limit (get_or fields i d).now ≡ Some number → signed_of (map (λ field. field.now) (take (i + 1) fields)) ≡ Some (numbers ++ number ∷ [])
 signed_more = lent_more (signed_up_to stage_limit) signed_of refl (λ field fields. refl)
@@ -70,7 +71,7 @@ signed_more = lent_more (signed_up_to stage_limit) signed_of refl (λ field fiel
 pub signed_fail : (fields : List (Bor (List ℕ))) (i : ℕ) (d : Bor (List ℕ)) → i < length fields → signed_up_to stage_limit (get_or fields i d).now ≡ None → signed_of (map (λ field. field.now) fields) ≡ None
 signed_fail = lent_fail (signed_up_to stage_limit) signed_of refl (λ field fields. refl)
 
--- a field that spells a number from 0 to 10^38 spells it with and without a sign
+-- if a field is read with a sign as a number from 0 to 10^38, it is read without a sign as the same number
 pub small_some : (field : List ℕ) (z kept : ℤ) → kept ≡ z → signed_up_to stage_limit field ≡ Some z → int_le (pos 0) kept ≡ true → int_le kept (pos (10 ^ 38)) ≡ true →
     Some kept ≡ option_map pos (number_up_to (10 ^ 38) field)
 small_some field z (negsuc n) same h l m = absurd (false≢true l)
@@ -83,12 +84,13 @@ pub not_negative : (z kept : ℤ) → kept ≡ z → int_le (pos 0) kept ≡ tru
 not_negative z (pos n) same h = omega (arith, ints)
 not_negative z (negsuc n) same h = absurd (false≢true h)
 
--- a number above 10^38, and one below 0, are none from 0 to 10^38
+-- a number above 10^38 equals no number from 0 to 10^38
 pub too_great : (z kept : ℤ) → kept ≡ z → int_le kept (pos (10 ^ 38)) ≡ false → (n : ℕ) → n ≤ 10 ^ 38 → Some z ≡ Some (pos n) → ⊥
 too_great z kept same h n most e =
     let is : kept ≡ pos n = cc in
     false≢true (sym h ∙ (ap (λ y. int_le y (pos (10 ^ 38))) is ∙ le-leb n (10 ^ 38) most))
 
+-- a number below 0 equals no number from 0 to 10^38
 pub negative : (z kept : ℤ) → kept ≡ z → int_le (pos 0) kept ≡ false → (n : ℕ) → n ≤ 10 ^ 38 → Some z ≡ Some (pos n) → ⊥
 negative z kept same h n most e =
     let is : kept ≡ pos n = cc in
@@ -97,7 +99,7 @@ negative z kept same h n most e =
 pub nothing : (n : ℕ) → n ≤ 10 ^ 38 → None ≡ Some (pos n) → ⊥
 nothing n most e = cc
 
--- a field that spells no number from 0 to 10^38
+-- if a field isn't read with a sign as a number from 0 to 10^38, it isn't read without a sign as one either
 pub small_none : (field : List ℕ) (read : Option ℤ) → signed_up_to stage_limit field ≡ read → ((n : ℕ) → n ≤ 10 ^ 38 → read ≡ Some (pos n) → ⊥) → None ≡ option_map pos (number_up_to (10 ^ 38) field)
 small_none field read h other = sym (ap (option_map pos) (no_number (10 ^ 38) field none))
   where
@@ -106,7 +108,7 @@ small_none field read h other = sym (ap (option_map pos) (no_number (10 ^ 38) fi
         let again : signed_up_to stage_limit (decimal n) ≡ Some (pos n) = signed_again stage_limit (pos n) (omega arith) (omega arith) in
         other n most (sym h ∙ (ap (signed_up_to stage_limit) (sym same) ∙ again))
 
--- one digit spells its number
+-- a number `d` below 10 is spelled by one byte, `48 + d`
 decimal_digit : (d : ℕ) → d < 10 → decimal d ≡ (48 + d) ∷ []
 decimal_digit d l = decimal_by_steps_wide (λ m digits. m < 10 → digits ≡ (48 + m) ∷ []) (λ m small again. refl) (λ m digits great k small. absurd (omega arith)) d (omega arith) l
 

@@ -1,4 +1,4 @@
--- What reading a bundle's text answers. The contracts of the readers cite it.
+-- How a bundle's text is read: the right answers of a reader. The contracts of the readers cite it.
 use Rattle.std.specs.Prelude.{◌≡◌, ℕ, Result, Ok, Err, ⊤}
 use Rattle.define_lines.specs.Lines.{Fault}
 use Rattle.define_bundles.specs.BundleText.{Bundle}
@@ -12,7 +12,8 @@ use Rattle.bundle_text.specs.declared.faults.ReadBundle.TheVariants.{Fault as fa
 abbrev pub fault_of : BundleFault → Fault
 fault_of f = record { line = f.line; kind = f.kind }
 
--- the answer of a reader if the bytes say `said`: this bundle or this fault; running out of memory is allowed at any time
+-- the right answers of a reader if the definition reads the bytes as `said`: this bundle or this fault; running out of memory is allowed at
+-- any time
 abbrev pub Reads : Result Bundle Fault → Result Bundle ReadBundle → Type 0
 Reads said (Ok bundle) = said ≡ Ok bundle
 Reads said (Err (fault f)) = said ≡ Err (fault_of f)

@@ -1,4 +1,4 @@
-//! Faults of the text of a bundle, and why none was read.
+//! The first fault of a bundle's text, and why no bundle was read.
 
 use thiserror::Error;
 

@@ -1,4 +1,4 @@
-//! What the lines after the pool say.
+//! Reads the lines after the pool.
 
 ghost use Rattle.std.specs.Prelude.{◌≡◌, ◌≤◌, ◌-◌, ◌^◌, ◌≤ℤ◌, pos, map, Some, IfOk, IfSome, option_map, unsigned_abs};
 ghost use Rattle.define_lines.specs.Lines.{fields_of};
@@ -19,18 +19,18 @@ const STAGE: &[u8] = b"stage";
 
 const DONE: &[u8] = b"done";
 
-/// What a line after the total says.
+/// A line after the total, as it is read.
 #[derive(Debug, Drop)]
 pub(crate) enum AnswerLine {
     Row(LotteryRow),
     Stage(Stage),
-    /// It begins as a stage line, and isn't one.
+    /// The line begins with `stage`, but is no right stage line.
     FaultyStage,
     Done,
     Unknown,
 }
 
-/// Returns what a line after the total says, in a bundle of a pool with this number of volunteers.
+/// Reads a line after the total, in a bundle of a pool with this many `volunteers`.
 pub(crate) fn answer_line(
     alloc: Global,
     volunteers: usize,
@@ -60,7 +60,7 @@ fn line_of(alloc: Global, volunteers: usize, fields: &[&[u8]]) -> Result<AnswerL
     }
 }
 
-/// Returns what the fields after `panel` say: a row, or `Unknown`.
+/// Reads the fields after `panel` as a row, or as `Unknown`.
 fn panel_of(alloc: Global, volunteers: usize, fields: &[&[u8]]) -> Result<AnswerLine, AllocError>
     ensures { IfOk result (λ answer. said answer ≡ panel_in volunteers (map (λ field. field.now) fields.now)) }
 {
@@ -76,7 +76,7 @@ fn panel_of(alloc: Global, volunteers: usize, fields: &[&[u8]]) -> Result<Answer
     }
 }
 
-/// Returns the row of this weight and these members, or `Unknown` if the members don't increase or a number is out of range.
+/// Returns the row of `weight` and `members`, or `Unknown` if the members don't increase or a number is out of range.
 fn row_of(volunteers: usize, weight: i128, members: Vec<usize>) -> AnswerLine
     requires { pos 0 ≤ℤ weight }
     ensures { said result ≡ row_in volunteers (Some (unsigned_abs weight)) (Some members.items) }
@@ -92,7 +92,7 @@ fn row_of(volunteers: usize, weight: i128, members: Vec<usize>) -> AnswerLine
     }
 }
 
-/// Returns what the fields after `stage` say: a stage, or `FaultyStage`.
+/// Reads the fields after `stage` as a stage, or as `FaultyStage`.
 fn stage_of(alloc: Global, volunteers: usize, fields: &[&[u8]]) -> Result<AnswerLine, AllocError>
     ensures { IfOk result (λ answer. said answer ≡ stage_in volunteers (map (λ field. field.now) fields.now)) }
 {
@@ -182,7 +182,7 @@ fn small_number(field: &[u8]) -> Option<i128>
     }
 }
 
-/// Returns the total that a total line gives, or `None` if the line isn't one.
+/// Returns the total, from 1 to 10^38, of a total line, or `None` if the line isn't one.
 pub(crate) fn total_of(alloc: Global, line: &[u8]) -> Result<Option<i128>, AllocError>
     ensures { IfOk result (λ total. total ≡ option_map pos (total_in (fields_of line.now))) }
 {

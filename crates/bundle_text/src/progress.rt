@@ -21,22 +21,22 @@ const FIRST_POOL: &[u8] = b"pool\t1";
 
 const SECOND_POOL: &[u8] = b"pool\t2";
 
-/// The kind of fault if the pool's first line has another version than the bundle.
+/// The kind of fault if the pool's first line isn't the one of the bundle's version.
 const FORM: u8 = 1;
 
 /// The kind of fault if the first line isn't that of a bundle.
 const VERSION: u8 = 13;
 
-/// The kind of fault if the line after the pool gives no total.
+/// The kind of fault if the line after the pool isn't a total line.
 const TOTAL: u8 = 14;
 
-/// The kind of fault of a line before any stage line.
+/// The kind of fault of a line after the total and before any stage line.
 const ROW: u8 = 15;
 
 /// The kind of fault of a line after a stage line, and of a faulty stage line after a panel line.
 const STAGE: u8 = 16;
 
-/// The kind of fault if the lines run out after the pool, or if a line follows the last one.
+/// The kind of fault if the lines run out outside the pool's text, or if a line follows the last one.
 pub(crate) const ENDING: u8 = 17;
 
 /// How far the text of a bundle was read, and what its lines gave so far.

@@ -25,7 +25,7 @@ pub fn read_bundle(alloc: Global, bytes: &[u8]) -> Result<Bundle, ReadBundle>
     ensures spelled { IfOk result (λ bundle. IsBundle bundle × (bytes.now ≡ bundle_spelling bundle)) }
     // The text of each bundle is read as this bundle, unless memory runs out.
     ensures read { (bundle : Words) → IsBundle bundle → bytes.now ≡ bundle_spelling bundle → Reads (Ok bundle) result }
-    // The answer is this bundle or this fault, as the definition of reading has it.
+    // The result is the bundle or the fault that the definition reads, unless memory runs out.
     ensures exact { Reads (read bytes.now) result }
 {
     read_lines(alloc, bytes)
@@ -48,7 +48,7 @@ fn read_lines(alloc: Global, bytes: &[u8]) -> Result<Bundle, ReadBundle>
     last(progress, number, rest)
 }
 
-/// Returns the reader's stop for a stop at line `line`.
+/// Returns the reader's stop at line `line`, with the kind of fault or the want of memory of `stop`.
 fn stop_at(line: usize, stop: BuildStop) -> ReadBundle
     ensures { result ≡ stopped line stop }
 {
@@ -88,7 +88,7 @@ fn finished(pool: Pool, answer: Answer) -> Bundle
     }
 }
 
-/// Returns the kind of fault if the lines run out: 12 within the pool's lines, else 17.
+/// Returns the kind of fault if the lines run out: 12 within the pool's lines, else 17, also before the first line.
 fn missing_kind(progress: &Progress) -> u8
     ensures { result ≡ missing_kind (seen progress.now) }
 {

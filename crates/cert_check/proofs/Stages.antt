@@ -35,7 +35,7 @@ list_all-reverse {X} p (x ∷ xs) =
 
 -- ---- one stage
 
--- if a stage is refused, this verdict is the answer
+-- if `verdict` is a refusal, it is the answer, whatever comes next
 pub stops_at : (wanted next : Result Verdict ℕ) (verdict : Verdict) → holds verdict ≡ false → or_next verdict next ≡ Ok verdict
 stops_at wanted next Valid e = absurd (false≢true (sym e))
 stops_at wanted next (Refused refusal) e = refl
@@ -44,11 +44,12 @@ pub is_valid : (verdict : Verdict) → holds verdict ≡ true → verdict ≡ Va
 is_valid Valid e = refl
 is_valid (Refused refusal) e = absurd (false≢true e)
 
--- the answer about stages: the answer about the first one, or if that is valid, the answer about the others
+-- the first answer, or the second if the first is the verdict valid
 abbrev then : Result Verdict ℕ → Result Verdict ℕ → Result Verdict ℕ
 then (Ok verdict) next = or_next verdict next
 then (Err stage) next = Err stage
 
+-- the answer for stages is the answer for the first one, or, if that is valid, the answer for the later ones
 pub by_first : (pool : Pool) (lottery : Lottery) (nodes : ℕ) (earlier later : List Stage) (stage : Stage) →
     answer_from pool lottery nodes earlier (stage ∷ later) ≡ then (stage_answer pool lottery nodes earlier stage) (answer_from pool lottery nodes (stage ∷ earlier) later)
 by_first pool lottery nodes earlier later stage =
@@ -62,12 +63,13 @@ by_first pool lottery nodes earlier later stage =
     parts Valid false = refl
     parts (Refused refusal) spent = refl
 
--- a refusal at the first stage is the answer, and so is an end without a verdict
+-- if the first stage is refused, its verdict is the answer for all stages
 pub refused_at : (pool : Pool) (lottery : Lottery) (nodes : ℕ) (earlier later : List Stage) (stage : Stage) (verdict : Verdict) → stage_answer pool lottery nodes earlier stage ≡ Ok verdict → holds verdict ≡ false →
     answer_from pool lottery nodes earlier (stage ∷ later) ≡ Ok verdict
 refused_at pool lottery nodes earlier later stage verdict e h =
     by_first pool lottery nodes earlier later stage ∙ ap (λ said. then said (answer_from pool lottery nodes (stage ∷ earlier) later)) e ∙ stops_at (Ok verdict) (answer_from pool lottery nodes (stage ∷ earlier) later) verdict h
 
+-- if the stop `stop` is right for the first stage, it is right for all stages
 pub stopped_at : (pool : Pool) (lottery : Lottery) (nodes : ℕ) (earlier later : List Stage) (stage : Stage) (stop : CheckStop) → Answers (stage_answer pool lottery nodes earlier stage) (Err stop) →
     Answers (answer_from pool lottery nodes earlier (stage ∷ later)) (Err stop)
 stopped_at pool lottery nodes earlier later stage (NodesSpent number) e =

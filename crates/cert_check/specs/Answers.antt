@@ -1,4 +1,4 @@
--- What a check answers. Over Steps of `define_checks`. The promise of `check` cites it.
+-- The result of a check. Over Steps of `define_checks`. The promise of `check` cites it.
 use Rattle.std.specs.Prelude.{◌≡◌, ℕ, ◌+◌, nat_lt, if◌then◌else◌, List, length, Result, Ok, Err}
 use Rattle.define_pools.specs.Certificate.{Stage}
 use Rattle.define_pools.specs.Lottery.{Lottery}
@@ -9,7 +9,8 @@ use Rattle.define_checks.specs.Visits.{stage_search}
 use Rattle.cert_check.specs.declared.stops.CheckStop.{CheckStop}
 use Rattle.cert_check.specs.declared.stops.CheckStop.TheVariants.{NodesSpent, OutOfMemory}
 
--- the verdict, or the stage at which the visits are spent, as `wanted` has it; running out of memory is allowed at any time
+-- the result is the verdict of `wanted`, or the stage of `wanted` at which the visits are spent. The check may run out of memory at any
+-- time
 abbrev pub Answers : Result Verdict ℕ → Result Verdict CheckStop → Type 0
 Answers wanted (Ok verdict) = wanted ≡ Ok verdict
 Answers wanted (Err (NodesSpent stage)) = wanted ≡ Err stage

@@ -1,4 +1,4 @@
--- Tests of the elements of a list with their numbers.
+-- Tests of a list's elements, each together with its number.
 use Rattle.std.proofs.Common.{◌≡◌, ℕ, ◌+◌, ◌<◌, Bool, false, ◌&&◌, List, [], ◌∷◌, length, get_or, refl, sym, ap, ap₂, ◌∙◌, arith}
 use Rattle.std.specs.List.{enumerate_from, list_all}
 use Rattle.std.proofs.lemmas.Bool.{false_from_ne_true, false≢true}
@@ -10,7 +10,7 @@ list_all-enumerated_same p q first [] e = refl
 list_all-enumerated_same p q first (x ∷ xs) e =
     ap₂ (λ a b. a && b) (e first x (omega arith)) (list_all-enumerated_same p q (first + 1) xs (λ k y l. e k y (omega arith)))
 
--- if one element fails the test, not all pass
+-- If element `k` fails the test, not all elements satisfy it.
 pub one_fails : {X : Type 0} (p : ℕ × X → Bool) (xs : List X) (k : ℕ) (d : X) → k < length xs → p (k, get_or xs k d) ≡ false → list_all p (enumerate_from 0 xs) ≡ false
 one_fails {X} p xs k d l e =
     false_from_ne_true (list_all p (enumerate_from 0 xs)) (λ all.

@@ -36,7 +36,7 @@ moved false true c = refl
 moved false false c = refl
 
 module _ {A : Type 0} (f : A → List ℕ) where
-  -- `xs` equals the list of an earlier row
+  -- `xs` equals the list `f row` of one of `rows`
   abbrev pub came : List A → List ℕ → Bool
   came rows xs = list_any (λ row. bytes_eq xs (f row)) rows
 

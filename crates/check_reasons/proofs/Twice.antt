@@ -1,4 +1,4 @@
--- A list of numbers of which a loop has read a part, in which no number comes twice.
+-- Whether a number comes twice in a list, of which a loop has read a part.
 use Rattle.std.proofs.Common.{◌≡◌, ℕ, zero, suc, ◌+◌, ◌<◌, Bool, true, false, not, ◌&&◌, ◌||◌, eqb, List, [], ◌∷◌, length, get_or, set, take, refl, sym, ap, ap₂, ◌∙◌, ⊎_elim, arith}
 use Rattle.std.proofs.lemmas.Bool.{and_parts, cases_eq, eqb-true, eq-eqb, ne_eqb, false≢true, or_parts}
 use Rattle.std.proofs.lemmas.List.{get_or-set_same, get_or-set_other}
@@ -12,7 +12,7 @@ has_at [] j l = absurd (omega arith)
 has_at (x ∷ xs) zero l = ap (λ b. b || includes xs x) (eq-eqb x x refl)
 has_at (x ∷ xs) (suc j) l = ap (λ b. eqb x (get_or xs j 0) || b) (has_at xs j (omega arith)) ∙ or-true (eqb x (get_or xs j 0))
 
--- if an element equals an earlier one, some number comes twice
+-- If a number equals an earlier one of the list, some number comes twice.
 pub comes_twice : (xs : List ℕ) (j : ℕ) → j < length xs → includes (take j xs) (get_or xs j 0) ≡ true → none_twice xs ≡ false
 comes_twice [] j l e = absurd (omega arith)
 comes_twice (x ∷ xs) zero l e = absurd (false≢true e)
@@ -25,7 +25,7 @@ comes_twice (x ∷ xs) (suc j) l e = by (eqb x (get_or xs j 0)) refl e (comes_tw
         ap (λ b. not b && none_twice xs) (ap (includes xs) is ∙ has_at xs j (omega arith))
     by false other e rest = ap (λ b. not (includes xs x) && b) (rest e) ∙ and-false (not (includes xs x))
 
--- if an element equals no earlier one, none comes twice up to it
+-- If number `j` equals no earlier one, and none comes twice among the first `j`, none comes twice among the first `j + 1`.
 pub comes_once : (xs : List ℕ) (j : ℕ) → j < length xs → includes (take j xs) (get_or xs j 0) ≡ false → none_twice (take j xs) ≡ true → none_twice (take (j + 1) xs) ≡ true
 comes_once [] j l e once = absurd (omega arith)
 comes_once (x ∷ xs) zero l e once = refl
@@ -38,7 +38,7 @@ comes_once (x ∷ xs) (suc j) l e once =
     let more : includes (take (j + 1) xs) x ≡ includes (take j xs) x = list_any_more (λ z. eqb z x) xs j 0 (omega arith) ∙ ap (λ b. includes (take j xs) x || b) back ∙ or-false (includes (take j xs) x) in
     rw next (ap₂ (λ a b. a && b) (ap not more ∙ parts.0) (comes_once xs j (omega arith) apart.1 parts.1))
 
--- the marks of the numbers read so far, with the next one
+-- If exactly the first `j` numbers are marked, then after one more mark exactly the first `j + 1` are.
 pub marked_more : (xs : List ℕ) (marks : List Bool) (j h : ℕ) → j < length xs → h < length marks → ((k : ℕ) → k < length marks → get_or marks k false ≡ includes (take j xs) k) →
     get_or (set marks (get_or xs j 0) true) h false ≡ includes (take (j + 1) xs) h
 marked_more xs marks j h l below marked =

@@ -1,4 +1,4 @@
--- A check on its way through the stages of a certificate. Over Reasons of `define_checks`. The contracts of `Course` cite it.
+-- A check between two stages of a certificate. Over Reasons of `define_checks`. The contracts of `Course` cite it.
 use Rattle.std.specs.Prelude.{◌≡◌, ℕ, ◌+◌, nat_lt, not, ℤ, int_lt, Bool, List, [], ◌∷◌, filter, length, map, pos, slice_index_or, Option}
 use Rattle.std.specs.List.{find}
 use Rattle.std.specs.Ordering.{int_eq}
@@ -14,12 +14,12 @@ pub record Course : Type 0 where
   pub earlier : List Stage
   pub later : List Stage
 
--- the course after it passes the first of these stages, which are the stages to come
+-- the course after its next stage is passed; the list has the stages to come, and without one the course is unchanged
 abbrev pub passed : Course → List Stage → Course
 passed course [] = course
 passed course (stage ∷ later) = record course { earlier = stage ∷ course.earlier; later = later }
 
--- `counted` has each volunteer's count, and `marks` says who is settled
+-- `counted` has each volunteer's count, and `marks` is true for those who are settled
 pub record Keeps (course : Course) (counted : List ℤ) (marks : List Bool) : Type 0 where
   pub chances : counted ≡ map pos (counts course.pool course.lottery)
   pub settled : marks ≡ map (is_settled course.earlier) (everybody course.pool)
@@ -28,7 +28,7 @@ pub record Keeps (course : Course) (counted : List ℤ) (marks : List Bool) : Ty
 abbrev pub count_at : List ℤ → ℕ → ℤ
 count_at counted i = slice_index_or counted i (pos 0)
 
--- the count of the first of these volunteers, or 0 if there are none
+-- the count of the first volunteer of the list, or 0 if there is none
 abbrev pub first_count : List ℤ → List ℕ → ℤ
 first_count counted [] = pos 0
 first_count counted (i ∷ rest) = count_at counted i

@@ -1,4 +1,4 @@
--- A verdict by its refusal. The contracts of `Verdict` and of the checks cite it.
+-- A verdict, made of a refusal or of none. The contracts of `Verdict` and of the checks cite it.
 use Rattle.std.specs.Prelude.{Bool, true, false, Option, Some, None}
 use Rattle.define_checks.specs.Reasons.{Refusal, Refused, Valid, Verdict}
 

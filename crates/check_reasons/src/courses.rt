@@ -1,5 +1,5 @@
-//! A check on its way through the stages of a certificate: what it keeps of the lottery and of the stages that it passed, and the
-//! reasons of a stage, except that a quota panel passes its cap.
+//! A check between two stages of a certificate: what it keeps of the lottery and of the stages that it passed, and the reasons of a stage,
+//! all except reason 8, that a quota panel is above its cap.
 
 ghost use Rattle.std.specs.Prelude.{◌≡◌, ◌∷◌, [], ◌+◌, ◌<◌, ◌-◌, ◌≤◌, ◌^◌, ◌||◌, ℕ, false, IfOk, filter, int_lt, length, map, not, option_map, pos, reverse, slice_index_or, sum_by, unsigned_abs};
 ghost use Rattle.std.specs.List.{find, range_with_len};
@@ -79,9 +79,9 @@ impl<'a> Course<'a> {
         self.earlier().len() + 1
     }
 
-    /// Returns the verdict of the reasons that are tried before the cap of the next stage: reason 4 if somebody unsettled has a weight below
-    /// 0; 5 if nobody unsettled has one above 0; 6 if somebody whom the stage settles has another count than the first whom it settles; and 7
-    /// if somebody unsettled has a lower count than that first one.
+    /// Returns the verdict of the reasons that are tried before the cap of the next stage. Reason 4: somebody unsettled has a weight below
+    /// 0. Reason 5: nobody unsettled has one above 0. Reason 6: somebody whom the stage settles has another count than the first whom it
+    /// settles. Reason 7: somebody unsettled has a lower count than that first one.
     pub fn before_cap(&self, alloc: Global, stage: &Stage) -> Result<Verdict, AllocError>
         ensures { IfOk result (λ verdict. verdict ≡ first_reason (reasons_before_cap self.now.pool self.now.lottery self.now.earlier stage.now)) }
     {
@@ -213,7 +213,7 @@ fn first_negative(unsettled: &[usize], stage: &Stage) -> Option<usize>
     unsettled.iter().copied().find(|i| weight_of(stage, *i) < 0)
 }
 
-/// Returns the count of the first of these volunteers, or 0 if there are none.
+/// Returns the count of the first volunteer of `settling`, or 0 if there is none.
 fn first_count(counts: &[i128], settling: &[usize]) -> i128
     ensures { result ≡ first_count_of counts.now settling.now }
 {
@@ -247,7 +247,7 @@ fn count_at(counts: &[i128], i: usize) -> i128
     counts.get(i).copied().unwrap_or(0)
 }
 
-/// Returns a volunteer's weight, or 0 if the stage has none for this number.
+/// Returns the weight of volunteer `i`, or 0 if the stage has no weight `i`.
 fn weight_of(stage: &Stage, i: usize) -> i128
     ensures { result ≡ weight_of_one stage.now i }
 {
@@ -274,7 +274,7 @@ fn weighs_cap(panel: &Panel, stage: &Stage) -> bool
     panel_weight(panel, stage) == stage.cap()
 }
 
-/// Marks those whom a stage settles.
+/// Marks all volunteers with a weight above 0 in the stage.
 fn mark_settled(settled: &mut [bool], stage: &Stage)
     ensures { (i : ℕ) → i < length settled.old → slice_index_or settled.new i false ≡ (is_positive stage.now i || slice_index_or settled.old i false) }
 {

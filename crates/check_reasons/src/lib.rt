@@ -1,7 +1,7 @@
-//! The reasons for which a certificate is refused, except that a quota panel passes a cap, which a search or a proof must settle. They
-//! come in their order: those of the lottery; then stage by stage those before the cap, and that of the listed panels' weight; then
-//! that somebody is left. Stands on `define_checks`, whose reasons they are, and `pool_model`. Above: `cert_check`, which searches,
-//! and `proof_verify`, which reads proofs.
+//! The reasons for which a certificate is refused, in their order: those of the lottery; then stage by stage those before the cap, and that
+//! of the listed panels' weight; then that somebody is left unsettled. Only reason 8 is missing, that a quota panel is above a cap: a
+//! search or a proof decides it. Stands on `define_checks`, which defines the reasons, and `pool_model`. Used by `cert_check`, which
+//! searches, and `proof_verify`, which reads proofs.
 //!
 //! Promises: `lottery_verdict`, the calls of `Course`, and `Verdict` with its `Refusal`. The module `quotas` is a helper.
 #![tactic(auto)]

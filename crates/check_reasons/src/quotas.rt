@@ -10,8 +10,7 @@ ghost use Rattle.check_reasons.specs.Households.{household_number as number_of, 
 use pool_model::{BoundedValue, Category, Panel, Pool, Standing, Volunteer, share_household};
 use std::alloc::{AllocError, Global};
 
-/// Returns the number of each volunteer's household, which is that of its first member. A volunteer without a household has their own
-/// number.
+/// Returns each volunteer's household number: the number of the household's first member, or the volunteer's own if there is no household.
 pub(crate) fn household_numbers(
     alloc: Global,
     volunteers: &[Volunteer],
@@ -35,7 +34,7 @@ fn first_of_household(volunteers: &[Volunteer], i: usize) -> Option<usize>
     (0..volunteers.len()).find(|j| *j == i || share_household(volunteers, i, *j))
 }
 
-/// True if the panel is a quota panel of the pool. `households` has the number of each volunteer's household.
+/// True if the panel is a quota panel of the pool. `households` has each volunteer's household number.
 pub(crate) fn is_quota_panel(
     alloc: Global,
     pool: &Pool,
@@ -106,7 +105,7 @@ fn permits(standing: Standing, is_in: bool) -> bool
     }
 }
 
-/// Returns for each number below `count` whether it is a member's.
+/// Returns a mark for each number below `count`: true if it is a member's number.
 fn marks(alloc: Global, count: usize, members: &[usize]) -> Result<Vec<bool>, AllocError>
     ensures { IfOk result (λ marks. (i : ℕ) → i < count → slice_index_or marks.items i false ≡ includes members.now i) }
 {

@@ -38,7 +38,7 @@ impl Refusal {
         self.reason
     }
 
-    /// Returns the numbers of the volunteers who show it.
+    /// Returns the numbers of the volunteers who show the reason.
     pub fn who(&self) -> &[usize]
         ensures { result.now ≡ self.now.who }
     {
@@ -46,7 +46,7 @@ impl Refusal {
     }
 }
 
-/// What a check says of a certificate: valid, or why it is refused.
+/// The outcome of a check of a certificate: valid, or why it is refused.
 #[derive(Debug, Drop)]
 pub struct Verdict {
     refusal: Option<Refusal>,

@@ -39,7 +39,7 @@ module _ (pool : Pool) (earlier latest : List Stage) (stage : Stage) (terms : Te
       ap Some (first ∙ ap (λ all. first_panel all counts) made.classes ∙ ap (λ earlier. first_panel (classes_at pool (stage ∷ earlier)) counts) same)
       ∙ ap (option_map (first_panel (classes_at pool (stage ∷ earlier)))) (found ∙ composition_is)
 
--- the stages, latest first, are in the ranges if they are in their own order
+-- If `p` is true of `stage` and of each earlier stage, it is true of each stage in the list with the latest first.
 pub turned_in_ranges : (p : Stage → Bool) (earlier latest : List Stage) (stage : Stage) → list_all p earlier ≡ true → p stage ≡ true → latest ≡ reverse earlier → list_all p (stage ∷ latest) ≡ true
 turned_in_ranges p earlier latest stage each here turned = and_from (p stage) (list_all p latest) here (ap (list_all p) turned ∙ turned_round earlier each)
   where

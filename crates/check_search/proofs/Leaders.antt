@@ -4,7 +4,7 @@ use Rattle.std.specs.List.{AllByRecursion, list_any, range_with_len}
 use Rattle.laws_basic.proofs.Each.{each_filter, each_range}
 use Rattle.define_searches.specs.Classes.{leaders}
 
--- a leader is a volunteer
+-- each leader's number is below `count`
 leaders_below : (alike : ℕ → ℕ → Bool) (count : ℕ) → AllByRecursion (λ leader. leader < count) (leaders alike count)
 leaders_below alike count =
     let leads : ℕ → Bool = λ i. not (list_any (λ j. alike j i) (range_with_len 0 i)) in

@@ -21,7 +21,7 @@ values_fail all front class count tally limits places stands tracks (c, bound, b
     false_from_ne_true (values_reachable all (front ++ count ∷ []))
     (λ yes. false≢true (sym fails ∙ reach_of_child all front class count tally limits places stands tracks yes c bound below has))
 
--- if a child's size is reachable, its size and its values are reachable exactly if the test of its class's values says so
+-- If the child's size can still be met, its size and its values are reachable exactly if `answer`, the test of the class's values, is true.
 pub child_live : (all : Classes) (front : List ℕ) (class : Class) (count : ℕ) (tally : FrontTally) → KeepsLimits all → HasPlaces all.bounds class → Stands all (length front) class → is_reachable all front ≡ true →
     Tracks all front (drop (length front + 1) all.classes) tally → (leb (tally.taken + count) all.size && leb all.size (tally.taken + count + tally.later_taken)) ≡ true →
     (answer : Bool) → (answer ≡ true → AllReach all.bounds tally.held tally.later class.values count) → (answer ≡ false → OneFails all.bounds tally.held tally.later class.values count) →
@@ -50,7 +50,7 @@ pub child_size_dead : (all : Classes) (front : List ℕ) (class : Class) (count 
     is_reachable all (front ++ count ∷ []) ≡ false
 child_size_dead all front class count tally stands tracks size = ap (λ b. b && takes_one_a_household all.classes (front ++ count ∷ [])) (child_dead all front class count tally stands tracks size)
 
--- with a count above what the size and the upper bounds allow, the child isn't reachable
+-- If `top` is the greatest count that the size and the upper bounds allow, no child with a greater count is reachable.
 pub passed_dead : (all : Classes) (front : List ℕ) (class : Class) (tally : FrontTally) → KeepsLimits all → HasPlaces all.bounds class → Stands all (length front) class → Tracks all front (drop (length front + 1) all.classes) tally →
     (most lack limit top : ℕ) → lack ≡ all.size - tally.taken → limit ≡ min most lack → ((count : ℕ) → top < count → count ≤ limit → OneFails all.bounds tally.held tally.later class.values count) →
     (count : ℕ) → top < count → count ≤ most → is_reachable all (front ++ count ∷ []) ≡ false
@@ -62,7 +62,7 @@ passed_dead all front class tally limits places stands tracks most lack limit to
       | false ↦ λ f. many (leb-false count limit f)
     ]) refl
 
--- with a count below what the size and the lower bounds need, the child isn't reachable
+-- If `low` is the least count that the size and the lower bounds need, no child with a smaller count is reachable.
 pub lacking_dead : (all : Classes) (front : List ℕ) (class : Class) (tally : FrontTally) → KeepsLimits all → HasPlaces all.bounds class → Stands all (length front) class → Tracks all front (drop (length front + 1) all.classes) tally →
     (least lack limit low : ℕ) → lack ≡ all.size - (tally.taken + tally.later_taken) → limit ≡ max least lack → ((count : ℕ) → count < low → limit ≤ count → OneFails all.bounds tally.held tally.later class.values count) →
     (count : ℕ) → count < low → least ≤ count → is_reachable all (front ++ count ∷ []) ≡ false

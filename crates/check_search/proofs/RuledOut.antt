@@ -7,7 +7,7 @@ use Rattle.define_searches.specs.declared.Bounds.{Bounds}
 use Rattle.laws_of_fronts.specs.Tallies.{HasBound, HaveBounds, cell, reaches}
 use Rattle.check_search.specs.Tallies.{OneFails}
 
--- the bound that was read is that of the category's value
+-- the bound that the code reads is that of the value that `values` has in category `c`
 pub bound_here : (bounds : List (List Bounds)) (values : List ℕ) (c : ℕ) (index slice : List Bounds) (d : Bounds) → HaveBounds bounds values → c < length values → index ≡ get_or bounds c index → slice ≡ index →
     HasBound bounds c (slice_index values c) (get_or slice (slice_index values c) d)
 bound_here bounds values c index slice d have below is slice_is =
@@ -18,7 +18,8 @@ bound_here bounds values c index slice d have below is slice_is =
     ap (λ xs. slice_get xs v) whole ∙ slice_get-get_or slice v d within
 
 module _ (bounds : List (List Bounds)) (held values : List ℕ) (c : ℕ) (bound : Bounds) (below : c < length values) (has : HasBound bounds c (slice_index values c) bound) where
-  -- the room that the categories read so far leave, with the next one
+  -- One more category: if counts above `room` fail a bound, counts above `next` do. `next` is `room`, or what the upper bound leaves if
+  -- that is less.
   pub room_next : (most room left next : ℕ) → (room ≤ most) × ((count : ℕ) (later : List ℕ) → room < count → count ≤ most → OneFails bounds held later values count) →
       left ≡ bound.upper - slice_index held (cell c (slice_index values c)) → next ≡ min room left →
       (next ≤ most) × ((count : ℕ) (later : List ℕ) → next < count → count ≤ most → OneFails bounds held later values count)
@@ -35,7 +36,8 @@ module _ (bounds : List (List Bounds)) (held values : List ℕ) (c : ℕ) (bound
           let v = slice_index values c in
           ap (λ b. b && leb bound.lower (slice_index held (cell c v) + count + slice_index later (cell c v))) (lt-leb (slice_index held (cell c v) + count) bound.upper (omega arith))
 
-  -- the count that the categories read so far need, with the next one
+  -- One more category: if counts below `needed` fail a bound, counts below `next` do. `next` is `needed`, or what the lower bound lacks if
+  -- that is more.
   pub needed_next : (later : List ℕ) (least needed lack next : ℕ) → (least ≤ needed) × ((count : ℕ) → count < needed → least ≤ count → OneFails bounds held later values count) →
       lack ≡ bound.lower - (slice_index held (cell c (slice_index values c)) + slice_index later (cell c (slice_index values c))) → next ≡ max needed lack →
       (least ≤ next) × ((count : ℕ) → count < next → least ≤ count → OneFails bounds held later values count)

@@ -17,7 +17,7 @@ pub record AreMade (pool : Pool) (earlier : List Stage) (stage : Stage) (classes
   pub closed_are : closed ≡ map (stage_row pool (stage ∷ earlier)) earlier
   pub row_is : row ≡ stage_row pool (stage ∷ earlier) stage
 
--- a stage as a row, with the weights of these volunteers
+-- a stage as a row over classes with the first members `firsts`
 abbrev pub row_by : List ℕ → Stage → Row
 row_by firsts stage = record { b = stage.cap; a = map (weight_of stage) firsts }
 
@@ -34,7 +34,7 @@ are_made pool earlier stage likeness firsts second third classes closed row same
     }
 
 module _ (pool : Pool) (earlier : List Stage) (stage : Stage) (classes : Classes) (closed : List Row) (row : Row) (made : AreMade pool earlier stage classes closed row) where
-  -- what holds of the classes and rows that the definition names holds of those that were made
+  -- If P holds of the classes and rows of the definition, it holds of those that the code made.
   moved : (P : Classes → List Row → Type 0) → P (classes_at pool (stage ∷ earlier)) (map (stage_row pool (stage ∷ earlier)) (stage ∷ earlier)) → P classes (row ∷ closed)
   moved P holds =
       subst (λ all. P all (row ∷ closed)) (sym made.classes_are)

@@ -17,7 +17,7 @@ use Rattle.laws_of_fronts.proofs.Fronts.{within_more, placed, front_length}
 use Rattle.laws_of_fronts.proofs.WeightLaws.{weighs_back}
 use Rattle.define_searches.proofs.FirstSearch.{taken_none}
 
--- the search is at the same front with another tally
+-- If only the tally changes, and it is right for the front with `rest'` to come, the search is still at the front.
 pub stands_with : (all : Classes) (closed : List Row) (row : Row) (depth : ℕ) (rest rest' : List Class) (before after : Search) → StandsAt all closed row depth rest before → after.counts.items ≡ before.counts.items →
     after.weights ≡ before.weights → after.closed.items ≡ before.closed.items → Tracks all (take depth before.counts.items) rest' after.tally → StandsAt all closed row depth rest' after
 stands_with all closed row depth rest rest' before after stands e g h tracks = record {
@@ -30,7 +30,7 @@ stands_with all closed row depth rest rest' before after stands e g h tracks = r
   closed_rows = subst (λ xs. WeighEach all closed (take depth xs) after.closed.items) (sym e) (subst (WeighEach all closed (take depth before.counts.items)) (sym h) stands.closed_rows);
 }
 
--- the search is at the empty front, if that is live
+-- If the empty front is live, a search that begins is at it.
 pub begins_there : (all : Classes) (closed : List Row) (row : Row) (search : Search) → Begins all closed row search → is_live_above all closed row row.b [] ≡ true → StandsAt all closed row 0 all.classes search
 begins_there all closed row search begins live =
     let parts = and_parts (is_reachable all [] && list_all (λ r. int_le r.b (optimistic all r [])) closed) (int_lt row.b (optimistic all row [])) live in
@@ -53,7 +53,7 @@ pub child_within : (all : Classes) (closed : List Row) (row : Row) (depth count 
 child_within all closed row depth count rest search stands below can =
     within_more all (take depth search.counts.items) depth count (front_length depth search.counts.items (length all.classes) stands.places stands.within) below can stands.counts
 
--- the search is at a reachable child, once its count is taken
+-- If `count` of the next class is taken and the child is reachable, the search is at the child.
 pub child_stands : (all : Classes) (closed : List Row) (row : Row) (depth count : ℕ) (rest : List Class) (before after : Search) → StandsAt all closed row depth rest before → depth < length all.classes → CanTake all depth count →
     is_reachable all (take depth before.counts.items ++ count ∷ []) ≡ true → after.counts.items ≡ set before.counts.items depth count →
     Tracks all (take depth before.counts.items ++ count ∷ []) rest after.tally → Weighs all row (take depth before.counts.items ++ count ∷ []) after.weights →
@@ -70,7 +70,7 @@ child_stands all closed row depth count rest before after stands below can live 
       closed_rows = subst (λ f. WeighEach all closed f after.closed.items) (sym child) closed_rows;
     }
 
--- the search is back at the front, once the child's count is given back
+-- If the child's count is given back, the search is at the front again.
 pub parent_stands : (all : Classes) (closed : List Row) (row : Row) (depth count : ℕ) (rest : List Class) (before child after : Search) → StandsAt all closed row depth rest before → StandsAt all closed row (depth + 1) rest child →
     take (depth + 1) child.counts.items ≡ take depth before.counts.items ++ count ∷ [] → take depth child.counts.items ≡ take depth before.counts.items →
     after.counts.items ≡ child.counts.items → after.weights ≡ child.weights → after.closed.items ≡ child.closed.items →

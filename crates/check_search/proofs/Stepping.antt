@@ -17,7 +17,7 @@ use Rattle.laws_of_fronts.proofs.InTurn.{after_nothing, at_least_one, found_at_o
 use Rattle.laws_of_fronts.proofs.Tracking.{comes_next}
 use Rattle.laws_of_fronts.proofs.WeightLaws.{element_at}
 
--- the search of the first child, and then those of the children after it
+-- The children's search is that of the first child, and then that of the others.
 children_more : (all : Classes) (closed : List Row) (row : Row) (later : List Class) (front : List ℕ) (c : ℕ) (counts : List ℕ) →
     children_above all closed row later front (c ∷ counts) ≡ then_next (child_above all closed row later (front ++ c ∷ [])) (children_above all closed row later front counts)
 children_more all closed row later front c counts =
@@ -27,11 +27,11 @@ children_more all closed row later front c counts =
       | false ↦ after_nothing (children_above all closed row later front counts)
     ]
 
--- the search of the child with `count` of the next class
+-- the search of the child with `count` of the next class, or no visit if the child isn't live
 abbrev pub child_at : Classes → List Row → Row → ℕ → List ℕ → ℕ → Due
 child_at all closed row depth front count = child_above all closed row (drop (depth + 1) all.classes) (front ++ count ∷ [])
 
--- the searches of the children with `least + above` down to `least` of the next class, one after the other
+-- the searches of the live children with `least + above` down to `least` of the next class, one after the other
 abbrev pub children_at : Classes → List Row → Row → ℕ → List ℕ → ℕ → ℕ → Due
 children_at all closed row depth front least above = children_above all closed row (drop (depth + 1) all.classes) front (counts_down least above)
 
@@ -44,7 +44,7 @@ children_last all closed row depth front least above e =
     ∙ (children_more all closed row (drop (depth + 1) all.classes) front least []
     ∙ ap (λ n. then_next (child_at all closed row depth front n) (record { visits = 0; found = None })) (sym same))
 
--- else the child with `least + above` comes first, and then the others
+-- if `above` isn't 0, the child with `least + above` comes first, and then the children with smaller counts
 children_next : (all : Classes) (closed : List Row) (row : Row) (depth : ℕ) (front : List ℕ) (least above : ℕ) → (above ≡ 0 → ⊥) →
     children_at all closed row depth front least above ≡ then_next (child_at all closed row depth front (least + above)) (children_at all closed row depth front least (above - 1))
 children_next all closed row depth front least zero some = absurd (some refl)
@@ -55,7 +55,7 @@ children_next all closed row depth front least (suc more) some =
 
 -- ---- steps
 
--- two searches of a step, of which the first found nothing
+-- If the search `one` finds nothing and a step then makes the search `rest`, the whole is a step that makes both.
 pub both : (all : Classes) (closed : List Row) (row : Row) (depth : ℕ) (later : List Class) (one rest : Due) (before mid : Search) (result : Result Bool BudgetSpent) (after : Search) →
     before.left ≡ mid.left + one.visits → one.found ≡ None → take depth mid.counts.items ≡ take depth before.counts.items →
     Steps all closed row depth later rest mid result after → Steps all closed row depth later (then_next one rest) before result after
@@ -124,7 +124,7 @@ next_steps all closed row depth least above before mid result after some left no
 -- ---- counts that are ruled out
 
 module _ (all : Classes) (closed : List Row) (row : Row) (depth : ℕ) (front : List ℕ) where
-  -- the child with this count isn't reachable
+  -- the child with `c` of the next class isn't reachable
   abbrev Dead : ℕ → Type 0
   Dead c = is_reachable all (front ++ c ∷ []) ≡ false
 
@@ -173,7 +173,8 @@ module _ (all : Classes) (closed : List Row) (row : Row) (depth : ℕ) (front : 
       ∙ (ap (then_next (child_at all closed row depth front (least + suc k + suc m))) (skip_below least (suc k) m dead)
       ∙ sym (children_more all closed row (drop (depth + 1) all.classes) front (least + suc k + suc m) (counts_down (least + suc k) m)))))
 
-  -- the search of all counts of the class is that of the counts from `top` down to `low`, if no other child is reachable
+  -- If only children with counts from `low` to `top` are reachable, the search of all counts of the class is that of the counts from `top`
+  -- down to `low`.
   pub only_within : (class : Class) (low top : ℕ) → Stands all depth class → class.least ≤ class.most → class.least ≤ low → top ≤ class.most → low ≤ top → ((c : ℕ) → top < c → c ≤ class.most → Dead c) →
       ((c : ℕ) → c < low → class.least ≤ c → Dead c) → among (counts_at all depth) ≡ among (counts_down low (top - low))
   only_within class low top stands ordered l u lu above below =
@@ -187,7 +188,7 @@ module _ (all : Classes) (closed : List Row) (row : Row) (depth : ℕ) (front : 
       ∙ (skip_below class.least (low - class.least) (top - low) (λ c m n. below c (omega (arith, n, h)) m)
       ∙ ap (λ n. among (counts_down n (top - low))) h)))
 
-  -- if `top` is below `low`, no child is reachable, so nothing is found and no visit is made
+  -- If no child with a count above `top` or below `low` is reachable, and `top` is below `low`, nothing is found and no visit is made.
   pub none_left : (class : Class) (low top : ℕ) → Stands all depth class → class.least ≤ class.most → top < low → ((c : ℕ) → top < c → c ≤ class.most → Dead c) → ((c : ℕ) → c < low → class.least ≤ c → Dead c) →
       among (counts_at all depth) ≡ nothing
   none_left class low top stands ordered passed above below =
@@ -218,7 +219,7 @@ enter_due all closed row depth front front' below f =
     ∙ ap (λ counts. let due : Due = record { visits = 1 + (children_above all closed row later front counts).visits; found = (children_above all closed row later front counts).found } in due) (sym here)
     ∙ ap (λ f. let due : Due = record { visits = 1 + (children_above all closed row later f (counts_at all depth)).visits; found = (children_above all closed row later f (counts_at all depth)).found } in due) (sym f)
 
--- the search of a live child is the one that enters it
+-- If a child is live, its search is the one that enters it.
 pub child_due : (all : Classes) (closed : List Row) (row : Row) (later : List Class) (child child' : List ℕ) → is_live_above all closed row row.b child ≡ true → child' ≡ child → child_above all closed row later child ≡ enter_above all closed row later child'
 child_due all closed row later child child' live e =
     ap (λ b. cond b (enter_above all closed row later child) (record { visits = 0; found = None })) live ∙ ap (enter_above all closed row later) (sym e)

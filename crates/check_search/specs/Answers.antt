@@ -1,4 +1,4 @@
--- What a search under a budget of visits answers. Over Visits of `define_checks`. The promise of `panel_above_cap` cites it.
+-- The answer of a search under a budget of visits. Over Visits of `define_checks`. The promise of `panel_above_cap` cites it.
 use Rattle.std.specs.Prelude.{◌≡◌, ◌≤◌, ◌<◌, ℕ, List, Option, Result, Ok, Err}
 use Rattle.define_checks.specs.Caps.{first_above_cap}
 use Rattle.define_checks.specs.Visits.{stage_search}

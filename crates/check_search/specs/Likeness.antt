@@ -7,7 +7,7 @@ use Rattle.define_pools.specs.Pool.{Volunteer}
 use Rattle.define_searches.specs.Classes.{shared_household}
 use Rattle.check_search.specs.declared.likeness.Likeness.{Likeness}
 
--- the stages by whose weights volunteers are told apart, the latest first
+-- the stage and the earlier ones, the latest first: volunteers of different weights in one of them aren't alike
 abbrev pub stages_of : Likeness → List Stage
 stages_of likeness = likeness.stage.now ∷ likeness.earlier.now
 
@@ -18,7 +18,7 @@ count_of likeness = length likeness.pool.now.volunteers
 abbrev pub is_alike : Likeness → ℕ → ℕ → Bool
 is_alike likeness = alike_at likeness.pool.now (stages_of likeness)
 
--- for each volunteer the number of the household that they share, if there is one
+-- for each volunteer, `households` has the number of the household that the volunteer shares with somebody, if there is one
 abbrev pub AreShared : List Volunteer → List (Option ℕ) → Type 0
 AreShared volunteers households = households ≡ map (shared_household volunteers) (range_with_len 0 (length volunteers))
 

@@ -33,22 +33,22 @@ pub record Begins (all : Classes) (closed : List Row) (row : Row) (search : Sear
 abbrev pub child_above : Classes → List Row → Row → List Class → List ℕ → Due
 child_above all closed row later child = if is_live_above all closed row row.b child then enter_above all closed row later child else record { visits = 0; found = None }
 
--- the searches of a front's live children, with these counts of the next class, one after the other
+-- the searches of a front's live children, with the counts `counts` of the next class, one after the other
 abbrev pub children_above : Classes → List Row → Row → List Class → List ℕ → List ℕ → Due
 children_above all closed row later front counts =
     one_by_one (map (λ child. enter_above all closed row later child) (filter (is_live_above all closed row row.b) (map (λ c. front ++ c ∷ []) counts)))
 
--- the counts that the first of these classes may have
+-- the counts that a panel may take of the first class of the list; none if the list is empty
 abbrev pub counts_of_first : List Class → List ℕ
 counts_of_first [] = []
 counts_of_first (class ∷ later) = counts_of class
 
--- the counts that class `depth` may have
+-- the counts that a panel may take of class `depth`
 abbrev pub counts_at : Classes → ℕ → List ℕ
 counts_at all depth = counts_of_first (drop depth all.classes)
 
--- a step from `front` with `left` visits left: it finds what `due` finds and makes the visits of `due`, or these are more than `left`. If
--- it finds nothing, it returns to `front`
+-- a step from `front` with `left` visits left. It finds what the search `due` finds, in as many visits, or fails because `due` makes more
+-- than `left`. If nothing is found, the search is at `front` again
 abbrev pub StepsFrom : Classes → List Row → Row → ℕ → List Class → Due → ℕ → List ℕ → Result Bool BudgetSpent → Search → Type 0
 StepsFrom all closed row depth later due left front (Ok true) after = (left ≡ after.left + due.visits) × (due.found ≡ Some after.counts.items)
 StepsFrom all closed row depth later due left front (Ok false) after =
@@ -58,7 +58,7 @@ StepsFrom all closed row depth later due left front (Err spent) after = left < d
 abbrev pub Steps : Classes → List Row → Row → ℕ → List Class → Due → Search → Result Bool BudgetSpent → Search → Type 0
 Steps all closed row depth later due before result after = StepsFrom all closed row depth later due before.left (take depth before.counts.items) result after
 
--- a whole search with `left` visits left: it finds what `due` finds and makes the visits of `due`, or these are more than `left`
+-- a whole search with `left` visits left: it finds what `due` finds, in as many visits, or fails because `due` makes more than `left`
 abbrev pub Finds : Due → ℕ → Result Bool BudgetSpent → Search → Type 0
 Finds due left (Ok true) after = (left ≡ after.left + due.visits) × (due.found ≡ Some after.counts.items)
 Finds due left (Ok false) after = (left ≡ after.left + due.visits) × (due.found ≡ None)

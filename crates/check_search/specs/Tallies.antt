@@ -3,7 +3,7 @@ use Rattle.std.specs.Prelude.{◌≡◌, ℕ, ◌<◌, false, List, length, slic
 use Rattle.define_searches.specs.declared.Bounds.{Bounds}
 use Rattle.laws_of_fronts.specs.Tallies.{HasBound, reaches}
 
--- with `count` more members of each of these values, the number of some value is out of reach
+-- with `count` more members who have `values`, the bounds of one of these values can't be met
 abbrev pub OneFails : List (List Bounds) → List ℕ → List ℕ → List ℕ → ℕ → Type 0
 OneFails bounds held later values count =
     (c : ℕ) × (bound : Bounds) × (c < length values) × HasBound bounds c (slice_index values c) bound × (reaches bound held later count c (slice_index values c) ≡ false)

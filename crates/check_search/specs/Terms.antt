@@ -14,7 +14,7 @@ pub record AreTerms (terms : Terms) : Type 0 where
   pub summed : IsSummed terms.classes terms.row terms.sums
   pub closed_summed : SumEach terms.classes terms.closed.items terms.closed_sums.items
 
--- the classes and rows are those of `stage` after the earlier stages, which have the latest first
+-- the classes and rows are those of `stage` after the stages `earlier`, of which the latest is first
 pub record AreOfStage (pool : Pool) (earlier : List Stage) (stage : Stage) (terms : Terms) : Type 0 where
   pub classes : terms.classes ≡ classes_at pool (stage ∷ earlier)
   pub closed : terms.closed.items ≡ map (stage_row pool (stage ∷ earlier)) earlier

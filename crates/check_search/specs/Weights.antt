@@ -10,15 +10,15 @@ use Rattle.check_search.specs.declared.weighing.Weights.{Weights}
 abbrev pub table_of : Sums → List ℤ
 table_of sums = sums.cells.items
 
--- what a front and each of its beginnings weigh, by their lengths
+-- the weights of a front and of each of its beginnings, indexed by length
 abbrev pub weights_of : Weights → List ℤ
 weights_of weights = weights.by_length.items
 
--- the table has the greatest sums in the row
+-- the table has the greatest sums of units in the row
 abbrev pub IsSummed : Classes → Row → Sums → Type 0
 IsSummed all row sums = laws.IsSummed all row (table_of sums)
 
--- each table has the greatest sums in its row
+-- each row has a table, in order, which has the greatest sums in that row
 abbrev pub SumEach : Classes → List Row → List Sums → Type 0
 SumEach = laws.SumEach table_of
 
@@ -26,6 +26,6 @@ SumEach = laws.SumEach table_of
 abbrev pub Weighs : Classes → Row → List ℕ → Weights → Type 0
 Weighs all row front weights = laws.Weighs all row front (weights_of weights)
 
--- the weights are those of the front and of each of its beginnings in each row
+-- each row has its weights, in order: those of the front and of each of its beginnings in that row
 abbrev pub WeighEach : Classes → List Row → List ℕ → List Weights → Type 0
 WeighEach = laws.WeighEach weights_of

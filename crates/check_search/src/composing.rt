@@ -37,8 +37,8 @@ impl Composition {
     }
 }
 
-// Returns the panel of the first members of each class, as many as the composition takes of the class. For a composition of these classes it
-// is a quota panel.
+// Returns the panel with the first members of each class, as many as the composition takes. If the counts are a composition of the classes,
+// it is a quota panel.
 pub(crate) fn first_panel(
     alloc: Global,
     classes: &Classes,
@@ -72,7 +72,7 @@ fn first_members(
         .collect(alloc)
 }
 
-// True if the volunteer is among the members that `counts` takes of some class, which are its first ones.
+// True if the volunteer is taken: among the first members of a class, as many as `counts` has for the class.
 fn is_taken(groups: &[Class], counts: &[usize], volunteer: usize) -> bool
     ensures { result ≡ is_taken_of groups.now counts.now volunteer }
 {

@@ -10,8 +10,8 @@ use crate::groups::Classes;
 use crate::rows::StageRow;
 use std::alloc::{AllocError, Global};
 
-// For the classes from each place on, the greatest sums of 0, 1, 2 and more of their units, up to the size. They are (classes + 1) times
-// (size + 1) numbers of 16 bytes, from the last class to the first.
+// For each place, the greatest sums of 0, 1, 2 and more units, up to the size, of the classes from that place on. The table has (classes +
+// 1) times (size + 1) numbers of 16 bytes, from the last class to the first.
 #[derive(Debug, Drop)]
 pub(crate) struct Sums {
     cells: Vec<i128>,
@@ -62,7 +62,7 @@ pub(crate) fn all_sums(
     Ok(sums)
 }
 
-// Returns, for the last 0, 1, 2 and more classes, the greatest sums of 0 up to `size` of their units, one list of sums after the other.
+// Returns one list of sums after the other, for the last 0, 1, 2 and more classes: the greatest sums of 0 up to `size` of their units.
 fn greatest_sums(
     alloc: Global,
     classes: &Classes,
@@ -118,8 +118,9 @@ fn put_unit(sums: &mut [i128], units: usize, weight: i128)
     }
 }
 
-// Returns the greatest sum of `count` units out of `units` units and one more, given the sums without and with this one. If `count` is more
-// than `units`, this one must be taken; else the greater of the two sums counts.
+// Returns the greatest sum of `count` units, out of `units` units and one more. `without` is the greatest sum without the one more, and
+// `with_it` the greatest with it. If `count` is above `units`, returns `with_it`, since the one more must be taken; else returns the
+// greater of the two.
 fn greater(units: usize, count: usize, without: i128, with_it: i128) -> i128
     ensures { IsGreater units count without with_it result }
 {

@@ -16,7 +16,7 @@ pub(crate) fn add_at(homes: &mut [usize], household: Option<usize>, count: usize
     }
 }
 
-// Takes `count` from the counter of a household, if there is one.
+// Subtracts `count` from the counter of a household, if there is one.
 pub(crate) fn take_at(homes: &mut [usize], household: Option<usize>, count: usize)
     requires known { IsKnownHousehold (length homes.old) household }
     requires enough { CanGiveAt household count homes.old }

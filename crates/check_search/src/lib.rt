@@ -1,6 +1,6 @@
-//! The search of a check for a quota panel above the cap of a stage, under a budget of visits. It shares no code with the solver: it
-//! makes classes of its own, also by the weights of the stages, and goes through their compositions. Stands on `define_checks`,
-//! which says what it finds and what a visit is, `laws_of_fronts`, and `pool_model`. Above: `cert_check`.
+//! A check's search for a quota panel above the cap of a stage, under a budget of visits. It makes classes of its own, also by the weights
+//! of the stages, and goes through their compositions. It shares no code with the solver. Stands on `define_checks`, which says what it
+//! finds and what a visit is, `laws_of_fronts`, and `pool_model`. Used by `cert_check`.
 //!
 //! Promise: `panel_above_cap`. All else is a helper.
 #![tactic(auto)]

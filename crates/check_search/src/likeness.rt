@@ -14,8 +14,8 @@ use define_pools::Standing;
 use pool_model::{Pool, Stage, Volunteer, share_household};
 use std::alloc::{AllocError, Global};
 
-// What tells the volunteers of a pool apart: a stage and the earlier ones, the latest first, and for each volunteer the number of the
-// household that they share with another one.
+// What decides whether volunteers are alike: a stage and the earlier ones, the latest first, and for each volunteer the number of the
+// household that they share with somebody.
 #[derive(Debug, Drop)]
 pub(crate) struct Likeness<'a> {
     pub(crate) pool: &'a Pool,
@@ -45,7 +45,7 @@ impl<'a> Likeness<'a> {
         })
     }
 
-    // True if two volunteers are of one class.
+    // True if volunteers `i` and `j` are of one class.
     pub(crate) fn are_alike(&self, i: usize, j: usize) -> bool
         requires households { KnowsHouseholds self.now }
         requires one { i < count_of self.now }
@@ -76,7 +76,7 @@ impl<'a> Likeness<'a> {
         weighs_equal(self.stage, i, j) && all_weigh_equal(self.earlier, i, j)
     }
 
-    // True if a volunteer shares a household with another one.
+    // True if volunteer `i` shares a household with somebody.
     fn shares(&self, i: usize) -> bool
         requires households { KnowsHouseholds self.now }
         requires below { i < count_of self.now }
@@ -85,7 +85,7 @@ impl<'a> Likeness<'a> {
         self.household_of(i).is_some()
     }
 
-    // Returns the number of the household that volunteer `i` shares with another one, if there is one.
+    // Returns the number of the household that volunteer `i` shares with somebody, if there is one.
     pub(crate) fn household_of(&self, i: usize) -> Option<usize>
         requires households { KnowsHouseholds self.now }
         requires below { i < count_of self.now }
@@ -98,21 +98,21 @@ impl<'a> Likeness<'a> {
     }
 }
 
-// True if two volunteers have the same weight in each of the stages.
+// True if volunteers `i` and `j` have the same weight in each of the stages.
 fn all_weigh_equal(stages: &[Stage], i: usize, j: usize) -> bool
     ensures { result ≡ weigh_equal stages.now i j }
 {
     stages.iter().all(|stage| weighs_equal(stage, i, j))
 }
 
-// True if two volunteers have the same weight in the stage.
+// True if volunteers `i` and `j` have the same weight in the stage.
 fn weighs_equal(stage: &Stage, i: usize, j: usize) -> bool
     ensures { result ≡ int_eq (weight_in_stage stage.now i) (weight_in_stage stage.now j) }
 {
     weight_of(stage, i) == weight_of(stage, j)
 }
 
-// Returns a volunteer's weight, or 0 if the stage has none for this number.
+// Returns the weight of volunteer `i`, or 0 if the stage has no weight `i`.
 pub(crate) fn weight_of(stage: &Stage, i: usize) -> i128
     ensures { result ≡ weight_in_stage stage.now i }
 {
@@ -137,7 +137,7 @@ fn is_same_standing(one: Standing, other: Standing) -> bool
     }
 }
 
-// Returns for each volunteer the number of the household that they share with another one, if there is one.
+// Returns for each volunteer the number of the household that they share with somebody, if there is one.
 fn shared_households(
     alloc: Global,
     volunteers: &[Volunteer],
@@ -149,8 +149,8 @@ fn shared_households(
         .collect(alloc)
 }
 
-// Returns the number of the household that volunteer `i` shares with another one, if there is one. It is the number of the household's
-// first member.
+// Returns the number of the household that volunteer `i` shares with somebody, if there is one. It is the number of the household's first
+// member.
 fn shared_household(volunteers: &[Volunteer], i: usize) -> Option<usize>
     ensures { result ≡ shared volunteers.now i }
 {

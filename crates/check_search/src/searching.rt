@@ -31,7 +31,7 @@ pub enum CapStop {
     OutOfMemory,
 }
 
-// Searches for a composition that attains the closed rows and weighs more in the row than its right side. Returns the first one, in order
+// Searches for a composition that attains the closed rows and weighs more than the right side of the row. Returns the first one, in order
 // of classes with the greater count first, or None if there is none. Fails if the search needs more than `nodes` visits: each front that is
 // entered is one, also the empty front. All memory is taken before the first visit.
 pub(crate) fn first_above(
@@ -270,7 +270,7 @@ impl Search {
     }
 
     #[cycle(search)]
-    // Enters the child with this count of the next class, if it is live.
+    // Enters the child with `count` of the next class, if it is live.
     fn try_child(&mut self, terms: &Terms, depth: usize, count: usize) -> Result<bool, BudgetSpent>
         requires terms { AreTerms terms.now }
         requires below { depth < length terms.now.classes.classes }

@@ -10,7 +10,7 @@ use define_searches::Bounds;
 // How many places each category has.
 pub(crate) const PLACES: usize = 50;
 
-// Adds `count` to the counter of each of these values. A search often tries the count 0, which changes nothing.
+// Adds `count` to the counter of each value in `values`. A search often tries the count 0, which changes nothing.
 pub(crate) fn add_to(cells: &mut [usize], values: &[usize], count: usize)
     requires cells { HaveCells values.now cells.old }
     requires small { AreAtMost 1000000 (length values.now) cells.old }
@@ -25,7 +25,7 @@ pub(crate) fn add_to(cells: &mut [usize], values: &[usize], count: usize)
     }
 }
 
-// Takes `count` from the counter of each of these values.
+// Subtracts `count` from the counter of each value in `values`.
 pub(crate) fn take_from(cells: &mut [usize], values: &[usize], count: usize)
     requires cells { HaveCells values.now cells.old }
     requires enough { CanGive values.now cells.old count }
@@ -39,7 +39,8 @@ pub(crate) fn take_from(cells: &mut [usize], values: &[usize], count: usize)
     }
 }
 
-// True if, with `count` more of these values, each value's number is at most its upper bound and with `later` reaches its lower one.
+// True if the bounds of each value in `values` can be met: with `count` more members who have it, its number is at most the upper bound,
+// and with `later` more reaches the lower one.
 pub(crate) fn values_allow(
     bounds: &[ValueBounds],
     held: &[usize],
@@ -66,7 +67,7 @@ pub(crate) fn values_allow(
     true
 }
 
-// Returns the greatest count, at most `most`, that the upper bounds of these values allow. With more, some value passes its bound.
+// Returns the greatest count, at most `most`, that the upper bounds of `values` allow. With more, some value exceeds its bound.
 pub(crate) fn room_left(
     bounds: &[ValueBounds],
     held: &[usize],
@@ -86,7 +87,7 @@ pub(crate) fn room_left(
     room
 }
 
-// Returns the least count, at least `least`, that these values need. With fewer, some value can't reach its lower bound.
+// Returns the least count, at least `least`, that the lower bounds of `values` need. With fewer, some value can't reach its bound.
 pub(crate) fn number_needed(
     bounds: &[ValueBounds],
     held: &[usize],

@@ -44,7 +44,7 @@ impl Tally {
         })
     }
 
-    // Takes the class after the front off the classes that are still to come.
+    // Subtracts the class after the front from what later classes can give.
     pub(crate) fn begin_class(&mut self, classes: &Classes, front: &[usize])
         requires below { length front.now < length classes.now.classes }
         requires stands { Tracks classes.now front.now (drop (length front.now) classes.now.classes) self.old }
@@ -55,7 +55,7 @@ impl Tally {
         self.later_taken -= class.most();
     }
 
-    // Puts the class after the front back to the classes that are still to come.
+    // Adds the class after the front to what later classes can give, which undoes `begin_class`.
     pub(crate) fn end_class(&mut self, classes: &Classes, front: &[usize])
         requires below { length front.now < length classes.now.classes }
         requires stands { Tracks classes.now front.now (drop (length front.now + 1) classes.now.classes) self.old }
@@ -80,7 +80,7 @@ impl Tally {
         self.taken += count;
     }
 
-    // Takes `count` members of the next class from what the front takes.
+    // Subtracts `count` members of the next class from what the front takes, which undoes `take`.
     pub(crate) fn give_back(&mut self, classes: &Classes, front: &[usize], count: usize)
         requires below { length front.now < length classes.now.classes }
         requires stands { Tracks classes.now (front.now ++ count ∷ []) (drop (length front.now + 1) classes.now.classes) self.old }
@@ -167,7 +167,7 @@ impl Tally {
             && all_within_reach(classes.bounds(), &self.held, &self.later)
     }
 
-    // Returns how many members the front with `count` of the next class lacks of the size.
+    // Returns how many members the child with `count` of the next class lacks of the size.
     pub(crate) fn lack(&self, classes: &Classes, front: &[usize], count: usize) -> usize
         requires below { length front.now < length classes.now.classes }
         requires live { is_reachable classes.now (front.now ++ count ∷ []) ≡ true }

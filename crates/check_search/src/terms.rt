@@ -45,7 +45,7 @@ impl Terms {
         Ok(Terms::of_rows(alloc, classes, closed, row)?)
     }
 
-    // Makes the terms of these classes and rows, with the greatest sums.
+    // Makes the terms of `classes`, `closed` and `row`, with the greatest sums.
     fn of_rows(
         alloc: Global,
         classes: Classes,

@@ -13,7 +13,7 @@ use crate::groups::Classes;
 use crate::rows::StageRow;
 use std::alloc::{AllocError, Global};
 
-// What a front and each of its beginnings weigh in a row, by their lengths.
+// The weights of a front and of each of its beginnings in a row, indexed by length.
 #[derive(Debug, Drop)]
 pub(crate) struct Weights {
     by_length: Vec<i128>,
@@ -66,7 +66,7 @@ impl Weights {
         self.weight(classes, row, front) + rest
     }
 
-    // Continues the front with `count` of the next class, and returns its weight then.
+    // Stores and returns the weight of the front with `count` of the next class.
     fn go_on(&mut self, classes: &Classes, row: &StageRow, front: &[usize], count: usize) -> i128
         requires narrow { AreNarrow classes.now row.now.a }
         requires below { length front.now < length classes.now.classes }
@@ -86,8 +86,8 @@ impl Weights {
         weight
     }
 
-    // Returns the optimistic weight of the front with `count` of the next class, and keeps this front's weight. It lacks `lack` members of
-    // the size.
+    // Stores the weight of the child, which is the front with `count` of the next class, and returns the child's optimistic weight. `lack`
+    // is how many members the child lacks of the size.
     pub(crate) fn child(
         &mut self,
         sums: &Sums,
@@ -112,7 +112,7 @@ impl Weights {
     }
 }
 
-// Returns the weights of the empty front, for each closed row.
+// Returns, for each closed row, the weights of the empty front.
 pub(crate) fn all_weights(
     alloc: Global,
     classes: &Classes,
@@ -136,7 +136,7 @@ fn with_count(weight: i128, count: usize, entry: i128) -> i128
     weight + count as i128 * entry
 }
 
-// True if the optimistic weight of the front with `count` of the next class is at least the right side of each closed row.
+// True if the optimistic weight of the child with `count` of the next class is at least the right side of each closed row.
 pub(crate) fn child_attains(
     weights: &mut [Weights],
     sums: &[Sums],

@@ -1,4 +1,4 @@
--- Lines of a check that are written field by field.
+-- Lines of a check, written field by field.
 use Rattle.std.proofs.Common.{◌≡◌, ◌∙◌, ℕ, List, [], ◌∷◌, ◌++◌, ap, append_assoc}
 use Rattle.define_lines.specs.Lines.{line_feed, line_of, tab, tabbed, text_of}
 use Rattle.define_lines.proofs.LineLemmas.{line_written}
@@ -8,7 +8,7 @@ two_and_more word a b rest =
     let regrouped : ((word ++ (tab ∷ a)) ++ (tab ∷ b)) ++ tabbed rest ≡ word ++ tabbed (a ∷ b ∷ rest) = simp (append_assoc) in
     ap (λ text. text ++ line_feed ∷ []) regrouped ∙ line_written word (a ∷ b ∷ rest)
 
--- if `word`, the fields `a` and `b`, the fields of `rest` and LF are written in turn, the text is the line of them
+-- writing `word`, the fields `a` and `b`, the fields of `rest` and LF in turn makes the line of these fields
 pub written_in_turn : (word a b : List ℕ) (rest : List (List ℕ)) (t0 t1 t2 t3 t4 : List ℕ) →
     t0 ≡ word → t1 ≡ t0 ++ (tab ∷ a) → t2 ≡ t1 ++ (tab ∷ b) → t3 ≡ t2 ++ tabbed rest → t4 ≡ t3 ++ line_feed ∷ [] →
     t4 ≡ text_of (line_of (word ∷ a ∷ b ∷ rest) ∷ [])

@@ -1,4 +1,4 @@
--- The answers for a verdict and for a stop of a check are right by `CheckMeans`.
+-- The answers of `check` for a verdict and for a stop are right by `CheckMeans`.
 use Rattle.std.proofs.Common.{◌≡◌, ◌↔◌, ℕ, refl, sym, subst, Ok}
 use Rattle.std.specs.Prelude.{Err}
 use Rattle.define_pools.specs.Certificate.{Certifies}

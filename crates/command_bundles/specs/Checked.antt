@@ -13,7 +13,7 @@ abbrev pub TellsVerdict : Verdict → Saying → Type 0
 TellsVerdict Valid answer = answer ≡ Prints printed.Done valid_line
 TellsVerdict (Refused refusal) answer = answer ≡ Prints printed.Refused (refused_line refusal)
 
--- the answer is the one for this stop. Want of memory has no answer: the command returns an error then
+-- the answer is the line for this stop. If memory runs out there is no answer: the command returns an error
 abbrev pub TellsStop : ℕ → CheckStop → Saying → Type 0
 TellsStop nodes (NodesSpent stage) answer = answer ≡ Stops cause.Spent (visits_spent_line nodes stage)
 TellsStop nodes OutOfMemory answer = ⊥

@@ -1,4 +1,4 @@
-//! The command `check`: whether the certificate of a bundle holds, and why it is refused if it doesn't.
+//! The command `check`: whether the certificate of a bundle holds, and if not, why it is refused.
 
 ghost use Rattle.std.specs.Prelude.{IfOk};
 ghost use Rattle.command_shell.specs.Answers.{IsRight, saying};
@@ -12,10 +12,10 @@ use command_meanings::check_has_one_answer;
 use command_shell::{Answer, Cause, Command, Meaning, Printed};
 use std::alloc::{AllocError, Global};
 
-/// `check`: the verdict on the certificate of a bundle.
+/// `check`: prints the verdict on the certificate of a bundle.
 #[derive(Clone, Copy, Debug)]
 pub struct Check {
-    /// How many visits the search at each stage may make, from 0 to 1,000,000,000,000.
+    /// The most visits that the search for each stage may make, from 0 to 1,000,000,000,000.
     pub nodes: u64,
 }
 
@@ -61,7 +61,7 @@ fn told(alloc: Global, verdict: &Verdict) -> Result<Answer, AllocError>
     }
 }
 
-/// Returns the answer for a check without a verdict: the search at a stage spent its visits. Want of memory is `Err`.
+/// Returns the answer for a check without a verdict, since a search spent its visits. Fails if memory runs out.
 fn stopped(alloc: Global, nodes: u64, stop: &CheckStop) -> Result<Answer, AllocError>
     ensures { IfOk result (λ answer. TellsStop nodes stop.now (saying answer)) }
 {

@@ -13,13 +13,13 @@ use command_shell::{Answer, Cause, Command, Meaning, Printed, input_line};
 use sealed_draw::{DrawStop, draw, seal, total_agrees};
 use std::alloc::{AllocError, Global};
 
-/// The kind of fault of a bundle whose weights don't sum to its total. It is told with line number 0, since no single line is faulty.
+/// The kind of fault of a bundle whose weights don't sum to its total. It is printed with line number 0, since no single line is faulty.
 const WRONG_TOTAL: u8 = 14;
 
-/// `draw`: the panel that is drawn from a bundle.
+/// `draw`: prints the panel that is drawn from a bundle.
 #[derive(Clone, Copy, Debug)]
 pub struct Draw<'a> {
-    /// The seal of the bundle, as it was published; capitals are taken as small letters.
+    /// The seal of the bundle, as it was published, in hexadecimal digits. Capitals are read as small letters.
     pub seal: &'a str,
     /// The digits of dice, in the order in which they were thrown.
     pub digits: &'a str,
@@ -69,7 +69,7 @@ fn drawn(
     }
 }
 
-/// Returns the answer for a draw that is refused. Want of memory is `Err`.
+/// Returns the answer for a draw that is refused. Fails if memory runs out.
 fn stopped(alloc: Global, stop: &DrawStop) -> Result<Answer, AllocError>
     ensures { IfOk result (λ answer. TellsStop stop.now (saying answer)) }
 {

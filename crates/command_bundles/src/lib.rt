@@ -1,6 +1,6 @@
-//! The commands about a bundle: `seal`, `draw` and `check`. Each is a struct of its arguments that answers about a bundle; what its answers mean
-//! is defined in `command_meanings`. Below are the draw, the checker, and the texts of bundles; above, the commands about proofs, which use
-//! `valid_line` and `refused_line`, and the top call. Promises: the three commands, and these two lines.
+//! The commands about a bundle: `seal`, `draw` and `check`. Each is a struct of its arguments that answers about a bundle;
+//! `command_meanings` defines which answers are right. Stands on `sealed_draw`, the checker, and the texts of bundles. Used by
+//! `command_proofs`, for `valid_line` and `refused_line`, and by `sortition`. Promises: the three commands, and these two lines.
 #![tactic(auto)]
 
 mod check;

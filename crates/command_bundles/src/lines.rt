@@ -1,4 +1,4 @@
-//! The lines of `seal`, `draw` and `check`.
+//! The lines that `seal`, `draw` and `check` print.
 
 ghost use Rattle.std.specs.Prelude.{◌≡◌, ◌++◌, ◌∷◌, [], ◌≤ℤ◌, pos, codes, length, nat_lt, string_bytes, unsigned_abs, IfOk, IsTrue, OnOk};
 ghost use Rattle.std.specs.Fmt.{decimal};
@@ -24,7 +24,7 @@ pub(crate) fn seal_line(alloc: Global, text: &[u8]) -> Result<Vec<u8>, AllocErro
     Ok(line)
 }
 
-/// Returns the two lines of a draw: the ticket with how many digits were read, and the ids of the panel's members.
+/// Returns the two lines of a draw: the ticket with the number of digits that were read, and the ids of the panel's members.
 pub(crate) fn drawn_lines(alloc: Global, pool: &Pool, drawn: &Draw) -> Result<Vec<u8>, AllocError>
     requires ticket { pos 0 ≤ℤ drawn.now.ticket }
     requires panel { IsTrue (list_all (λ i. nat_lt i (length pool.now.volunteers)) drawn.now.panel) }
@@ -37,7 +37,7 @@ pub(crate) fn drawn_lines(alloc: Global, pool: &Pool, drawn: &Draw) -> Result<Ve
     Ok(text)
 }
 
-/// Adds the line of the ticket, with `used`, how many digits were read.
+/// Appends the line of the ticket; `used` is how many digits were read.
 fn push_ticket(text: &mut Vec<u8>, ticket: i128, used: usize) -> Result<(), AllocError>
     requires { pos 0 ≤ℤ ticket }
     ensures { OnOk result (text.new.items ≡ text.old.items ++ words_of_line (codes "ticket" ∷ decimal (unsigned_abs ticket) ∷ decimal used ∷ [])) }
@@ -48,7 +48,7 @@ fn push_ticket(text: &mut Vec<u8>, ticket: i128, used: usize) -> Result<(), Allo
     end_line(text)
 }
 
-/// Adds the line of a panel: the ids of its members.
+/// Appends the line of a panel: the ids of its members.
 fn push_panel(text: &mut Vec<u8>, pool: &Pool, panel: &Panel) -> Result<(), AllocError>
     requires { IsTrue (list_all (λ i. nat_lt i (length pool.now.volunteers)) panel.now) }
     ensures { OnOk result (text.new.items ≡ text.old.items ++ words_of_panel pool.now panel.now) }
@@ -60,7 +60,7 @@ fn push_panel(text: &mut Vec<u8>, pool: &Pool, panel: &Panel) -> Result<(), Allo
     end_line(text)
 }
 
-/// Returns the line of the rule that refuses a draw whose given seal isn't the kept one.
+/// Returns the line of a draw that is refused because the given seal isn't the bundle's, `kept`.
 pub(crate) fn seal_rule_line(alloc: Global, given: &str, kept: &str) -> Result<Vec<u8>, AllocError>
     ensures { IfOk result (λ line. line.items ≡ words_of_line (codes "rule" ∷ codes "SealDiffers" ∷ given.now ∷ kept.now ∷ [])) }
 {
@@ -73,7 +73,8 @@ pub(crate) fn seal_rule_line(alloc: Global, given: &str, kept: &str) -> Result<V
     Ok(line)
 }
 
-/// Returns the line of a rule with a number: the place of a bad digit, or how many digits were read before more were needed.
+/// Returns the line of a draw that is refused for its digits: the rule, and `number`, which is the place of a bad digit, or how many
+/// digits were read before more were needed.
 pub(crate) fn number_rule_line(
     alloc: Global,
     rule: &[u8],
@@ -89,7 +90,7 @@ pub(crate) fn number_rule_line(
     Ok(line)
 }
 
-/// Returns the line of a certificate that holds, or of a valid proof of a lottery.
+/// Returns the line for a certificate that holds, or for a valid proof of a lottery.
 pub fn valid_line(alloc: Global) -> Result<Vec<u8>, AllocError>
     ensures { IfOk result (λ line. line.items ≡ words_of_line (codes "valid" ∷ [])) }
 {
@@ -98,7 +99,7 @@ pub fn valid_line(alloc: Global) -> Result<Vec<u8>, AllocError>
     Ok(line)
 }
 
-/// Returns the line of a refused certificate or proof: the stage, the reason, and the numbers of the volunteers who show it. For the
+/// Returns the line for a refused certificate or proof: the stage, the reason, and the numbers of the volunteers who show it. For the
 /// reasons 11 and 12, which only a proof has, the last number is that of a line of the proof's text.
 pub fn refused_line(alloc: Global, refusal: &Refusal) -> Result<Vec<u8>, AllocError>
     ensures { IfOk result (λ line. line.items ≡ words_of_refused refusal.now) }
@@ -112,8 +113,8 @@ pub fn refused_line(alloc: Global, refusal: &Refusal) -> Result<Vec<u8>, AllocEr
     Ok(line)
 }
 
-/// Returns the line of a check whose search at a stage spent its visits: `nodes`, the stage, and 0 columns and 0 pivots, since a check has
-/// none.
+/// Returns the line for a check whose search needs more visits than its budget: `nodes`, the stage, and 0 columns and 0 pivots, since a
+/// check has none.
 pub(crate) fn nodes_spent_line(
     alloc: Global,
     nodes: u64,

@@ -6,7 +6,7 @@ use command_meanings::seal_has_one_answer;
 use command_shell::{Answer, Command, Meaning, Printed};
 use std::alloc::{AllocError, Global};
 
-/// `seal`: the seal of a bundle.
+/// `seal`: prints the seal of a bundle's text. It has no arguments.
 #[derive(Clone, Copy, Debug)]
 pub struct Seal;
 

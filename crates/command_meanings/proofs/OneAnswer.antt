@@ -1,4 +1,4 @@
--- At most one answer of each command is right. For a command whose definitions compute its answer, each right answer is that one.
+-- Each command has at most one right answer. For a command whose answer the definitions compute, each right answer is the computed one.
 use Rattle.std.proofs.Common.{◌≡◌, ◌∙◌, ℕ, List, [], Option, Some, None, Result, Ok, Err, ap, sym, subst, arith, rules}
 use Rattle.std.specs.List.{AllByRecursion}
 use Rattle.define_additions.specs.ProofVerdict.{OfLottery, OfNoPanel, Proof, verdict}
@@ -21,7 +21,7 @@ use Rattle.command_meanings.specs.Panel.{IsFirstPanel, PanelMeans}
 use Rattle.command_meanings.specs.Seal.{SealMeans, bundle_seal, seal_line}
 use Rattle.command_meanings.specs.Verify.{VerifyMeans, shown_line}
 
--- if each right answer is `due`, at most one answer is right
+-- if each right answer equals `due`, at most one answer is right
 pub one_by : (meaning : Meaning) (due : Saying) → ((answer : Saying) → IsRight meaning answer → answer ≡ due) → HasOneAnswer meaning
 one_by meaning due is first second a b = is first a ∙ sym (is second b)
 

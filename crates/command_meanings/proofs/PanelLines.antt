@@ -8,7 +8,8 @@ use Rattle.define_lines.specs.Lines.{tab, tabbed}
 pub tabbed_then : (fields more : List (List ℕ)) → tabbed (fields ++ more) ≡ tabbed fields ++ tabbed more
 tabbed_then fields more = flat_map-append (λ (field : List ℕ). tab ∷ field) fields more
 
--- if the line has the ids of the first `index` members and the id of the next one is added, it has those of the first `index + 1`
+-- if `before` is `word` and the ids of the first `index` members, and `after` is `before` with a TAB and the next member's id added, then
+-- `after` is `word` and the ids of the first `index + 1` members
 pub one_id : (word : List ℕ) (volunteers : List Volunteer) (members : List ℕ) (index : ℕ) (before after : List ℕ) (seen : Volunteer) →
     before ≡ word ++ tabbed (map (λ i. (volunteer volunteers i).id) (take index members)) → index < length members →
     after ≡ before ++ (tab ∷ seen.id) → seen ≡ get_or volunteers (get_or members index 0) seen → get_or members index 0 < length volunteers →

@@ -1,4 +1,4 @@
--- `lottery` and `make` have one answer, since a run ends in one way.
+-- `lottery` and `make` have at most one right answer, since a run ends in one way.
 use Rattle.std.proofs.Common.{◌≡◌, ◌∙◌, ℕ, List, Some, None, ap, sym, subst}
 use Rattle.std.specs.Prelude.{⊤}
 use Rattle.define_made_pools.specs.MadePools.{made_pool}
@@ -40,7 +40,7 @@ budget_said limits pool (Ending.PivotsSpent stood) line tells = ap (Stops Spent)
 budget_said limits pool (Ending.NodesSpent stood) line tells = ap (Stops Spent) tells
 budget_said limits pool other line tells = absurd tells
 
--- the run has an ending, and the answer is what `said` gives for it
+-- the run has an ending, and the answer is what `said` returns for this ending
 record Tells (said : Ending → Saying) (limits : Limits) (pool : Pool) (answer : Saying) : Type 0 where
   ending : Ending
   ends : RunEnds pool limits ending
@@ -66,7 +66,7 @@ abbrev IsDone : Saying → Type 0
 IsDone (Prints Done text) = ⊤
 IsDone answer = ⊥
 
--- the answer of `make` for an ending of the run: the summary of a lottery that is found, else what `lottery` answers
+-- the answer of `make` for an ending of the run: the summary if a lottery is found, else the answer of `lottery`
 abbrev made_said : Limits → Pool → Ending → Saying
 made_said limits pool (Ending.Found last found) = Prints Done (summary_text pool found (sizes_of last))
 made_said limits pool other = lottery_said limits pool other

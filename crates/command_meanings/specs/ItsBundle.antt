@@ -11,10 +11,10 @@ no_lottery_line = line (codes "rule" ∷ codes "NoLottery" ∷ [])
 
 abbrev pub BundleMeans : Proof → Meaning
 BundleMeans (OfLottery pool its trees) = record no_answer {
-  -- 0: the text of the bundle
+  -- status 0: the text of the bundle
   done = λ text. text ≡ bundle_spelling (record { pool = pool; answer = its });
 }
 BundleMeans (OfNoPanel pool lines) = record no_answer {
-  -- 6: the proof is one that there is no quota panel
+  -- status 6: the proof is that there is no quota panel, so it has no bundle
   rule = λ text. text ≡ no_lottery_line;
 }

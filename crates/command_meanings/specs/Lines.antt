@@ -1,4 +1,4 @@
--- The lines of `panel` and `lottery`, some of which `make` and `draw` tell too. Over the shell's lines and the tables of a run. Panel,
+-- The lines of `panel` and `lottery`; `make` and `draw` print some of them too. Over the shell's lines and the tables of a run. Panel,
 -- Lottery and Draw cite them.
 use Rattle.std.specs.Prelude.{ℕ, List, [], ◌∷◌, ◌++◌, length, map, codes, Option, Some, None}
 use Rattle.std.specs.Fmt.{decimal, signed_decimal}
@@ -10,11 +10,11 @@ use Rattle.define_rows.specs.Table.{Table}
 use Rattle.define_spreads.specs.Spreading.{TotalPass}
 use Rattle.command_shell.specs.Lines.{line}
 
--- the ids of a panel's members
+-- the line of a panel: the ids of its members
 abbrev pub panel_line : Pool → List ℕ → List ℕ
 panel_line pool panel = line (codes "panel" ∷ map (λ i. (volunteer pool.volunteers i).id) panel)
 
--- how far a run got: the stages entered, the columns and the pivots of its table, or three zeros before there is a table
+-- how far a run got: how many stages, columns and pivots its table has; three zeros before there is a table
 abbrev pub place : Option Table → List (List ℕ)
 place None = codes "0" ∷ codes "0" ∷ codes "0" ∷ []
 place (Some table) = decimal (length table.stages) ∷ decimal (length table.columns) ∷ decimal table.pivots ∷ []
@@ -24,16 +24,17 @@ operation Mul = codes "mul"
 operation Sub = codes "sub"
 operation Add = codes "add"
 
--- an operation passes the width: how far the run got, the row, the operation and its two numbers
+-- the line of an operation that passes the width: how far the run got, the row, the operation and its two numbers
 abbrev pub wide_line : Option Table → Pass → List ℕ
 wide_line stood pass =
     line (codes "wide" ∷ (place stood ++ decimal pass.row ∷ operation pass.op ∷ signed_decimal pass.x ∷ signed_decimal pass.y ∷ []))
 
--- the lottery's total passes 10 ^ 38: at which composition, the total of those before it, and the denominator of its fraction
+-- the line of a total that passes 10 ^ 38: the number of the composition whose fraction makes it pass, the total before this composition,
+-- and the denominator of its fraction
 abbrev pub total_line : TotalPass → List ℕ
 total_line pass = line (codes "wide" ∷ codes "total" ∷ decimal pass.place ∷ decimal pass.total ∷ decimal pass.den ∷ [])
 
--- a budget is spent: its name, its limit, and how far the run got
+-- the line of a spent budget: its name, its limit, and how far the run got
 abbrev pub spent_line : List ℕ → ℕ → Option Table → List ℕ
 spent_line budget limit stood = line (codes "spent" ∷ budget ∷ decimal limit ∷ place stood)
 

@@ -1,4 +1,4 @@
--- What `lottery` answers: the bundle of a pool, by the run under these limits.
+-- What `lottery` answers about a pool: the bundle of the answer that the run finds under `limits`, or why there is none.
 use Rattle.std.specs.Prelude.{◌≡◌, ◌≤◌, ℕ, List, [], Some, ⊤}
 use Rattle.define_pools.specs.Certificate.{Answer, Certifies}
 use Rattle.define_pools.specs.Lottery.{LeximinGreatest}
@@ -12,7 +12,7 @@ use Rattle.command_shell.specs.Answers.{Meaning, no_answer}
 use Rattle.command_shell.specs.Lines.{no_panel_line}
 use Rattle.command_meanings.specs.Lines.{nodes_spent_line, pivots_spent_line, total_line, wide_line}
 
--- the run finds this answer, whose lottery is certified by its stages: no lottery over the pool's quota panels is above it
+-- the run finds this answer. Its stages certify its lottery, so no lottery over the pool's quota panels is above it
 pub record FindsGreatest (limits : Limits) (pool : Pool) (answer : Answer) : Type 0 where
   pub ends : RunFinds pool limits answer
   pub certified : Certifies pool answer.lottery answer.stages
@@ -30,30 +30,30 @@ pub record PrintsBundle (limits : Limits) (pool : Pool) (text : List ℕ) : Type
   pub finds : FindsGreatest limits pool answer
   pub bundle : text ≡ bundle_text pool answer
 
--- the run finds that there is no quota panel
+-- the run finds that there is no quota panel, and the text is the line that says so
 pub record PrintsNone (limits : Limits) (pool : Pool) (text : List ℕ) : Type 0 where
   pub finds : FindsNone limits pool
   pub line : text ≡ no_panel_line
 
--- the line tells an end of the run at which a number passes its width
+-- the line names the operation or the total at which the run ends because a number is too great
 abbrev pub TellsWidth : Ending → List ℕ → Type 0
 TellsWidth (Ending.TooWide stood pass) line = line ≡ wide_line stood pass
 TellsWidth (Ending.TotalPasses stood pass) line = line ≡ total_line pass
 TellsWidth other line = ⊥
 
--- an operation passes the width, or the lottery's total passes 10 ^ 38, and the line tells which
+-- an operation passes the width, or the lottery's total passes 10 ^ 38; the line names it
 pub record PassesWidth (limits : Limits) (pool : Pool) (line : List ℕ) : Type 0 where
   pub ending : Ending
   pub ends : RunEnds pool limits ending
   pub tells : TellsWidth ending line
 
--- the line tells an end of the run at which a budget is spent
+-- the line names the budget, of pivots or of visits, that is spent when the run ends
 abbrev pub TellsBudget : Limits → Ending → List ℕ → Type 0
 TellsBudget limits (Ending.PivotsSpent stood) line = line ≡ pivots_spent_line limits.pivots (Some stood)
 TellsBudget limits (Ending.NodesSpent stood) line = line ≡ nodes_spent_line limits.nodes stood
 TellsBudget limits other line = ⊥
 
--- a pivot is due after `limits.pivots` pivots, or a search takes more than `limits.nodes` visits
+-- the run needs more than `limits.pivots` pivots, or a search needs more than `limits.nodes` visits; the line says which
 pub record SpendsBudget (limits : Limits) (pool : Pool) (line : List ℕ) : Type 0 where
   pub ending : Ending
   pub ends : RunEnds pool limits ending
@@ -61,12 +61,12 @@ pub record SpendsBudget (limits : Limits) (pool : Pool) (line : List ℕ) : Type
 
 abbrev pub LotteryMeans : Limits → Pool → Meaning
 LotteryMeans limits pool = record no_answer {
-  -- 0
+  -- status 0
   done = PrintsBundle limits pool;
-  -- 1
+  -- status 1
   no_panel = PrintsNone limits pool;
-  -- 4
+  -- status 4
   wide = PassesWidth limits pool;
-  -- 5
+  -- status 5
   spent = SpendsBudget limits pool;
 }

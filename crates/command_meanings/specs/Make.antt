@@ -1,5 +1,5 @@
--- What `make` answers: the summary of the run under these limits over the pool that is made from a seed and a number of volunteers. It reads
--- nothing.
+-- What `make` answers: the summary of a run under `limits` over the pool that is made from `seed` and a number of volunteers. It reads no
+-- input.
 use Rattle.std.specs.Prelude.{◌≡◌, ℕ, List, length}
 use Rattle.define_made_pools.specs.MadePools.{made_pool}
 use Rattle.define_made_pools.specs.Summary.{Sizes, summary_text}
@@ -11,12 +11,12 @@ use Rattle.define_runs.specs.Run.{Ending, Limits, RunEnds}
 use Rattle.command_shell.specs.Answers.{Meaning}
 use Rattle.command_meanings.specs.Lottery.{FindsGreatest, LotteryMeans}
 
--- the sizes of a run's last table
+-- how many classes, columns and pivots a run had, from its last table
 abbrev pub sizes_of : Table → Sizes
 sizes_of table = record { classes = length table.sizes; columns = length table.columns; pivots = table.pivots }
 
--- the text is the summary of the answer that the run finds and of the run's last table. No lottery over the pool's quota panels is above
--- the answer's
+-- the text is the summary of the answer that the run finds and of the run's sizes. No lottery over the pool's quota panels is above the
+-- answer's
 pub record PrintsSummary (limits : Limits) (pool : Pool) (text : List ℕ) : Type 0 where
   pub answer : Answer
   pub last : Table
@@ -24,9 +24,9 @@ pub record PrintsSummary (limits : Limits) (pool : Pool) (text : List ℕ) : Typ
   pub finds : FindsGreatest limits pool answer
   pub summary : text ≡ summary_text pool answer (sizes_of last)
 
--- at 0 the summary instead of a bundle; at every other status what `lottery` answers about the made pool
+-- status 0 is a summary instead of a bundle. All else is as `lottery` answers about the made pool
 abbrev pub MakeMeans : ℕ → ℕ → Limits → Meaning
 MakeMeans seed volunteers limits = record (LotteryMeans limits (made_pool seed volunteers)) {
-  -- 0
+  -- status 0
   done = PrintsSummary limits (made_pool seed volunteers);
 }

@@ -1,4 +1,4 @@
--- What `panel` answers: the first quota panel of a pool, by a search of at most `nodes` visits.
+-- What `panel` answers: the first quota panel of a pool, found by a search of at most `nodes` visits.
 use Rattle.std.specs.Prelude.{◌≡◌, ◌<◌, ◌≤◌, ℕ, List, [], Some, None, IsTrue}
 use Rattle.define_pools.specs.Pool.{Pool, is_quota_panel, panels}
 use Rattle.define_searches.specs.Classes.{classes_of}
@@ -8,41 +8,41 @@ use Rattle.command_shell.specs.Answers.{Meaning, no_answer}
 use Rattle.command_shell.specs.Lines.{no_panel_line}
 use Rattle.command_meanings.specs.Lines.{panel_line, nodes_spent_line}
 
--- how many visits the search for the first composition takes
+-- how many visits the search for the first composition makes
 abbrev pub visits_of : Pool → ℕ
 visits_of pool = (first_search (classes_of pool)).visits
 
--- this quota panel has the first members of each class, as many as the first composition takes
+-- the quota panel has the first members of each class, as many as the first composition has of the class
 pub record IsFirstPanel (pool : Pool) (panel : List ℕ) : Type 0 where
   pub counts : List ℕ
   pub first : first_composition (classes_of pool) ≡ Some counts
   pub members : panel ≡ first_panel (classes_of pool) counts
   pub fits : IsTrue (is_quota_panel pool panel)
 
--- the text is the line of the first panel
+-- the search is within its budget, and the text is the line of the first panel
 pub record PrintsFirstPanel (nodes : ℕ) (pool : Pool) (text : List ℕ) : Type 0 where
   pub within : visits_of pool ≤ nodes
   pub panel : List ℕ
   pub first : IsFirstPanel pool panel
   pub line : text ≡ panel_line pool panel
 
--- there is no quota panel
+-- the search is within its budget, and there is no quota panel
 pub record PrintsNoPanel (nodes : ℕ) (pool : Pool) (text : List ℕ) : Type 0 where
   pub within : visits_of pool ≤ nodes
   pub none : panels pool ≡ []
   pub line : text ≡ no_panel_line
 
--- the search takes more than `nodes` visits
+-- the search needs more than `nodes` visits
 pub record SpendsVisits (nodes : ℕ) (pool : Pool) (text : List ℕ) : Type 0 where
   pub more : nodes < visits_of pool
   pub line : text ≡ nodes_spent_line nodes None
 
 abbrev pub PanelMeans : ℕ → Pool → Meaning
 PanelMeans nodes pool = record no_answer {
-  -- 0
+  -- status 0
   done = PrintsFirstPanel nodes pool;
-  -- 1
+  -- status 1
   no_panel = PrintsNoPanel nodes pool;
-  -- 5
+  -- status 5
   spent = SpendsVisits nodes pool;
 }

@@ -1,8 +1,8 @@
 -- What `prove` answers: a valid proof over the pool of the input, or a reason why none was made.
 --
--- The run that makes the proof is no definition. So the meaning doesn't say whether a proof comes at all, nor which of 4, 5 and 11 comes if
--- none does. What the run met there is free: at 4 any operation that passes 2^62 is right, at 5 a spent lottery or a lost step always is,
--- and at 11, of a bundle alone, the trees are any, so a bad tree makes a refusal right even if the bundle's certificate holds.
+-- The run that makes the proof is no definition. So the meaning doesn't say whether a proof is found, nor which of the statuses 4, 5 and
+-- 11 comes if none is. At 4, any operation that passes 2^62 is right. At 5, a spent lottery or a lost step is always right. At 11, which
+-- only a bundle can have, any trees may be the refused ones: a refusal of the trees can be right even if the bundle's certificate holds.
 use Rattle.std.specs.Prelude.{◌≡◌, ℕ, List, [], ◌∷◌, codes, Option, None, Some, ⊤}
 use Rattle.std.specs.Fmt.{decimal, signed_decimal}
 use Rattle.define_additions.specs.ProofVerdict.{OfLottery, OfNoPanel, verdict}
@@ -22,7 +22,7 @@ use Rattle.command_shell.specs.declared.formats.PoolOrBundle.{PoolOrBundle}
 use Rattle.command_shell.specs.declared.formats.PoolOrBundle.TheVariants as either
 use Rattle.command_meanings.specs.Check.{IsGreatest, refused_line}
 
--- ---- what is read: a pool, and, if the input is a bundle, the answer that is to be proved
+-- ---- the input: a pool, or a bundle, whose answer is to be proved
 
 abbrev pub pool_in : PoolOrBundle → Pool
 pool_in (either.Pool pool) = pool
@@ -44,23 +44,23 @@ proof_operation Div = codes "div"
 abbrev pub proof_wide_line : Operation → List ℕ
 proof_wide_line passed = line (codes "wide" ∷ proof_operation passed.op ∷ signed_decimal passed.x ∷ signed_decimal passed.y ∷ [])
 
--- the line of a budget that is spent: what is spent, and how much of it there was
+-- the line of a spent budget: what is spent, and how much of it the run had
 abbrev pub proof_spent_line : List ℕ → ℕ → List ℕ
 proof_spent_line what most = line (codes "spent" ∷ what ∷ decimal most ∷ [])
 
--- how many turns of peeling the run tries to make the lottery of a point out of panels: those of all rounds in `proof_peeling`
+-- how many turns of peeling the run makes at most to turn a point into a lottery: those of all rounds in `proof_peeling`
 abbrev pub lottery_tries : ℕ
 lottery_tries = 168
 
 -- ---- answers
 
--- if an answer was given, it is the proof's
+-- the answer `its` is the given one, if one was given
 abbrev pub IsGiven : Option Answer → Answer → Type 0
 IsGiven None its = ⊤
 IsGiven (Some given) its = its ≡ given
 
--- the text of a valid proof, so no lottery over the pool's quota panels is above its lottery. If a bundle was given, the lottery is the
--- bundle's
+-- the text is a valid proof, so no lottery over the pool's quota panels is above the proof's. If a bundle was given, this is the bundle's
+-- lottery
 pub record PrintsProof (about : PoolOrBundle) (text : List ℕ) : Type 0 where
   pub its : Answer
   pub is_given : IsGiven (given_in about) its
@@ -69,31 +69,33 @@ pub record PrintsProof (about : PoolOrBundle) (text : List ℕ) : Type 0 where
   pub greatest : IsGreatest (record { pool = pool_in about; answer = its })
   pub proof : text ≡ proof_spelling (OfLottery (pool_in about) its trees)
 
--- the text of a valid proof that there is no quota panel, so there is none
+-- the text is a valid proof that there is no quota panel, so there is none
 pub record PrintsProofOfNone (about : PoolOrBundle) (text : List ℕ) : Type 0 where
   pub lines : List TreeLine
   pub valid : verdict (OfNoPanel (pool_in about) lines) ≡ Valid
   pub none : panels (pool_in about) ≡ []
   pub proof : text ≡ proof_spelling (OfNoPanel (pool_in about) lines)
 
--- the exact result of an operation is above 2^62 by absolute value. That the operation is one of the run isn't said
+-- the exact result of the operation is above 2^62 by absolute value. Whether the run made this operation isn't said
 pub record PassesProofWidth (text : List ℕ) : Type 0 where
   pub passed : Operation
   pub passes : Passes passed
   pub line : text ≡ proof_wide_line passed
 
--- what is spent, if `left` is what the run leaves of its budget
+-- the text is the line of a spent budget, or of a lost step, that is right if the run leaves `left` of its budget
 pub data SpendsProofBudget (left : Left) (text : List ℕ) : Type 0 where
-  -- all pivots of the run, all its nodes, or all turns of peeling. The last asks for nothing of `left`
+  -- no pivot is left
   PivotsSpent : left.pivots ≡ 0 → text ≡ proof_spent_line (codes "pivots") left.most_pivots → SpendsProofBudget left text
+  -- no node is left
   NodesSpent : left.nodes ≡ 0 → text ≡ proof_spent_line (codes "nodes") left.most_nodes → SpendsProofBudget left text
+  -- all turns of peeling are made; no condition is put on `left`
   LotterySpent : text ≡ proof_spent_line (codes "lottery") lottery_tries → SpendsProofBudget left text
-  -- no budget: a step of the run led to a state that exact arithmetic never leads to, or its proof was refused. It asks for nothing of
+  -- no budget: a step of the run led to a state that exact arithmetic never leads to, or its proof was refused. No condition is put on
   -- `left`
   StepLost : text ≡ proof_spent_line (codes "lost") 0 → SpendsProofBudget left text
 
--- The lottery and the stages of the given bundle are refused as a proof with some trees. That the run found these trees isn't said. If the
--- reason is below 11, the bundle's certificate doesn't hold; the reasons from 11 on are of the trees and say nothing of it
+-- With some trees, the lottery and stages of the given bundle are refused as a proof. Whether the run found these trees isn't said. If
+-- the reason is below 11, the bundle's certificate doesn't hold; a reason from 11 on is about the trees alone
 pub record PrintsGivenRefusal (about : PoolOrBundle) (text : List ℕ) : Type 0 where
   pub its : Answer
   pub is_given : given_in about ≡ Some its
@@ -106,19 +108,19 @@ pub record PrintsGivenRefusal (about : PoolOrBundle) (text : List ℕ) : Type 0 
 -- what is right to answer, if the run leaves `left` of its budget
 abbrev pub ProveMeans : Left → PoolOrBundle → Meaning
 ProveMeans left about = record no_answer {
-  -- 0
+  -- status 0
   done = PrintsProof about;
-  -- 1
+  -- status 1
   no_panel = PrintsProofOfNone about;
-  -- 4
+  -- status 4
   wide = PassesProofWidth;
-  -- 5
+  -- status 5
   spent = SpendsProofBudget left;
-  -- 11
+  -- status 11
   refused = PrintsGivenRefusal about;
 }
 
--- what is right to answer by a run that begins with an unspent budget of `pivots` pivots and `nodes` nodes
+-- what is right to answer, if the run begins with a budget of `pivots` pivots and `nodes` nodes, none of it spent
 pub record ProvesWithin (pivots nodes : ℕ) (about : PoolOrBundle) (answer : Saying) : Type 0 where
   pub left : Left
   pub spends : SpendsOn (unspent pivots nodes) left

@@ -5,7 +5,7 @@ use Rattle.define_draws.specs.Seal.{seal_of}
 use Rattle.command_shell.specs.Answers.{Meaning, no_answer}
 use Rattle.command_shell.specs.Lines.{line}
 
--- the seal of a bundle: that of its text
+-- the seal of the bundle's text
 abbrev pub bundle_seal : Bundle → List ℕ
 bundle_seal bundle = seal_of (bundle_spelling bundle)
 
@@ -14,6 +14,6 @@ seal_line bundle = line (codes "seal" ∷ bundle_seal bundle ∷ [])
 
 abbrev pub SealMeans : Bundle → Meaning
 SealMeans bundle = record no_answer {
-  -- 0
+  -- status 0
   done = λ text. text ≡ seal_line bundle;
 }

@@ -22,14 +22,14 @@ abbrev pub shown_line : Proof → List ℕ
 shown_line (OfLottery pool its trees) = valid_line
 shown_line (OfNoPanel pool lines) = valid_none_line
 
--- the proof is valid
+-- the proof is valid, and the text is the line that says so
 pub record PrintsShown (proof : Proof) (text : List ℕ) : Type 0 where
   pub valid : verdict proof ≡ Valid
   pub shows : Shows proof
   pub line : text ≡ shown_line proof
 
--- The proof is refused for the first reason that applies. If the reason is below 11, its certificate doesn't hold; the reasons from 11 on
--- are of the trees and say nothing of it. For 11 and 12 the last number of the line is that of a line of the proof's text
+-- The proof is refused for the first reason that applies. If the reason is below 11, the certificate doesn't hold; a reason from 11 on is
+-- about the trees alone. For 11 and 12 the last number of the line is the number of a line of the proof's text
 pub record PrintsProofRefusal (proof : Proof) (text : List ℕ) : Type 0 where
   pub refusal : Refusal
   pub refuses : verdict proof ≡ Refused refusal
@@ -38,8 +38,8 @@ pub record PrintsProofRefusal (proof : Proof) (text : List ℕ) : Type 0 where
 
 abbrev pub VerifyMeans : Proof → Meaning
 VerifyMeans proof = record no_answer {
-  -- 0
+  -- status 0
   done = PrintsShown proof;
-  -- 11
+  -- status 11
   refused = PrintsProofRefusal proof;
 }

@@ -1,6 +1,6 @@
-//! What the answers of each command mean: which text or line is right at which status (one file of `specs/` a command). Below are the shell
-//! and the definitions; above, the crates of commands and the contract of `office`. Promises: the laws in `laws.rt`, functions without a
-//! body.
+//! What each command answers: which text or line is right at which status. Each command has a file in `specs/`. Stands on `command_shell`
+//! and the definitions of pools, checks, runs, draws and proofs. Used by the crates of commands and by `sortition`, whose `office`
+//! promises these answers. Promises: the laws in `laws.rt`.
 #![tactic(auto)]
 
 mod laws;

@@ -32,7 +32,7 @@ refused limits pool (PivotsSpent at) ends answer is =
 refused limits pool (NodesSpent at) ends answer is = IsBudget _ (record { ending = Ending.NodesSpent (stood at); ends = ends; tells = refl }) is
 refused limits pool OutOfMemory ends answer is = absurd is
 
--- if a stop is how the run ends, the answer for it is right
+-- if the run ends with a stop, the answer to this stop is right
 pub stop_is_right : (limits : Limits) (pool : Pool) (stop : Stop) → TellsEnding (classes_of pool) (run_limits limits) (Err stop) → (answer : Saying) →
     TellsStop limits stop answer → IsRight (LotteryMeans limits pool) answer
 stop_is_right limits pool stop ends answer is = right (refused limits pool stop ends answer is)
@@ -51,7 +51,7 @@ made_stop_is_right seed volunteers limits pool made stop ends answer is = right 
     right (IsBudget line spends e) =
         subst (IsRight (MakeMeans seed volunteers limits)) (sym e) (subst (λ (it : Pool). SpendsBudget limits it line) made spends)
 
--- a summary with the sizes of the last table, as the run returns them, is the one with `sizes_of`
+-- the summary with the sizes of the last table is the same, whether they are `RunSizes` or `sizes_of` the table
 pub sizes_are : (pool : Pool) (answer : Answer) (sizes : RunSizes) (last : Table) → sizes ≡ sizes_in last →
     summary_text pool answer (record { classes = sizes.classes; columns = sizes.columns; pivots = sizes.pivots }) ≡ summary_text pool answer (sizes_of last)
 sizes_are pool answer sizes last is =

@@ -1,5 +1,5 @@
--- What the search for a first panel says of a pool, and how a stop of the run is answered. Contracts in src/panel.rt and src/lottery.rt
--- cite it.
+-- What the search for a first panel may return for a pool, and the answer to a stop of the run. The contracts in src/panel.rt and
+-- src/lottery.rt cite it.
 use Rattle.std.specs.Prelude.{◌≡◌, ◌<◌, ◌≤◌, ℕ, List, [], Option, Some, None, Result, Ok, Err, ⊤}
 use Rattle.define_pools.specs.Pool.{Pool, panels}
 use Rattle.define_spreads.specs.Spreading.{TotalPass}
@@ -14,7 +14,8 @@ use Rattle.command_shell.specs.Answers.{Saying, Stops}
 use Rattle.command_meanings.specs.Lines.{nodes_spent_line, pivots_spent_line, total_line, wide_line}
 use Rattle.command_meanings.specs.Panel.{IsFirstPanel, visits_of}
 
--- a panel or None if the search takes at most `nodes` visits, else a stop; running out of memory is allowed at any time
+-- if the search makes at most `nodes` visits, the first panel, or None if there is none; else `Spent`. Running out of memory is allowed at
+-- any time
 abbrev pub FirstSays : ℕ → Pool → Result (Option (List ℕ)) SearchStop → Type 0
 FirstSays nodes pool (Ok (Some panel)) = (visits_of pool ≤ nodes) × IsFirstPanel pool panel
 FirstSays nodes pool (Ok None) = (visits_of pool ≤ nodes) × (panels pool ≡ [])

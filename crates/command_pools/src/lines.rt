@@ -1,4 +1,4 @@
-//! The lines of `panel` and `lottery`: a panel's members, and why the search or the run stops. `make` tells the latter too.
+//! The lines of `panel` and `lottery`: a panel's members, and why the search or the run stops. `make` prints the lines for stops too.
 
 ghost use Rattle.std.specs.Prelude.{◌≡◌, ◌++◌, IfOk, OnOk, IsTrue};
 ghost use Rattle.define_pools.specs.Pool.{is_quota_panel};
@@ -50,8 +50,8 @@ pub(crate) fn wide_line(alloc: Global, at: &At, pass: &Pass) -> Result<Vec<u8>, 
     Ok(line)
 }
 
-/// Returns the line of a total that passes 10^38: the number of the composition at which it does, the total of those before it, and the
-/// denominator of its fraction.
+/// Returns the line of a total that passes 10^38: the number of the composition whose fraction makes it pass, the total of the compositions
+/// before it, and the fraction's denominator.
 pub(crate) fn total_line(
     alloc: Global,
     place: usize,
@@ -81,7 +81,7 @@ pub(crate) fn pivots_spent_line(alloc: Global, pivots: u64, at: &At) -> Result<V
     Ok(line)
 }
 
-/// Returns the line of a search that takes more than `nodes` visits, with how far the run got.
+/// Returns the line of a search that needs more than `nodes` visits, with how far the run got.
 pub(crate) fn nodes_spent_line(alloc: Global, nodes: u64, at: &At) -> Result<Vec<u8>, AllocError>
     ensures { IfOk result (λ line. line.items ≡ words_of_nodes_spent nodes (stood at.now)) }
 {
@@ -93,7 +93,7 @@ pub(crate) fn nodes_spent_line(alloc: Global, nodes: u64, at: &At) -> Result<Vec
     Ok(line)
 }
 
-/// Adds how far the run got: its stages, columns and pivots, or three zeros before it has a table.
+/// Appends how far the run got: its stages, columns and pivots, or three zeros before it has a table.
 fn push_place(line: &mut Vec<u8>, at: &At) -> Result<(), AllocError>
     ensures { OnOk result (line.new.items ≡ line.old.items ++ tabbed (words_of_place (stood at.now))) }
 {

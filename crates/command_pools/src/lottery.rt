@@ -100,13 +100,12 @@ fn solved<R: Threads + Sync, W: Watch + Sync>(
             text: write_bundle(alloc, pool, &answer)?,
         }),
         Ok(Solved::NoPanel) => no_panel(alloc),
-        Err(stop) => stopped(alloc, limits, &stop),
+        Err(stop) => stop_answer(alloc, limits, &stop),
     }
 }
 
-/// Returns the answer for a run that stops early: a number is too wide, or a budget is spent. Want of memory is `Err`. `make` answers so
-/// too.
-pub(crate) fn stopped(alloc: Global, limits: Limits, stop: &Stop) -> Result<Answer, AllocError>
+/// Returns the answer for a run that stops early: a number is too wide, or a budget is spent. Want of memory is `Err`. `make` uses it too.
+pub fn stop_answer(alloc: Global, limits: Limits, stop: &Stop) -> Result<Answer, AllocError>
     ensures { IfOk result (λ answer. TellsStop limits stop.now (saying answer)) }
 {
     match stop {

@@ -7,7 +7,7 @@ ghost use Rattle.command_shell.specs.Outcomes.{SilentOutcome};
 ghost use Rattle.command_shell.specs.Told.{Bytes, IsUntouched, object, told};
 ghost use Rattle.command_meanings.specs.Make.{MakeMeans};
 
-use crate::lottery::stopped;
+use crate::lottery::stop_answer;
 use command_meanings::make_has_one_answer;
 use command_shell::{Answer, Meaning, Nothing, Printed, Resources, Status, call_silent, no_panel};
 use define_runs::Workers;
@@ -30,7 +30,7 @@ const MOST_VOLUNTEERS: u32 = 400;
 pub struct Make {
     /// The number from which the pool is made.
     pub seed: u64,
-    /// How many volunteers it has, from 1 to 400.
+    /// How many volunteers the pool has, from 1 to 400.
     pub volunteers: Volunteers,
     /// How wide the run's numbers may be, and how many pivots and visits it may make.
     pub limits: Limits,
@@ -138,6 +138,6 @@ fn made_summary<R: Threads + Sync, W: Watch + Sync>(
             text: run_summary(alloc, &pool, &answer, &sizes)?.into_bytes(),
         }),
         Ok(SolvedSized::NoPanel) => no_panel(alloc),
-        Err(stop) => stopped(alloc, made.limits, &stop),
+        Err(stop) => stop_answer(alloc, made.limits, &stop),
     }
 }

@@ -56,8 +56,8 @@ fn panel(alloc: Global, nodes: u64, pool: &Pool) -> Result<Answer, AllocError>
     }
 }
 
-/// Returns the panel of the first composition, with the first members of each class, or None if there is no quota panel. Stops if the
-/// search takes more than `nodes` visits.
+/// Returns the panel of the first composition, with the first members of each class, or None if there is no quota panel. Fails with `Spent`
+/// if the search needs more than `nodes` visits.
 fn first_of(alloc: Global, nodes: u64, pool: &Pool) -> Result<Option<Panel>, SearchStop>
     ensures { FirstSays nodes pool.now result }
 {

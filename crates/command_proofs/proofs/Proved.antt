@@ -19,7 +19,7 @@ use Rattle.proof_limits.specs.Budgets.{Left}
 use Rattle.proof_run.specs.Made.{IsOfBundle, IsOfPool}
 use Rattle.command_proofs.specs.Proved.{TellsOfBundle, TellsOfPool, proof_said}
 
--- what a valid proof of a lottery shows, and what one that there is no quota panel shows
+-- if the proof is one of a lottery, the lottery is leximin greatest and certified
 abbrev pub SaysGreatest : Proof → Type 0
 SaysGreatest proof = (pool : Pool) (its : Answer) (trees : List (List TreeLine)) → proof ≡ OfLottery pool its trees →
     LeximinGreatest pool its.lottery × Certifies pool its.lottery its.stages
@@ -28,7 +28,7 @@ abbrev pub SaysNone : Proof → Type 0
 SaysNone proof = (pool : Pool) (lines : List TreeLine) → proof ≡ OfNoPanel pool lines → panels pool ≡ []
 
 module _ (left : Left) (answer : Saying) where
-  -- the text of a valid proof of a lottery is a right answer about an input with the proof's pool, and with its answer if one was given
+  -- if a proof of a lottery is valid, and the input has its pool, and its answer if it has one, the proof's text is a right answer
   lottery_proved : (about : PoolOrBundle) (own : Pool) (its : Answer) (trees : List (List TreeLine)) → own ≡ pool_in about → IsGiven (given_in about) its →
       verdict (OfLottery own its trees) ≡ Valid → SaysGreatest (OfLottery own its trees) → answer ≡ proof_said (OfLottery own its trees) → IsRight (ProveMeans left about) answer
   lottery_proved about own its trees same is valid greatest tells =

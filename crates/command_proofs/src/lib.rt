@@ -1,7 +1,7 @@
 //! The commands about proofs: `prove`, `verify` and `bundle`. Each is a struct of its arguments; what its answers mean is defined in
-//! `command_meanings`. Below are the run that makes proofs, the verifier, the texts of proofs, and the commands about a bundle, whose lines
-//! for valid and refused certificates are used here too; above, the top call. Promises: the three commands, and `prove_within`, which also
-//! says that its run gives nothing back to a budget.
+//! `command_meanings`. Stands on the run that makes proofs (`proof_run`), the verifier (`proof_verify`), the texts of proofs
+//! (`proof_text`), and `command_bundles`, whose lines for valid and refused certificates are printed here too. `sortition` stands on it.
+//! Promises: the three commands, and `prove_within`, which also promises that its run gives nothing back to a budget.
 #![tactic(auto)]
 
 mod its_bundle;

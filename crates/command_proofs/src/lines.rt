@@ -1,4 +1,4 @@
-//! The lines of `verify` and `bundle` that no other command tells.
+//! The lines of `verify` and `bundle` that no other command prints.
 
 ghost use Rattle.std.specs.Prelude.{◌≡◌, IfOk};
 ghost use Rattle.command_meanings.specs.ItsBundle.{no_lottery_line as words_of_no_lottery};

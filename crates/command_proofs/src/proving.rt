@@ -1,4 +1,4 @@
-//! The command `prove`: the lottery of a pool, or of a bundle, with a proof that is verified before it is told.
+//! The command `prove`: the lottery of a pool, or of a bundle, with a proof that is verified before it is printed.
 
 ghost use Rattle.std.specs.Prelude.{◌≡◌, IfOk};
 ghost use Rattle.define_bundles.specs.BundleText.{Bundle as SeenBundle};
@@ -64,7 +64,7 @@ fn proved(
     prove_within(alloc, &mut budget, about)
 }
 
-/// Returns what `prove` answers by a run under `budget`, which keeps what the run leaves of it.
+/// Returns what `prove` answers by a run under `budget`. Afterwards `budget` is what the run left of it.
 ///
 /// # Errors
 ///

@@ -13,7 +13,8 @@ use proof_limits::{Budget, Limit, Op, Pass, ProveStop};
 use std::alloc::{AllocError, Global};
 use text_lines::{end_line, push_field, push_number, push_signed};
 
-/// How many turns of peeling the run tries to make the lottery of a point out of panels: those of all rounds in `proof_peeling`.
+/// How many turns of peeling all rounds of `proof_peeling` have together: the most by which the run tries to make the lottery of a point
+/// out of panels.
 const LOTTERY_TRIES: u64 = 168;
 
 /// Returns the answer for a run that stops and leaves `left` of its budget. Want of memory is `Err`.
@@ -39,7 +40,7 @@ pub(crate) fn lost(alloc: Global) -> Result<Answer, AllocError>
     spent(alloc, b"lost", 0)
 }
 
-/// Returns the answer that an operation passes 2^62.
+/// Returns the answer that the result of an operation exceeds 2^62 in absolute value.
 fn wide(alloc: Global, pass: &Pass) -> Result<Answer, AllocError>
     ensures passes { Passes pass.now }
     ensures line { IfOk result (λ answer. saying answer ≡ Stops cause.Wide (proof_wide_line pass.now)) }
@@ -51,7 +52,7 @@ fn wide(alloc: Global, pass: &Pass) -> Result<Answer, AllocError>
     })
 }
 
-/// Returns the answer that `what` is spent, of which there was `most`.
+/// Returns the answer that the limit called `what` is spent; it was `most`.
 fn spent(alloc: Global, what: &[u8], most: u64) -> Result<Answer, AllocError>
     ensures { IfOk result (λ answer. saying answer ≡ Stops cause.Spent (proof_spent_line what.now most)) }
 {
@@ -72,7 +73,7 @@ fn spent_line(alloc: Global, what: &[u8], most: u64) -> Result<Vec<u8>, AllocErr
     Ok(line)
 }
 
-/// Returns the line of an operation that passes 2^62: the operation and its two numbers.
+/// Returns the line of an operation whose result is too wide: the operation and its two numbers.
 fn wide_line(alloc: Global, pass: Pass) -> Result<Vec<u8>, AllocError>
     ensures { IfOk result (λ line. line.items ≡ proof_wide_line pass) }
 {

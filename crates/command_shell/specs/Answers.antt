@@ -1,6 +1,6 @@
 -- What a command answers, the number of its status, and what makes an answer right. It imports lists and numbers, and the types `Answer`,
--- `Printed`, `Cause` and `Status` of this crate's code; no other definition of the program. Every meaning of a command is written in its
--- words.
+-- `Printed`, `Cause` and `Status` of this crate's code; no other definition of the program. The meaning of every command is written with
+-- these definitions.
 use Rattle.std.specs.Prelude.{◌≡◌, ℕ, List}
 use Rattle.command_shell.specs.declared.answer.Answer.{Answer}
 use Rattle.command_shell.specs.declared.answer.Answer.TheVariants as answer
@@ -37,6 +37,7 @@ number_of status.Usage = 2
 number_of (status.Stopped cause) = cause_number cause
 number_of status.ReadFault = 7
 number_of status.WriteFault = 8
+number_of status.KeeperFault = 9
 number_of status.WantOfMemory = 12
 
 -- the number of the status with which an answer is told
@@ -51,21 +52,21 @@ bytes_of (Stops cause line) = line
 
 -- What the answers of a command mean: for each status, which text for out, or which line for errs, is right.
 pub record Meaning : Type 1 where
-  -- 0: the text that the command is for
+  -- status 0: the text that the command was called for
   pub done : List ℕ → Type 0
-  -- 1: no quota panel exists
+  -- status 1: no quota panel exists
   pub no_panel : List ℕ → Type 0
-  -- 3: the input was read as a value that the command doesn't take. Of `draw` alone: a bundle whose weights don't sum to its total. The
-  -- other two statuses 3 are no part of a meaning: a text outside its format is `AboutFault` (Subjects), and one that is too long
-  -- `IsTooLong` (Outcomes)
+  -- status 3: the input was read, but the command doesn't accept its value. Only `draw` has this, for a bundle whose weights don't sum to
+  -- its total. The other cases of status 3 are in no meaning: a text outside its format is `AboutFault` (Subjects), and one that is too
+  -- long `IsTooLong` (Outcomes)
   pub input : List ℕ → Type 0
-  -- 4: a number passes its width
+  -- status 4: a number passes its width
   pub wide : List ℕ → Type 0
-  -- 5: a budget is spent
+  -- status 5: a budget is spent
   pub spent : List ℕ → Type 0
-  -- 6: a rule refuses
+  -- status 6: a rule refuses
   pub rule : List ℕ → Type 0
-  -- 11: a certificate or a proof is refused
+  -- status 11: a certificate or a proof is refused
   pub refused : List ℕ → Type 0
 
 -- no text is right

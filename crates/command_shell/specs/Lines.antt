@@ -1,13 +1,13 @@
--- The lines that every command may tell: fields parted by TAB, ended by LF.
+-- The lines that every command may print: fields parted by TAB, ended by LF.
 use Rattle.std.specs.Prelude.{ℕ, List, [], ◌∷◌, codes}
 use Rattle.std.specs.Fmt.{decimal}
 use Rattle.define_lines.specs.Lines.{Fault, line_of, text_of}
 
--- one line of these fields
+-- the line of these fields, with its LF
 abbrev pub line : List (List ℕ) → List ℕ
 line fields = text_of (line_of fields ∷ [])
 
--- the line that tells where the input first goes wrong: the number of its line, and the kind of fault
+-- the line for a faulty input: the number of its first faulty line, and the kind of fault there
 abbrev pub input_line : Fault → List ℕ
 input_line fault = line (codes "input" ∷ decimal fault.line ∷ decimal fault.kind ∷ [])
 
@@ -27,6 +27,9 @@ read_fault_line = line (codes "read fault" ∷ [])
 
 abbrev pub write_fault_line : List ℕ
 write_fault_line = line (codes "write fault" ∷ [])
+
+abbrev pub keeper_fault_line : List ℕ
+keeper_fault_line = line (codes "keeper fault" ∷ [])
 
 abbrev pub want_of_memory_line : List ℕ
 want_of_memory_line = line (codes "want of memory" ∷ [])

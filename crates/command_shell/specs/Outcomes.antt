@@ -1,6 +1,6 @@
--- How a call of a command ends. `Right` says which answers are right; the status is computed from the answer that was told. Only this file
--- says which of out and errs a call leaves alone: out at 2 to 7 and at 12 (`IsStopped`), errs at 0, 1 and 11 (`IsPrinted`). The headline
--- doesn't repeat it. Over Told, Answers and Lines. The contract of every call cites it, up to `office`.
+-- How a call of a command ends. `Right` says which answers are right. The status is computed from the answer that was told. Only this file
+-- says which of out and errs stays untouched: out at 2 to 7 and at 12 (`IsStopped`), errs at 0, 1 and 11 (`IsPrinted`). Over Told, Answers
+-- and Lines. The contract of every call cites it, up to `office`.
 use Rattle.std.specs.Prelude.{◌≡◌, ◌⊎◌, ◌≤◌, ℕ, List, length}
 use Rattle.command_shell.specs.declared.status.Printed.{Printed}
 use Rattle.command_shell.specs.Told.{Bytes, Told, Gains, GainsLine, GainsPart, HasFaulted, HasNoFault, HeldAll, HeldMore, IsUntouched}
@@ -9,14 +9,14 @@ use Rattle.command_shell.specs.Lines.{input_limit, read_fault_line, too_long_lin
 
 -- ---- telling an answer, whether the source was read or not
 
--- 0, 1 or 11: out gained the whole text, and errs is untouched
+-- status 0, 1 or 11: out gained the whole text, and errs is untouched
 pub record IsPrinted (number : ℕ) (text : List ℕ) (told : Told) : Type 0 where
   pub status : told.status ≡ number
   pub out : Gains told.out text
   pub no_fault : HasNoFault told.out
   pub errs : IsUntouched told.errs
 
--- 2 to 7, or 12: errs got the line, and out is untouched
+-- status 2 to 7, or 12: errs got the line, and out is untouched
 pub record IsStopped (number : ℕ) (line : List ℕ) (told : Told) : Type 0 where
   pub status : told.status ≡ number
   pub out : IsUntouched told.out
@@ -27,7 +27,7 @@ abbrev pub IsTold : Saying → Told → Type 0
 IsTold (Prints printed text) told = IsPrinted (printed_number printed) text told
 IsTold (Stops cause line) told = IsStopped (cause_number cause) line told
 
--- 8: out counted a fault, and gained a prefix of the text
+-- status 8: out counted a fault, and gained a prefix of the text
 pub record IsCutOff (text : List ℕ) (told : Told) : Type 0 where
   pub status : told.status ≡ 8
   pub faulted : HasFaulted told.out
@@ -41,11 +41,11 @@ IsToldOrCutOff (Stops cause line) told = IsStopped (cause_number cause) line tol
 
 -- how a call ends, leaving aside an input that is too long and faults of the source
 pub data Outcome (Right : Saying → Type 0) (told : Told) : Type 0 where
-  -- the status of an answer that is right: the answer was told
+  -- a right answer was told, with its own status
   Answered : (answer : Saying) → Right answer → IsTold answer told → Outcome Right told
-  -- 8: out counted a fault while the text of an answer that is right was told
+  -- status 8: out counted a fault while the text of a right answer was printed
   WriteFault : (printed : Printed) (text : List ℕ) → Right (Prints printed text) → IsCutOff text told → Outcome Right told
-  -- 12: want of memory, which may come at any time
+  -- status 12: want of memory, which may come at any time
   WantOfMemory : IsStopped 12 want_of_memory_line told → Outcome Right told
 
 -- ---- calls that read the source
@@ -58,21 +58,21 @@ pub record IsAboutSource (Means : List ℕ → Saying → Type 0) (source : Byte
   pub no_fault : HasNoFault source
   pub means : Means bytes answer
 
--- 3: the source held more than an input may have, and was read past that
+-- status 3: the source held more bytes than an input may have, and was read past that limit
 pub record IsTooLong (told : Told) : Type 0 where
   pub held : HeldMore told.source input_limit
   pub no_fault : HasNoFault told.source
   pub stopped : IsStopped 3 too_long_line told
 
--- 7: the source counted a fault
+-- status 7: the source counted a fault
 pub record IsReadFault (told : Told) : Type 0 where
   pub faulted : HasFaulted told.source
   pub stopped : IsStopped 7 read_fault_line told
 
--- how a call ends that reads its source. `Means` says for each text which answers are right
+-- how a call that reads its source ends. `Means` says for each text which answers are right
 pub data TextOutcome (Means : List ℕ → Saying → Type 0) (told : Told) : Type 0 where
-  -- the text was read and an answer about it was told, whole or cut off; or memory was wanting, while the source was read or after that.
-  -- For want of memory nothing is said of the source
+  -- the text was read and an answer about it was told, whole or cut off; or memory was wanting, while the source was read or later. If
+  -- memory was wanting, nothing is said of the source
   Ends : Outcome (IsAboutSource Means told.source) told → TextOutcome Means told
   TooLong : IsTooLong told → TextOutcome Means told
   ReadFault : IsReadFault told → TextOutcome Means told

@@ -1,12 +1,12 @@
--- What one call of the program told of the outside: its status, and the objects that it was handed, before and after.
--- Over the definitions of `outside`. Outcomes and every contract of a call cite it.
+-- What one call of the program did, as seen from outside: its status, and the source, out and errs before and after it. Over the
+-- definitions of `outside`. Outcomes and every contract of a call cite it.
 use Rattle.std.specs.Prelude.{◌≡◌, ℕ, List, Option}
 use Rattle.std.specs.Io.KnownBytes.{Appends}
 use Rattle.outside.specs.Faults.{Rose}
 use Rattle.outside.specs.Content.{AppendsPart, LosesMore, ReadsAll}
 
--- an object of the outside before and after the call: what it tells of its content, if it can (a source the bytes still to come, a sink the
--- bytes written), and its count of faults
+-- a source or sink before and after the call: its content, if it tells it, and its count of faults. A source's content is the bytes that
+-- are not yet read, a sink's the bytes written
 pub record Object (Meaning : Type 0) : Type 0 where
   pub before : Option Meaning
   pub after : Option Meaning
@@ -30,7 +30,7 @@ pub record Told : Type 0 where
 abbrev pub told : ℕ → Bytes → Bytes → Bytes → Told
 told status source out errs = record { status = status; source = source; out = out; errs = errs }
 
--- the object counted a fault in this call; a count at its last value, 2^64 - 1, can't rise and is said to have risen in each call
+-- the object counted a fault in this call; a count at its last value, 2^64 - 1, can't rise and is taken as risen in each call
 abbrev pub HasFaulted : {Meaning : Type 0} → Object Meaning → Type 0
 HasFaulted object = Rose object.faults_before object.faults_after
 
@@ -43,7 +43,7 @@ pub record IsUntouched {Meaning : Type 0} (object : Object Meaning) : Type 0 whe
   pub same : object.after ≡ object.before
   pub no_fault : HasNoFault object
 
--- these bytes are all that the source held, and it was read to its end; of a source that tells nothing this holds of any bytes
+-- these bytes are all that the source held, and it was read to its end; for a source that tells nothing this holds of any bytes
 abbrev pub HeldAll : Bytes → List ℕ → Type 0
 HeldAll source bytes = ReadsAll source.before source.after bytes
 

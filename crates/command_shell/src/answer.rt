@@ -2,7 +2,7 @@
 
 use crate::status::{Cause, Printed};
 
-/// What a command answers. It is made whole before any of it is told.
+/// What a command answers. It is complete before any byte of it is written.
 #[derive(Debug, Drop)]
 pub enum Answer {
     /// A text for `out`.

@@ -93,7 +93,7 @@ pub fn call_silent<
     }
 }
 
-/// Returns what a command answers about the value that `bytes` say, or else where they first go wrong.
+/// Returns the command's answer about the value that `bytes` spell, or the line of their first fault.
 fn answer_about<C: Command>(alloc: Global, command: &C, bytes: &[u8]) -> Result<Answer, AllocError>
     ensures { IfOk result (λ answer. About C.About.format (C.means command.now) bytes.now (saying answer)) }
 {
@@ -104,7 +104,7 @@ fn answer_about<C: Command>(alloc: Global, command: &C, bytes: &[u8]) -> Result<
     }
 }
 
-/// Returns what the closure answers about the value that `bytes` say, or else where they first go wrong.
+/// Returns the closure's answer about the value that `bytes` spell, or the line of their first fault.
 fn answer_by<C: Meaning, F: FnOnce(&C::About) -> Result<Answer, AllocError>>(
     alloc: Global,
     command: &C,
@@ -122,7 +122,7 @@ fn answer_by<C: Meaning, F: FnOnce(&C::About) -> Result<Answer, AllocError>>(
     }
 }
 
-/// Returns the answer for a text that first goes wrong at `fault`.
+/// Returns the answer for a text whose first fault is `fault`.
 fn at_fault(alloc: Global, fault: TextFault) -> Result<Answer, AllocError>
     ensures { IfOk result (λ answer. saying answer ≡ Stops Input (words_of_input (record { line = fault.line; kind = fault.kind }))) }
 {

@@ -1,4 +1,4 @@
-//! What a command is: its arguments, what its answers mean, and how it answers. `calling.rt` reads the source for it and tells its answer.
+//! What a command is: its arguments, what its answers mean, and how it answers. `calling.rt` reads the source for it and writes its answer.
 
 ghost use Rattle.std.specs.Prelude.{IfOk};
 ghost use Rattle.command_shell.specs.Answers.{Saying, saying};
@@ -27,10 +27,10 @@ pub trait Meaning {
     ghost means: { Self → Self.About → Saying → Type 0 };
 }
 
-/// A command with its arguments that starts no threads. It is a function from what its input says to an answer; it sees neither `out` nor
-/// `errs`.
+/// A command with its arguments that starts no threads. It is a function from the value of its input to an answer; it sees neither `out`
+/// nor `errs`.
 pub trait Command: Meaning {
-    /// Returns an answer that is right about the value that `text` says.
+    /// Returns an answer that is right about the value that `text` spells.
     ///
     /// # Errors
     ///

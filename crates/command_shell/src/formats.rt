@@ -1,4 +1,5 @@
-//! The formats of texts that commands read: pools, bundles, proofs, and either of the first two. Their readers stand below.
+//! The formats of texts that commands read: pools, bundles, proofs, and either of the first two. `pool_text`, `bundle_text` and
+//! `proof_text` read them.
 
 use crate::subject::Subject;
 use bundle_text::{Bundle, ReadBundle, read_bundle};

@@ -1,9 +1,8 @@
-//! The shell that all commands of the program share. A command is a function from its arguments and what its input says to an answer; it
-//! never sees `out` or `errs`. `call` reads the source, asks the command and tells its answer, and is proved for every meaning that the
-//! answers of a command may have. `call_answered_by` has the same body a second time, and is proved so too: it takes a closure in place of
-//! the command's method `answer`, because methods of traits can't start threads. Below are the outside and the readers of texts; above, the
-//! crates of commands and the top call. Promises: `call`, `call_answered_by`, `call_silent`, `refuse_words`, `want_memory`. The rest serves
-//! the commands.
+//! The shell that all commands of the program share. A command is a function from its arguments and the value of its input to an answer; it
+//! never sees `out` or `errs`. `call` reads the source, asks the command and writes its answer; its contract is proved for every meaning of
+//! a command. `call_answered_by` does the same with a closure in place of the command's method `answer`, because methods of traits can't
+//! start threads. Stands on `outside` and on the readers of texts. Above: the crates of commands, and `sortition`. Promises: `call`,
+//! `call_answered_by`, `call_silent`, `refuse_words`, `want_memory`. The rest serves the commands.
 #![tactic(auto)]
 
 mod answer;
@@ -22,4 +21,4 @@ pub use formats::PoolOrBundle;
 pub use lines::{input_line, no_panel};
 pub use status::{Cause, Printed, Status};
 pub use subject::{Nothing, Subject};
-pub use telling::{refuse_words, want_memory};
+pub use telling::{keeper_fault, refuse_words, tell, want_memory};

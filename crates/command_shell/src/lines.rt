@@ -1,4 +1,4 @@
-//! The line of a faulty input, and the answer that there is no quota panel, which several commands give.
+//! The line of a faulty input, and the answer that there is no quota panel, which several commands have.
 
 ghost use Rattle.std.specs.Prelude.{◌≡◌, IfOk};
 ghost use Rattle.command_shell.specs.Answers.{Prints, saying};
@@ -11,7 +11,7 @@ use text_lines::{end_line, push_number};
 
 const NO_PANEL_LINE: &[u8] = b"no panel\n";
 
-/// Returns the line that tells where the input first goes wrong: its line, counted from 1, and the lowest kind of fault in it.
+/// Returns the line for a faulty input: its first faulty line, counted from 1, and the lowest kind of fault in it.
 pub fn input_line(alloc: Global, line: usize, kind: u8) -> Result<Vec<u8>, AllocError>
     ensures { IfOk result (λ text. text.items ≡ words_of_input (record { line = line; kind = kind })) }
 {

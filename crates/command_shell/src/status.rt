@@ -3,10 +3,10 @@
 ghost use Rattle.std.specs.Prelude.{◌≡◌};
 ghost use Rattle.command_shell.specs.Answers.{cause_number, number_of, printed_number};
 
-/// How a command ends whose answer is a text for `out`.
+/// How a command ends if its answer is a text for `out`.
 #[derive(Clone, Copy, Debug, PartialEq, Eq)]
 pub enum Printed {
-    /// It did what it is for.
+    /// The command did what it is for.
     Done,
     /// No quota panel exists.
     NoPanel,
@@ -17,7 +17,7 @@ pub enum Printed {
 /// Why a command stops.
 #[derive(Clone, Copy, Debug, PartialEq, Eq)]
 pub enum Cause {
-    /// The input is not of its format, is too long, or says a value that the command doesn't take.
+    /// The input is outside its format, is too long, or spells a value that the command doesn't accept.
     Input,
     /// A number passes its width.
     Wide,
@@ -40,6 +40,8 @@ pub enum Status {
     ReadFault,
     /// `out` counted a fault.
     WriteFault,
+    /// The keeper of the store counted a fault.
+    KeeperFault,
     /// No memory was left.
     WantOfMemory,
 }
@@ -55,6 +57,7 @@ impl Status {
             Status::Stopped(cause) => cause.number(),
             Status::ReadFault => 7,
             Status::WriteFault => 8,
+            Status::KeeperFault => 9,
             Status::WantOfMemory => 12,
         }
     }

@@ -5,12 +5,12 @@ ghost use Rattle.command_shell.specs.Subjects.{Format, IsRead};
 use std::alloc::Global;
 use text_lines::TextStop;
 
-/// A value that a text says: a pool, a bundle, a proof.
+/// A value that a text spells: a pool, a bundle, a proof.
 pub trait Subject: Sized + Drop {
-    /// Which texts say which values, and where any other text first goes wrong.
+    /// Which texts spell which values, and the first fault of any other text.
     ghost format: { Format Self };
 
-    /// Reads the value that some bytes say.
+    /// Reads the value that `bytes` spell.
     ///
     /// # Errors
     ///

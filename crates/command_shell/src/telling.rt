@@ -1,4 +1,4 @@
-//! How an answer goes to `out` and `errs`: its text to `out` line by line, up to the first call that fails, or one line to `errs`.
+//! Writes answers: a text to `out` line by line, up to the first call that fails, or one line to `errs`.
 
 ghost use Rattle.std.specs.Prelude.{◌≡◌, ◌<◌, ◌≤◌, length, OnErr, OnOk};
 ghost use Rattle.std.specs.Io.KnownBytes.{Appends};
@@ -6,7 +6,7 @@ ghost use Rattle.outside.specs.Content.{AppendsPart};
 ghost use Rattle.outside.specs.Faults.{Rose};
 ghost use Rattle.command_shell.specs.Told.{Bytes, object, told, GainsLine};
 ghost use Rattle.command_shell.specs.Answers.{number_of, saying};
-ghost use Rattle.command_shell.specs.Lines.{read_fault_line, too_long_line, want_of_memory_line, write_fault_line};
+ghost use Rattle.command_shell.specs.Lines.{keeper_fault_line, read_fault_line, too_long_line, want_of_memory_line, write_fault_line};
 ghost use Rattle.command_shell.specs.Outcomes.{IsToldOrCutOff};
 
 use crate::answer::Answer;
@@ -21,10 +21,13 @@ const READ_FAULT_LINE: &[u8] = b"read fault\n";
 
 const WRITE_FAULT_LINE: &[u8] = b"write fault\n";
 
+const KEEPER_FAULT_LINE: &[u8] = b"keeper fault\n";
+
 const WANT_OF_MEMORY_LINE: &[u8] = b"want of memory\n";
 
-/// Tells an answer. If `out` fails on the way, the status is that of a write fault, and `errs` gets its line.
-pub(crate) fn tell<O: Sink, E: Sink>(out: &mut O, errs: &mut E, answer: &Answer) -> Status
+/// Writes an answer: its text to `out`, or its line to `errs`. If `out` fails on the way, the status is that of a write fault, and `errs`
+/// gets the line for it.
+pub fn tell<O: Sink, E: Sink>(out: &mut O, errs: &mut E, answer: &Answer) -> Status
     ensures { (source : Bytes) → IsToldOrCutOff (saying answer.now) (told (number_of result) source
         (object (O.written out.old) (O.written out.new) (O.faults out.old) (O.faults out.new))
         (object (E.written errs.old) (E.written errs.new) (E.faults errs.old) (E.faults errs.new))) }
@@ -69,14 +72,14 @@ fn line_end(text: &[u8], start: usize) -> usize
     }
 }
 
-/// Puts a line to `errs`, in one call that isn't tried again. If it fails, the status is the same.
+/// Puts a line to `errs`, in one call that isn't tried again. A failure doesn't change the status of the program.
 fn complain<E: Sink>(errs: &mut E, line: &[u8])
     ensures { GainsLine (object (E.written errs.old) (E.written errs.new) (E.faults errs.old) (E.faults errs.new)) line.now }
 {
     let _ = errs.put(line);
 }
 
-/// Tells why the words ask for nothing.
+/// Writes to `errs` why the words ask for no command. The status is 2.
 pub fn refuse_words<E: Sink>(errs: &mut E, text: &[u8]) -> Status
     ensures status { number_of result ≡ 2 }
     ensures line { GainsLine (object (E.written errs.old) (E.written errs.new) (E.faults errs.old) (E.faults errs.new)) text.now }
@@ -85,7 +88,7 @@ pub fn refuse_words<E: Sink>(errs: &mut E, text: &[u8]) -> Status
     Status::Usage
 }
 
-/// Tells that the input is too long.
+/// Writes to `errs` that the input is too long. The status is 3.
 pub(crate) fn too_long<E: Sink>(errs: &mut E) -> Status
     ensures status { number_of result ≡ 3 }
     ensures line { GainsLine (object (E.written errs.old) (E.written errs.new) (E.faults errs.old) (E.faults errs.new)) too_long_line }
@@ -94,7 +97,7 @@ pub(crate) fn too_long<E: Sink>(errs: &mut E) -> Status
     Status::Stopped(Cause::Input)
 }
 
-/// Tells that the source counted a fault.
+/// Writes to `errs` that the source counted a fault. The status is 7.
 pub(crate) fn read_fault<E: Sink>(errs: &mut E) -> Status
     ensures status { number_of result ≡ 7 }
     ensures line { GainsLine (object (E.written errs.old) (E.written errs.new) (E.faults errs.old) (E.faults errs.new)) read_fault_line }
@@ -103,7 +106,7 @@ pub(crate) fn read_fault<E: Sink>(errs: &mut E) -> Status
     Status::ReadFault
 }
 
-/// Tells that `out` counted a fault.
+/// Writes to `errs` that `out` counted a fault. The status is 8.
 fn write_fault<E: Sink>(errs: &mut E) -> Status
     ensures status { number_of result ≡ 8 }
     ensures line { GainsLine (object (E.written errs.old) (E.written errs.new) (E.faults errs.old) (E.faults errs.new)) write_fault_line }
@@ -112,7 +115,16 @@ fn write_fault<E: Sink>(errs: &mut E) -> Status
     Status::WriteFault
 }
 
-/// Tells that no memory was left.
+/// Writes to `errs` that the keeper of the store counted a fault. The status is 9.
+pub fn keeper_fault<E: Sink>(errs: &mut E) -> Status
+    ensures status { number_of result ≡ 9 }
+    ensures line { GainsLine (object (E.written errs.old) (E.written errs.new) (E.faults errs.old) (E.faults errs.new)) keeper_fault_line }
+{
+    complain(errs, KEEPER_FAULT_LINE);
+    Status::KeeperFault
+}
+
+/// Writes to `errs` that no memory was left. The status is 12.
 pub fn want_memory<E: Sink>(errs: &mut E) -> Status
     ensures status { number_of result ≡ 12 }
     ensures line { GainsLine (object (E.written errs.old) (E.written errs.new) (E.faults errs.old) (E.faults errs.new)) want_of_memory_line }

@@ -26,7 +26,7 @@ built_free : (i : ℕ) (os : List OptionEntry) → list_all (λ a. a.is_free) (b
 built_free i [] = refl
 built_free i (o ∷ os) = built_free i os
 
--- none is a positional that takes several values too early, since none is positional
+-- no option is a positional, so none is a positional that takes several values too early
 built_unplaced : (n i : ℕ) (os : List OptionEntry) → list_any (is_early_multiple n) (built_options i os) ≡ false
 built_unplaced n i [] = refl
 built_unplaced n i (o ∷ os) = built_unplaced n i os

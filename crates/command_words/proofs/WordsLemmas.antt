@@ -1,4 +1,4 @@
--- What the result of a parse by `clap` shows of what the words give.
+-- How the result of a parse by `clap` decides what the words give.
 use Rattle.std.proofs.Common.{◌≡◌, ◌≢◌, ◌∙◌, refl, ap, sym, subst, inl, inr, List, [], ◌∷◌, Option, None, Err}
 use Rattle.clap.specs.Words.{App, HasKind, IsAmong, Kinds, Row, Text, fault_of, kind_of, subcommand_of}
 use Rattle.clap.specs.declared.error.Error.{Error}
@@ -31,7 +31,7 @@ module _ (commands : List CommandEntry) (a : App) (words : List Text) (app : a �
         (subst (λ (b : App). IsAmong (kind_of e) (fault_of b words)) app some)
   ]
 
-  -- the stop that an error of `clap` is turned into is right
+  -- if `clap` finds a fault in the words, the stop that is made of its error is right
   pub stop_is_right : (e : Error) (stop : WordsStop) → HasKind (fault_of a words) e → StopSays e stop → MatchesSay commands words (Err stop)
   stop_is_right e (Usage text) has says = given_refused e has says
   stop_is_right e OutOfMemory has says = tt

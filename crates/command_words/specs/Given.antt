@@ -26,9 +26,10 @@ abbrev pub as_text : Value → Option (List ℕ)
 as_text (value.Number number) = None
 as_text (value.Text text) = Some text
 
--- the number, or the text, that the option of this name has
+-- the number that the option of this name has; None if there is no option of this name or its value is a text
 abbrev pub number_of : List ℕ → Given → Option ℕ
 number_of name given = option_and_then as_number (value_at name given.values)
 
+-- the text that the option of this name has; None if there is no option of this name or its value is a number
 abbrev pub text_of : List ℕ → Given → Option (List ℕ)
 text_of name given = option_and_then as_text (value_at name given.values)

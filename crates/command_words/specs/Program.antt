@@ -8,7 +8,7 @@ use Rattle.command_words.specs.declared.words.Form.{Form}
 use Rattle.command_words.specs.declared.words.Form.TheVariants as form
 use Rattle.command_words.specs.Table.{CommandEntry, OptionEntry, Text}
 
--- what `clap` asks of a value of this form
+-- the parser of `clap` for a value of this form
 abbrev pub form_parser : Form → ValueParser
 form_parser (form.Number least most) = parser.Unsigned least most
 form_parser form.Text = parser.String

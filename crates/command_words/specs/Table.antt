@@ -27,19 +27,22 @@ command_as text options command = record {
   options = map (option_as text) (options command.options);
 }
 
--- an option, or a command, of a table in the code
+-- an option of the code's table, with lists of bytes in place of references
 abbrev pub option_entry : OptionWords (Bor Text) → OptionEntry
 option_entry = option_as (λ text. text.now)
 
+-- a command of the code's table, with lists of bytes in place of references
 abbrev pub command_entry : CommandWords (Bor Text) (Bor (List (OptionWords (Bor Text)))) → CommandEntry
 command_entry = command_as (λ text. text.now) (λ options. options.now)
 
--- the program's own table: the commands about proofs and draws, and those about the stated run
+-- the program's commands about proofs and draws
 unfoldable pub proof_commands : List CommandEntry
 proof_commands = map (command_as (λ text. text.now) (λ options. options.now)) PROOF_COMMANDS.now
 
+-- the program's commands about the stated run
 unfoldable pub run_commands : List CommandEntry
 run_commands = map (command_as (λ text. text.now) (λ options. options.now)) RUN_COMMANDS.now
 
+-- the program's own table
 unfoldable pub command_table : List CommandEntry
 command_table = proof_commands ++ run_commands

@@ -1,6 +1,6 @@
 -- What the words of a call give: `clap`'s own definitions say how the words of a simple program are parsed, and this file what the parsed
--- values give by a table of commands. Over Given, Program and Table. The contract of `read_words` cites it, and that of `office` by
--- `given_in`.
+-- values give by a table of commands. Over Given, Program and Table. The contract of `read_words` cites it, and so does `Asked` of
+-- `sortition`.
 use Rattle.std.specs.Prelude.{◌≡◌, ◌≢◌, ◌^◌, ◌&&◌, ℕ, Bool, List, [], ◌∷◌, Option, Some, None, Result, Ok, Err, length, if◌then◌else◌, find, nat_le, nat_lt, option_and_then, option_map, ⊤}
 use Rattle.std.specs.List.{list_all}
 use Rattle.std.specs.Char.{digit_value}
@@ -20,11 +20,11 @@ use Rattle.command_words.specs.declared.reading.WordsStop.TheVariants.{Usage, Ou
 use Rattle.command_words.specs.declared.words.Form.{Form}
 use Rattle.command_words.specs.declared.words.Form.TheVariants as form
 
--- there is a digit, all are decimal digits, and their number is below 2 ^ 64
+-- true if the text has a digit, all of it is decimal digits, and their number is below 2 ^ 64
 abbrev pub is_number : Text → Bool
 is_number digits = nat_lt 0 (length digits) && list_all (λ d. nat_lt (digit_value d) 10) digits && nat_lt (digits_value 10 digits) (2 ^ 64)
 
--- the number that a text says, which may have a plus before its digits
+-- the number that a text spells; a plus may come before its digits
 abbrev pub number_in : Text → Option ℕ
 number_in text =
     let digits = without_leading_plus text in
@@ -80,19 +80,20 @@ given_by commands words = unless_any (fault_of (program_app commands) words) (gi
 unfoldable pub given_in : List Text → Option Given
 given_in words = given_by command_table words
 
--- what reading may return for words that give this; running out of memory is allowed at any time
+-- the right results of reading words that give `given`; running out of memory is allowed at any time
 abbrev pub Says : {X : Type 0} → Option X → Result X WordsStop → Type 0
 Says given (Ok it) = given ≡ Some it
 Says given (Err (Usage text)) = given ≡ None
 Says given (Err OutOfMemory) = ⊤
 
--- what parsing by `clap` may return for these words, before the values are tested for their forms; running out of memory is allowed at any time
+-- the right results of parsing these words by `clap`, before the values are tested for their forms; running out of memory is allowed at any
+-- time
 abbrev pub MatchesSay : List CommandEntry → List Text → Result ArgMatches WordsStop → Type 0
 MatchesSay commands words (Ok matches) = given_by commands words ≡ given_of commands (subcommand_rows_of matches)
 MatchesSay commands words (Err (Usage text)) = given_by commands words ≡ None
 MatchesSay commands words (Err OutOfMemory) = ⊤
 
--- an error that `clap` has for want of memory is not returned as wrong usage
+-- if `clap`'s error is that memory ran out, it isn't returned as wrong usage
 abbrev pub StopSays : Error → WordsStop → Type 0
 StopSays error (Usage text) = kind_of error ≢ kind.OutOfMemory
 StopSays error OutOfMemory = ⊤

@@ -32,14 +32,14 @@ pub record PlainGive : Type 0 where
   pub bundle : Give (codes "bundle" ∷ []) name.Bundle []
   pub seal : Give (codes "seal" ∷ []) name.Seal []
 
--- both texts, the seal and the digits, are required
+-- `draw` requires both texts, the seal and the digits
 pub record DrawGives : Type 0 where
   pub texts : Give (codes "draw" ∷ codes "--seal" ∷ codes "s" ∷ codes "--digits" ∷ codes "97" ∷ []) name.Draw
       ((codes "seal", Text (codes "s")) ∷ (codes "digits", Text (codes "97")) ∷ [])
   pub no_seal : GiveNothing (codes "draw" ∷ codes "--digits" ∷ codes "97" ∷ [])
   pub no_digits : GiveNothing (codes "draw" ∷ codes "--seal" ∷ codes "s" ∷ [])
 
--- visits up to 10 ^ 12
+-- the budget of the searches of `panel` and `check`: from 0 to 10 ^ 12 visits
 pub record SearchesGive : Type 0 where
   pub panel : Give (codes "panel" ∷ []) name.Panel (number (codes "nodes") 50000000 ∷ [])
   pub panel_least : Give (codes "panel" ∷ codes "--nodes" ∷ codes "0" ∷ []) name.Panel (number (codes "nodes") 0 ∷ [])
@@ -50,7 +50,7 @@ pub record SearchesGive : Type 0 where
   pub check_most : Give (codes "check" ∷ codes "--nodes" ∷ codes "1000000000000" ∷ []) name.Check (number (codes "nodes") 1000000000000 ∷ [])
   pub check_more : GiveNothing (codes "check" ∷ codes "--nodes" ∷ codes "1000000000001" ∷ [])
 
--- the width in bits from 1 to 127, pivots up to 10 ^ 9, visits up to 10 ^ 12, workers from 1 to 64
+-- the limits of `lottery`: the width in bits from 1 to 127, pivots up to 10 ^ 9, visits up to 10 ^ 12; and workers from 1 to 64
 pub record LotteryGives : Type 0 where
   pub defaults : Give (codes "lottery" ∷ []) name.Lottery
       (number (codes "bits") 127 ∷ number (codes "pivots") 100000 ∷ number (codes "nodes") 50000000 ∷ number (codes "workers") 1 ∷ [])
@@ -80,7 +80,7 @@ pub record MakeGives : Type 0 where
   pub too_many : GiveNothing (codes "make" ∷ codes "--seed" ∷ codes "0" ∷ codes "--volunteers" ∷ codes "401" ∷ [])
   pub more_bits : GiveNothing (codes "make" ∷ codes "--seed" ∷ codes "0" ∷ codes "--volunteers" ∷ codes "1" ∷ codes "--bits" ∷ codes "128" ∷ [])
 
--- no command, a word that is no command, the word `help`, and an option that the command doesn't have
+-- words that give nothing: no command, a word that is no command, the word `help`, and an option that the command doesn't have
 pub record OthersGive : Type 0 where
   pub none : GiveNothing []
   pub another : GiveNothing (codes "solve" ∷ [])

@@ -20,7 +20,7 @@ const OUT_OF_FORM: &str = "error: a value is out of its range\n";
 /// Why the words give nothing.
 #[derive(Debug, Drop, Error)]
 pub enum WordsStop {
-    /// The words are not of the forms, or ask for help: what `clap` says of them.
+    /// The words are not of the forms, or ask for help. The text is what `clap` prints then.
     #[error("{0}")]
     Usage(String),
     /// No memory was left.

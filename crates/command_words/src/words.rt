@@ -23,7 +23,7 @@ pub enum CommandName {
     Make,
 }
 
-/// What the value of an option has to be.
+/// The form that an option's value must have.
 #[derive(Clone, Copy, Debug)]
 pub enum Form {
     /// A whole number from `least` to `most`.
@@ -37,15 +37,15 @@ pub enum Form {
     Text,
 }
 
-/// The words of an option. `Text` is a parameter, since definitions can't name a constant of a struct with reference fields. They put a list
-/// of bytes in its place.
+/// The words of an option. `Text` is a parameter, since definitions can't name a constant of a struct with reference fields. The
+/// definitions put a list of bytes in its place.
 #[derive(Clone, Copy, Debug)]
 pub struct OptionWords<Text> {
     /// The name after the two hyphens.
     pub name: Text,
-    /// What help says of it.
+    /// The option's line in the help.
     pub help: Text,
-    /// What its value has to be.
+    /// The form that its value must have.
     pub form: Form,
     /// The value of an option that isn't given. None if the option is required.
     pub default: Option<Text>,
@@ -58,7 +58,7 @@ pub struct CommandWords<Text, Options> {
     pub command: CommandName,
     /// The first word of a call.
     pub name: Text,
-    /// What help says of it.
+    /// The command's line in the help.
     pub help: Text,
     /// The last line of its help, with an example of a call.
     pub example: Text,

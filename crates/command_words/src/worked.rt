@@ -2,7 +2,7 @@
 
 ghost use Rattle.command_words.specs.WorkedWords.{DrawGives, LotteryGives, MakeGives, OthersGive, PlainGive, ProveGives, SearchesGive};
 
-/// The names of the commands, their defaults and the ends of their ranges are these.
+/// The names of the commands, their defaults and the ends of their ranges are those of `specs/WorkedWords.antt`.
 pub fn words_are_worked()
     ensures prove { ProveGives }
     ensures plain { PlainGive }

@@ -9,10 +9,11 @@ use Rattle.define_additions.specs.Trees.{AtLeaf, AtSplit, Tree, is_undecided, tr
 use Rattle.define_additions.specs.TreeLines.{AreOfTree, Decision, OfLeaf, OfSplit, TreeLine, fault, fault_from, lines_of, path_behind, standings_at, tree_fault}
 
 module _ (problem : Problem) (standings : List Standing) where
-  -- a path with one more decision: `i` is out, or `i` is in
+  -- `path` with one more decision: without volunteer `i`
   abbrev out_of : ℕ → List Decision → List Decision
   out_of i path = record { volunteer = i; is_in = false } ∷ path
 
+  -- `path` with one more decision: with volunteer `i`
   abbrev into : ℕ → List Decision → List Decision
   into i path = record { volunteer = i; is_in = true } ∷ path
 
@@ -68,9 +69,9 @@ module _ (problem : Problem) (standings : List Standing) where
       let none = none_behind all.number all.behind all.goes_on in
       record { tree = all.tree; its_lines = sym (append-nil (lines_of all.tree)) ∙ ap (λ behind. lines_of all.tree ++ behind) (sym none) ∙ all.joined; shows = all.shows }
 
-  -- ---- the other way round
+  -- ---- the lines of a tree that shows the cap have no fault
 
-  -- after the lines of a tree that shows the cap, the walk goes on with the path after this tree
+  -- after the lines of a tree that shows the cap, `fault_from` goes on with the lines `behind` and the path after the tree
   record GoesOn (path : List Decision) (number : ℕ) (tree : Tree) (behind : List TreeLine) : Type 0 where
     next : ℕ
     same : fault_from problem standings number (Some path) (lines_of tree ++ behind) ≡ fault_from problem standings next (path_behind path) behind

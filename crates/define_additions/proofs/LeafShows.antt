@@ -17,11 +17,11 @@ use Rattle.define_additions.specs.Leaves.{Leaf, Multiplier, Problem, charge, has
 use Rattle.define_additions.proofs.SignedSums.{exchanged, sum-is-total, total, total-add, total-panel, total-scaled, total_ext, total_le}
 use Rattle.define_additions.proofs.MetConstraints.{Meets, met_at}
 
--- a panel keeps these standings, the first of which is that of volunteer `first`
+-- a panel keeps `standings`: each seated volunteer is in it, and no one who is gone. The first standing is that of volunteer `first`
 abbrev pub keeps : List ℕ → ℕ → List Standing → Bool
 keeps panel first standings = list_all (λ (i, standing). allows standing (includes panel i)) (enumerate_from first standings)
 
--- a factor times a sum within bounds is at most its charge
+-- if `sum` is from `lower` to `upper`, then `factor` times `sum` is at most the charge
 charged : (factor lower upper sum : ℤ) → lower ≤ℤ sum → sum ≤ℤ upper → (factor *ℤ sum) ≤ℤ (factor *ℤ (cond (int_lt (pos 0) factor) upper lower))
 charged (pos zero) lower upper sum l m = omega (arith, ints)
 charged (pos (suc k)) lower upper sum l m =
@@ -31,7 +31,8 @@ charged (negsuc k) lower upper sum l m =
     let scaled = le-scaled lower sum (suc k) l in
     let one = neg-mul (pos (suc k)) sum in let other = neg-mul (pos (suc k)) lower in omega (arith, ints, scaled, one, other)
 
--- what a volunteer adds to a panel's sum of rests is at most the charge of the rest
+-- a volunteer in a panel adds the rest `r` to its sum of rests, and a volunteer who is not in it adds 0. If the standing allows it, that is
+-- at most the charge of the rest
 added : (standing : Standing) (is_in : Bool) (r : ℤ) → allows standing is_in ≡ true → (cond is_in r (pos 0)) ≤ℤ (rest_charge standing r)
 added Open true r h =
     (elim (int_lt (pos 0) r) as (λ b. int_lt (pos 0) r ≡ b → r ≤ℤ (cond b r (pos 0))) [
@@ -49,7 +50,7 @@ added Gone true r h = cc
 added Gone false r h = omega (arith, ints)
 
 module _ (panel : List ℕ) (r : ℕ → ℤ) where
-  -- so the sum of a panel's rests is at most the charges of all rests
+  -- if a panel keeps the standings, the sum of its members' rests is at most the sum of the charges of all rests
   all_added : (first : ℕ) (standings : List Standing) → keeps panel first standings ≡ true →
       total (λ i. cond (includes panel i) (r i) (pos 0)) (range_with_len first (length standings)) ≤ℤ total (λ (i, standing). rest_charge standing (r i)) (enumerate_from first standings)
   all_added first [] h = omega (arith, ints)
@@ -71,7 +72,7 @@ unscaled k w cap h =
 module _ (problem : Problem) (standings : List Standing) (panel : List ℕ)
     (up : is_increasing panel ≡ true) (below : list_all (λ i. ltb i (length standings)) panel ≡ true) (kept : keeps panel 0 standings ≡ true)
     (met : AllByRecursion (Meets panel) problem.constraints) where
-  -- a panel's weight
+  -- the panel's weight in the problem's stage
   abbrev pub weight : ℤ
   weight = total (weight_of problem.stage) panel
 
@@ -79,7 +80,7 @@ module _ (problem : Problem) (standings : List Standing) (panel : List ℕ)
     abbrev times : ℕ → Multiplier → ℤ
     times i multiplier = multiplied problem.constraints i multiplier
 
-    -- a volunteer's scaled weight is the rest and the sum of the multiplied coefficients
+    -- a volunteer's scaled weight equals the rest plus the sum of the multiplied coefficients
     one_weight : (i : ℕ) → pos leaf.scale *ℤ weight_of problem.stage i ≡ rest problem leaf i +ℤ total (times i) leaf.multipliers
     one_weight i = let same = sum-is-total (times i) leaf.multipliers in omega (arith, ints, same)
 

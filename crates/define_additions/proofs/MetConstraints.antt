@@ -43,7 +43,7 @@ module _ (pool : Pool) (panel : List ℕ) (quota : is_quota_panel pool panel ≡
   below : AllByRecursion (λ i. i < n) panel
   below = each_map (λ i. ltb i n ≡ true) (λ i. i < n) (λ i e. ltb-true i n e) panel (each_from_list_all (λ i. ltb i n) panel parts.below)
 
-  -- in a constraint that counts, the sum of the members' coefficients is how many members pass
+  -- in a constraint that counts, the members' coefficients sum to the number of members who pass
   counted : (passes : ℕ → Bool) (lower upper : ℕ) → total (coefficient (counting pool passes lower upper)) panel ≡ pos (count_by passes panel)
   counted passes lower upper =
       let one : ℕ → ℤ = λ i. cond (passes i) (pos 1) (pos 0) in
@@ -108,7 +108,7 @@ module _ (pool : Pool) (panel : List ℕ) (quota : is_quota_panel pool panel ≡
 
   -- ---- earlier stages
 
-  -- if a stage's cap holds, a panel that attains it and the caps before it weighs just this cap
+  -- if a stage's cap holds, a panel that attains it and the caps before it has exactly the cap as its weight
   stage_met : (earlier : List Stage) (stage : Stage) → is_capped pool earlier stage ≡ true → attains earlier panel ≡ true → int_le stage.cap (panel_weight stage panel) ≡ true → Meets panel (stage_constraint stage)
   stage_met earlier stage capped attained reached =
       let within = each_panel (λ panel. (not (attains earlier panel) || int_le (panel_weight stage panel) stage.cap) ≡ true) pool
@@ -124,7 +124,7 @@ module _ (pool : Pool) (panel : List ℕ) (quota : is_quota_panel pool panel ≡
       let reached = and_parts (int_le stage.cap (panel_weight stage panel)) (attains earlier panel) attained in
       (stage_met earlier stage hold.0 reached.1 reached.0, stages_met earlier hold.1 reached.1)
 
-  -- ---- all
+  -- ---- all constraints
 
   pub all_met : (earlier : List Stage) → EarlierCapsHold pool earlier → attains earlier panel ≡ true → AllByRecursion (Meets panel) (constraints pool earlier)
   all_met earlier hold attained =

@@ -37,17 +37,19 @@ within_limit : {X : Type 0} (f : X → ℕ) (limit : ℕ) (xs : List X) → AllB
 within_limit f limit [] h = omega arith
 within_limit f limit (x ∷ xs) h = let here = h.0 in let rest = within_limit f limit xs h.1 in omega (arith, here, rest)
 
--- a sum of sums may be taken in the other order
+-- a double sum is the same over `xs` first or over `ys` first
 exchanged : {X Y : Type 0} (f : X → Y → ℕ) (xs : List X) (ys : List Y) → naturals.total (λ x. naturals.total (f x) ys) xs ≡ naturals.total (λ y. naturals.total (λ x. f x y) xs) ys
 exchanged f [] ys = sym (naturals.total-zero (λ y. 0) (λ y. refl) ys)
 exchanged f (x ∷ xs) ys = let rest = exchanged f xs ys in let split = naturals.total-add (f x) (λ y. naturals.total (λ x. f x y) xs) ys in omega (arith, rest, split)
 
--- a number of a list, without its sign, is at most the sum of all without their signs, and so is the sum of those at different places
+-- the absolute value of number `i` of a list is at most the sum of all absolute values
 one_at : (xs : List ℤ) (i : ℕ) → unsigned_abs (get_or xs i (pos 0)) ≤ naturals.total unsigned_abs xs
 one_at [] i = omega arith
 one_at (x ∷ xs) zero = omega arith
 one_at (x ∷ xs) (suc i) = let rest = one_at xs i in omega arith
 
+-- if `g (first + i)` is the absolute value of number `i` of `xs`, or 0 past the end, the sum of `g` over numbers from `first` on is at most
+-- the sum of all absolute values
 at_places : {X : Type 0} (g : ℕ → ℕ) (first : ℕ) (places : List X) (xs : List ℤ) → ((i : ℕ) → g (first + i) ≡ unsigned_abs (get_or xs i (pos 0))) →
     naturals.total (λ pair. g pair.0) (enumerate_from first places) ≤ naturals.total unsigned_abs xs
 at_places g first [] xs e = omega arith
@@ -76,7 +78,7 @@ few_rising first last (x ∷ xs) up low high =
 
 -- ---- the numbers of a leaf
 
--- the limit's square
+-- the square of `number_limit`
 abbrev square : ℕ
 square = 2 ^ 112
 
@@ -86,7 +88,7 @@ product_within a b l m =
     let second = mul-le-mul_left number_limit m in
     let same : number_limit * number_limit ≡ square = refl in omega (arith, first, second, same)
 
--- what is known of a constraint within reach
+-- the bounds that a constraint within reach keeps
 record ReachParts (constraint : Constraint) : Type 0 where
   coefficients : naturals.total unsigned_abs constraint.coefficients ≤ number_limit
   lower : unsigned_abs constraint.lower ≤ number_limit
@@ -104,7 +106,7 @@ reach_parts constraint h =
       upper = leb-true (unsigned_abs constraint.upper) number_limit parts.1;
     }
 
--- `ReachParts` holds of the constraint of each number, also past the last one
+-- if all constraints are within reach, `ReachParts` holds of the constraint of each number, also past the last one
 parts_at : (all : List Constraint) → list_all is_in_reach all ≡ true → (number : ℕ) → ReachParts (constraint_at all number)
 parts_at [] h number = record { coefficients = omega arith; lower = omega arith; upper = omega arith }
 parts_at (constraint ∷ all) h zero = reach_parts constraint (and_parts (is_in_reach constraint) (list_all is_in_reach all) h).0
@@ -114,7 +116,7 @@ parts_at (constraint ∷ all) h (suc number) = parts_at all (and_parts (is_in_re
 abbrev IsSmall : Multiplier → Type 0
 IsSmall multiplier = unsigned_abs multiplier.factor ≤ number_limit
 
--- what is known of a leaf
+-- the bounds that a leaf in its ranges keeps
 record LeafParts (leaf : Leaf) : Type 0 where
   scale : leaf.scale ≤ number_limit
   factors : AllByRecursion IsSmall leaf.multipliers
@@ -167,7 +169,7 @@ module _ (problem : Problem) (near : is_problem_in_reach problem ≡ true) (leaf
       let within = leb-true (reach problem.stage) number_limit (and_parts (list_all is_in_reach all) (is_stage_in_reach problem.stage) near).1 in
       omega (arith, within, naturals.sum_by-is-total unsigned_abs problem.stage.weights)
 
-  -- a multiplied coefficient is at most the square
+  -- if a factor is within the limit, the absolute value of its product with a coefficient is at most `square`
   pub one_product : (i : ℕ) (m : Multiplier) → IsSmall m → unsigned_abs (multiplied all i m) ≤ square
   one_product i m small =
       let constraint = constraint_at all m.number in
@@ -175,7 +177,7 @@ module _ (problem : Problem) (near : is_problem_in_reach problem ≡ true) (leaf
       let product = product_within (unsigned_abs m.factor) (unsigned_abs (coefficient constraint i)) small (omega (arith, one, sum)) in
       omega (arith, product, unsigned_abs-mul m.factor (coefficient constraint i))
 
-  -- a charge is at most the square
+  -- if a factor is within the limit, the absolute value of the charge is at most `square`
   pub one_charge : (m : Multiplier) → IsSmall m → unsigned_abs (charge all m) ≤ square
   one_charge m small =
       let constraint = constraint_at all m.number in
@@ -204,7 +206,8 @@ module _ (problem : Problem) (near : is_problem_in_reach problem ≡ true) (leaf
       let one = one_at problem.stage.weights i in let sum = of_stage in
       product_within leaf.scale (unsigned_abs (weight_of problem.stage i)) known.scale (omega (arith, one, sum))
 
-  -- a rest after the first `k` multipliers is at most the scaled weight and all multiplied coefficients, without their signs
+  -- a rest after the first `k` multipliers, in absolute value, is at most the scaled weight plus all multiplied coefficients, in absolute
+  -- values
   rest_apart : (k i : ℕ) → unsigned_abs (rest problem (first_multipliers k leaf) i) ≤ leaf.scale * unsigned_abs (weight_of problem.stage i) + naturals.total (λ m. unsigned_abs (multiplied all i m)) ms
   rest_apart k i =
       let weight = pos leaf.scale *ℤ weight_of problem.stage i in
@@ -236,7 +239,7 @@ module _ (problem : Problem) (near : is_problem_in_reach problem ≡ true) (leaf
     abbrev places : List (ℕ × Standing)
     places = enumerate_from 0 standings
 
-    -- the multiplied coefficients of a constraint, without their signs, sum to at most the square over all volunteers
+    -- if a factor is within the limit, the absolute values of its products with the volunteers' coefficients sum to at most `square`
     one_constraint : (m : Multiplier) → IsSmall m → naturals.total (λ pair. unsigned_abs (multiplied all pair.0 m)) places ≤ square
     one_constraint m small =
         let constraint = constraint_at all m.number in
@@ -248,7 +251,7 @@ module _ (problem : Problem) (near : is_problem_in_reach problem ≡ true) (leaf
         let product = product_within (naturals.total (λ pair. unsigned_abs (coefficient constraint pair.0)) places) (unsigned_abs m.factor) (omega (arith, sum, within)) small in
         omega (arith, scaled, each, product)
 
-    -- the scaled weights, without their signs, sum to at most the square over all volunteers
+    -- over all volunteers, the absolute values of the scaled weights sum to at most `square`
     all_weights : naturals.total (λ pair. leaf.scale * unsigned_abs (weight_of problem.stage pair.0)) places ≤ square
     all_weights =
         let sum = all_at_places standings problem.stage.weights in

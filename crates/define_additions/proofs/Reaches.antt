@@ -1,4 +1,4 @@
--- The constraints of a stage are within reach, if the pool keeps its limits and the stages before are within reach.
+-- If a pool keeps its limits and the earlier stages are within reach, the constraints of a stage are within reach.
 use Rattle.std.proofs.Common.{◌≡◌, ℕ, suc, ◌+◌, ◌≤◌, ◌<◌, Bool, true, false, cond, ◌&&◌, eqb, leb, List, [], ◌∷◌, ◌++◌, map, reverse, length, sum_by, pos, refl, arith, lit<}
 use Rattle.std.specs.Prelude.{slice_index, unsigned_abs}
 use Rattle.std.specs.List.{AllByRecursion, enumerate_from, flat_map, list_all}
@@ -21,7 +21,7 @@ use Rattle.define_additions.proofs.MetConstraints.{each_reversed}
 thousand_small : 1000 < number_limit
 thousand_small = lit< tt
 
--- a constraint whose coefficients and bounds keep the limit is within reach
+-- if the sum of the absolute coefficients and both bounds keep the limit, the constraint is within reach
 in_reach : (constraint : Constraint) → sum_by unsigned_abs constraint.coefficients ≤ number_limit → unsigned_abs constraint.lower ≤ number_limit → unsigned_abs constraint.upper ≤ number_limit → is_in_reach constraint ≡ true
 in_reach constraint sum lower upper =
     let A = leb (sum_by unsigned_abs constraint.coefficients) number_limit in

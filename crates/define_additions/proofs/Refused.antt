@@ -18,7 +18,7 @@ use Rattle.define_additions.specs.Refusals.{HasTrees, NamesLine, NamesLineOfNone
 use Rattle.define_additions.specs.TreeLines.{TreeFault, TreeLine, fault, tree_fault}
 use Rattle.define_additions.proofs.StepByStep.{fault_within}
 
--- ---- what holds of each reason holds of the first
+-- ---- if P holds of each reason, it holds of the first one
 
 abbrev Of : (Refusal → Type 0) → Option Refusal → Type 0
 Of P None = Unit {0}
@@ -99,7 +99,7 @@ refusal_means (OfNoPanel pool lines) refusal refused =
 
 -- ---- lines of trees
 
--- the lines of the first `k + 1` trees are those of the first `k`, and those of one more
+-- the first `k + 1` trees count the lines of the first `k`, those of tree `k`, and one more for the line that begins the next tree
 lines_of_one_more : (trees : List (List TreeLine)) (k : ℕ) → k < length trees → lines_of_trees (take (suc k) trees) ≡ lines_of_trees (take k trees) + length (get_or trees k []) + 1
 lines_of_one_more [] k l = absurd (omega arith)
 lines_of_one_more (lines ∷ trees) zero l = omega arith

@@ -45,12 +45,12 @@ pub total-zero : {X : Type 0} (f : X → ℤ) → ((x : X) → f x ≡ pos 0) �
 total-zero f e [] = refl
 total-zero f e (x ∷ xs) = ap₂ (λ a b. a +ℤ b) (e x) (total-zero f e xs)
 
--- a sum of sums may be taken in the other order
+-- a double sum is the same over `xs` first or over `ys` first
 pub exchanged : {X Y : Type 0} (f : X → Y → ℤ) (xs : List X) (ys : List Y) → total (λ x. total (f x) ys) xs ≡ total (λ y. total (λ x. f x y) xs) ys
 exchanged f [] ys = sym (total-zero (λ y. pos 0) (λ y. refl) ys)
 exchanged f (x ∷ xs) ys = ap (λ z. total (f x) ys +ℤ z) (exchanged f xs ys) ∙ sym (total-add (f x) (λ y. total (λ x. f x y) xs) ys)
 
--- a sum of 1 for each element that passes is how many pass
+-- if each element that passes `p` adds 1, and each other one 0, the sum is the number of elements that pass
 ones : {X : Type 0} (p : X → Bool) (xs : List X) → total (λ x. cond (p x) (pos 1) (pos 0)) xs ≡ pos (naturals.total (λ x. naturals.one_if (p x)) xs)
 ones p [] = refl
 ones p (x ∷ xs) =

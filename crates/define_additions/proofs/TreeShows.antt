@@ -24,7 +24,8 @@ use Rattle.define_additions.proofs.SignedSums.{sum-is-total, total}
 -- ---- splits
 
 module _ (panel : List ℕ) where
-  -- a panel keeps the standings with one of them changed, if the new standing allows that the volunteer is in the panel, or isn't
+  -- if a panel keeps the standings `all`, and `standing` allows volunteer `first + i` to be in the panel or out of it, as the case is, the
+  -- panel keeps `all` with this standing for this volunteer
   keeps_set : (first i : ℕ) (all : List Standing) (standing : Standing) → keeps panel first all ≡ true → allows standing (includes panel (first + i)) ≡ true → keeps panel first (set all i standing) ≡ true
   keeps_set first i [] standing h k = refl
   keeps_set first zero (one ∷ all) standing h k =
@@ -49,7 +50,7 @@ module _ (panel : List ℕ) where
       by true e = inr (keeps_set 0 i all Seated h (ap (allows Seated) (ap (includes panel) here ∙ e)))
 
   module _ (problem : Problem) (up : is_increasing panel ≡ true) (met : AllByRecursion (Meets panel) problem.constraints) where
-    -- if a tree shows the cap, the panel weighs at most the cap
+    -- if a tree shows the cap for standings that the panel keeps, the panel weighs at most the cap
     pub tree_weight_below : (tree : Tree) (all : List Standing) → list_all (λ i. ltb i (length all)) panel ≡ true → keeps panel 0 all ≡ true → tree_shows problem all tree ≡ true →
         total (weight_of problem.stage) panel ≤ℤ problem.stage.cap
     tree_weight_below (AtLeaf leaf) all below kept shows = weight_below problem all panel up below kept met leaf shows
@@ -73,7 +74,7 @@ module _ (panel : List ℕ) where
 
 -- ---- pools
 
--- a panel that keeps the standings of volunteers keeps the list of these standings
+-- if a panel keeps each volunteer's standing, it keeps the list of the volunteers' standings
 listed_standings : (panel : List ℕ) (first : ℕ) (volunteers : List Volunteer) → list_all (λ (i, volunteer). allows volunteer.standing (includes panel i)) (enumerate_from first volunteers) ≡ true →
     keeps panel first (map (λ volunteer. volunteer.standing) volunteers) ≡ true
 listed_standings panel first [] h = refl

@@ -1,5 +1,5 @@
 -- The constraints of a stage's problem: sums over a panel's members that are within bounds. The list of earlier stages has the latest
--- first. `proof_verify` and the engine of `prove` number constraints so.
+-- first. `proof_verify` and the engine of `prove` number constraints by their places in the list `constraints`.
 use Rattle.std.specs.Prelude.{ℕ, ◌==◌, if◌then◌else◌, Bool, true, List, ◌∷◌, [], ◌++◌, map, filter, fold, reverse, slice_index, slice_index_or, ℤ, pos, ◌+ℤ◌}
 use Rattle.std.specs.List.{enumerate_from, flat_map}
 use Rattle.define_pools.specs.Certificate.{Stage}
@@ -21,7 +21,7 @@ pub record Constraint : Type 0 where
 abbrev pub coefficient : Constraint → ℕ → ℤ
 coefficient constraint i = slice_index_or constraint.coefficients i (pos 0)
 
--- the constraint of this number; if there is none, one whose coefficients and bounds are 0
+-- the constraint at the place `number`; if there is none, a constraint whose coefficients and bounds are 0
 abbrev pub constraint_at : List Constraint → ℕ → Constraint
 constraint_at constraints number = slice_index_or constraints number (record { coefficients = []; lower = pos 0; upper = pos 0 })
 
@@ -43,21 +43,21 @@ value_constraint pool category_place (value_place, value) =
 abbrev pub category_constraints : Pool → ℕ × Category → List Constraint
 category_constraints pool (category_place, category) = map (value_constraint pool category_place) (enumerate_from 0 category.values)
 
--- the constraint that a panel weighs just an earlier stage's cap: it attains the cap, and no panel that attains the caps before it weighs
--- more
+-- the constraint that a panel's weight in an earlier stage equals the stage's cap. If that cap holds, a panel that attains it and the caps
+-- before it weighs no more
 abbrev pub stage_constraint : Stage → Constraint
 stage_constraint stage = record { coefficients = stage.weights; lower = stage.cap; upper = stage.cap }
 
--- the constraint that at most one member is of the household of this number
+-- the constraint that at most one member is of household `number`
 abbrev pub household_constraint : Pool → ℕ → Constraint
 household_constraint pool number = counting pool (λ i. is_of_household number (shared_household pool.volunteers i)) 0 1
 
--- the first member of each shared household; this volunteer's number is the household's
+-- the first members of the shared households, in rising order. A household's number is that of its first member
 abbrev pub first_members : Pool → List ℕ
 first_members pool = filter (λ i. is_of_household i (shared_household pool.volunteers i)) (everybody pool)
 
--- the constraints of a stage after earlier ones, numbered from 0: the size, each value over the categories, each earlier stage from the
--- first to the latest, and each shared household in the order of its first member
+-- the constraints of a stage after earlier ones, numbered from 0: the size, each value, category by category, each earlier stage from
+-- the first to the latest, and each shared household in the order of its first member
 abbrev pub constraints : Pool → List Stage → List Constraint
 constraints pool earlier =
     size_constraint pool

@@ -1,5 +1,4 @@
--- How far the numbers of a problem may reach, and the sums that a check of a leaf makes on its way. Over Leaves. The law on narrow sums
--- speaks of them.
+-- Whether the numbers of a problem are within reach, and the partial sums of a leaf's check. Over Leaves. `leaf_sums_are_narrow` uses them.
 use Rattle.std.specs.Prelude.{ℕ, nat_le, Bool, ◌&&◌, List, take, sum_by, unsigned_abs, ℤ, ◌+ℤ◌}
 use Rattle.std.specs.List.{enumerate_from, list_all}
 use Rattle.define_bundles.specs.Ranges.{reach}
@@ -9,13 +8,13 @@ use Rattle.define_additions.specs.Constraints.{Constraint, signed_sum}
 use Rattle.define_additions.specs.Leaves.{Leaf, Problem, charge, rest, rest_charge}
 use Rattle.define_additions.specs.TreeRanges.{number_limit}
 
--- the absolute coefficients sum to at most the limit, and the bounds are within it
+-- the absolute values of the coefficients sum to at most 2^56, and the absolute value of each bound is at most 2^56
 abbrev pub is_in_reach : Constraint → Bool
 is_in_reach constraint =
     nat_le (sum_by unsigned_abs constraint.coefficients) number_limit
     && nat_le (unsigned_abs constraint.lower) number_limit && nat_le (unsigned_abs constraint.upper) number_limit
 
--- a stage's absolute weights and cap sum to at most the limit
+-- the absolute values of a stage's weights and cap sum to at most 2^56
 abbrev pub is_stage_in_reach : Stage → Bool
 is_stage_in_reach stage = nat_le (reach stage) number_limit
 
@@ -26,11 +25,11 @@ is_problem_in_reach problem = list_all is_in_reach problem.constraints && is_sta
 abbrev pub first_multipliers : ℕ → Leaf → Leaf
 first_multipliers many leaf = record leaf { multipliers = take many leaf.multipliers }
 
--- the charges of the first `many` multipliers
+-- the sum of the charges of the first `many` multipliers
 abbrev pub first_charges : Problem → ℕ → Leaf → ℤ
 first_charges problem many leaf = signed_sum (charge problem.constraints) (take many leaf.multipliers)
 
--- the charges of all multipliers, and those of the first `many` volunteers' rests
+-- the sum of the charges of all multipliers and of the rests of the first `many` volunteers
 abbrev pub charges_and_rests : Problem → List Standing → ℕ → Leaf → ℤ
 charges_and_rests problem standings many leaf =
     signed_sum (charge problem.constraints) leaf.multipliers

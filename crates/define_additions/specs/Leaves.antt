@@ -12,15 +12,15 @@ pub record Problem : Type 0 where
   pub constraints : List Constraint
   pub stage : Stage
 
--- the problem of a stage after earlier ones, the latest first
+-- the problem of `stage` after the stages `earlier`, of which the latest is first
 abbrev pub stage_problem : Pool → List Stage → Stage → Problem
 stage_problem pool earlier stage = record { constraints = constraints pool earlier; stage = stage }
 
--- a stage in which each panel weighs 0, more than its cap
+-- a stage in which each panel weighs 0, and the cap is -1
 abbrev pub no_panel : Pool → Stage
 no_panel pool = record { weights = map (λ volunteer. pos 0) pool.volunteers; cap = negsuc 0 }
 
--- the problem for a pool that is to have no quota panel
+-- the problem whose cap holds only if the pool has no quota panel
 abbrev pub no_panel_problem : Pool → Problem
 no_panel_problem pool = stage_problem pool [] (no_panel pool)
 
@@ -38,13 +38,13 @@ pub record Leaf : Type 0 where
 abbrev pub standings : Pool → List Standing
 standings pool = map (λ volunteer. volunteer.standing) pool.volunteers
 
--- a multiplier's charge: the most that the factor times a panel's sum of coefficients can be
+-- a multiplier's charge: the most that the factor times the coefficients' sum can be for a panel that meets the constraint
 abbrev pub charge : List Constraint → Multiplier → ℤ
 charge all multiplier =
     let constraint = constraint_at all multiplier.number in
     multiplier.factor *ℤ (if int_lt (pos 0) multiplier.factor then constraint.upper else constraint.lower)
 
--- a volunteer's coefficient in the multiplier's constraint, times its factor
+-- a volunteer's coefficient in the multiplier's constraint, times the multiplier's factor
 abbrev pub multiplied : List Constraint → ℕ → Multiplier → ℤ
 multiplied all i multiplier = multiplier.factor *ℤ coefficient (constraint_at all multiplier.number) i
 
@@ -52,26 +52,27 @@ multiplied all i multiplier = multiplier.factor *ℤ coefficient (constraint_at 
 abbrev pub rest : Problem → Leaf → ℕ → ℤ
 rest problem leaf i = pos leaf.scale *ℤ weight_of problem.stage i -ℤ signed_sum (multiplied problem.constraints i) leaf.multipliers
 
--- the charge of a rest: the most that a volunteer of a standing adds to a panel's sum of rests
+-- the charge of a rest: the most that a volunteer with this standing and `rest` adds to a panel's sum of rests
 abbrev pub rest_charge : Standing → ℤ → ℤ
 rest_charge Open rest = if int_lt (pos 0) rest then rest else pos 0
 rest_charge Seated rest = rest
 rest_charge Gone rest = pos 0
 
--- the sum of all charges; a panel's weight, times the scale, is at most this
+-- the sum of the charges of all multipliers and of all volunteers' rests. If a panel keeps `standings` and meets the constraints, its
+-- weight times the scale is at most this sum
 abbrev pub total_charge : Problem → List Standing → Leaf → ℤ
 total_charge problem standings leaf =
     signed_sum (charge problem.constraints) leaf.multipliers
     +ℤ signed_sum (λ (i, standing). rest_charge standing (rest problem leaf i)) (enumerate_from 0 standings)
 
--- each multiplier is of a constraint that the problem has
+-- each multiplier's number is that of a constraint of the problem
 abbrev pub has_constraints : Problem → Leaf → Bool
 has_constraints problem leaf = list_all (λ multiplier. nat_lt multiplier.number (length problem.constraints)) leaf.multipliers
 
--- the charges are less than the weight of a panel above the cap, times the scale
+-- the total charge is less than the scale times (cap + 1). A panel above the cap weighs at least cap + 1
 abbrev pub is_below : Problem → List Standing → Leaf → Bool
 is_below problem standings leaf = int_lt (total_charge problem standings leaf) (pos leaf.scale *ℤ (problem.stage.cap +ℤ pos 1))
 
--- a leaf shows that no panel that keeps these standings and meets the constraints weighs more than the cap
+-- a leaf shows the cap for panels that keep `standings` and meet the constraints: none of them weighs more
 abbrev pub leaf_shows : Problem → List Standing → Leaf → Bool
 leaf_shows problem standings leaf = has_constraints problem leaf && is_below problem standings leaf

@@ -19,47 +19,47 @@ pub data Proof : Type 0 where
   OfLottery : (pool : Pool) → (answer : Answer) → (trees : List (List TreeLine)) → Proof
   OfNoPanel : (pool : Pool) → (lines : List TreeLine) → Proof
 
--- the lines of the first tree, if there is one
+-- the lines of the first tree; no lines if there is no tree
 abbrev pub first_tree : List (List TreeLine) → List TreeLine
 first_tree trees = slice_index_or trees 0 []
 
 abbrev pub later_trees : List (List TreeLine) → List (List TreeLine)
 later_trees trees = drop 1 trees
 
--- how many lines a proof's text has before the first line of its first tree. Of a lottery: its own first line, the lines of the bundle
--- with `done` as the last, and the line that begins the tree. Of a pool without a panel: its own first line, the lines of the pool, the
--- line that says so, and the line that begins the tree
+-- the number of lines of a proof's text before the first line of its first tree. For a lottery: the proof's first line, the lines of the
+-- bundle with `done` as the last, and the line that begins the tree. For a pool without a panel: the proof's first line, the lines of the
+-- pool, the line that says that there is no panel, and the line that begins the tree
 abbrev pub lines_before_tree : Proof → ℕ
 lines_before_tree (OfLottery pool answer trees) = 1 + (length (lines_before_done pool answer) + 1) + 1
 lines_before_tree (OfNoPanel pool lines) = 1 + length (pool_lines pool) + 1 + 1
 
--- the reason of a line that is refused, if there is one
+-- the refusal for a tree's fault, which names the fault's line; none if there is no fault
 abbrev pub line_reason : ℕ → Option TreeFault → Option Refusal
 line_reason stage None = None
 line_reason stage (Some fault) = reason stage fault.reason (Some (fault.line ∷ []))
 
--- the reasons of a stage's tree, after earlier stages, given the number of the tree's first line
+-- the reasons of a stage's tree, after the stages `earlier`; `line` is the number of the tree's first line
 abbrev pub tree_reasons : Pool → List Stage → Stage → ℕ → List TreeLine → List (Option Refusal)
 tree_reasons pool earlier stage line lines =
     let number = length earlier + 1 in
-    -- 13: the stage's cap and weights reach too far
+    -- 13: the absolute values of the stage's cap and weights sum to more than 2^56
     reason number 13 (nobody_unless (nat_le (reach stage) number_limit)) ∷
-    -- 11: a line isn't the next one of a tree; 12: its multipliers don't show the cap
+    -- 11: a line isn't the next one of a tree; 12: a leaf's multipliers don't show the cap
     line_reason number (tree_fault (stage_problem pool earlier stage) (standings pool) line lines) ∷ []
 
--- the reasons of the listed panels
+-- the reasons of the lottery's listed panels at a stage
 abbrev pub listed_reasons : Lottery → List Stage → Stage → List (Option Refusal)
 listed_reasons lottery earlier stage =
-    -- 9: a listed panel doesn't weigh the cap
+    -- 9: a listed panel's weight isn't the cap
     reason (length earlier + 1) 9 (find (λ panel. not (int_eq (panel_weight stage panel) stage.cap)) (listed lottery)) ∷ []
 
--- all reasons of a stage after earlier ones
+-- all reasons of a stage after the stages `earlier`
 abbrev pub stage_reasons : Pool → Lottery → List Stage → Stage → ℕ → List TreeLine → List (Option Refusal)
 stage_reasons pool lottery earlier stage line lines =
     reasons_before_cap pool lottery earlier stage ++ tree_reasons pool earlier stage line lines ++ listed_reasons lottery earlier stage
 
--- the reasons of these stages after earlier ones, and of the end, given the number of the first line of the first tree. There is one
--- line between two trees
+-- the reasons of the stages `later` after the stages `earlier`, then the one reason after the last stage. `line` is the number of the first
+-- tree's first line. Between two trees there is one line
 abbrev pub reasons_from : Pool → Lottery → List Stage → List Stage → ℕ → List (List TreeLine) → List (Option Refusal)
 reasons_from pool lottery earlier [] line trees =
     -- 10: somebody is unsettled after the last stage
@@ -68,7 +68,7 @@ reasons_from pool lottery earlier (stage ∷ later) line trees =
     stage_reasons pool lottery earlier stage line (first_tree trees)
     ++ reasons_from pool lottery (stage ∷ earlier) later (line + length (first_tree trees) + 1) (later_trees trees)
 
--- all reasons
+-- all reasons for which a proof may be refused, in order
 abbrev pub reasons : Proof → List (Option Refusal)
 reasons (OfLottery pool answer trees) =
     lottery_reasons pool answer.lottery
@@ -79,7 +79,8 @@ reasons (OfNoPanel pool lines) = line_reason 0 (tree_fault (no_panel_problem poo
 abbrev pub verdict : Proof → Verdict
 verdict proof = first_reason (reasons proof)
 
--- the stages are within reach, and the lines of each are those of a tree that shows its cap
+-- each stage of the second list, after `earlier`, is within reach, and the lines at its place in `trees` are those of a tree that shows
+-- its cap
 abbrev pub TreesShow : Pool → List Stage → List Stage → List (List TreeLine) → Type 0
 TreesShow pool earlier [] trees = Unit {0}
 TreesShow pool earlier (stage ∷ later) trees =

@@ -8,15 +8,15 @@ use Rattle.define_additions.specs.Leaves.{no_panel_problem, stage_problem, stand
 use Rattle.define_additions.specs.ProofVerdict.{OfLottery, OfNoPanel, Proof, lines_before_tree}
 use Rattle.define_additions.specs.TreeLines.{TreeLine, fault, tree_fault}
 
--- if the reason is below 11, the certificate doesn't hold. The reasons from 11 on are of the trees and say nothing of it; a proof that
--- there is no quota panel has no certificate and no other reasons
+-- if the reason is below 11, the certificate doesn't hold. Reasons from 11 on are of the trees and don't show that. A proof that there is
+-- no quota panel has no certificate; it is refused only for reasons from 11 on
 abbrev pub RefusalMeans : Proof → Refusal → Type 0
 RefusalMeans (OfLottery pool answer trees) refusal = refusal.reason < 11 → Certifies pool answer.lottery answer.stages → ⊥
 RefusalMeans (OfNoPanel pool lines) refusal = 11 ≤ refusal.reason
 
 -- ---- lines
 
--- how many lines these trees have in a proof's text, if after each tree the line that begins the next one is counted too
+-- the number of lines of all trees of a list in a proof's text, with one more after each tree for the line that begins the next tree
 abbrev pub lines_of_trees : List (List TreeLine) → ℕ
 lines_of_trees [] = 0
 lines_of_trees (lines ∷ later) = length lines + 1 + lines_of_trees later
@@ -33,19 +33,21 @@ lines_before (OfNoPanel pool lines) stage = lines_before_tree (OfNoPanel pool li
 
 -- a refusal for a stage's tree names the tree's first fault, by the number of the line in the text
 pub record NamesLineOfStage (pool : Pool) (answer : Answer) (trees : List (List TreeLine)) (refusal : Refusal) : Type 0 where
-  -- the stages before it, the latest first; the stage; and those after it
+  -- the stages before the refused stage, the latest first
   pub earlier : List Stage
+  -- the refused stage
   pub stage : Stage
+  -- the stages after the refused stage
   pub later : List Stage
   pub stages : answer.stages ≡ reverse earlier ++ (stage ∷ later)
   pub number : refusal.stage ≡ length earlier + 1
-  -- the line
+  -- the number of the faulty line in the text
   pub line : ℕ
   pub who : refusal.who ≡ line ∷ []
   pub first_fault : tree_fault (stage_problem pool earlier stage) (standings pool)
       (lines_before (OfLottery pool answer trees) refusal.stage + 1) (tree_of (OfLottery pool answer trees) refusal.stage) ≡ fault line refusal.reason
 
--- a refusal of a proof that there is no quota panel, whose tree has stage 0, names the tree's first fault in the same way
+-- a refusal of a proof that there is no quota panel has stage 0, and names the tree's first fault by the number of the line in the text
 pub record NamesLineOfNone (pool : Pool) (lines : List TreeLine) (refusal : Refusal) : Type 0 where
   pub number : refusal.stage ≡ 0
   pub line : ℕ

@@ -1,4 +1,5 @@
--- Trees as lists of lines, and the first line at which lines are no tree that shows a cap. Over Trees. `proof_verify` walks them.
+-- Trees as lists of lines, and the first fault of lines that are not those of a tree that shows a cap. Over Trees. `proof_verify` walks
+-- them.
 use Rattle.std.specs.Prelude.{◌≡◌, ℕ, ◌+◌, if◌then◌else◌, Bool, true, false, IsTrue, List, [], ◌∷◌, ◌++◌, slice_set, Option, Some, None}
 use Rattle.define_pools.specs.declared.Standing.{Standing}
 use Rattle.define_pools.specs.declared.Standing.TheVariants.{Seated, Gone}
@@ -15,7 +16,7 @@ abbrev pub lines_of : Tree → List TreeLine
 lines_of (AtLeaf leaf) = OfLeaf leaf ∷ []
 lines_of (AtSplit i without with) = OfSplit i ∷ (lines_of without ++ lines_of with)
 
--- these are the lines of a tree that shows the cap of a problem
+-- `lines` are the lines of a tree that shows the problem's cap
 pub record AreOfTree (problem : Problem) (standings : List Standing) (lines : List TreeLine) : Type 0 where
   pub tree : Tree
   pub its_lines : lines_of tree ≡ lines
@@ -23,12 +24,12 @@ pub record AreOfTree (problem : Problem) (standings : List Standing) (lines : Li
 
 -- ---- line after line
 
--- a volunteer whom a split has decided, and whether the next line is of the subtree with this volunteer
+-- a decision of a path: the volunteer of a split, and whether the path is in the subtree with this volunteer
 pub record Decision : Type 0 where
   pub volunteer : ℕ
   pub is_in : Bool
 
--- the standing of a volunteer in a subtree with or without them
+-- the standing of a decision's volunteer: seated if `is_in`, else gone
 abbrev pub decided_standing : Bool → Standing
 decided_standing is_in = if is_in then Seated else Gone
 
@@ -37,7 +38,8 @@ abbrev pub standings_at : List Standing → List Decision → List Standing
 standings_at standings [] = standings
 standings_at standings (decision ∷ path) = slice_set (standings_at standings path) decision.volunteer (decided_standing decision.is_in)
 
--- the path of the line after a leaf: back to the latest volunteer who was out, who is in from here on. After the last leaf there is none
+-- the path of the line after a leaf: the latest decision without its volunteer becomes a decision with this volunteer, and later decisions
+-- are dropped. None if all decisions are with their volunteers: the leaf was the tree's last
 abbrev pub path_behind : List Decision → Option (List Decision)
 path_behind [] = None
 path_behind (decision ∷ path) = if decision.is_in then path_behind path else Some (record decision { is_in = true } ∷ path)
@@ -50,9 +52,9 @@ pub record TreeFault : Type 0 where
 abbrev pub fault : ℕ → ℕ → Option TreeFault
 fault line reason = Some (record { line = line; reason = reason })
 
--- the first fault of lines that begin at this path with line `number`, or None if they complete the tree. 11: it isn't the next line of a
--- tree: a split on a volunteer who is decided, no line though the tree goes on, or a line after its end; 12: the multipliers don't show the
--- cap
+-- the first fault of lines that go on at a path, or None if they complete the tree. The first of them is line `number`. 11: a line
+-- isn't the next one of a tree: a split on someone who isn't undecided, no line though the tree isn't complete, or a line after its end.
+-- 12: a leaf's multipliers don't show the cap
 abbrev pub fault_from : Problem → List Standing → ℕ → Option (List Decision) → List TreeLine → Option TreeFault
 fault_from problem standings number None [] = None
 fault_from problem standings number None (line ∷ later) = fault number 11

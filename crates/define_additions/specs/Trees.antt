@@ -1,5 +1,5 @@
--- Trees over volunteers: a split decides a volunteer, who is on no panel of one subtree and on each panel of the other, and each leaf
--- shows the cap. Over Leaves. `proof_verify` checks them, the engine of `prove` makes them.
+-- Trees over volunteers: a split decides a volunteer, who is on no panel of one subtree and on each panel of the other. Over Leaves.
+-- `proof_verify` checks them, the engine of `prove` makes them.
 use Rattle.std.specs.Prelude.{ℕ, Bool, true, false, ◌&&◌, List, slice_index_or, slice_set}
 use Rattle.define_pools.specs.declared.Standing.{Standing}
 use Rattle.define_pools.specs.declared.Standing.TheVariants.{Open, Seated, Gone}
@@ -19,8 +19,8 @@ is_open Gone = false
 abbrev pub is_undecided : List Standing → ℕ → Bool
 is_undecided standings i = is_open (slice_index_or standings i Gone)
 
--- a tree shows that no panel that has these standings and meets the constraints weighs more than the cap: each of its leaves does, and
--- each split is on an undecided volunteer
+-- a tree shows the cap for panels that keep `standings` and meet the constraints: each split is on an undecided volunteer, and each leaf
+-- shows the cap for the standings that the splits leave
 abbrev pub tree_shows : Problem → List Standing → Tree → Bool
 tree_shows problem standings (AtLeaf leaf) = leaf_shows problem standings leaf
 tree_shows problem standings (AtSplit i without with) =

@@ -15,11 +15,11 @@ leaf scale multipliers = record { scale = scale; multipliers = multipliers }
 
 -- ---- over two women, a and b, and two men, c and d: constraint 0 is the size, 1 the women, 2 the men, and 3 the first stage
 
--- the women's constraint, times 1
+-- a leaf of scale 1: the women's constraint, times 1
 abbrev pub women_leaf : Leaf
 women_leaf = leaf 1 (times 1 (pos 1) ∷ [])
 
--- the men's constraint, less that of the first stage
+-- a leaf of scale 1: the men's constraint, times 1, and the first stage's, times -1
 abbrev pub men_leaf : Leaf
 men_leaf = leaf 1 (times 2 (pos 1) ∷ times 3 (negsuc 0) ∷ [])
 
@@ -34,11 +34,11 @@ four_proof trees = OfLottery four (record { lottery = four_lottery; stages = fou
 abbrev pub constraint : List ℤ → ℤ → ℤ → Constraint
 constraint coefficients lower upper = record { coefficients = coefficients; lower = lower; upper = upper }
 
--- the women's constraint, times 2
+-- a leaf of scale 1 that doesn't show the cap: the women's constraint, times 2
 abbrev pub double_leaf : Leaf
 double_leaf = leaf 1 (times 1 (pos 2) ∷ [])
 
--- a multiplier of a constraint that the first stage doesn't have
+-- a leaf with a multiplier of constraint 3, which the first stage doesn't have
 abbrev pub unknown_leaf : Leaf
 unknown_leaf = leaf 1 (times 1 (pos 1) ∷ times 3 (pos 1) ∷ [])
 
@@ -49,11 +49,11 @@ split_tree = AtSplit 0 (AtLeaf (leaf 1 [])) (AtLeaf women_leaf)
 abbrev pub split_lines : List TreeLine
 split_lines = OfSplit 0 ∷ OfLeaf (leaf 1 []) ∷ OfLeaf women_leaf ∷ []
 
--- a proof of an answer over the four with one stage, of weight 1 for each
+-- a proof of an answer over the four with one stage, in which each weighs 1; its tree is one leaf
 abbrev pub one_stage_proof : ℤ → Leaf → Proof
 one_stage_proof cap all = OfLottery four (record { lottery = four_lottery; stages = stage cap (pos 1 ∷ pos 1 ∷ pos 1 ∷ pos 1 ∷ []) ∷ [] }) ((OfLeaf all ∷ []) ∷ [])
 
--- the constraint of the size, as a leaf for a stage of weight 1 for each
+-- a leaf of scale 1 for a stage in which each weighs 1: the size's constraint, times 1
 abbrev pub size_leaf : Leaf
 size_leaf = leaf 1 (times 0 (pos 1) ∷ [])
 

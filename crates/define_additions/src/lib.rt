@@ -1,7 +1,7 @@
 //! Proofs by additions: the constraints of a stage's problem, leaves and trees that show its cap, the lines of a tree, and the verdict
 //! on a proof. The definitions are in `specs/`. Stands on `define_checks`, `define_searches`, `define_bundles` and
 //! `define_pools`. Above: `proof_verify`, which checks proofs; `define_proof_texts`, which has their text; the engine of `prove`,
-//! which makes them.
+//! which makes them; the meanings of the commands, and the definitions of the office.
 //!
 //! The functions have no body: their contracts are laws over the definitions, and worked examples. The promises that matter most are
 //! `valid_is_greatest` and `valid_no_panel`.
@@ -43,7 +43,7 @@ pub fn tree_shows_no_panel()
     ensures no_list { (pool : Pool) (tree : Tree) (panel : List ℕ) → IsTrue (tree_shows (no_panel_problem pool) (standings pool) tree) → ¬ IsTrue (is_quota_panel pool panel) }
 {}
 
-/// Lines have no fault exactly if they are those of a tree that shows the cap.
+/// A list of lines has no fault exactly if it is the lines of a tree that shows the cap.
 pub fn lines_are_of_tree()
     ensures { (problem : Problem) (all : List Standing) (number : ℕ) (lines : List TreeLine) → tree_fault problem all number lines ≡ None ↔ AreOfTree problem all lines }
 {}
@@ -85,24 +85,27 @@ pub fn valid_is_greatest()
         verdict (OfLottery pool answer trees) ≡ Valid → LeximinGreatest pool answer.lottery }
 {}
 
-/// A proof that there is no quota panel is valid exactly if its lines are those of a tree that shows it, and then there is none.
+/// A proof that there is no quota panel is valid exactly if its lines are those of a tree that shows it. If it is valid, there is no quota
+/// panel.
 pub fn valid_no_panel()
     ensures where_shown { (pool : Pool) (lines : List TreeLine) → verdict (OfNoPanel pool lines) ≡ Valid ↔ AreOfTree (no_panel_problem pool) (standings pool) lines }
     ensures none { (pool : Pool) (lines : List TreeLine) → verdict (OfNoPanel pool lines) ≡ Valid → panels pool ≡ [] }
 {}
 
-/// A proof is refused for a reason below 11 only if its certificate doesn't hold.
+/// A lottery's proof is refused for a reason below 11 only if its certificate doesn't hold. A proof that there is no quota panel is refused
+/// only for reasons from 11 on.
 pub fn refused_is_not_certified()
     ensures { (proof : Proof) (refusal : Refusal) → verdict proof ≡ Refused refusal → RefusalMeans proof refusal }
 {}
 
-/// If a proof is refused for a line of a tree, the refusal names the tree's first fault, by the number of this line in the text.
+/// If a proof with a tree for each stage is refused for a line of a tree, the refusal names the tree's first fault, by the number of this
+/// line in the text.
 pub fn refused_line_is_named()
     ensures { (proof : Proof) (refusal : Refusal) → HasTrees proof → verdict proof ≡ Refused refusal → (refusal.reason ≡ 11) ⊎ (refusal.reason ≡ 12) →
         NamesLine proof refusal }
 {}
 
-/// The constraints of a stage are within reach if the earlier stages are. So is the stage for a pool without a quota panel.
+/// If the earlier stages are within reach, the constraints of a stage are. The stage for a pool without a quota panel is within reach.
 pub fn constraints_are_in_reach()
     ensures constraints { (pool : Pool) (earlier : List Stage) → IsPool pool → IsTrue (list_all is_stage_in_reach earlier) → IsTrue (list_all is_in_reach (constraints pool earlier)) }
     ensures no_panel { (pool : Pool) → IsTrue (is_stage_in_reach (no_panel pool)) }
@@ -146,7 +149,7 @@ pub fn valid_proofs()
 
 /// Leaves that don't show the cap: with another multiplier, in the first stage and in the second; with a constraint that the stage
 /// doesn't have; in the subtree with a volunteer; and for a pool that has quota panels. The first tree begins with line 20 of the text,
-/// or with line 14.
+/// or in the last example with line 14.
 pub fn leaves_refused()
     ensures multiplier { verdict (four_proof ((OfLeaf double_leaf ∷ []) ∷ (OfLeaf men_leaf ∷ []) ∷ [])) ≡ refused 1 12 (20 ∷ []) }
     ensures second_stage { verdict (four_proof ((OfLeaf women_leaf ∷ []) ∷ (OfLeaf double_leaf ∷ []) ∷ [])) ≡ refused 2 12 (22 ∷ []) }
@@ -167,7 +170,8 @@ pub fn lines_refused()
         (OfSplit 1 ∷ OfLeaf size_leaf ∷ OfSplit 2 ∷ OfLeaf size_leaf ∷ OfLeaf size_leaf ∷ []) ≡ fault 3 11 }
 {}
 
-/// Other reasons come in their order: of the lottery, of a stage whose weights and cap reach too far, and of the listed panels.
+/// Proofs refused for other reasons: of the lottery, a weight below 0, a stage out of reach, a listed panel's weight, and a volunteer who
+/// is unsettled at the end.
 pub fn other_reasons()
     ensures lottery { verdict (OfLottery four two_women []) ≡ refused 0 1 (0 ∷ 1 ∷ []) }
     ensures negative { verdict (OfLottery four below_zero []) ≡ refused 1 4 (2 ∷ []) }

@@ -22,7 +22,7 @@ use Rattle.define_bundles.specs.BundleReading.{AnswerLine, OfRow, OfStage, Fault
 
 -- ---- a line has the spelling of what it says
 
--- the line has the spelling of what it says, whose numbers are in range
+-- the line is the spelling of what it says, and the numbers are in range; nothing is claimed of faulty and unknown lines
 abbrev pub IsSpelled : ℕ → List ℕ → AnswerLine → Type 0
 IsSpelled volunteers line (OfRow row) = (line ≡ panel_line row) × (is_row volunteers row ≡ true)
 IsSpelled volunteers line (OfStage stage) = (line ≡ stage_line stage) × (is_stage volunteers stage ≡ true)
@@ -103,11 +103,11 @@ fields_spelled volunteers (first ∷ fields) =
     (λ e. stage_spelled volunteers first fields (bytes_are first (codes "stage") e))
     (λ _. cond_both (bytes_eq first (codes "done")) (done_said fields) Unknown P (λ e. done_spelled volunteers first fields (bytes_are first (codes "done") e)) (λ _. tt)))
 
--- each line has the spelling of what it says
+-- each line is the spelling of what it says, unless it is faulty or unknown
 pub answer_spelled : (volunteers : ℕ) (line : List ℕ) → IsSpelled volunteers line (answer_line volunteers (fields_of line))
 answer_spelled volunteers line = subst (λ l. IsSpelled volunteers l (answer_line volunteers (fields_of line))) (line_of-fields_of line) (fields_spelled volunteers (fields_of line))
 
--- a field that is read as a weight is its digits, and the weight is in range
+-- if a field is read as a weight, it is the weight's digits, and the weight is in range
 weight_spelled : (field : List ℕ) (weight : ℕ) → weight_of field ≡ Some weight → (field ≡ decimal weight) × (is_weight weight ≡ true)
 weight_spelled field weight h = known (number_up_to (10 ^ 38) field) refl h
   where
@@ -128,7 +128,7 @@ total_in_fields (first ∷ field ∷ []) total h =
     (ap (λ word. line_of (word ∷ field ∷ [])) (bytes_are first (codes "total") e) ∙ ap (λ digits. line_of (codes "total" ∷ digits ∷ [])) spelled.0, spelled.1))
     (λ _ k. cc) h
 
--- a line that is read as that of a total is its line, and the total is in range
+-- if a line is read as a total, it is the total's line, and the total is in range
 pub total_spelled : (line : List ℕ) (total : ℕ) → total_of (fields_of line) ≡ Some total → (line ≡ total_line total) × (is_weight total ≡ true)
 total_spelled line total h = let known = total_in_fields (fields_of line) total h in (sym (line_of-fields_of line) ∙ known.0, known.1)
 
@@ -141,7 +141,7 @@ minus_is_ascii : (i : ℕ) → get_or (45 ∷ []) i 0 < 128
 minus_is_ascii zero = lit< tt
 minus_is_ascii (suc i) = lit< tt
 
--- the spelling of a number with a sign is a field
+-- if the absolute value of `z` is below 10 ^ 64, the spelling of `z` with its sign is a field
 signed_field : (z : ℤ) → unsigned_abs z < 10 ^ 64 → IsField (signed_decimal z)
 signed_field (pos n) small = decimal_field n small
 signed_field (negsuc n) small =
@@ -152,7 +152,7 @@ signed_field (negsuc n) small =
       utf8 = is_utf8-from_IsUtf8 (45 ∷ decimal (suc n)) (IsUtf8-append (45 ∷ []) (decimal (suc n)) (IsUtf8-from_ascii (45 ∷ []) minus_is_ascii) (IsUtf8-from_is_utf8 (decimal (suc n)) digits.utf8));
     }
 
--- the digits of numbers below a limit are fields, and are read as these numbers
+-- if numbers are below a limit of at most 400, their digits are fields, and are read as the same numbers
 numbers_are_fields : (limit : ℕ) → limit ≤ 400 → (numbers : List ℕ) → list_all (λ i. ltb i limit) numbers ≡ true → AllByRecursion IsField (map decimal numbers)
 numbers_are_fields limit small [] h = tt
 numbers_are_fields limit small (number ∷ numbers) h =
@@ -171,8 +171,7 @@ numbers_again limit small (number ∷ numbers) h =
 stage_limit_small : stage_limit < 10 ^ 64
 stage_limit_small = lit< tt
 
--- the spellings of numbers with a sign are fields, and are read as these numbers, if their absolute values sum to at most the limit of a
--- stage
+-- if the absolute values of numbers sum to at most `stage_limit`, the numbers' spellings are fields, and are read as the same numbers
 signed_are_fields : (numbers : List ℤ) → sum_by unsigned_abs numbers ≤ stage_limit → AllByRecursion IsField (map signed_decimal numbers)
 signed_are_fields [] h = tt
 signed_are_fields (number ∷ numbers) h =
@@ -188,7 +187,7 @@ signed_are_again (number ∷ numbers) h =
     ap (λ o. with_number o (signed_of (map signed_decimal numbers))) (signed_again stage_limit number (omega (arith, sum)) (omega (arith, sum)))
     ∙ ap (with_number (Some number)) (signed_are_again numbers (omega (arith, sum)))
 
--- what is known of a right row
+-- the row's weight is in range, and each member's number is below `volunteers`
 record RowParts (volunteers : ℕ) (row : LotteryRow) : Type 0 where
   weight : is_weight row.weight ≡ true
   below : list_all (λ i. ltb i volunteers) row.panel ≡ true

@@ -23,7 +23,7 @@ use Rattle.define_bundles.specs.BundleText.{Bundle, IsBundle, bundle_line, pool_
 use Rattle.define_bundles.specs.BundleReading.{Progress, Begun, InPool, InRows, InStages, Done, AnswerLine, OfRow, OfStage, TheDone, said_of, row_kinds, stage_kinds, after_row, after_stage, read_bundle, reader}
 use Rattle.define_bundles.proofs.AnswerLines.{row_fields, row_again, stage_fields, stage_again, done_again, total_fields, total_again}
 
--- none of these lines has an LF or a fault, and they lead from one progress to another
+-- no line has an LF or a fault, and reading the lines leads from the first progress to the second
 abbrev pub Runs : Progress → List (List ℕ) → Progress → Type 0
 Runs = reading.Runs reader
 
@@ -72,7 +72,7 @@ bundle_runs false lines after runs = (line_lacks_feed (codes "bundle" ∷ codes 
 -- ---- the answer's lines
 
 module _ (pool : Pool) (few : length pool.volunteers ≤ 400) where
-  -- a line after the total that says `said`, without a fault, leads on
+  -- if a line after the total says `said`, and has no fault, the reading goes on from the progress after it
   run_row : (lottery : Lottery) (line : List ℕ) (said : AnswerLine) (lines : List (List ℕ)) (after : Progress) → Lacks line_feed line → said_of pool line ≡ said →
       lowest_kind (row_kinds (ltb 0 (length lottery.rows)) said) ≡ None → Runs (after_row pool lottery said) lines after → Runs (InRows pool lottery) (line ∷ lines) after
   run_row lottery line said lines after lacks e none rest =
@@ -115,7 +115,7 @@ module _ (pool : Pool) (few : length pool.volunteers ≤ 400) where
       (stage_again (length pool.volunteers) stage parts.0) refl
       (subst (λ stages. Runs (InStages pool (record { lottery = lottery; stages = done ++ stage ∷ [] })) (map stage_line todo) (InStages pool (record { lottery = lottery; stages = stages }))) regrouped rest)
 
-  -- the lines of all stages lead on to the last stage
+  -- reading the lines of all stages leads to the progress that has all stages
   all_stages_run : (lottery : Lottery) (stages : List Stage) → ltb 0 (length lottery.rows) ≡ true → ltb 0 (length stages) ≡ true → list_all (is_stage (length pool.volunteers)) stages ≡ true →
       Runs (InRows pool lottery) (map stage_line stages) (InStages pool (record { lottery = lottery; stages = stages }))
   all_stages_run lottery [] some_row some are = absurd (false≢true some)
@@ -134,7 +134,7 @@ module _ (pool : Pool) (few : length pool.volunteers ≤ 400) where
         subst (λ o. Runs (InRows pool (record { total = unwrap_or o 0; rows = [] })) lines after) (sym again) rest,
       )
 
-  -- the lines of an answer lead to the bundle's end
+  -- reading the lines of an answer leads to the bundle's end
   answer_runs : (answer : Answer) → IsInRanges pool answer →
       Runs (InPool (has_households pool) (pools.Ended pool)) (answer_lines answer ++ done_line ∷ []) (Done (record { pool = pool; answer = answer }))
   answer_runs answer is =
@@ -147,7 +147,7 @@ module _ (pool : Pool) (few : length pool.volunteers ≤ 400) where
       let all = reading.Runs-append reader (InRows pool (record { total = lottery.total; rows = [] })) (InStages pool answer) (Done bundle) (map panel_line lottery.rows ++ map stage_line answer.stages) (done_line ∷ []) both last in
       total_runs lottery.total ((map panel_line lottery.rows ++ map stage_line answer.stages) ++ done_line ∷ []) (Done bundle) is.total all
 
--- the lines of a bundle lead to its end
+-- reading the lines of a bundle leads to its end
 pub runs : (bundle : Bundle) → IsBundle bundle → Runs Begun (lines_before_done bundle.pool bundle.answer ++ done_line ∷ []) (Done bundle)
 runs bundle is =
     let pool = bundle.pool in

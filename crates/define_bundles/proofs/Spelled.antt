@@ -53,7 +53,7 @@ lines_so_far (InRows pool lottery) = bundle_line (has_households pool) ∷ (pool
 lines_so_far (InStages pool answer) = lines_before_done pool answer
 lines_so_far (Done bundle) = lines_before_done bundle.pool bundle.answer ++ done_line ∷ []
 
--- the line leads to a right progress, and adds itself to the lines so far
+-- `after` is right, and its lines so far are those of `progress`, then `line`
 abbrev Adds : Progress → List ℕ → Progress → Type 0
 Adds progress line after = IsRight after × (lines_so_far after ≡ lines_so_far progress ++ line ∷ [])
 
@@ -68,7 +68,7 @@ version_stays pool passed (pools.OfStanding standing id) right h second e = e
 version_stays pool passed pools.TheEnd right h second e = own_version pool passed right (no_kind (pools.awaits_household passed) 1 None h).0 ∙ e
 version_stays pool passed pools.Unknown right h second e = e
 
--- a line of the pool adds itself
+-- a line of the pool without a fault keeps the progress right, and becomes the last of the lines so far
 in_pool : (second : Bool) (progress : pools.Progress) (line : List ℕ) → IsRight (InPool second progress) → pools.line_kind progress line ≡ None → IsOfVersion second (pools.after_line progress line) →
     Adds (InPool second progress) line (InPool second (pools.after_line progress line))
 in_pool second progress line right h version =
@@ -103,7 +103,7 @@ pool_adds second (pools.Ended pool) line right h = given (total_of (fields_of li
         ap (λ version. bundle_line version ∷ (pool_lines pool ++ total_line total ∷ [])) right.1 ∙ ap (λ l. bundle_line second ∷ (pool_lines pool ++ l ∷ [])) (sym spelled.0) in
         subst (λ t. Adds (InPool second (pools.Ended pool)) line (InRows pool (record { total = t; rows = [] }))) (sym known) (right_rows, lines)
 
--- a line after that of the total or of a panel adds itself
+-- a line without a fault after the total's or a panel's keeps the progress right, and becomes the last of the lines so far
 row_adds : (pool : Pool) (lottery : Lottery) (line : List ℕ) (said : AnswerLine) → IsRight (InRows pool lottery) → IsSpelled (length pool.volunteers) line said →
     lowest_kind (row_kinds (ltb 0 (length lottery.rows)) said) ≡ None → Adds (InRows pool lottery) line (after_row pool lottery said)
 row_adds pool lottery line (OfRow row) right spelled h =
@@ -133,7 +133,7 @@ row_adds pool lottery line FaultyStage right spelled h = absurd (no_way (ltb 0 (
 row_adds pool lottery line TheDone right spelled h = cc
 row_adds pool lottery line Unknown right spelled h = cc
 
--- a line after that of a stage adds itself
+-- a line without a fault after a stage's keeps the progress right, and becomes the last of the lines so far
 stage_adds : (pool : Pool) (answer : Answer) (line : List ℕ) (said : AnswerLine) → IsRight (InStages pool answer) → IsSpelled (length pool.volunteers) line said →
     lowest_kind (stage_kinds said) ≡ None → Adds (InStages pool answer) line (after_stage pool answer said)
 stage_adds pool answer line (OfRow row) right spelled h = cc
@@ -165,7 +165,7 @@ stage_adds pool answer line FaultyStage right spelled h = cc
 stage_adds pool answer line TheDone right spelled h = (right, ap (λ l. lines_before_done pool answer ++ l ∷ []) (sym spelled))
 stage_adds pool answer line Unknown right spelled h = cc
 
--- a line without a fault keeps the progress right, and adds itself to the lines so far
+-- a line without a fault keeps the progress right, and becomes the last of the lines so far
 pub line_adds : (progress : Progress) (line : List ℕ) → IsRight progress → line_kind progress line ≡ None → IsRight (after_line progress line) × (lines_so_far (after_line progress line) ≡ lines_so_far progress ++ line ∷ [])
 line_adds Begun line right h =
     let fails = no_kind (not (bytes_eq line (bundle_line false) || bytes_eq line (bundle_line true))) 13 None h in

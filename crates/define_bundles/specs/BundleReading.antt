@@ -1,5 +1,5 @@
--- What bytes say as the text of a bundle: the bundle, or the first faulty line and its lowest kind of fault. Over BundleText and the
--- reading of pools. `bundle_text` reads so, and the reading of proofs goes through it.
+-- How bytes are read as the text of a bundle: the bundle, or the first faulty line and its lowest kind of fault. Over BundleText and the
+-- reading of pools. `bundle_text` reads so, and the reading of proofs uses it.
 use Rattle.std.specs.Prelude.{ℕ, ◌-◌, ◌^◌, nat_lt, if◌then◌else◌, Bool, true, false, not, ◌||◌, List, [], ◌∷◌, ◌++◌, length, bytes_eq, codes, ℤ, Option, Some, None, Result, Ok, Err, unwrap_or, is_some}
 use Rattle.define_pools.specs.Pool.{Pool}
 use Rattle.define_pools.specs.Lottery.{Lottery, LotteryRow}
@@ -13,15 +13,15 @@ use Rattle.define_pool_texts.specs.PoolReading as pools
 use Rattle.define_bundles.specs.Ranges.{is_weight, is_row, is_stage}
 use Rattle.define_bundles.specs.BundleText.{Bundle, bundle_line}
 
--- the progress of a bundle's text after right lines
+-- how far a bundle's text was read, if all its lines so far are right
 pub data Progress : Type 0 where
   -- before the first line
   Begun : Progress
-  -- after the first line, of this version: the progress of the pool's lines
+  -- after the first line, of version 2 if `second` is true, else 1: the progress of the pool's lines
   InPool : (second : Bool) (progress : pools.Progress) → Progress
-  -- after the line of the total: the panels of the panel lines
+  -- after the line of the total: the pool, the total, and the rows of the panel lines so far
   InRows : (pool : Pool) (lottery : Lottery) → Progress
-  -- after at least one stage line: the stages too
+  -- after at least one stage line: the pool, its lottery, and the stages so far
   InStages : (pool : Pool) (answer : Answer) → Progress
   -- after the last line
   Done : (bundle : Bundle) → Progress
@@ -30,7 +30,7 @@ pub data Progress : Type 0 where
 pub data AnswerLine : Type 0 where
   OfRow : (row : LotteryRow) → AnswerLine
   OfStage : (stage : Stage) → AnswerLine
-  -- it begins with `stage`, and isn't a right stage line
+  -- the line begins with `stage`, and isn't a right stage line
   FaultyStage : AnswerLine
   TheDone : AnswerLine
   Unknown : AnswerLine
@@ -44,7 +44,7 @@ weight_in_range (Some weight) = if is_weight weight then Some weight else None
 abbrev pub weight_of : List ℕ → Option ℕ
 weight_of field = weight_in_range (number_up_to (10 ^ 38) field)
 
--- a number and those after it as one list, if all are there
+-- the number, then the numbers, as one list; None if one of the two is missing
 abbrev pub with_number : {A : Type 0} → Option A → Option (List A) → Option (List A)
 with_number (Some number) (Some numbers) = Some (number ∷ numbers)
 with_number _ _ = None
@@ -63,32 +63,34 @@ abbrev pub signed_of : List (List ℕ) → Option (List ℤ)
 signed_of [] = Some []
 signed_of (field ∷ fields) = with_number (signed_up_to stage_limit field) (signed_of fields)
 
--- the panel line of a weight and members, if both are there and in range, for a pool of this number of volunteers
+-- `OfRow` of the weight and the members, if both are there and in range for a pool of `volunteers` volunteers; else `Unknown`
 abbrev pub row_of : ℕ → Option ℕ → Option (List ℕ) → AnswerLine
 row_of volunteers (Some weight) (Some panel) =
     let row : LotteryRow = record { panel = panel; weight = weight } in if is_row volunteers row then OfRow row else Unknown
 row_of volunteers _ _ = Unknown
 
--- the stage line of a cap and weights, if both are there and in range, for a pool of this number of volunteers
+-- `OfStage` of the cap and the weights, if both are there and in range for a pool of `volunteers` volunteers; else `FaultyStage`
 abbrev pub stage_of : ℕ → Option ℤ → Option (List ℤ) → AnswerLine
 stage_of volunteers (Some most) (Some weights) =
     let stage : Stage = record { weights = weights; cap = most } in if is_stage volunteers stage then OfStage stage else FaultyStage
 stage_of volunteers _ _ = FaultyStage
 
--- what a line says by the fields after its word, for a pool of this number of volunteers
+-- what a line that begins with `panel` says, by its later fields, for a pool of `volunteers` volunteers
 abbrev pub panel_said : ℕ → List (List ℕ) → AnswerLine
 panel_said volunteers [] = Unknown
 panel_said volunteers (weight ∷ members) = row_of volunteers (number_up_to (10 ^ 38) weight) (numbers_up_to volunteers members)
 
+-- what a line that begins with `stage` says, by its later fields, for a pool of `volunteers` volunteers
 abbrev pub stage_said : ℕ → List (List ℕ) → AnswerLine
 stage_said volunteers [] = FaultyStage
 stage_said volunteers (cap ∷ weights) = stage_of volunteers (signed_up_to stage_limit cap) (signed_of weights)
 
+-- what a line that begins with `done` says, by its later fields
 abbrev pub done_said : List (List ℕ) → AnswerLine
 done_said [] = TheDone
 done_said (field ∷ fields) = Unknown
 
--- what a line says by its fields
+-- what a line after the total says, by its fields, for a pool of `volunteers` volunteers
 abbrev pub answer_line : ℕ → List (List ℕ) → AnswerLine
 answer_line volunteers [] = Unknown
 answer_line volunteers (first ∷ fields) =
@@ -102,8 +104,8 @@ abbrev pub total_of : List (List ℕ) → Option ℕ
 total_of (first ∷ field ∷ []) = if bytes_eq first (codes "total") then weight_of field else None
 total_of _ = None
 
--- the kinds of fault of a line of the pool, given the progress of the pool's lines. 1: its version isn't the bundle's; 14: after the
--- pool's end, no total
+-- the kinds of fault of a line up to the total, given the progress of the pool's lines. 1: the pool's version isn't the bundle's; 14: after
+-- the pool's end, the line is no total's
 abbrev pub pool_kinds : Bool → pools.Progress → List ℕ → List (ℕ × Bool)
 pool_kinds second pools.Begun line = (1, not (bytes_eq line (version_line second))) ∷ []
 pool_kinds second (pools.Versioned version) line = pools.line_kinds (pools.Versioned version) line
@@ -111,7 +113,7 @@ pool_kinds second (pools.Inside pool passed) line = pools.line_kinds (pools.Insi
 pool_kinds second (pools.Ended pool) line = (14, not (is_some (total_of (fields_of line)))) ∷ []
 
 -- the kind of fault of a line before any stage line, given whether there was a panel line. 15: neither a right panel line nor, after a
--- panel line, a right stage line; 16: after a panel line, a faulty stage line
+-- panel line, a line that begins with `stage`; 16: after a panel line, a faulty stage line
 abbrev pub row_kinds : Bool → AnswerLine → List (ℕ × Bool)
 row_kinds behind (OfRow row) = []
 row_kinds behind (OfStage stage) = (15, not behind) ∷ []
@@ -131,8 +133,8 @@ stage_kinds Unknown = (16, true) ∷ []
 abbrev pub said_of : Pool → List ℕ → AnswerLine
 said_of pool line = answer_line (length pool.volunteers) (fields_of line)
 
--- the kinds of fault that a line may have, rising, each with whether it applies, given the progress before it. 13: another first line;
--- 17: a line after the last
+-- the kinds of fault that a line may have, in rising order, each with whether it applies, given the progress before it. 13: the first line
+-- isn't a bundle's; 17: a line after the last
 abbrev pub line_kinds : Progress → List ℕ → List (ℕ × Bool)
 line_kinds Begun line = (13, not (bytes_eq line (bundle_line false) || bytes_eq line (bundle_line true))) ∷ []
 line_kinds (InPool second progress) line = pool_kinds second progress line
@@ -175,7 +177,7 @@ after_line (InRows pool lottery) line = after_row pool lottery (said_of pool lin
 after_line (InStages pool answer) line = after_stage pool answer (said_of pool line)
 after_line (Done bundle) line = Done bundle
 
--- the kind of fault if the lines run out: 12 before the pool's end, else 17
+-- the kind of fault if the lines run out: 12 inside the pool's lines, else 17, also before the first line
 abbrev pub missing_kind : Progress → ℕ
 missing_kind Begun = 17
 missing_kind (InPool second pools.Begun) = 12
@@ -186,7 +188,7 @@ missing_kind (InRows pool lottery) = 17
 missing_kind (InStages pool answer) = 17
 missing_kind (Done bundle) = 17
 
--- the value or the fault of the whole text, given the bytes after the last LF. 17: bytes after the last line
+-- the bundle, or the fault at the end of the text, given the bytes after the last LF. 17 also if there are bytes after the line `done`
 abbrev pub at_last : ℕ → Progress → List ℕ → Result Bundle Fault
 at_last number (Done bundle) [] = Ok bundle
 at_last number progress bytes = Err (record { line = number; kind = missing_kind progress })

@@ -1,5 +1,5 @@
 -- The text of a bundle: each bundle has one spelling, whose version is that of its pool's text. Over PoolText and Ranges. `bundle_text`
--- writes it, and the text of a proof has it within.
+-- writes it, and the text of a proof contains it.
 use Rattle.std.specs.Prelude.{ℕ, Bool, List, [], ◌∷◌, ◌++◌, map, codes}
 use Rattle.std.specs.Fmt.{decimal, signed_decimal}
 use Rattle.define_pools.specs.Pool.{Pool, IsPool, has_households}
@@ -23,7 +23,7 @@ pub record IsBundle (bundle : Bundle) : Type 0 where
 abbrev pub bundle_line : Bool → List ℕ
 bundle_line second = line_of (codes "bundle" ∷ version second ∷ [])
 
--- the lines of a pool, with its end
+-- the lines of a pool, with its end line
 abbrev pub pool_lines : Pool → List (List ℕ)
 pool_lines pool = lines_before_end pool ++ end_line ∷ []
 
@@ -41,11 +41,11 @@ stage_line stage = line_of (codes "stage" ∷ signed_decimal stage.cap ∷ map s
 abbrev pub done_line : List ℕ
 done_line = codes "done"
 
--- the lines of an answer before its end
+-- the lines of an answer: the total, the panels, the stages; without the last line, `done`
 abbrev pub answer_lines : Answer → List (List ℕ)
 answer_lines answer = total_line answer.lottery.total ∷ (map panel_line answer.lottery.rows ++ map stage_line answer.stages)
 
--- the lines of a bundle before its end
+-- the lines of a bundle, without the last line, `done`
 abbrev pub lines_before_done : Pool → Answer → List (List ℕ)
 lines_before_done pool answer = bundle_line (has_households pool) ∷ (pool_lines pool ++ answer_lines answer)
 

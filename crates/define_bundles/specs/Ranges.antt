@@ -1,5 +1,5 @@
--- The ranges that the numbers of an answer must keep to have a text. `bundle_text` tests them, and the run and the checks keep sums within
--- 128 bits by them.
+-- The ranges that the numbers of an answer must keep to have a text. `bundle_text` tests them. They keep the sums of the run and of the
+-- checks within 128 bits.
 use Rattle.std.specs.Prelude.{ℕ, ◌+◌, ◌-◌, ◌^◌, ◌==◌, nat_lt, nat_le, Bool, ◌&&◌, IsTrue, List, length, sum_by, unsigned_abs}
 use Rattle.std.specs.List.{list_all}
 use Rattle.define_pools.specs.Lists.{is_increasing}
@@ -18,7 +18,7 @@ is_group volunteers panel = nat_lt 0 (length panel) && is_increasing panel && li
 abbrev pub is_row : ℕ → LotteryRow → Bool
 is_row volunteers row = is_weight row.weight && is_group volunteers row.panel
 
--- how far sums of a stage's weights and its cap can reach: the sum of the absolute values
+-- a stage's reach: the sum of the absolute values of its cap and weights, which no sum of them exceeds
 abbrev pub reach : Stage → ℕ
 reach stage = unsigned_abs stage.cap + sum_by unsigned_abs stage.weights
 

@@ -1,8 +1,8 @@
-//! A bundle is a pool with its answer: the ranges of the answer's numbers, the bundle's text, and the first fault of bytes that are no
-//! bundle's text. The definitions are in `specs/`. Stands on `define_pools`, `define_pool_texts` and `define_lines`. Above: `bundle_text`,
-//! which reads and writes bundles; `define_checks`, which checks them; the text of proofs; the commands.
+//! A bundle is a pool with its answer. Here are the ranges of the answer's numbers, the bundle's text, and the first fault of bytes that
+//! are no bundle's text. The definitions are in `specs/`. Stands on `define_pools`, `define_pool_texts` and `define_lines`. Above:
+//! `bundle_text`, which reads and writes bundles; `define_checks`, which checks them; the text of proofs; the commands.
 //!
-//! The functions have no body: their contracts are laws over the definitions, and worked examples.
+//! The functions have no body. They are the promises: laws over the definitions, and worked examples.
 #![tactic(auto)]
 
 ghost use Rattle.std.specs.Prelude.{◌≡◌, ◌≢◌, [], ◌∷◌, ◌++◌, ◌+◌, ◌-◌, ◌^◌, true, false, map, length, drop, take, codes, pos, negsuc, ℕ, List, Ok, Err, MatchResult};

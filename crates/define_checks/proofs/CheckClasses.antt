@@ -1,4 +1,4 @@
--- Those who are alike at a stage make classes, and the stages up to it weigh them alike.
+-- Volunteers who are alike at a stage make classes, and have equal weights in the stages up to it.
 use Rattle.std.proofs.Common.{◌≡◌, ℕ, ◌<◌, true, List, [], ◌∷◌, length, refl, sym, ◌∙◌}
 use Rattle.std.specs.List.{AllByRecursion}
 use Rattle.std.specs.Ordering.{int_eq}
@@ -37,7 +37,7 @@ equal_along : (stages : List Stage) (i j k : ℕ) → Equal stages i j → Equal
 equal_along [] i j k h g = tt
 equal_along (stage ∷ stages) i j k h g = (h.0 ∙ g.0, equal_along stages i j k h.1 g.1)
 
--- if `P i j` implies that `i` and `j` have equal weights in all stages, it implies so in each stage
+-- If `P i j` implies that `i` and `j` have equal weights in all stages, it implies it for each stage alone.
 each_turned : (n : ℕ) (P : ℕ → ℕ → Type 0) (stages : List Stage) → ((i j : ℕ) → P i j → Equal stages i j) →
     AllByRecursion (λ stage. (i j : ℕ) → i < n → j < n → P i j → weight_of stage i ≡ weight_of stage j) stages
 each_turned n P [] f = tt

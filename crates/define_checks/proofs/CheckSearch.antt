@@ -14,7 +14,7 @@ use Rattle.define_searches.proofs.FirstSearch.{Gives, InOrder, Split, all_counts
 use Rattle.define_checks.specs.Caps.{first_above}
 use Rattle.define_checks.specs.Visits.{above_search, enter_above}
 
--- the first of the elements that pass is the one that `find` finds
+-- The first of the elements that satisfy `p` is the one that `find` finds.
 find_first : {X : Type 0} (p : X → Bool) (xs : List X) → slice_get (filter p xs) 0 ≡ find p xs
 find_first p [] = refl
 find_first p (x ∷ xs) =
@@ -31,7 +31,7 @@ module _ (all : Classes) (closed : List Row) (row : Row) (entries : HaveEntries 
   abbrev live : List ℕ → Bool
   live = is_live_above all closed row row.b
 
-  -- the compositions that begin with a front, and qualify
+  -- the compositions that begin with a front and qualify
   abbrev sought : List ℕ → List Class → List (List ℕ)
   sought front later = filter qualifies (completions all front later)
 

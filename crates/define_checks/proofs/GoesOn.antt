@@ -1,5 +1,5 @@
--- A check goes on from stage to stage. Each reason has the number of its stage, so that reasons of earlier stages come before a later
--- search.
+-- A check goes from stage to stage. Each reason has the number of its stage, so reasons of earlier stages come before the search at a later
+-- one.
 use Rattle.std.proofs.Common.{◌≡◌, ℕ, suc, ◌+◌, ◌≤◌, ◌<◌, Bool, true, false, cond, not, ◌&&◌, ◌||◌, eqb, ltb, List, [], ◌∷◌, ◌++◌, length, pos, Option, Some, None, Ok, Err, refl, ap, ◌∙◌, arith, le_of_eq}
 use Rattle.std.specs.Prelude.{int_lt, sum_by}
 use Rattle.std.specs.List.{AllByRecursion, find}
@@ -27,7 +27,7 @@ first_joined (Some refusal ∷ xs) ys = refl
 
 -- ---- numbers of stages and reasons
 
--- `P` holds of the reason, if it applies
+-- if the reason applies, `P` holds of it
 abbrev IfStands : (Refusal → Type 0) → Option Refusal → Type 0
 IfStands P None = Unit {0}
 IfStands P (Some refusal) = P refusal
@@ -45,12 +45,12 @@ numbered : (P : Refusal → Type 0) (stage number : ℕ) (who : Option (List ℕ
 numbered P stage number None f = tt
 numbered P stage number (Some who) f = f who
 
--- a reason at a stage that is tried before the search
+-- the reason is one of stage `stage` that is tried before the search there
 record Ahead (stage : ℕ) (refusal : Refusal) : Type 0 where
   here : refusal.stage ≡ stage
   early : refusal.reason < 8
 
--- a reason that isn't tried before the search at a stage
+-- the reason is not one that is tried before the search at stage `stage`
 record Behind (stage : ℕ) (refusal : Refusal) : Type 0 where
   not_before : stage ≤ refusal.stage
   late : refusal.stage ≡ stage → 8 ≤ refusal.reason
@@ -73,7 +73,7 @@ module _ (pool : Pool) (lottery : Lottery) where
       let lower = numbered (Ahead n) n 7 (one (find (λ i. ltb (count lottery i) T) (unsettled pool earlier))) (λ who. record { here = refl; early = omega arith }) in
       (negative, (positive, (other, (lower, tt))))
 
-  -- a reason of the cap has the number of its stage, and isn't tried before the search
+  -- a reason of the cap is one of its stage, and isn't tried before the search
   record AtCap (stage : ℕ) (refusal : Refusal) : Type 0 where
     here : refusal.stage ≡ stage
     late : 8 ≤ refusal.reason
@@ -92,7 +92,7 @@ module _ (pool : Pool) (lottery : Lottery) where
       by None h = tt
       by (Some refusal) h = f refusal h
 
-  -- the reasons of later stages and of the end aren't tried before the search at the last of the earlier ones
+  -- the reasons of the stages `later` and of the end aren't tried before the search at the last of the stages `earlier`
   all_behind : (earlier later : List Stage) → AllByRecursion (IfStands (Behind (length earlier))) (reasons_from pool lottery earlier later)
   all_behind earlier [] =
       (numbered (Behind (length earlier)) (length earlier) 10 (one (find (λ i. not (is_settled earlier i)) (everybody pool))) (λ who. record { not_before = le_of_eq refl; late = λ e. omega arith }), tt)
@@ -122,8 +122,8 @@ spent_after pool nodes earlier (stage ∷ later) =
     less None h = tt
     less (Some s) h = omega arith
 
--- a refusal is the answer if its stage is before the one at which the visits are spent; so it is, below, if it is tried there before the
--- search
+-- If a refusal's stage comes before the stage at which the visits are spent, or the visits are spent at no stage, the refusal is the
+-- answer.
 earlier_comes : (spent : Option ℕ) (refusal : Refusal) → SpentAfter refusal.stage spent → unless_spent spent (Refused refusal) ≡ Ok (Refused refusal)
 earlier_comes None refusal h = refl
 earlier_comes (Some s) refusal h =

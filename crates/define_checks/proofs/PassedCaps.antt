@@ -34,7 +34,7 @@ module _ (pool : Pool) (alike : ℕ → ℕ → Bool) (makes : MakesClasses pool
   abbrev firsts : List ℕ
   firsts = leaders alike (length pool.volunteers)
 
-  -- a panel weighs in a stage what its composition weighs in the stage's row
+  -- A panel's weight in a stage is the weight of its composition in the stage's row.
   weight_is : (stage : Stage) → ((i j : ℕ) → i < length pool.volunteers → j < length pool.volunteers → alike i j ≡ true → weight_of stage i ≡ weight_of stage j) →
       weight_in (row_of alike pool stage).a counts ≡ panel_weight stage panel
   weight_is stage respects =

@@ -104,7 +104,7 @@ lottery_stands pool lottery is =
 
 -- ---- a stage
 
--- if all volunteers of a list have one count, it is that of the first
+-- If all volunteers of a list that isn't empty have the count `T`, so has the first.
 first_shares : (lottery : Lottery) (T : ℕ) (xs : List ℕ) → ltb 0 (length xs) ≡ true → list_all (λ i. eqb (count lottery i) T) xs ≡ true → first_count lottery xs ≡ T
 first_shares lottery T [] some h = absurd (false≢true some)
 first_shares lottery T (i ∷ rest) some h = eqb-true (count lottery i) T (and_parts (eqb (count lottery i) T) (list_all (λ i. eqb (count lottery i) T) rest) h).0

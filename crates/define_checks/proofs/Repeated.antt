@@ -8,14 +8,14 @@ use Rattle.laws_basic.proofs.Each.{each_both, each_everywhere, each_map}
 use Rattle.define_pools.specs.Lists.{all_different, includes_list}
 use Rattle.define_checks.specs.Reasons.{first_repeated}
 
--- none of the lists is among earlier ones
+-- none of the lists `xss` is among the lists `earlier`
 abbrev New : List (List ℕ) → List (List ℕ) → Type 0
 New earlier xss = AllByRecursion (λ xs. includes_list earlier xs ≡ false) xss
 
 turned : (xs ys : List ℕ) → bytes_eq xs ys ≡ false → bytes_eq ys xs ≡ false
 turned xs ys e = false_from_ne_true (bytes_eq ys xs) (λ t. false≢true (sym e ∙ (bytes_eq-Decides xs ys).1 (sym ((bytes_eq-Decides ys xs).0 t))))
 
--- a list isn't among later ones exactly if none of them equals it
+-- If no list in `later` equals `xs`, `xs` isn't among them.
 not_among : (xs : List ℕ) (later : List (List ℕ)) → AllByRecursion (λ ys. bytes_eq ys xs ≡ false) later → includes_list later xs ≡ false
 not_among xs [] h = refl
 not_among xs (ys ∷ later) h = or_from (bytes_eq xs ys) (includes_list later xs) (turned ys xs h.0) (not_among xs later h.1)

@@ -27,7 +27,7 @@ rows_have_entries pool stages rows =
 
 -- ---- reach
 
--- a sum over a list, as a sum over its places
+-- If `f` has at each place the value of `g` there, the sum of `f` over the places equals the sum of `g` over the list.
 total_places : {X : Type 0} (g : X → ℕ) (d : X) (f : ℕ → ℕ) (first : ℕ) (xs : List X) → ((i : ℕ) → i < length xs → f (first + i) ≡ g (get_or xs i d)) → total f (range_with_len first (length xs)) ≡ total g xs
 total_places g d f first [] e = refl
 total_places g d f first (x ∷ xs) e =
@@ -41,7 +41,7 @@ module _ (pool : Pool) (alike : ℕ → ℕ → Bool) (makes : MakesClasses pool
   abbrev n : ℕ
   n = length pool.volunteers
 
-  -- a weight without its sign
+  -- the absolute value of a weight
   abbrev size_of : ℕ → ℕ
   size_of i = unsigned_abs (weight_of stage i)
 

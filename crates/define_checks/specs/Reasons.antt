@@ -17,21 +17,21 @@ pub record Refusal : Type 0 where
   pub reason : ℕ
   pub who : List ℕ
 
--- what a check says of a certificate
+-- the outcome of a check of a certificate
 pub data Verdict : Type 0 where
   Valid : Verdict
   Refused : (refusal : Refusal) → Verdict
 
--- the reason of this number at this stage, if it holds: `who` are those who show it, or None if it doesn't hold
+-- reason `number` at stage `stage`: it holds if there is a list `who`, of those who show it
 abbrev pub reason : ℕ → ℕ → Option (List ℕ) → Option Refusal
 reason stage number None = None
 reason stage number (Some who) = Some (record { stage = stage; reason = number; who = who })
 
--- a volunteer, if there is one, as those who show a reason
+-- if there is a volunteer, the list with the volunteer alone, as those who show a reason
 abbrev pub one : Option ℕ → Option (List ℕ)
 one volunteer = option_map (λ i. i ∷ []) volunteer
 
--- the reason holds if the test fails, and nobody shows it
+-- the empty list if the test fails: a reason that holds then, and that nobody shows
 abbrev pub nobody_unless : Bool → Option (List ℕ)
 nobody_unless holds = if holds then None else Some []
 
@@ -39,17 +39,17 @@ nobody_unless holds = if holds then None else Some []
 abbrev pub listed : Lottery → List (List ℕ)
 listed lottery = map (λ row. row.panel) lottery.rows
 
--- the first list that equals an earlier one, given those that came before
+-- the first list that equals an earlier one; `earlier` are lists that came before all of them
 abbrev pub first_repeated : List (List ℕ) → List (List ℕ) → Option (List ℕ)
 first_repeated earlier [] = None
 first_repeated earlier (xs ∷ later) = if includes_list earlier xs then Some xs else first_repeated (xs ∷ earlier) later
 
--- the count of the first of some volunteers, 0 if there are none
+-- the count of the first volunteer in a list, or 0 if there is none
 abbrev pub first_count : Lottery → List ℕ → ℕ
 first_count lottery [] = 0
 first_count lottery (i ∷ rest) = count lottery i
 
--- the count that all whom a stage settles must have: that of the first of them
+-- the count that all whom a stage settles must have: that of the first one
 abbrev pub shared_count : Pool → Lottery → List Stage → Stage → ℕ
 shared_count pool lottery earlier stage = first_count lottery (settling pool earlier stage)
 
@@ -71,9 +71,9 @@ reasons_before_cap pool lottery earlier stage =
     reason number 4 (one (find (λ i. int_lt (weight_of stage i) (pos 0)) (unsettled pool earlier))) ∷
     -- 5: nobody who is unsettled has a weight above 0
     reason number 5 (nobody_unless (nat_lt 0 (length (settling pool earlier stage)))) ∷
-    -- 6: somebody whom the stage settles has another count than the first of them
+    -- 6: somebody whom the stage settles has another count than the first whom it settles
     reason number 6 (one (find (λ i. not (count lottery i == shared_count pool lottery earlier stage)) (settling pool earlier stage))) ∷
-    -- 7: somebody who is unsettled has a lower count
+    -- 7: somebody who is unsettled has a lower count than the first whom the stage settles
     reason number 7 (one (find (λ i. nat_lt (count lottery i) (shared_count pool lottery earlier stage)) (unsettled pool earlier))) ∷ []
 
 -- the reasons of a stage's cap
@@ -89,7 +89,7 @@ cap_reasons pool lottery earlier stage =
 abbrev pub stage_reasons : Pool → Lottery → List Stage → Stage → List (Option Refusal)
 stage_reasons pool lottery earlier stage = reasons_before_cap pool lottery earlier stage ++ cap_reasons pool lottery earlier stage
 
--- the reasons of these stages after earlier ones, and of the end
+-- all reasons of the stages `later` after the stages `earlier`, and that of the end
 abbrev pub reasons_from : Pool → Lottery → List Stage → List Stage → List (Option Refusal)
 reasons_from pool lottery earlier [] =
     -- 10: somebody is unsettled after the last stage
@@ -101,7 +101,7 @@ reasons_from pool lottery earlier (stage ∷ later) =
 abbrev pub reasons : Pool → Answer → List (Option Refusal)
 reasons pool answer = lottery_reasons pool answer.lottery ++ reasons_from pool answer.lottery [] answer.stages
 
--- the first reason that holds
+-- the verdict of a list of reasons: refused for the first that holds, or valid if none does
 abbrev pub first_reason : List (Option Refusal) → Verdict
 first_reason [] = Valid
 first_reason (None ∷ later) = first_reason later

@@ -1,4 +1,4 @@
--- How a check goes on from stage to stage, said as laws. Over Reasons and Visits. `cert_check` goes so.
+-- The order in which a check goes from stage to stage, as laws. Over Reasons and Visits. `cert_check` goes so.
 use Rattle.std.specs.Prelude.{◌≡◌, ℕ, ◌+◌, nat_lt, if◌then◌else◌, List, [], ◌∷◌, length, Result, Ok, Err}
 use Rattle.define_pools.specs.Certificate.{Answer, Stage}
 use Rattle.define_pools.specs.Lottery.{Lottery}
@@ -6,11 +6,11 @@ use Rattle.define_pools.specs.Pool.{Pool}
 use Rattle.define_checks.specs.Reasons.{Refused, Valid, Verdict, cap_reasons, first_reason, lottery_reasons, reasons_before_cap, reasons_from}
 use Rattle.define_checks.specs.Visits.{check_answer, first_spent, stage_search, unless_spent}
 
--- what a check answers of these stages after earlier ones
+-- the answer of a check that has passed the stages `earlier`, with the stages `later` to come
 abbrev pub answer_from : Pool → Lottery → ℕ → List Stage → List Stage → Result Verdict ℕ
 answer_from pool lottery nodes earlier later = unless_spent (first_spent pool nodes earlier later) (first_reason (reasons_from pool lottery earlier later))
 
--- the refusal, or what comes next if nothing is refused
+-- the verdict if it is a refusal, else `next`
 abbrev pub or_next : Verdict → Result Verdict ℕ → Result Verdict ℕ
 or_next Valid next = next
 or_next (Refused refusal) next = Ok (Refused refusal)
@@ -20,7 +20,7 @@ abbrev pub BeginsWithLottery : Type 0
 BeginsWithLottery = (pool : Pool) (answer : Answer) (nodes : ℕ) →
     check_answer pool answer nodes ≡ or_next (first_reason (lottery_reasons pool answer.lottery)) (answer_from pool answer.lottery nodes [] answer.stages)
 
--- at a stage it tries the reasons before the cap, searches, tries those of the cap, and goes on to the later stages
+-- at a stage a check tries the reasons before the cap, searches, tries the reasons of the cap, and goes on to the later stages
 abbrev pub GoesOnByStages : Type 0
 GoesOnByStages = (pool : Pool) (lottery : Lottery) (nodes : ℕ) (earlier later : List Stage) (stage : Stage) →
     answer_from pool lottery nodes earlier (stage ∷ later) ≡

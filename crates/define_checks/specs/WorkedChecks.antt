@@ -1,4 +1,4 @@
--- Small certificates on which the definitions compute: those that are refused, each for one reason alone.
+-- Small certificates on which the definitions are computed. Most of them are refused, nearly all for one reason alone.
 use Rattle.std.specs.Prelude.{ℕ, List, [], ◌∷◌, filter, map, pos, negsuc, Option, Some, is_some}
 use Rattle.define_pools.specs.declared.Standing.TheVariants.{Gone}
 use Rattle.define_pools.specs.Building.{standing_set}
@@ -27,7 +27,7 @@ refused stage reason who = Refused (refusal stage reason who)
 abbrev pub reasons_that_stand : Pool → Answer → List (Option Refusal)
 reasons_that_stand pool answer = filter is_some (reasons pool answer)
 
--- a reason, as the only one that holds
+-- the list with one reason, as the only one that holds
 abbrev pub alone : ℕ → ℕ → List ℕ → List (Option Refusal)
 alone stage reason who = Some (refusal stage reason who) ∷ []
 
@@ -37,11 +37,11 @@ alone stage reason who = Some (refusal stage reason who) ∷ []
 abbrev pub all_at_once : List Stage
 all_at_once = stage (pos 2) (pos 1 ∷ pos 1 ∷ pos 1 ∷ pos 1 ∷ []) ∷ []
 
--- two women, or two men
+-- panels of two women, and of two men
 abbrev pub two_women : Answer
 two_women = answer (drawn 2 (row (0 ∷ 1 ∷ []) 1 ∷ row (2 ∷ 3 ∷ []) 1 ∷ [])) all_at_once
 
--- both panels twice
+-- two panels, each listed twice
 abbrev pub twice : Answer
 twice = answer (drawn 4 (row (0 ∷ 2 ∷ []) 1 ∷ row (1 ∷ 3 ∷ []) 1 ∷ row (1 ∷ 3 ∷ []) 1 ∷ row (0 ∷ 2 ∷ []) 1 ∷ [])) four_stages
 
@@ -65,11 +65,11 @@ uneven = answer (drawn 3 (row (0 ∷ 2 ∷ []) 1 ∷ row (1 ∷ 3 ∷ []) 2 ∷ 
 abbrev pub low_cap : Answer
 low_cap = answer four_lottery (stage (pos 1) (pos 1 ∷ pos 0 ∷ pos 0 ∷ pos 1 ∷ []) ∷ stage (pos 0) (negsuc 0 ∷ pos 1 ∷ pos 1 ∷ negsuc 0 ∷ []) ∷ [])
 
--- the same, and in the second stage b has a weight below 0 while unsettled
+-- as `low_cap`, and in the second stage b has a weight below 0 while unsettled
 abbrev pub low_cap_and_negative : Answer
 low_cap_and_negative = answer four_lottery (stage (pos 1) (pos 1 ∷ pos 0 ∷ pos 0 ∷ pos 1 ∷ []) ∷ stage (pos 0) (negsuc 0 ∷ negsuc 0 ∷ pos 1 ∷ pos 1 ∷ []) ∷ [])
 
--- b with d weighs 0, less than the first cap
+-- the panel of b and d weighs 0, less than the first cap
 abbrev pub high_cap : Answer
 high_cap = answer four_lottery (stage (pos 2) (pos 1 ∷ pos 0 ∷ pos 1 ∷ pos 0 ∷ []) ∷ all_at_once)
 
@@ -77,7 +77,7 @@ high_cap = answer four_lottery (stage (pos 2) (pos 1 ∷ pos 0 ∷ pos 1 ∷ pos
 abbrev pub one_stage : Answer
 one_stage = answer four_lottery (stage (pos 1) (pos 1 ∷ pos 1 ∷ pos 0 ∷ pos 0 ∷ []) ∷ [])
 
--- ---- where b is gone
+-- ---- the same pool, after b is gone
 
 abbrev pub without_b : Pool
 without_b = standing_set four 1 Gone
@@ -95,12 +95,12 @@ either_lottery = drawn 2 (row (0 ∷ []) 1 ∷ row (1 ∷ []) 1 ∷ [])
 abbrev pub either_stages : List Stage
 either_stages = stage (pos 1) (pos 1 ∷ pos 1 ∷ []) ∷ []
 
--- ---- where a and c are of one household
+-- ---- a pool in which a and c are of one household
 
--- a and c weigh 2 together, and so do b and d in the second stage
+-- in the first stage a and c weigh 2 together, in the second stage b and d do
 abbrev pub household_stages : List Stage
 household_stages = stage (pos 1) (pos 1 ∷ pos 0 ∷ pos 1 ∷ pos 0 ∷ []) ∷ stage (pos 1) (pos 0 ∷ pos 1 ∷ pos 0 ∷ pos 1 ∷ []) ∷ []
 
--- the members of each class of a check at the latest of these stages, which is the first in the list
+-- the members of each class of a check at the first stage of the list, which is the latest
 abbrev pub members_at : Pool → List Stage → List (List ℕ)
 members_at pool stages = map (λ class. class.members) (classes_at pool stages).classes

@@ -1,9 +1,10 @@
-//! A check of a certificate: the reasons for which it is refused, in their order, the verdict, and the visits of the check's searches.
-//! The definitions are in `specs/`. Stands on `define_pools`, `define_searches` and the ranges of `define_bundles`. Above:
-//! `check_reasons`, `check_search` and `cert_check`, which check; `define_additions`, whose proofs need no search; the commands
-//! `check` and `verify`.
+//! A check of a certificate: the reasons for which it is refused, in their order, the verdict, and the visits of the check's searches. The
+//! definitions are in `specs/`. Stands on `define_pools`, `define_searches` and the ranges of `define_bundles`. Used by `check_reasons`,
+//! `check_search` and `cert_check`, which check; by `define_additions`, whose proofs need no search; by the commands `check` and `verify`,
+//! and by the office.
 //!
-//! The functions have no body: their contracts are laws over the definitions, and worked examples.
+//! The functions have no body: their contracts are laws over the definitions, which are promises, and worked examples. The law that matters
+//! most is `valid_where_certified`.
 #![tactic(auto)]
 
 ghost use Rattle.std.specs.Prelude.{map, ◌≡◌, ◌↔◌, [], ◌∷◌, ℕ, pos, List, length, IsTrue, IsFalse, MatchResult, None, Some, Ok, Err, int_lt};
@@ -24,7 +25,7 @@ ghost use Rattle.define_checks.specs.Steps.{BeginsWithLottery, GoesOnByStages};
 ghost use Rattle.define_checks.specs.Visits.{above_search, check_answer, first_spent, is_ahead, stage_search};
 ghost use Rattle.define_checks.specs.WorkedChecks.{all_zero, alone, answer, below_zero, either_lottery, either_stages, high_cap, household_stages, low_cap, low_cap_and_negative, members_at, one_stage, refusal, refused, reasons_that_stand, three_in_all, too_early, twice, two_women, uneven, without_b};
 
-/// Volunteers who are alike at a stage make classes, and that stage and the ones before it weigh them alike.
+/// Volunteers who are alike at a stage make classes, and have equal weights in that stage and those before it.
 pub fn alike_at_make_classes()
     ensures makes { (pool : Pool) (stages : List Stage) → MakesClasses pool (alike_at pool stages) }
     ensures weigh { (pool : Pool) (stages : List Stage) → WeighAlike (alike_at pool stages) (length pool.volunteers) stages }
@@ -61,7 +62,7 @@ pub fn refused_is_not_certified()
     ensures { (pool : Pool) (answer : Answer) (refusal : Refusal) → verdict pool answer ≡ Refused refusal → ¬ Certifies pool answer.lottery answer.stages }
 {}
 
-/// The search over classes finds the first composition that attains the closed rows and weighs more in a row than its right side.
+/// The search over classes finds the first composition that attains the closed rows and weighs more in the row than its right side.
 pub fn above_search_is_first()
     ensures { (all : Classes) (closed : List Row) (row : Row) → IsSearchable all → HaveEntries all (row ∷ closed) →
         (above_search all closed row).found ≡ first_above all closed row }
@@ -86,14 +87,14 @@ pub fn certified_is_not_refused()
         MatchResult (check_answer pool answer nodes) (λ said. said ≡ Valid) (λ stage. first_spent pool nodes [] answer.stages ≡ Some stage) }
 {}
 
-/// A check tries the reasons in their order: those of the lottery, then stage by stage those before the cap, the search, and those of
-/// the cap.
+/// A check tries the reasons in their order: those of the lottery; then, for each stage, those before the cap and, after the search, those
+/// of the cap.
 pub fn check_goes_by_stages()
     ensures begins { BeginsWithLottery }
     ensures goes_on { GoesOnByStages }
 {}
 
-/// Certificates that hold: of two women and two men, of these after a dropout, and of these where two are of one household.
+/// Certificates that hold: of two women and two men; of the same pool after a dropout; and of the same pool if two are of one household.
 pub fn valid_certificates()
     ensures four { verdict four (answer four_lottery four_stages) ≡ Valid }
     ensures after_dropout { verdict after_dropout (answer dropout_lottery dropout_stages) ≡ Valid }
@@ -131,15 +132,15 @@ pub fn ends_refused()
     ensures left { reasons_that_stand four one_stage ≡ alone 1 10 (2 ∷ []) }
 {}
 
-/// The verdict is the first reason: a weight below 0 in the second stage, which then leaves somebody unsettled, comes after the cap of
-/// the first.
+/// The verdict is the first reason. A weight below 0 in the second stage, which then leaves somebody unsettled, comes after the first
+/// stage's cap.
 pub fn first_reasons()
     ensures cap_first { verdict four low_cap_and_negative ≡ refused 1 8 (0 ∷ 3 ∷ []) }
     ensures three { reasons_that_stand four low_cap_and_negative ≡ Some (refusal 1 8 (0 ∷ 3 ∷ [])) ∷ Some (refusal 2 4 (1 ∷ [])) ∷ alone 2 10 (1 ∷ []) }
 {}
 
-/// Checks with small budgets of visits at each stage. The empty front counts one visit, and a reason that is tried before the search
-/// comes even with a budget of none.
+/// Checks with small budgets of visits at each stage. The empty front counts one visit. A reason that is tried before the search is the
+/// verdict even with a budget of 0 visits.
 pub fn visits_spent()
     ensures one_visit { check_answer either (answer either_lottery either_stages) 1 ≡ Ok Valid }
     ensures no_visit { check_answer either (answer either_lottery either_stages) 0 ≡ Err 1 }
@@ -162,8 +163,8 @@ pub fn classes_of_checks()
     ensures by_household { members_at family (stage (pos 1) (pos 1 ∷ pos 1 ∷ pos 1 ∷ pos 1 ∷ []) ∷ []) ≡ (0 ∷ []) ∷ (1 ∷ []) ∷ (2 ∷ []) ∷ (3 ∷ []) ∷ [] }
 {}
 
-/// If a and c are of one household, no panel has both, so the first cap holds; else a with c passes it. The second stage speaks only of
-/// panels that attain the first cap, which b with d does not.
+/// If a and c are of one household, no panel has both, and the first cap holds. If they aren't, the panel of a and c passes it. The second
+/// stage is only about panels that attain the first cap; the panel of b and d doesn't.
 pub fn households_checked()
     ensures one_household { verdict family (answer family_lottery household_stages) ≡ Valid }
     ensures no_household { verdict four (answer family_lottery household_stages) ≡ refused 1 8 (0 ∷ 2 ∷ []) }

@@ -33,7 +33,7 @@ named_but-below total digits None named some e =
     named_at-below total digits (first_accepted total digits) named some
     (λ place found. find-passes (λ place. is_accepted total (group_at (group_size total) digits place)) (range_with_len 0 (length digits / group_size total)) place found) e
 
--- if digits name a ticket, it is below the total
+-- if digits name a ticket and the total is at least 1, the ticket is below the total
 pub named-below : (total : ℕ) (digits : List ℕ) (named : Named) → 1 ≤ total → name_ticket total digits ≡ Ok named → unsigned_abs named.ticket < total
 named-below total digits named some e = named_but-below total digits (position (λ byte. not (is_ascii_digit byte)) digits) named some e
 

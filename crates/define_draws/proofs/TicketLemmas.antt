@@ -6,12 +6,12 @@ use Rattle.std.proofs.lemmas.List.Sums.{sum_by-cons, sum_by_more, sum_by_more_le
 use Rattle.define_pools.specs.Lottery.{LotteryRow}
 use Rattle.define_draws.specs.Tickets.{HoldsTicket, first_ticket, row_of}
 
--- the sum of a list is its first number and the sum of the rest
+-- the sum of a list is its first number plus the sum of the rest
 pub sum-cons : (x : ℕ) (xs : List ℕ) → sum (x ∷ xs) ≡ x + sum xs
 sum-cons x xs = sum_by-cons (λ n. n) x xs
 
--- if a row of the list without the first weight has `ticket - weight` in its range, the same row has `ticket` in its range in the whole
--- list
+-- if `ticket` is at least `weight`, and the range of row `row` of `weights` has `ticket - weight`, then the range of row `row + 1` of
+-- `weight ∷ weights` has `ticket`
 pub holds_behind : (weight : ℕ) (weights : List ℕ) (row ticket : ℕ) → weight ≤ ticket → HoldsTicket weights row (ticket - weight) → HoldsTicket (weight ∷ weights) (suc row) ticket
 holds_behind weight weights row ticket l h =
     let e = sum-cons weight (take row weights) in
@@ -49,6 +49,6 @@ weight_at [] j row l e = absurd (omega arith)
 weight_at (first ∷ rows) zero row l e = ap (λ (r : LotteryRow). r.weight) (sym e)
 weight_at (first ∷ rows) (suc j) row l e = weight_at rows j row (omega arith) e
 
--- the sum of the first `j + 1` weights is that of the first `j`, and the next weight
+-- the sum of the first `j + 1` weights is the sum of the first `j` plus the next weight
 pub sum_pushed : (weights : List ℕ) (j weight : ℕ) → j < length weights → get_or weights j 0 ≡ weight → sum (take (j + 1) weights) ≡ sum (take j weights) + weight
 sum_pushed weights j weight l e = sum_by_more (λ n. n) weights j 0 l ∙ ap (λ w. sum (take j weights) + w) e

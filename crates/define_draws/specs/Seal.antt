@@ -7,6 +7,6 @@ use Rattle.sha2.specs.Sha256.{sha256}
 abbrev pub seal_of : List ℕ → List ℕ
 seal_of bytes = encode_lower (sha256 bytes)
 
--- the seal that was given, with its capitals made small, is the one that is kept
+-- true if the seal that was given, with its capitals made small, is the one that is kept
 abbrev pub is_seal : List ℕ → List ℕ → Bool
 is_seal kept given = bytes_eq (map to_ascii_lowercase given) kept

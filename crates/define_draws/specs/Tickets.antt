@@ -16,7 +16,7 @@ pub record HoldsTicket (weights : List ℕ) (row ticket : ℕ) : Type 0 where
   pub first : first_ticket weights row ≤ ticket
   pub below : ticket < first_ticket weights row + slice_index weights row
 
--- the row whose range has a ticket
+-- the row whose range has `ticket`; the count of rows if no range has it
 abbrev pub row_of : List ℕ → ℕ → ℕ
 row_of [] ticket = 0
 row_of (weight ∷ weights) ticket = if nat_lt ticket weight then 0 else suc (row_of weights (ticket - weight))

@@ -1,6 +1,7 @@
-//! A public draw: the tickets of a lottery's rows, which ticket the digits of dice name, seals, and what is drawn. The definitions are
-//! in `specs/`. Stands on `define_pools` and on SHA-256 as the kit's sha2 defines it. Above: `tickets`, which reads dice and finds
-//! rows; `sealed_draw`, which draws; `define_made_pools`, whose summary has a seal; the commands `draw` and `seal`.
+//! A public draw: the tickets of a lottery's rows, which ticket the digits of dice name, seals, and what is drawn. The definitions are in
+//! `specs/`. Stands on `define_pools` and on SHA-256 as the kit's sha2 defines it. Above: `tickets`, which reads dice and finds rows;
+//! `sealed_draw`, which draws; `define_made_pools`, whose summary has a seal; `define_offices`, whose rounds are sealed and drawn so; the
+//! commands `draw` and `seal`.
 //!
 //! The functions have no body: their contracts are laws over the definitions, and worked examples. The promise that matters most is
 //! `dice_are_fair`.
@@ -78,8 +79,8 @@ pub fn dice_are_fair()
         length (filter (names_row weights row) (range_with_len 0 (10 ^ group_size (sum weights)))) ≡ groups_per_ticket (sum weights) * slice_index weights row }
 {}
 
-/// From a lottery whose weights sum to its total, the panel of the row whose range has the ticket is drawn, and only if the seal that
-/// was given is the one that is kept.
+/// If a lottery's total is at least 1 and its weights sum to it, a draw returns the panel of the row whose range has the ticket. It returns
+/// a panel only if the seal that was given, with its capitals made small, is the one that is kept.
 pub fn draws_the_row_of_the_ticket()
     ensures row { (lottery : Lottery) (kept given digits : List ℕ) (drawn : Drawn) → TotalAgrees lottery → 1 ≤ lottery.total → draw lottery kept given digits ≡ Ok drawn →
         (row : ℕ) × (HoldsTicket (weights_of lottery) row drawn.ticket × (drawn.panel ≡ panel_at lottery row)) }

@@ -16,7 +16,7 @@ pub record IsField (field : List ℕ) : Type 0 where
   pub no_feed : Lacks line_feed field
   pub utf8 : is_utf8 field ≡ true
 
--- a byte below 128 that is no TAB and no LF
+-- the byte is below 128, and neither TAB nor LF
 abbrev pub is_plain : ℕ → Bool
 is_plain byte = not (eqb byte 9) && not (eqb byte 10) && ltb byte 128
 
@@ -39,7 +39,7 @@ is_ascii [] h i = lit< tt
 is_ascii (b ∷ bytes) h zero = (plain_parts b (and_parts (is_plain b) (list_all is_plain bytes) h).0).2
 is_ascii (b ∷ bytes) h (suc i) = is_ascii bytes (and_parts (is_plain b) (list_all is_plain bytes) h).1 i
 
--- plain bytes are a field
+-- plain bytes make a field
 pub plain_field : (bytes : List ℕ) → list_all is_plain bytes ≡ true → IsField bytes
 plain_field bytes h = record {
   no_tab = All-from_recursion (λ b. eqb b 9 ≡ false) bytes (lacks_tab bytes h);
@@ -60,11 +60,11 @@ digits_plain n h = decimal_by_steps_wide (λ m digits. list_all is_plain digits 
     and_from (list_all is_plain digits) (is_plain (48 + m % 10) && true) k (and_from (is_plain (48 + m % 10)) true (digit_plain (m % 10) (omega arith)) refl))
     n h
 
--- a number is a field
+-- the digits of a number below 10 ^ 64 are a field
 pub decimal_field : (n : ℕ) → n < 10 ^ 64 → IsField (decimal n)
 decimal_field n h = plain_field (decimal n) (digits_plain n h)
 
--- a line of fields has no LF
+-- if all fields are free of LF, so is their line
 pub line_lacks_feed : (fields : List (List ℕ)) → AllByRecursion IsField fields → Lacks line_feed (line_of fields)
 line_lacks_feed [] h = All-from_recursion (λ b. eqb b 10 ≡ false) [] tt
 line_lacks_feed (field ∷ []) h = h.0.no_feed

@@ -1,4 +1,4 @@
--- Laws on reading line by line: of one line, of lines without a fault, and that a text is the spelling of the value that is read from it.
+-- Reading line by line: one line, lines without a fault, and that bytes read as a value are the value's spelling.
 use Rattle.std.proofs.Common.{◌≡◌, ℕ, ◌+◌, List, [], ◌∷◌, ◌++◌, Some, None, Result, Ok, Err, refl, sym, ap, ◌∙◌, subst, append_assoc}
 use Rattle.std.specs.List.{AllByRecursion, join_with_byte}
 use Rattle.std.proofs.lemmas.Grind.{flat_map-append}
@@ -11,7 +11,7 @@ use Rattle.define_lines.proofs.LineLemmas.{Lacks, pieces_of-text_of, some_piece}
 module _ {P X : Type 0} (reader : Reader P X) where
   -- ---- one line
 
-  -- the first line is tested, and if it has no fault, the rest is read from the next progress
+  -- reading tests the first line; if it has no fault, it reads the rest from the progress after this line
   pub one_line : (number : ℕ) (progress : P) (line rest : List ℕ) → read_lines reader number progress (line ∷ pieces_of rest)
       ≡ fault_or (reader.line_kind progress line) number (read_lines reader (number + 1) (reader.after_line progress line) (pieces_of rest))
   one_line number progress line rest =
@@ -23,11 +23,11 @@ module _ {P X : Type 0} (reader : Reader P X) where
     from_line : fault_or (reader.line_kind progress line) number (read_lines reader (number + 1) (reader.after_line progress line) (pieces_of later)) ≡ wanted
     from_line = sym (one_line number progress line later) ∙ ap (read_lines reader number progress) (sym parted) ∙ same
 
-    -- if the line has a fault, the answer is this fault
+    -- if the line has a fault, the result is this fault
     pub stops_at : (kind : ℕ) → reader.line_kind progress line ≡ Some kind → wanted ≡ Err (record { line = number; kind = kind })
     stops_at kind h = sym from_line ∙ ap (λ k. fault_or k number (read_lines reader (number + 1) (reader.after_line progress line) (pieces_of later))) h
 
-    -- if the line has no fault, the rest gives the answer from the next progress
+    -- if the line has no fault, reading the rest from the next progress returns the result
     pub leads_on : (next : P) → reader.line_kind progress line ≡ None → next ≡ reader.after_line progress line → read_lines reader (number + 1) next (pieces_of later) ≡ wanted
     leads_on next h e =
         ap (λ p. read_lines reader (number + 1) p (pieces_of later)) e
@@ -35,7 +35,7 @@ module _ {P X : Type 0} (reader : Reader P X) where
 
   -- ---- lines with no fault
 
-  -- none of these lines has an LF or a fault, and they lead from progress `before` to progress `after`
+  -- none of the lines has an LF or a fault, and reading them leads from progress `before` to progress `after`
   abbrev pub Runs : P → List (List ℕ) → P → Type 0
   Runs before [] after = before ≡ after
   Runs before (line ∷ lines) after = Lacks line_feed line × (reader.line_kind before line ≡ None) × Runs (reader.after_line before line) lines after
@@ -57,18 +57,18 @@ module _ {P X : Type 0} (reader : Reader P X) where
         ap (λ kind. fault_or kind number (read_lines reader (number + 1) (reader.after_line before line) (next ∷ (later ++ [] ∷ [])))) h.1
         ∙ read_to_end (number + 1) (reader.after_line before line) (next ∷ later) h.2
 
-    -- if lines lead to a progress at which a text may end with `value`, their text is read as `value`
+    -- if lines lead to a progress at which a text may end with `value`, the text of the lines is read as `value`
     pub text_is_read : (number : ℕ) (before : P) (lines : List (List ℕ)) → Runs before lines after → read_lines reader number before (pieces_of (text_of lines)) ≡ Ok value
     text_is_read number before lines h = ap (read_lines reader number before) (pieces_of-text_of lines (no_feeds before after lines h)) ∙ read_to_end number before lines h
 
   -- ---- a text that is read is the spelling of its value
 
-  -- Two assumptions. A line without a fault keeps the progress right and adds itself to the lines so far. If the text ends with a value,
-  -- the lines so far and the last bytes are the spelling of this value
+  -- Two assumptions. A line without a fault keeps the progress right and is appended to the lines so far. If a text ends with a value,
+  -- the text of its lines, followed by its last bytes, is the spelling of this value
   module _ (IsRight : P → Type 0) (lines_so_far : P → List (List ℕ)) (IsValue : X → Type 0) (spelling : X → List ℕ)
       (line_adds : (progress : P) (line : List ℕ) → IsRight progress → reader.line_kind progress line ≡ None → IsRight (reader.after_line progress line) × (lines_so_far (reader.after_line progress line) ≡ lines_so_far progress ++ line ∷ []))
       (last_is_spelled : (number : ℕ) (progress : P) (bytes : List ℕ) (value : X) → IsRight progress → reader.at_last number progress bytes ≡ Ok value → IsValue value × (text_of (lines_so_far progress) ++ bytes ≡ spelling value)) where
-    -- if the pieces after right lines are read as a value, the lines so far and these pieces are its spelling
+    -- if the remaining pieces are read as a value from a right progress, the lines so far and then these pieces are the value's spelling
     pub rest_is_spelled : (number : ℕ) (progress : P) (pieces : List (List ℕ)) (value : X) → IsRight progress → read_lines reader number progress pieces ≡ Ok value →
         IsValue value × (text_of (lines_so_far progress) ++ join_with_byte line_feed pieces ≡ spelling value)
     rest_is_spelled number progress [] value right h = last_is_spelled number progress [] value right h

@@ -50,14 +50,14 @@ line_is_utf8 (field ∷ next ∷ later) h =
 abbrev pub Lacks : ℕ → List ℕ → Type 0
 Lacks c xs = All (λ x. eqb x c ≡ false) xs
 
--- if no line has an LF, the pieces of their text are the lines, and an empty last piece
+-- if no line has an LF, the pieces of their text are the lines and then an empty piece
 pub pieces_of-text_of : (lines : List (List ℕ)) → AllByRecursion (Lacks line_feed) lines → pieces_of (text_of lines) ≡ lines ++ [] ∷ []
 pieces_of-text_of [] h = refl
 pieces_of-text_of (line ∷ lines) h =
     let regrouped : text_of (line ∷ lines) ≡ line ++ (line_feed ∷ text_of lines) = append_assoc line (line_feed ∷ []) (text_of lines) in
     ap pieces_of regrouped ∙ (slice_split_at (λ b. eqb b line_feed) line line_feed (text_of lines) h.0 refl ∙ ap (λ ls. line ∷ ls) (pieces_of-text_of lines h.1))
 
--- if no field has a TAB, the fields of their line are these fields
+-- if no field has a TAB, the fields of their line are these fields again
 pub fields_of-line_of : (field : List ℕ) (fields : List (List ℕ)) → AllByRecursion (Lacks tab) (field ∷ fields) → fields_of (line_of (field ∷ fields)) ≡ field ∷ fields
 fields_of-line_of field [] h = slice_split_none (λ b. eqb b tab) field h.0
 fields_of-line_of field (next ∷ later) h =
@@ -71,12 +71,12 @@ line-tabbed : (word : List ℕ) (fields : List (List ℕ)) → line_of (word ∷
 line-tabbed word [] = sym (append-nil word)
 line-tabbed word (field ∷ fields) = ap (λ rest. word ++ (tab ∷ rest)) (line-tabbed field fields)
 
--- a word, then each field after a TAB, then LF, as code writes them, are the text of one line
+-- code writes a word, each field after a TAB, and LF: that is the text of one line
 pub line_written : (word : List ℕ) (fields : List (List ℕ)) → (word ++ tabbed fields) ++ line_feed ∷ [] ≡ text_of (line_of (word ∷ fields) ∷ [])
 line_written word fields =
     ap (λ line. line ++ line_feed ∷ []) (sym (line-tabbed word fields)) ∙ sym (append-nil (line_of (word ∷ fields) ++ line_feed ∷ []))
 
--- if a text begins with lines that have no LF, these are its first pieces
+-- if a text begins with lines that have no LF, they are its first pieces
 pub pieces_of-text_of_then : (lines : List (List ℕ)) (rest : List ℕ) → AllByRecursion (Lacks line_feed) lines → pieces_of (text_of lines ++ rest) ≡ lines ++ pieces_of rest
 pieces_of-text_of_then [] rest h = refl
 pieces_of-text_of_then (line ∷ lines) rest h =
@@ -105,13 +105,13 @@ pieces_lack (byte ∷ bytes) =
     onto byte [] e h = (All-cons (λ x. eqb x 10 ≡ false) byte [] e (All-from_recursion (λ x. eqb x 10 ≡ false) [] tt), tt)
     onto byte (piece ∷ pieces) e h = (All-cons (λ x. eqb x 10 ≡ false) byte piece e h.0, h.1)
 
--- to add a word, its first field, its other fields and LF to a text, one after the other, is to add their line
+-- appending a word, a first field, other fields and LF to a text, in turn, appends their line
 pub line_added : (text word first : List ℕ) (fields : List (List ℕ)) →
     (((text ++ word) ++ (tab ∷ first)) ++ tabbed fields) ++ line_feed ∷ [] ≡ text ++ text_of (line_of (word ∷ first ∷ fields) ∷ [])
 line_added text word first fields =
     let regrouped : (((text ++ word) ++ (tab ∷ first)) ++ tabbed fields) ++ line_feed ∷ [] ≡ text ++ ((word ++ tabbed (first ∷ fields)) ++ line_feed ∷ []) = simp append_assoc in
     regrouped ∙ ap (λ line. text ++ line) (line_written word (first ∷ fields))
 
--- to add lines and then more lines to a text is to add them all
+-- appending lines `xs` and then lines `ys` to a text appends `xs ++ ys`
 pub text_of-append : (text : List ℕ) (xs ys : List (List ℕ)) → (text ++ text_of xs) ++ text_of ys ≡ text ++ text_of (xs ++ ys)
 text_of-append text xs ys = append_assoc text (text_of xs) (text_of ys) ∙ ap (λ lines. text ++ lines) (sym (flat_map-append (λ line. line ++ line_feed ∷ []) xs ys))

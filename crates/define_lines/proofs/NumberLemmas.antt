@@ -1,4 +1,4 @@
--- Numbers and their digits.
+-- Numbers and their digits: each is read from the other.
 use Rattle.std.proofs.Common.{◌≡◌, ◌≢◌, ℕ, suc, ◌<◌, ◌≤◌, ◌^◌, true, false, ◌&&◌, cond, leb, eqb, List, [], ◌∷◌, get_or, refl, ◌∙◌, ap, subst, arith, Some, None}
 use Rattle.std.specs.Prelude.{ℤ, pos, negsuc, neg_ℤ, bytes_eq, unsigned_abs}
 use Rattle.std.specs.Fmt.{decimal, signed_decimal}
@@ -16,14 +16,14 @@ bytes_are xs ys h = (bytes_eq-Decides xs ys).0 h
 pub bytes_same : (xs ys : List ℕ) → xs ≡ ys → bytes_eq xs ys ≡ true
 bytes_same xs ys h = (bytes_eq-Decides xs ys).1 h
 
--- the digits of a number up to the limit are read as this number
+-- the digits of a number up to the limit, below 10 ^ 64, are read as this number
 pub number_again : (limit n : ℕ) → n < 10 ^ 64 → n ≤ limit → number_up_to limit (decimal n) ≡ Some n
 number_again limit n small h =
     let value = (decimal_is_IsNumeral_wide n small).1 in
     let passes = and_from (bytes_eq (decimal n) (decimal n)) (leb n limit) (bytes_same (decimal n) (decimal n) refl) (le-leb n limit h) in
     ap (λ m. cond (bytes_eq (decimal m) (decimal n) && leb m limit) (Some m) None) value ∙ ap (λ test. cond test (Some n) None) passes
 
--- if a field is read as a number, it is this number's digits
+-- if a field is read as a number, it is this number's digits, and the number is at most the limit
 pub number_spelled : (limit n : ℕ) (field : List ℕ) → number_up_to limit field ≡ Some n → (decimal n ≡ field) × (n ≤ limit)
 number_spelled limit n field h =
     let value = digits_value 10 field in
@@ -44,7 +44,7 @@ first_is_digit : (digits : List ℕ) → IsNumeral 10 digits → (eqb (get_or di
 first_is_digit [] h = absurd (omega (arith, h.0))
 first_is_digit (c ∷ cs) h = let range = digit_from_value c h.1.0 in (ne_eqb c 45 (λ e. omega (arith, range)), ne_eqb c 43 (λ e. omega (arith, range)))
 
--- the spelling of a number with a sign has this number as its value
+-- the value of a signed number's spelling is the number, if it has at most 64 digits
 pub signed_value : (z : ℤ) → unsigned_abs z < 10 ^ 64 → signed_digits_value 10 (signed_decimal z) ≡ z
 signed_value (pos n) small =
     let is = decimal_is_IsNumeral_wide n small in
@@ -52,7 +52,7 @@ signed_value (pos n) small =
     rw (first.0, first.1) (ap pos is.1)
 signed_value (negsuc n) small = let is = decimal_is_IsNumeral_wide (suc n) small in ap (λ m. neg_ℤ (pos m)) is.1
 
--- without its sign, the spelling of a number is a numeral
+-- the spelling of a number of at most 64 digits, without its sign, is a numeral
 pub signed_numeral : (z : ℤ) → unsigned_abs z < 10 ^ 64 → IsNumeral 10 (without_leading_sign (signed_decimal z))
 signed_numeral (pos n) small =
     let is = decimal_is_IsNumeral_wide n small in
@@ -60,13 +60,13 @@ signed_numeral (pos n) small =
     rw (first.0, first.1) is.0
 signed_numeral (negsuc n) small = (decimal_is_IsNumeral_wide (suc n) small).0
 
--- the spelling of a number with a sign is read as this number
+-- the spelling of a signed number of at most 64 digits is read as this number, if its absolute value is at most the limit
 pub signed_again : (limit : ℕ) (z : ℤ) → unsigned_abs z < 10 ^ 64 → unsigned_abs z ≤ limit → signed_up_to limit (signed_decimal z) ≡ Some z
 signed_again limit z small h =
     let passes = and_from (bytes_eq (signed_decimal z) (signed_decimal z)) (leb (unsigned_abs z) limit) (bytes_same (signed_decimal z) (signed_decimal z) refl) (le-leb (unsigned_abs z) limit h) in
     ap (λ y. cond (bytes_eq (signed_decimal y) (signed_decimal z) && leb (unsigned_abs y) limit) (Some y) None) (signed_value z small) ∙ ap (λ test. cond test (Some z) None) passes
 
--- if a field is read as a number with a sign, it is this number's spelling
+-- if a field is read as a signed number, it is this number's spelling, and the absolute value is at most the limit
 pub signed_spelled : (limit : ℕ) (z : ℤ) (field : List ℕ) → signed_up_to limit field ≡ Some z → (signed_decimal z ≡ field) × (unsigned_abs z ≤ limit)
 signed_spelled limit z field h =
     let value = signed_digits_value 10 field in

@@ -1,4 +1,4 @@
--- Texts of lines: TAB parts the fields, LF ends each line; and a fault of a text. Reading, and the definitions of each text, stand on
+-- Texts of lines: TAB parts the fields, LF ends each line; and the fault of a text. Reading.antt and the definitions of each text cite
 -- it.
 use Rattle.std.specs.Prelude.{ℕ, ◌==◌, List, [], ◌∷◌, ◌++◌}
 use Rattle.std.specs.List.{flat_map, join_with_byte, slice_split}
@@ -9,7 +9,7 @@ tab = 9
 abbrev pub line_feed : ℕ
 line_feed = 10
 
--- the line of these fields
+-- the line of these fields, with a TAB between two
 abbrev pub line_of : List (List ℕ) → List ℕ
 line_of fields = join_with_byte tab fields
 
@@ -17,7 +17,7 @@ line_of fields = join_with_byte tab fields
 abbrev pub tabbed : List (List ℕ) → List ℕ
 tabbed fields = flat_map (λ field. tab ∷ field) fields
 
--- the text of these lines
+-- the text of these lines, each ended by LF
 abbrev pub text_of : List (List ℕ) → List ℕ
 text_of lines = flat_map (λ line. line ++ line_feed ∷ []) lines
 
@@ -25,11 +25,11 @@ text_of lines = flat_map (λ line. line ++ line_feed ∷ []) lines
 abbrev pub fields_of : List ℕ → List (List ℕ)
 fields_of line = slice_split (λ byte. byte == tab) line
 
--- the lines of a text, and as the last piece the bytes after the last LF
+-- the lines of a text, and last the bytes after the last LF, even if there are none
 abbrev pub pieces_of : List ℕ → List (List ℕ)
 pieces_of bytes = slice_split (λ byte. byte == line_feed) bytes
 
--- where a faulty text first goes wrong: the line, counted from 1, and the lowest kind of fault in it
+-- the first faulty line of a text, counted from 1, and the lowest kind of fault in it
 pub record Fault : Type 0 where
   pub line : ℕ
   pub kind : ℕ

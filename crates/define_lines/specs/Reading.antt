@@ -11,12 +11,12 @@ pub record Reader (Progress Value : Type 0) : Type 0 where
   pub after_line : Progress → List ℕ → Progress
   pub at_last : ℕ → Progress → List ℕ → Result Value Fault
 
--- the fault of `kind` in line `number`; if there is no kind, what the later lines give
+-- the fault of `kind` in line `number`; if there is no kind, `later`, which is the result of reading the later lines
 abbrev pub fault_or : {Value : Type 0} → Option ℕ → ℕ → Result Value Fault → Result Value Fault
 fault_or None number later = later
 fault_or (Some kind) number later = Err (record { line = number; kind = kind })
 
--- the value of all pieces, or their first fault. The first piece is line `number`
+-- the value of all pieces, or their first fault. The first piece is line `number`, and `progress` is the progress before it
 abbrev pub read_lines : {Progress Value : Type 0} → Reader Progress Value → ℕ → Progress → List (List ℕ) → Result Value Fault
 read_lines reader number progress [] = reader.at_last number progress []
 read_lines reader number progress (bytes ∷ []) = reader.at_last number progress bytes

@@ -1,9 +1,9 @@
 //! What a text of lines is: lines, fields, numbers in their one spelling, and how a text is read line by line up to its first faulty
-//! line. The definitions are in `specs/`. Stands on nothing but std. Above: `define_pool_texts`, `define_bundles` and
-//! `define_proof_texts`, which define the texts; `text_lines`, which reads and writes lines; the commands, whose own lines are spelled
-//! so.
+//! line. The definitions are in `specs/`. Stands on nothing but std. Used by `define_pool_texts`, `define_bundles` and
+//! `define_proof_texts`, which define texts; by `text_lines`, which reads and writes lines; by the commands and the office, for the lines
+//! that they print.
 //!
-//! The functions have no body: their contracts are laws over the definitions, and worked examples.
+//! The functions have no body. Their contracts are the promises: laws over the definitions, and worked examples.
 #![tactic(auto)]
 
 ghost use Rattle.std.specs.Prelude.{◌≡◌, ◌<◌, ◌≤◌, ◌^◌, ◌++◌, [], ◌∷◌, ℕ, ℤ, List, codes, map, pos, negsuc, unsigned_abs, Some, None};
@@ -11,13 +11,14 @@ ghost use Rattle.std.specs.Fmt.{decimal, signed_decimal};
 ghost use Rattle.define_lines.specs.Lines.{line_of, fields_of};
 ghost use Rattle.define_lines.specs.Numbers.{number_up_to, signed_up_to};
 
-/// Exactly the digits of a number are read as this number. Numbers here have up to 64 digits.
+/// A field is read as a number exactly if it is the digits of this number, which is at most the limit. Numbers here have up to 64 digits.
 pub fn number_has_one_spelling()
     ensures read { (limit n : ℕ) → n < 10 ^ 64 → n ≤ limit → number_up_to limit (decimal n) ≡ Some n }
     ensures spelled { (limit n : ℕ) (field : List ℕ) → number_up_to limit field ≡ Some n → (decimal n ≡ field) × (n ≤ limit) }
 {}
 
-/// The same for numbers with a sign.
+/// A field is read as a signed number exactly if it is the spelling of this number, whose absolute value is at most the limit. Numbers here
+/// have up to 64 digits.
 pub fn signed_number_has_one_spelling()
     ensures read { (limit : ℕ) (z : ℤ) → unsigned_abs z < 10 ^ 64 → unsigned_abs z ≤ limit → signed_up_to limit (signed_decimal z) ≡ Some z }
     ensures spelled { (limit : ℕ) (z : ℤ) (field : List ℕ) → signed_up_to limit field ≡ Some z → (signed_decimal z ≡ field) × (unsigned_abs z ≤ limit) }

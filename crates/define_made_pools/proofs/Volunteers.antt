@@ -52,7 +52,7 @@ same_id i j small less e =
     let digits : decimal (i + 1) ≡ decimal (j + 1) = cc in
     let more = decimal_injective (i + 1) (j + 1) (omega arith) (omega arith) digits in omega arith
 
--- if f gives no number of a range this name, the name is not in the list of the range's names
+-- if `f` maps no number of a range to `name`, `name` is not in the list of what `f` makes of the range
 absent : (f : ℕ → List ℕ) (name : List ℕ) (first count : ℕ) → ((j : ℕ) → first ≤ j → j < first + count → name ≡ f j → ⊥) → includes_list (map f (range_with_len first count)) name ≡ false
 absent f name first zero h = refl
 absent f name first (suc count) h =
@@ -60,7 +60,7 @@ absent f name first (suc count) h =
     (false_from_ne_true (bytes_eq name (f first)) (λ e. h first (omega arith) (omega arith) ((bytes_eq-Decides name (f first)).0 e)))
     (absent f name (first + 1) count (λ j low high e. h j (omega arith) (omega arith) e))
 
--- if f gives no two numbers of a range the same name, the names are all different
+-- if `f` maps no two numbers of a range to the same name, the names are all different
 different : (f : ℕ → List ℕ) (first count : ℕ) → ((i j : ℕ) → i < j → j < first + count → f i ≡ f j → ⊥) → all_different (map f (range_with_len first count)) ≡ true
 different f first zero h = refl
 different f first (suc count) h =
@@ -136,7 +136,7 @@ same_counts p q f first (suc count) same =
     (same_counts p q f (first + 1) count (λ i low high. same i (omega arith) (omega arith)))
     ∙ sym (sum_by-cons (λ (values : List ℕ). cond (q values) 1 0) (f first) (map f (range_with_len (first + 1) count)))
 
--- how many of the first `size` volunteers have a value, counted in their lists of values
+-- the number of the first `size` volunteers with a value equals the number of their lists of values that have it at `place`
 pub members_are_counted : (seed n size place value_place : ℕ) → size ≤ n →
     members_with (made_volunteers seed n) (range_with_len 0 size) place value_place
     ≡ count_by (λ values. eqb (get_or values place 0) value_place) (map (made_values seed) (range_with_len 0 size))

@@ -5,7 +5,7 @@ use Rattle.std.specs.Prelude.{ℕ, zero, suc, ◌+◌, ◌*◌, ◌/◌, ◌%◌
 abbrev pub next_state : ℕ → ℕ
 next_state x = (x * 6364136223846793005 + 1442695040888963407) % 2 ^ 64
 
--- the number that a state gives: its upper 31 bits
+-- the number of a state: its upper 31 bits
 abbrev pub upper_bits : ℕ → ℕ
 upper_bits x = x / 2 ^ 33
 

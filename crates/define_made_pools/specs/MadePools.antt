@@ -26,11 +26,12 @@ made_volunteer seed i = record { id = made_id i; values = made_values seed i; st
 abbrev pub made_volunteers : ℕ → ℕ → List Volunteer
 made_volunteers seed n = map (made_volunteer seed) (range_with_len 0 n)
 
--- the bounds of a value that `members` of the first volunteers have: a panel may have one fewer with it, or one more
+-- the bounds of a value that `members` of the first volunteers have: one below, but at least 0, and one above
 abbrev pub bounded_by : List ℕ → ℕ → BoundedValue
 bounded_by name members = record { name = name; lower = members - 1; upper = members + 1 }
 
--- a category, in the place of the volunteers' values, whose bounds are made from the first `size` volunteers
+-- the category called `name`. Its values are those at `place` in the volunteers' values; their bounds are made from the first `size`
+-- volunteers
 abbrev pub made_category : List Volunteer → ℕ → ℕ → List ℕ → List (List ℕ) → Category
 made_category volunteers size place name value_names = record {
   name = name;
@@ -38,13 +39,15 @@ made_category volunteers size place name value_names = record {
       (enumerate_from 0 value_names);
 }
 
--- the names of the values
+-- the names of the values of the category `gender`
 abbrev pub genders : List (List ℕ)
 genders = codes "female" ∷ codes "male" ∷ []
 
+-- the names of the values of the category `age`
 abbrev pub ages : List (List ℕ)
 ages = codes "young" ∷ codes "middle" ∷ codes "old" ∷ []
 
+-- the names of the values of the category `area`
 abbrev pub areas : List (List ℕ)
 areas = codes "town" ∷ codes "country" ∷ []
 

@@ -27,7 +27,7 @@ least_chance pool lottery = lowest_of (least (counts pool lottery)) lottery.tota
 abbrev pub greatest_chance : Pool → Lottery → Fraction
 greatest_chance pool lottery = lowest_of (greatest (counts pool lottery)) lottery.total
 
--- how many classes and columns the last table of a run has, and how many pivots the run made
+-- how many classes and columns the last table of a run had, and how many pivots the run made
 pub record Sizes : Type 0 where
   pub classes : ℕ
   pub columns : ℕ

@@ -15,11 +15,11 @@ abbrev pub single_summary : List ℕ
 single_summary =
     codes "volunteers\t1\nclasses\t1\nsize\t1\npanels\t1\ncolumns\t1\npivots\t1\nstages\t1\ntotal\t1\nleast\t1/1\ngreatest\t1/1\n"
 
--- the answer after a dropout, in which two have no chance
+-- the answer after a dropout, in which two volunteers have no chance
 abbrev pub dropout_answer : Answer
 dropout_answer = record { lottery = dropout_lottery; stages = dropout_stages }
 
--- the summary of this answer, before the seal
+-- the summary of `dropout_answer`, before the seal
 abbrev pub dropout_summary : List ℕ
 dropout_summary =
     codes "volunteers\t4\nclasses\t4\nsize\t2\npanels\t1\ncolumns\t1\npivots\t12\nstages\t4\ntotal\t1\nleast\t0/1\ngreatest\t1/1\n"

@@ -1,8 +1,7 @@
-//! Pools that are made from a number, and the summary of a run: the generator of numbers, the made pool, and the lines of the summary.
-//! The definitions are in `specs/`. Stands on `define_pools`, `define_bundles`, `define_draws` for the seal,
-//! `define_lines` and `frac128`. Above: `office_reports`, which makes them, and the command `make`.
-//!
-//! The functions have no body: their contracts are laws over the definitions, and worked examples.
+//! Pools that are made from a number, and the summary of a run: the generator of numbers, the made pool, and the lines of the summary. The
+//! definitions are in `specs/`. Stands on `define_pools`, `define_bundles`, `define_draws` for the seal, `define_lines` and `frac128`. Used
+//! by `office_reports`, which makes the pools and the summaries, and by the crates of the command `make`. The functions have no body: their
+//! contracts are laws over the definitions, which are promises, and worked examples.
 #![tactic(auto)]
 
 ghost use Rattle.std.specs.Prelude.{◌≡◌, ◌≤◌, ◌<◌, ◌-◌, ◌^◌, [], ◌∷◌, ℕ, List, All, Contains, IsTrue, codes, length, map, take};
@@ -25,7 +24,7 @@ pub fn first_volunteers_are_a_panel()
     ensures { (seed n : ℕ) → 1 ≤ n → n ≤ 400 → IsTrue (is_quota_panel (made_pool seed n) (range_with_len 0 (made_size n))) }
 {}
 
-/// So each made pool has a quota panel.
+/// Each made pool has a quota panel: its first volunteers.
 pub fn made_pool_has_a_panel()
     ensures { (seed n : ℕ) → 1 ≤ n → n ≤ 400 → Contains (panels (made_pool seed n)) (range_with_len 0 (made_size n)) }
 {}
@@ -71,8 +70,8 @@ pub fn made_pools()
         category (codes "area") (bounded (codes "town") 0 1 ∷ bounded (codes "country") 1 3 ∷ []) ∷ [] }
 {}
 
-/// Summaries before their seal: of the pool of seed 0 and one volunteer; and of a pool after a dropout, in which two of four have no
-/// chance.
+/// Summaries, without the line of the seal: of the made pool of seed 0 with one volunteer, and of a pool after a dropout, in which two of
+/// four volunteers have no chance.
 pub fn summaries()
     ensures single { text_of (take 10 (summary_lines (made_pool 0 1) single_answer (record { classes = 1; columns = 1; pivots = 1 }))) ≡ single_summary }
     ensures dropout { text_of (take 10 (summary_lines after_dropout dropout_answer (record { classes = 4; columns = 1; pivots = 12 }))) ≡ dropout_summary }

@@ -1,4 +1,4 @@
--- The commands of an office, and what may come of one: a change and a reply, a refusal, or the refusal of a run.
+-- The commands of an office, and their outcomes: a reply, with or without a change, a refusal, the stop of a run, or a refused proof.
 use Rattle.std.specs.Prelude.{ℕ, List, Option}
 use Rattle.define_pools.specs.Pool.{Category}
 use Rattle.define_bundles.specs.BundleText.{Bundle}
@@ -22,7 +22,7 @@ pub data Command : Type 0 where
   Register : (rows : List Given) → Command
   -- the stated run answers an open round
   Solve : (round : ℕ) (limits : Limits) → Command
-  -- a proof answers an open round, whoever made it
+  -- a proof, whoever made it, answers an open round
   Keep : (round : ℕ) (proof : Proof) → Command
   Seal : (round : ℕ) → Command
   Draw : (round : ℕ) (given digits : List ℕ) → Command
@@ -52,7 +52,7 @@ pub data Refusal : Type 0 where
   NoRound : (last : ℕ) → Refusal
   Incomplete : (what : Part) → Refusal
   WrongPhase : (phase : Phase) → Refusal
-  -- `rules`, or the id of a row
+  -- `what` is the word `rules` if rules and rows don't fit each other, else the id of a row
   RowDiffers : (what : List ℕ) → Refusal
   KeyTaken : (id : List ℕ) → Refusal
   RegisterFull : (rows : ℕ) → Refusal
@@ -63,13 +63,14 @@ pub data Refusal : Type 0 where
   MoreDigits : (read : ℕ) → Refusal
   NotSeated : (id : List ℕ) → Refusal
   RoundClosed : (last : ℕ) → Refusal
-  -- a valid proof, but of another pool than the round's
+  -- the proof is valid, but its pool isn't the round's
   OtherPool : (round : ℕ) → Refusal
-  -- of a withdrawal: nobody has this key, and it is too late
+  -- a withdrawal: no row of the register has the key
   UnknownKey : Refusal
+  -- a withdrawal: the last round is not open, or the volunteer is seated in it
   TooLate : Refusal
 
--- what a command comes to: a reply, with a change unless the tables stay as they are; or a refusal, at which they stay
+-- the outcome of a command: a reply, with a change if the tables change; or one of three refusals, at which the tables stay as they are
 pub data Outcome : Type 0 where
   Replies : (change : Option Change) (reply : Reply) → Outcome
   Refuses : (refusal : Refusal) → Outcome

@@ -1,5 +1,5 @@
--- What a command comes to, by the cases of each command in their order. All but a solve of an open round is decided by the tables and the
--- command alone; a solve of an open round is decided by the stated run over the round's pool.
+-- The outcome of a command, by the cases of each command in their order. The tables and the command decide it alone, except for a solve of
+-- an open round: that is decided by the stated run over the round's pool.
 use Rattle.std.specs.Prelude.{ℕ, ◌+◌, ◌==◌, nat_le, if◌then◌else◌, Bool, true, false, not, ◌&&◌, List, [], ◌∷◌, ◌++◌, length, codes, bytes_eq, Option, Some, None, Result, Ok, Err}
 use Rattle.std.specs.List.{find, list_all}
 use Rattle.define_lines.specs.Lines.{text_of}
@@ -31,7 +31,7 @@ use Rattle.define_offices.specs.Pools.{drawn_of, pool_of}
 abbrev pub tells : List ℕ → Outcome
 tells line = Replies None (one_line line)
 
--- the same, with a change
+-- a reply of one line, with a change
 abbrev pub changes : Change → List ℕ → Outcome
 changes change line = Replies (Some change) (one_line line)
 
@@ -51,7 +51,7 @@ abbrev pub are_rules_kept : Option (List Category) → List Category → Bool
 are_rules_kept None rules = false
 are_rules_kept (Some kept) rules = same_rules kept rules
 
--- no row is there yet, or the names and their order stay
+-- the register is empty, or `rules` have the names of the rules that are kept, in the same order
 abbrev pub fit_rows : List Entry → Option (List Category) → List Category → Bool
 fit_rows [] kept rules = true
 fit_rows (entry ∷ register) None rules = false
@@ -66,32 +66,33 @@ decide_rules tables rules =
 
 -- ---- the register
 
--- just one value of each category
+-- `values` are one value of each category
 abbrev pub fits_rules : List Category → List (List ℕ) → Bool
 fits_rules categories values = (length values == length categories) && are_known categories values
 
--- a row as it is kept
+-- the register's row for an imported row
 abbrev pub entry_of : Given → Entry
 entry_of given = record { id = given.id; hash = seal_of given.key; values = given.values; household = given.household; withdrawn = false }
 
--- the row of an id, and of a key's digest
+-- the first row with the id `id`, if there is one
 abbrev pub with_id : List Entry → List ℕ → Option Entry
 with_id register id = find (λ entry. bytes_eq id entry.id) register
 
+-- the first row with the digest `hash` of a key, if there is one
 abbrev pub with_hash : List Entry → List ℕ → Option Entry
 with_hash register hash = find (λ entry. bytes_eq hash entry.hash) register
 
--- the row is kept so, with the same key, values and household
+-- `entry` has the key, the values and the household of `given`
 abbrev pub is_kept_so : Entry → Given → Bool
 is_kept_so entry given = bytes_eq (seal_of given.key) entry.hash && same_names given.values entry.values && same_household given.household entry.household
 
--- what a row comes to
+-- how an import takes a row
 pub data RowCase : Type 0 where
   IsNew : RowCase
   IsRepeated : RowCase
   IsRefused : (refusal : Refusal) → RowCase
 
--- a row whose id is new, and whose key another row has or not
+-- how an import takes a row with a new id, by the row of the register that has the same key, if there is one
 abbrev pub new_row : List Round → List Entry → Option Entry → RowCase
 new_row rounds register (Some other) = IsRefused (KeyTaken other.id)
 new_row rounds register None =
@@ -99,12 +100,12 @@ new_row rounds register None =
     else if nat_le 400 (length register) then IsRefused (RegisterFull 400)
     else IsNew
 
--- a row whose id is known or not
+-- how an import takes a row, by the row of the register that has the same id, if there is one
 abbrev pub row_case : List Round → List Entry → Given → Option Entry → RowCase
 row_case rounds register given (Some entry) = if is_kept_so entry given then IsRepeated else IsRefused (RowDiffers given.id)
 row_case rounds register given None = new_row rounds register (with_hash register (seal_of given.key))
 
--- the rows that are added, and how many were there
+-- the rows that an import adds, and how many of its rows the register had already
 pub record Sorted : Type 0 where
   pub added : List Entry
   pub repeated : ℕ
@@ -117,26 +118,26 @@ abbrev pub one_more_repeated : Result Sorted Refusal → Result Sorted Refusal
 one_more_repeated (Ok later) = Ok (record { added = later.added; repeated = later.repeated + 1 })
 one_more_repeated (Err refusal) = Err refusal
 
--- the register after a row
+-- the register after an import took a row
 abbrev pub register_after : RowCase → List Entry → Given → List Entry
 register_after IsNew register given = register ++ entry_of given ∷ []
 register_after IsRepeated register given = register
 register_after (IsRefused refusal) register given = register
 
--- a row in its case, with what the later rows come to
+-- the result for a row and the rows after it, if `later` is the result for the rows after it
 abbrev pub sorted_by : RowCase → Given → Result Sorted Refusal → Result Sorted Refusal
 sorted_by IsNew given later = one_more_added (entry_of given) later
 sorted_by IsRepeated given later = one_more_repeated later
 sorted_by (IsRefused refusal) given later = Err refusal
 
--- rows one by one, each against the register with the rows added before it
+-- the result of an import: its rows are taken one by one, and each is compared with the register and the rows added before it
 abbrev pub sorted_rows : List Round → List Entry → List Given → Result Sorted Refusal
 sorted_rows rounds register [] = Ok (record { added = []; repeated = 0 })
 sorted_rows rounds register (given ∷ rows) =
     let this = row_case rounds register given (with_id register given.id) in
     sorted_by this given (sorted_rows rounds (register_after this register given) rows)
 
--- no change where nothing is added
+-- the change that adds rows, or None if there are none to add
 abbrev pub addition : List Entry → Option Change
 addition [] = None
 addition (entry ∷ added) = Some (Added (entry ∷ added))
@@ -172,12 +173,12 @@ draw_refusal bundle given draws.SealDiffers = SealDiffers given (bundle_seal bun
 draw_refusal bundle given (draws.NoTicket (dice.BadDigit place)) = BadDigit place
 draw_refusal bundle given (draws.NoTicket (dice.MoreDigits read)) = MoreDigits read
 
--- what these digits draw from a bundle, or why they draw nothing
+-- the outcome of the first draw from a bundle: the ticket and the panel, or why these digits draw nothing
 abbrev pub new_draw : ℕ → Bundle → List ℕ → List ℕ → Result draws.Drawn draws.Refused → Outcome
 new_draw number bundle given digits (Ok drawn) = Replies (Some (DrawnWith number digits)) (Lines (text_of (drawn_lines bundle drawn)))
 new_draw number bundle given digits (Err refused) = Refuses (draw_refusal bundle given refused)
 
--- a draw again: the seal is asked first, then the digits
+-- the outcome of another draw from a drawn round: the seal is compared first, then the digits
 abbrev pub same_draw : Bundle → List ℕ → List ℕ → List ℕ → Outcome
 same_draw bundle kept given digits =
     if not (is_seal (bundle_seal bundle) given) then Refuses (SealDiffers given (bundle_seal bundle))
@@ -191,7 +192,7 @@ draw_in tables number given digits (Some (Solved bundle)) = Refuses (NotSealed p
 draw_in tables number given digits (Some (Sealed bundle)) = new_draw number bundle given digits (draws.draw bundle.answer.lottery (bundle_seal bundle) given digits)
 draw_in tables number given digits (Some (Drawn bundle kept dropped)) = same_draw bundle kept given digits
 
--- the ids of the panel that was drawn
+-- the ids of the members of the panel that the digits draw
 abbrev pub drawn_ids : Bundle → List ℕ → List (List ℕ)
 drawn_ids bundle digits = member_ids bundle.pool (drawn_of bundle digits).panel
 
@@ -228,7 +229,7 @@ show_in tables (Some (Drawn bundle digits dropped)) = Replies None (Lines (bundl
 
 -- ---- withdrawals
 
--- the place of the row of a key's digest, counted from a number on
+-- the first row with the digest of a key, and its place, if the register's first row has the place `place`
 abbrev pub place_of_hash : List Entry → List ℕ → ℕ → Option (ℕ × Entry)
 place_of_hash [] hash place = None
 place_of_hash (entry ∷ register) hash place = if bytes_eq hash entry.hash then Some (place, entry) else place_of_hash register hash (place + 1)
@@ -238,7 +239,7 @@ is_seated standing.Open = false
 is_seated standing.Seated = true
 is_seated standing.Gone = false
 
--- seated in the pool, if there is one
+-- there is a pool, and the volunteer at `place` is seated in it
 abbrev pub is_seated_in : Result Pool Refusal → ℕ → Bool
 is_seated_in (Ok pool) place = is_seated (volunteer pool.volunteers place).standing
 is_seated_in (Err refusal) place = false
@@ -260,12 +261,12 @@ withdraw_at tables (Some (place, entry)) =
 
 -- ---- an answer over the pool of an open round
 
--- a lottery with its stages, or that there is no quota panel
+-- what was found for the pool of an open round: a lottery with its stages, or that there is no quota panel
 pub data Answered : Type 0 where
   Finds : (answer : Answer) → Answered
   FindsNone : Answered
 
--- the round keeps the pool with its answer; without a quota panel the tables stay
+-- the outcome of an answer: the round keeps the pool with its answer. If there is no quota panel, the tables stay as they are
 abbrev pub answered : ℕ → Pool → Answered → Outcome
 answered number pool (Finds answer) =
     let bundle : Bundle = record { pool = pool; answer = answer } in changes (SolvedWith number bundle) (solved_line number bundle)
@@ -273,7 +274,7 @@ answered number pool FindsNone = Replies None NoPanel
 
 -- ---- solve
 
--- what a command asks of the tables: it is decided at once, or the stated run over a pool decides
+-- how a command is decided: at once, or by the stated run over a pool
 pub data Asked : Type 0 where
   IsDecided : (outcome : Outcome) → Asked
   NeedsRun : (pool : Pool) → Asked
@@ -289,7 +290,7 @@ solve_in tables number (Some (Solved bundle)) = IsDecided (tells (solved_line nu
 solve_in tables number (Some (Sealed bundle)) = IsDecided (tells (solved_line number bundle))
 solve_in tables number (Some (Drawn bundle digits dropped)) = IsDecided (tells (solved_line number bundle))
 
--- what a solve of an open round comes to where the run over its pool ends so
+-- the outcome of a solve of an open round, if the run over its pool has this ending
 abbrev pub solved : ℕ → Pool → Ending → Outcome
 solved number pool (run.Found last answer) = answered number pool (Finds answer)
 solved number pool run.NoPanel = answered number pool FindsNone
@@ -300,7 +301,7 @@ solved number pool (run.NodesSpent stood) = Stops (run.NodesSpent stood)
 
 -- ---- keep
 
--- the pool that a proof speaks of
+-- the pool of a proof
 abbrev pub proof_pool : Proof → Pool
 proof_pool (OfLottery pool answer trees) = pool
 proof_pool (OfNoPanel pool lines) = pool
@@ -310,11 +311,11 @@ abbrev pub shown : Proof → Answered
 shown (OfLottery pool answer trees) = Finds answer
 shown (OfNoPanel pool lines) = FindsNone
 
--- each pool has one text, so pools of one text are the same
+-- two pools are the same if they have the same text, since each pool has one text
 abbrev pub is_same_pool : Pool → Pool → Bool
 is_same_pool one other = bytes_eq (spelling one) (spelling other)
 
--- a proof with this verdict, for an open round with this pool
+-- the outcome of keeping a proof with this verdict for an open round with the pool `pool`
 abbrev pub kept_by : Verdict → ℕ → Pool → Proof → Outcome
 kept_by (reasons.Refused refusal) number pool proof = Unproved refusal
 kept_by reasons.Valid number pool proof = if is_same_pool (proof_pool proof) pool then answered number pool (shown proof) else Refuses (OtherPool number)
@@ -344,8 +345,3 @@ asked tables (Drop number id) = IsDecided (drop_in tables number id (named_round
 asked tables (NextRound after) = IsDecided (next_in tables after (named_round tables.rounds after))
 asked tables (Show number) = IsDecided (show_in tables (named_round tables.rounds number))
 asked tables (Withdraw key) = IsDecided (withdraw_at tables (place_of_hash tables.register (seal_of key) 0))
-
--- what the report of a round is refused for, if it is; it is no command of the machine, since it changes nothing
-abbrev pub report_refusal : Result Pool Refusal → Option Refusal
-report_refusal (Ok pool) = None
-report_refusal (Err refusal) = Some refusal

@@ -1,4 +1,4 @@
--- What the tables of an office keep, and what its commands keep.
+-- The facts that hold of all tables of an office, and the limits of its commands.
 use Rattle.std.specs.Prelude.{◌≡◌, ℕ, nat_le, Bool, true, false, not, ◌&&◌, ◌||◌, IsTrue, List, [], ◌∷◌, map, length, codes, bytes_eq, Option, Some, None, is_some, is_ok, ⊤}
 use Rattle.std.specs.List.{list_all}
 use Rattle.define_pools.specs.Building.{category_names, ids}
@@ -16,20 +16,20 @@ use Rattle.define_offices.specs.Deciding.{drawn_ids, fits_rules}
 
 -- ---- tables
 
--- a title is a name
+-- the title is a name, and the size is in its range
 abbrev pub is_charter : Charter → Bool
 is_charter charter = is_name charter.title && is_size charter.size
 
--- two columns of a register have these names
+-- a category can't have this name: it is the name of a column of each register
 abbrev pub is_reserved : List ℕ → Bool
 is_reserved name = bytes_eq name (codes "id") || bytes_eq name (codes "key")
 
--- the categories of a pool may be rules: there is one, each has a value, and none has the name of a column
+-- categories may be rules: there is at least one, each has a value, and none has a reserved name
 abbrev pub are_rules : List Category → Bool
 are_rules categories =
     nat_le 1 (length categories) && list_all (λ category. nat_le 1 (length category.values)) categories && list_all (λ category. not (is_reserved category.name)) categories
 
--- categories as a pool has them, which may be rules
+-- categories that a pool may have, and that may be rules
 pub record AreRules (categories : List Category) : Type 0 where
   pub few : IsTrue (nat_le (length categories) 20)
   pub each : IsTrue (list_all is_category categories)
@@ -39,7 +39,7 @@ pub record AreRules (categories : List Category) : Type 0 where
 abbrev pub is_entry : Entry → Bool
 is_entry entry = is_name entry.id && is_household entry.household
 
--- rows are there only with rules, and each has a value of each category
+-- without rules the register is empty; with rules each row has a value of each category
 abbrev pub rows_fit : Option (List Category) → List Entry → Bool
 rows_fit None [] = true
 rows_fit None (entry ∷ register) = false
@@ -51,7 +51,7 @@ entry_ids register = map (λ entry. entry.id) register
 abbrev pub entry_hashes : List Entry → List (List ℕ)
 entry_hashes register = map (λ entry. entry.hash) register
 
--- charter and rules are there, and the bundle's weights sum to its total, and its volunteers are the register's
+-- there are a charter and rules, the bundle's weights sum to its total, and its volunteers have the ids of the register's rows, in order
 pub record KeepsBundle (tables : Tables) (bundle : Bundle) : Type 0 where
   pub charter : IsTrue (is_some tables.charter)
   pub rules : IsTrue (is_some tables.rules)
@@ -59,7 +59,7 @@ pub record KeepsBundle (tables : Tables) (bundle : Bundle) : Type 0 where
   pub total_agrees : TotalAgrees bundle.answer.lottery
   pub same_ids : ids bundle.pool.volunteers ≡ entry_ids tables.register
 
--- the digits name a ticket, and who dropped out is from its panel
+-- the digits name a ticket, and everybody in `dropped` is on the panel that they draw
 pub record KeepsDraw (bundle : Bundle) (digits : List ℕ) (dropped : List (List ℕ)) : Type 0 where
   pub named : IsTrue (is_ok (name_ticket bundle.answer.lottery.total digits))
   pub from_panel : IsTrue (list_all (includes_list (drawn_ids bundle digits)) dropped)
@@ -70,7 +70,7 @@ KeepsRound tables (Solved bundle) = KeepsBundle tables bundle
 KeepsRound tables (Sealed bundle) = KeepsBundle tables bundle
 KeepsRound tables (Drawn bundle digits dropped) = KeepsBundle tables bundle × KeepsDraw bundle digits dropped
 
--- somebody dropped out after the draw
+-- the round is drawn, and somebody dropped out after the draw
 abbrev pub has_drop : Round → Bool
 has_drop Open = false
 has_drop (Solved bundle) = false
@@ -78,7 +78,7 @@ has_drop (Sealed bundle) = false
 has_drop (Drawn bundle digits []) = false
 has_drop (Drawn bundle digits (id ∷ dropped)) = true
 
--- there is a round, and each but the last is drawn and has a drop
+-- there is a round, and each round except the last is drawn and has a drop
 abbrev pub closed_but_last : List Round → Bool
 closed_but_last [] = false
 closed_but_last (round ∷ []) = true
@@ -103,7 +103,7 @@ is_key key = nat_le 1 (length key) && nat_le (length key) 200 && list_all (λ by
 abbrev pub is_given : Given → Bool
 is_given given = is_name given.id && is_key given.key && is_household given.household
 
--- what an import hands over keeps the limits, and the limits of a run are in their ranges
+-- a charter, rules, rows or a proof are within their limits, and the limits of a run are in their ranges
 abbrev pub IsCommand : Command → Type 0
 IsCommand (SetCharter charter) = IsTrue (is_charter charter)
 IsCommand (SetRules categories) = AreRules categories
@@ -124,7 +124,7 @@ abbrev pub AreCertified : Tables → Type 0
 AreCertified tables = (place : ℕ) (round : Round) (bundle : Bundle) → round_at tables.rounds place ≡ Some round → bundle_of round ≡ Some bundle →
     Certifies bundle.pool bundle.answer.lottery bundle.answer.stages
 
--- so no lottery over the quota panels of its pool is above it
+-- the lottery of each bundle that is kept is leximin greatest over the bundle's pool
 abbrev pub AreGreatest : Tables → Type 0
 AreGreatest tables = (place : ℕ) (round : Round) (bundle : Bundle) → round_at tables.rounds place ≡ Some round → bundle_of round ≡ Some bundle →
     LeximinGreatest bundle.pool bundle.answer.lottery

@@ -1,4 +1,4 @@
--- What holds of every step of an office, and of whatever a list of commands leaves.
+-- Laws of every step of an office, and of the tables that a list of commands leaves.
 use Rattle.std.specs.Prelude.{◌≡◌, ℕ, List, [], ◌∷◌, ◌++◌, ◌≢◌, Ok, Some}
 use Rattle.std.specs.List.{AllByRecursion}
 use Rattle.define_pools.specs.Pool.{IsPool, Pool}
@@ -8,33 +8,38 @@ use Rattle.define_offices.specs.Pools.{pool_of}
 use Rattle.define_offices.specs.Facts.{AreCertified, AreGreatest, IsCommand, IsTables}
 use Rattle.define_offices.specs.Steps.{Comes, Folds, Leads, apply}
 
--- the pool of a round keeps what each pool keeps
+-- the pool of a round satisfies `IsPool`, if the facts hold of the tables
 abbrev pub PoolsArePools : Type 0
 PoolsArePools = (tables : Tables) (number : ℕ) (pool : Pool) → IsTables tables → pool_of tables number ≡ Ok pool → IsPool pool
 
--- a command comes to one outcome: a step is a function of tables and command
+-- over tables that keep their facts, a command has an outcome
+abbrev pub CommandsHaveOutcomes : Type 0
+CommandsHaveOutcomes = (tables : Tables) (command : Command) → IsTables tables → IsCommand command → (outcome : Outcome) × Comes tables command outcome
+
+-- and only one: a step is a function of tables and command
 abbrev pub StepsAreFunctions : Type 0
 StepsAreFunctions = (tables : Tables) (command : Command) (one other : Outcome) → Comes tables command one → Comes tables command other → one ≡ other
 
--- a step leaves tables that keep the same
+-- if the facts hold of tables, they hold of the tables after a step
 abbrev pub StepsKeepTables : Type 0
 StepsKeepTables = (before : Tables) (command : Command) (after : Tables) → IsTables before → IsCommand command → Leads before command after → IsTables after
 
--- and keeps each bundle certified
+-- if all bundles are certified before a step, they are certified after it
 abbrev pub StepsKeepCertified : Type 0
 StepsKeepCertified = (before : Tables) (command : Command) (after : Tables) → IsTables before → IsCommand command → AreCertified before → Leads before command after → AreCertified after
 
--- so whatever a list of commands leaves are tables in which each bundle's lottery is leximin greatest over its pool
+-- the facts hold of all tables that a list of commands leaves
 abbrev pub FoldsAreTables : Type 0
 FoldsAreTables = (commands : List Command) (tables : Tables) → AllByRecursion IsCommand commands → Folds commands tables → IsTables tables
 
+-- in all tables that a list of commands leaves, each bundle's lottery is leximin greatest over its pool
 abbrev pub FoldsAreGreatest : Type 0
 FoldsAreGreatest = (commands : List Command) (tables : Tables) → AllByRecursion IsCommand commands → Folds commands tables → AreGreatest tables
 
--- where tables are what some commands leave, what one more leads to is what these and it leave
+-- if `commands` leave `before`, and `command` leads from `before` to `after`, then `commands` followed by `command` leave `after`
 abbrev pub FoldsGrow : Type 0
 FoldsGrow = (commands : List Command) (command : Command) (before after : Tables) → Folds commands before → Leads before command after → Folds (commands ++ command ∷ []) after
 
--- a change always changes something: the change is none exactly where a reply leaves the tables
+-- if a reply comes with a change, the tables differ after it
 abbrev pub ChangesChange : Type 0
 ChangesChange = (tables : Tables) (command : Command) (change : Change) (reply : Reply) → IsTables tables → IsCommand command → Comes tables command (Replies (Some change) reply) → apply tables change ≢ tables

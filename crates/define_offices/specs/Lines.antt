@@ -29,17 +29,17 @@ charter_line word = line_of (codes "charter" ∷ word ∷ [])
 abbrev pub rules_line : List ℕ → List ℕ
 rules_line word = line_of (codes "rules" ∷ word ∷ [])
 
--- how many rows were added, how many were there, and how many the register has afterwards
+-- how many rows were added, how many were there already, and how many the register has afterwards
 abbrev pub register_line : ℕ → ℕ → ℕ → List ℕ
 register_line added repeated all =
     line_of (codes "register" ∷ codes "added" ∷ decimal added ∷ codes "repeated" ∷ decimal repeated ∷ codes "all" ∷ decimal all ∷ [])
 
--- how many panels the lottery of a round has, and its total
+-- the round, how many panels its lottery has, and the lottery's total
 abbrev pub solved_line : ℕ → Bundle → List ℕ
 solved_line round bundle =
     line_of (codes "solved" ∷ decimal round ∷ decimal (length bundle.answer.lottery.rows) ∷ decimal bundle.answer.lottery.total ∷ [])
 
--- the seal of a bundle: that of its text
+-- the seal of a bundle: the digest of its text
 abbrev pub bundle_seal : Bundle → List ℕ
 bundle_seal bundle = seal_of (bundle_spelling bundle)
 
@@ -50,7 +50,7 @@ seal_line bundle = line_of (codes "seal" ∷ bundle_seal bundle ∷ [])
 abbrev pub member_ids : Pool → List ℕ → List (List ℕ)
 member_ids pool panel = map (λ i. (volunteer pool.volunteers i).id) panel
 
--- the ticket and how many digits were read; the ids of the panel's members
+-- two lines: the ticket with how many digits were read, and the ids of the panel's members
 abbrev pub drawn_lines : Bundle → Drawn → List (List ℕ)
 drawn_lines bundle drawn =
     line_of (codes "ticket" ∷ decimal drawn.ticket ∷ decimal drawn.used ∷ []) ∷ line_of (codes "panel" ∷ member_ids bundle.pool drawn.panel) ∷ []
@@ -68,7 +68,7 @@ part_name part.Charter = codes "charter"
 part_name part.Rules = codes "rules"
 part_name part.Drops = codes "drops"
 
--- a refusal's name, and its value
+-- a refusal's name, then its values
 abbrev pub refusal_fields : Refusal → List (List ℕ)
 refusal_fields (NoRound last) = codes "NoRound" ∷ decimal last ∷ []
 refusal_fields (Incomplete what) = codes "Incomplete" ∷ part_name what ∷ []

@@ -13,14 +13,14 @@ use Rattle.define_offices.specs.declared.Part.TheVariants as part
 use Rattle.define_offices.specs.Commands.{Refusal, NoRound, Incomplete}
 use Rattle.define_offices.specs.Tables.{Charter, Entry, Round, Open, Solved, Sealed, Drawn, Tables, round_at}
 
--- volunteers numbered from a number on, each with another standing, which goes by number and standing
+-- the volunteers, numbered from `i`. Each gets the standing that `other` returns for the volunteer's number and standing so far
 abbrev pub restood : (ℕ → Standing → Standing) → ℕ → List Volunteer → List Volunteer
 restood other i [] = []
 restood other i (volunteer ∷ volunteers) = record volunteer { standing = other i volunteer.standing } ∷ restood other (i + 1) volunteers
 
 -- ---- the next pool
 
--- gone stays gone, who dropped out is gone, the panel's other members are seated, and all others open
+-- whoever is gone stays gone, dropouts are gone, the panel's other members are seated, and everybody else is open
 abbrev pub next_standing : List ℕ → List ℕ → ℕ → Standing → Standing
 next_standing panel drops i standing.Gone = standing.Gone
 next_standing panel drops i standing.Open = if includes drops i then standing.Gone else if includes panel i then standing.Seated else standing.Open
@@ -29,18 +29,18 @@ next_standing panel drops i standing.Seated = if includes drops i then standing.
 abbrev pub restood_pool : (ℕ → Standing → Standing) → Pool → Pool
 restood_pool other pool = record pool { volunteers = restood other 0 pool.volunteers }
 
--- a pool after a panel was drawn and these of its members dropped out
+-- the pool after `panel` was drawn and its members `drops` dropped out
 abbrev pub next_pool : Pool → List ℕ → List ℕ → Pool
 next_pool pool panel drops = restood_pool (next_standing panel drops) pool
 
--- the first number among the drops that isn't the panel's
+-- the first number in `drops` that isn't in `panel`, if there is one
 abbrev pub not_seated : List ℕ → List ℕ → Option ℕ
 not_seated panel [] = None
 not_seated panel (number ∷ drops) = if includes panel number then not_seated panel drops else Some number
 
 -- ---- what a round has drawn
 
--- nothing, by digits that name no ticket; a round that was drawn has others
+-- what the digits draw, or nothing if they name no ticket. The digits of a drawn round always name one
 abbrev pub drawn_or_nothing : Result draws.Drawn draws.Refused → draws.Drawn
 drawn_or_nothing (Ok drawn) = drawn
 drawn_or_nothing (Err refused) = record { ticket = 0; used = 0; panel = [] }
@@ -49,7 +49,7 @@ drawn_or_nothing (Err refused) = record { ticket = 0; used = 0; panel = [] }
 abbrev pub drawn_of : Bundle → List ℕ → draws.Drawn
 drawn_of bundle digits = drawn_or_nothing (drawn_with bundle.answer.lottery (name_ticket bundle.answer.lottery.total digits))
 
--- the numbers of the volunteers with these ids
+-- the numbers of the volunteers whose id is in `ids`
 abbrev pub numbers_of : Pool → List (List ℕ) → List ℕ
 numbers_of pool ids = filter (λ i. includes_list ids (volunteer pool.volunteers i).id) (everybody pool)
 
@@ -74,19 +74,19 @@ first_pool charter categories register = record {
   volunteers = map (volunteer_of categories) register;
 }
 
--- the row of a place has withdrawn
+-- the volunteer of the row at `place`, counted from 0, withdrew
 abbrev pub has_withdrawn : List Entry → ℕ → Bool
 has_withdrawn [] place = false
 has_withdrawn (entry ∷ register) zero = entry.withdrawn
 has_withdrawn (entry ∷ register) (suc place) = has_withdrawn register place
 
--- who is open and has withdrawn is gone
+-- an open volunteer who withdrew is gone; the other standings stay
 abbrev pub after_withdrawals : List Entry → ℕ → Standing → Standing
 after_withdrawals register i standing.Open = standing_of (has_withdrawn register i)
 after_withdrawals register i standing.Seated = standing.Seated
 after_withdrawals register i standing.Gone = standing.Gone
 
--- the pool after a round that was drawn. A round before another one is always drawn
+-- the pool of the round that comes after a drawn one. A round that has another one after it is always drawn, so the other cases don't occur
 abbrev pub pool_after : List Entry → Option Round → Pool
 pool_after register (Some (Drawn bundle digits dropped)) =
     restood_pool (after_withdrawals register) (next_pool bundle.pool (drawn_of bundle digits).panel (numbers_of bundle.pool dropped))
@@ -95,19 +95,19 @@ pool_after register (Some (Solved bundle)) = empty_pool 1
 pool_after register (Some (Sealed bundle)) = empty_pool 1
 pool_after register None = empty_pool 1
 
--- the pool of an open round of a place, counted from 0
+-- the pool of the open round at a place, counted from 0
 abbrev pub open_pool : Charter → List Category → Tables → ℕ → Pool
 open_pool charter categories tables zero = first_pool charter categories tables.register
 open_pool charter categories tables (suc before) = pool_after tables.register (round_at tables.rounds before)
 
--- the pool of a round past open is its bundle's
+-- the pool of the round at `place`: made from the tables if the round is open, else the pool of its bundle
 abbrev pub round_pool : Charter → List Category → Tables → ℕ → Round → Pool
 round_pool charter categories tables place Open = open_pool charter categories tables place
 round_pool charter categories tables place (Solved bundle) = bundle.pool
 round_pool charter categories tables place (Sealed bundle) = bundle.pool
 round_pool charter categories tables place (Drawn bundle digits dropped) = bundle.pool
 
--- with charter and rules, or without
+-- the pool of a round, or which of charter and rules is missing
 abbrev pub pool_by : Option Charter → Option (List Category) → Tables → ℕ → Round → Result Pool Refusal
 pool_by None rules tables place round = Err (Incomplete part.Charter)
 pool_by (Some charter) None tables place round = Err (Incomplete part.Rules)
@@ -117,7 +117,7 @@ abbrev pub pool_if : Tables → ℕ → Option Round → Result Pool Refusal
 pool_if tables place None = Err (NoRound (length tables.rounds))
 pool_if tables place (Some round) = pool_by tables.charter tables.rules tables place round
 
--- the pool of the round of a number, or why there is none
+-- the pool of the round with a number, counted from 1, or why there is none
 abbrev pub pool_of : Tables → ℕ → Result Pool Refusal
 pool_of tables zero = Err (NoRound (length tables.rounds))
 pool_of tables (suc place) = pool_if tables place (round_at tables.rounds place)

@@ -1,4 +1,4 @@
--- A command that is given again: what it answers then.
+-- The replies to a command that is given again.
 use Rattle.std.specs.Prelude.{◌≡◌, List, codes, length, Option, Some, None}
 use Rattle.define_pools.specs.Pool.{Category}
 use Rattle.define_offices.specs.Tables.{Charter, Tables}
@@ -9,16 +9,18 @@ use Rattle.define_offices.specs.Lines.{charter_line, one_line, register_line, ru
 use Rattle.define_offices.specs.Steps.{Comes, LeadThrough, apply, applied}
 use Rattle.std.specs.List.{AllByRecursion}
 
--- charter and rules, at once: they are as they were set
+-- if a charter is answered with a reply, the same charter, given again at once, is answered with `same` and changes nothing
 abbrev pub CharterAgain : Type 0
 CharterAgain = (tables : Tables) (charter : Charter) (change : Option Change) (reply : Reply) → Comes tables (SetCharter charter) (Replies change reply) →
     asked (applied tables change) (SetCharter charter) ≡ IsDecided (tells (charter_line (codes "same")))
 
+-- if rules are answered with a reply, the same rules, given again at once, are answered with `same` and change nothing
 abbrev pub RulesAgain : Type 0
 RulesAgain = (tables : Tables) (rules : List Category) (change : Option Change) (reply : Reply) → Comes tables (SetRules rules) (Replies change reply) →
     asked (applied tables change) (SetRules rules) ≡ IsDecided (tells (rules_line (codes "same")))
 
--- how a later repeat of a command is answered that was answered so: an import of rows counts them as repeated
+-- the reply at `later` tables to a command that had the reply `reply`: an import counts all its rows as repeated; any other reply is the
+-- same
 abbrev pub reply_again : Tables → Command → Reply → Reply
 reply_again later (Register rows) reply = one_line (register_line 0 (length rows) (length later.register))
 reply_again later (SetCharter charter) reply = reply
@@ -32,7 +34,7 @@ reply_again later (NextRound after) reply = reply
 reply_again later (Show number) reply = reply
 reply_again later (Withdraw key) reply = reply
 
--- the command is one whose repeat may come at any later time
+-- true of the commands that may be repeated at any later time: all except a charter and rules
 abbrev pub IsRepeatable : Command → Type 0
 IsRepeatable (SetCharter charter) = ⊥
 IsRepeatable (SetRules rules) = ⊥
@@ -46,7 +48,7 @@ IsRepeatable (NextRound after) = Unit {0}
 IsRepeatable (Show number) = Unit {0}
 IsRepeatable (Withdraw key) = Unit {0}
 
--- a command that made a change, given again after whatever other commands, changes nothing, and is answered as the first time
+-- if a repeatable command made a change, and is given again after any other commands, it changes nothing, and its reply is `reply_again`
 abbrev pub RepeatsChangeNothing : Type 0
 RepeatsChangeNothing = (before : Tables) (command : Command) (change : Change) (reply : Reply) (between : List Command) (later : Tables) → IsRepeatable command →
     IsTables before → IsCommand command → AllByRecursion IsCommand between →

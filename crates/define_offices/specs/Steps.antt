@@ -1,4 +1,4 @@
--- A step of the office, and what a list of commands leaves.
+-- A step of the office, and the tables that a list of commands leaves.
 use Rattle.std.specs.Prelude.{◌≡◌, ℕ, zero, suc, List, [], ◌∷◌, ◌++◌, Option, Some, None, true}
 use Rattle.define_pools.specs.Pool.{Pool}
 use Rattle.define_bundles.specs.BundleText.{Bundle}
@@ -33,7 +33,7 @@ dropped_out id (Solved bundle) = Solved bundle
 dropped_out id (Sealed bundle) = Sealed bundle
 dropped_out id (Drawn bundle digits dropped) = Drawn bundle digits (dropped ++ id ∷ [])
 
--- the row of a place has withdrawn
+-- the register, with the row at a place, counted from 0, marked as withdrawn
 abbrev pub withdrawn_at : List Entry → ℕ → List Entry
 withdrawn_at [] place = []
 withdrawn_at (entry ∷ register) zero = record entry { withdrawn = true } ∷ register
@@ -54,7 +54,7 @@ abbrev pub applied : Tables → Option Change → Tables
 applied tables None = tables
 applied tables (Some change) = apply tables change
 
--- the tables after a command that came to this
+-- the tables after a command with this outcome
 abbrev pub tables_after : Tables → Outcome → Tables
 tables_after tables (Replies change reply) = applied tables change
 tables_after tables (Refuses refusal) = tables
@@ -63,20 +63,20 @@ tables_after tables (Unproved refusal) = tables
 
 -- ---- steps
 
--- the command comes to this
+-- `command` over `tables` has the outcome `outcome`
 pub data Comes (tables : Tables) (command : Command) (outcome : Outcome) : Type 0 where
   AtOnce : asked tables command ≡ IsDecided outcome → Comes tables command outcome
-  -- a solve of an open round comes to what the end of the stated run over its pool comes to
+  -- the outcome of a solve of an open round is decided by the ending of the stated run over the round's pool
   ByRun : (number : ℕ) (limits : Limits) (pool : Pool) (ending : Ending) → command ≡ Solve number limits → asked tables command ≡ NeedsRun pool → RunEnds pool limits ending →
       outcome ≡ solved number pool ending → Comes tables command outcome
 
--- the command leads from tables to tables
+-- `command` leads from the tables `before` to the tables `after`
 pub record Leads (before : Tables) (command : Command) (after : Tables) : Type 0 where
   pub outcome : Outcome
   pub comes : Comes before command outcome
   pub leaves : after ≡ tables_after before outcome
 
--- commands lead from tables to tables, one after the other
+-- the commands, one after the other, lead from the tables `before` to the tables `after`
 abbrev pub LeadThrough : Tables → List Command → Tables → Type 0
 LeadThrough before [] after = after ≡ before
 LeadThrough before (command ∷ later) after = (next : Tables) × (Leads before command next × LeadThrough next later after)

@@ -19,7 +19,7 @@ pub record Entry : Type 0 where
   pub household : Option (List ℕ)
   pub withdrawn : Bool
 
--- a round, by how far it has come: with its bundle, and from the draw on with the digits of the dice and the ids of who dropped out
+-- a round, by its phase: with its bundle, and, once it is drawn, with the digits of the dice and the ids of the volunteers who dropped out
 pub data Round : Type 0 where
   Open : Round
   Solved : (bundle : Bundle) → Round
@@ -42,26 +42,26 @@ phase_of (Solved bundle) = phase.Solved
 phase_of (Sealed bundle) = phase.Sealed
 phase_of (Drawn bundle digits dropped) = phase.Drawn
 
--- the bundle that a round keeps
+-- the bundle that a round keeps, if it has one
 abbrev pub bundle_of : Round → Option Bundle
 bundle_of Open = None
 bundle_of (Solved bundle) = Some bundle
 bundle_of (Sealed bundle) = Some bundle
 bundle_of (Drawn bundle digits dropped) = Some bundle
 
--- the round of a place, counted from 0
+-- the round at a place, counted from 0, if there is one
 abbrev pub round_at : List Round → ℕ → Option Round
 round_at [] place = None
 round_at (round ∷ rounds) zero = Some round
 round_at (round ∷ rounds) (suc place) = round_at rounds place
 
--- rounds of which the one of a place is changed so
+-- the rounds, with `change` applied to the round at a place, counted from 0
 abbrev pub changed_at : (Round → Round) → List Round → ℕ → List Round
 changed_at change [] place = []
 changed_at change (round ∷ rounds) zero = change round ∷ rounds
 changed_at change (round ∷ rounds) (suc place) = round ∷ changed_at change rounds place
 
--- the round of a number
+-- the round with a number, counted from 1, if there is one
 abbrev pub named_round : List Round → ℕ → Option Round
 named_round rounds zero = None
 named_round rounds (suc place) = round_at rounds place

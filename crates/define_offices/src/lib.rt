@@ -1,8 +1,7 @@
-//! The office as a small machine, in definitions: its tables and the facts that they keep, its commands, what each command answers and
-//! changes, and what a list of commands leaves. The definitions are in `specs/`. Stands on the definitions of pools, bundles, draws, runs
-//! and proofs. `laws_of_offices` and `office_core` stand on it.
-//!
-//! The functions have no body: their contracts are worked examples.
+//! The office as a small machine, in definitions: its tables and the facts that hold of them, its commands, what each command answers and
+//! changes, and the tables that a list of commands leaves. The definitions are in `specs/`. Stands on the definitions of pools, bundles,
+//! draws, runs and proofs. `laws_of_offices` proves laws over it; `rounds` and the `office_*` crates implement it. The functions have no
+//! body: their contracts are worked examples, no promises.
 #![tactic(auto)]
 
 ghost use Rattle.std.specs.Prelude.{◌≡◌, ◌++◌, [], ◌∷◌, codes, Ok, Err, Some, None};
@@ -45,7 +44,8 @@ pub enum Part {
     Drops,
 }
 
-/// Rules and four rows are imported: again, with one row of another value, and with a fifth row of a key that another row has.
+/// Rules and four rows are imported. The rows are imported again, then with another value in one row, then with a fifth row that has the
+/// key of another row.
 pub fn worked_imports()
     ensures rules { asked first_tables (SetRules rules) ≡ IsDecided (changes (RulesSet rules) (line_of (codes "rules" ∷ codes "set" ∷ []))) }
     ensures again { asked with_rules (SetRules rules) ≡ IsDecided (tells (line_of (codes "rules" ∷ codes "same" ∷ []))) }
@@ -73,7 +73,7 @@ pub fn worked_first_round()
     ensures no_such_round { asked (in_rounds (drawn [] ∷ [])) (Solve 9 (limits 127 100 100)) ≡ IsDecided (Refuses (NoRound 1)) }
 {}
 
-/// One of the panel drops out. The pool of the second round has the other one seated, and its answer is kept.
+/// One of the panel drops out. In the pool of the second round the other member is seated, and the answer of that pool is kept.
 pub fn worked_second_round()
     ensures not_seated { asked (in_rounds (drawn [] ∷ [])) (Drop 1 (codes "b")) ≡ IsDecided (Refuses (NotSeated (codes "b"))) }
     ensures no_drops { asked (in_rounds (drawn [] ∷ [])) (NextRound 1) ≡ IsDecided (Refuses (Incomplete part.Drops)) }
@@ -90,8 +90,8 @@ pub fn worked_second_round()
     ensures unknown { asked (in_rounds (drawn (codes "a" ∷ []) ∷ Open ∷ [])) (Withdraw (codes "k5")) ≡ IsDecided (Refuses UnknownKey) }
 {}
 
-/// Proofs for the first round, whoever made them: a valid one is kept, and one that is refused, or is of another pool, changes nothing. Nor does a
-/// valid proof that there is no quota panel, and what has an answer keeps it.
+/// Proofs for the first round, whoever made them. A valid proof of the round's pool is kept. A proof that is refused, or of another pool,
+/// changes nothing, nor does a valid proof that there is no quota panel. A round that has an answer keeps it.
 pub fn worked_proofs()
     ensures no_charter { asked with_rows (Keep 1 (four_proof four_trees)) ≡ IsDecided (Refuses (Incomplete part.Charter)) }
     ensures kept { asked ready (Keep 1 (four_proof four_trees)) ≡ IsDecided (changes (SolvedWith 1 first_bundle) (line_of (codes "solved" ∷ codes "1" ∷ codes "2" ∷ codes "2" ∷ []))) }

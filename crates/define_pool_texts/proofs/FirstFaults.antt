@@ -25,12 +25,13 @@ use Rattle.define_pool_texts.proofs.LowestKinds.{not_the_end, lowest_is, line_ki
 use Rattle.define_pool_texts.proofs.ReadAgain.{spelled_is_read}
 use Rattle.define_pool_texts.proofs.Spelled.{IsRight, IsRightInside, own_version, lines_so_far, line_adds}
 
--- each of the lines has no fault, after those before it
+-- no line has a fault at the progress that the lines before it lead to
 abbrev Passes : Progress → List (List ℕ) → Type 0
 Passes progress [] = Unit {0}
 Passes progress (line ∷ lines) = (line_kind progress line ≡ None) × Passes (after_line progress line) lines
 
--- lines without a fault lead to a right progress, and add themselves to the lines so far
+-- if a progress is right and the lines after it have no fault, the progress after them is right, and its lines are the earlier ones with
+-- these appended
 passed : (progress : Progress) (lines : List (List ℕ)) → IsRight progress → Passes progress lines →
     IsRight (after_lines progress lines) × (lines_so_far (after_lines progress lines) ≡ lines_so_far progress ++ lines)
 passed progress [] right h = (right, sym (append-nil (lines_so_far progress)))
@@ -39,7 +40,7 @@ passed progress (line ∷ lines) right h =
     let rest = passed (after_line progress line) lines step.0 h.1 in
     (rest.0, rest.1 ∙ (ap (λ stood. stood ++ lines) step.1 ∙ append_assoc (lines_so_far progress) (line ∷ []) lines))
 
--- the text of a pool begins with the first of its lines
+-- if the lines of a pool, with its end, are `lines` and others after them, `lines` begin a pool's text
 begins : (pool : Pool) (lines rest : List (List ℕ)) → IsPool pool → lines_before_end pool ++ end_line ∷ [] ≡ lines ++ rest → BeginsPoolText lines
 begins pool lines rest has same = (pool, text_of rest, has, ap text_of same ∙ flat_map-append (λ line. line ++ line_feed ∷ []) lines rest)
 
@@ -54,7 +55,7 @@ version_begins true =
     begins lodger (version_line true ∷ []) _ (record { size = refl; few_categories = refl; categories = refl; different_categories = refl; few_volunteers = refl; ids = refl; different_ids = refl; values = refl; households = refl }) refl
 version_begins false = begins (empty_pool 1) (version_line false ∷ []) (size_line 1 ∷ end_line ∷ []) (IsPool-empty_pool 1 refl) refl
 
--- the right lines between the size and the end are those of the pool in its own version, or the first household line is due
+-- the right lines between the size and the end are those of the pool in its own version, or the first household line is still missing
 own_or_awaits : (pool : Pool) (passed : Passed) → IsRightInside pool passed → (lines_in passed.second pool ≡ lines_before_end pool) ⊎ AwaitsHousehold (lines_in passed.second pool)
 own_or_awaits pool passed right =
     (elim (awaits_household passed) as (λ b. awaits_household passed ≡ b → (lines_in passed.second pool ≡ lines_before_end pool) ⊎ AwaitsHousehold (lines_in passed.second pool)) [
@@ -64,7 +65,7 @@ own_or_awaits pool passed right =
           inr (pool, right.is_pool, right.housed ∙ ap (ltb 0) (eqb-true passed.households 0 parts.1), ap (λ second. lines_in second pool) parts.0)
     ]) refl
 
--- the lines so far begin some pool's text, or the first household line is due
+-- the lines so far begin some pool's text, or the first household line is still missing
 stands : (progress : Progress) → IsRight progress → BeginsPoolText (lines_so_far progress) ⊎ AwaitsHousehold (lines_so_far progress)
 stands Begun right = inl (begins (empty_pool 1) [] (lines_before_end (empty_pool 1) ++ end_line ∷ []) (IsPool-empty_pool 1 refl) refl)
 stands (Versioned second) right = inl (version_begins second)
@@ -75,7 +76,8 @@ stands (Inside pool passed) right =
     ]
 stands (Ended pool) right = inl (begins pool (lines_before_end pool ++ end_line ∷ []) [] right (sym (append-nil (lines_before_end pool ++ end_line ∷ []))))
 
--- if there are at least two lines so far, they are a pool's text, or are one once the end is added, or the first household line is due
+-- if there are at least two lines so far, they are a pool's text, or are one once the end is added, or the first household line is still
+-- missing
 closed : (progress : Progress) → IsRight progress → 1 < length (lines_so_far progress) →
     IsPoolText (text_of (lines_so_far progress)) ⊎ IsPoolText (text_of (lines_so_far progress ++ end_line ∷ [])) ⊎ AwaitsHousehold (lines_so_far progress)
 closed Begun right more = absurd (omega arith)
@@ -87,7 +89,7 @@ closed (Inside pool passed) right more =
     ]
 closed (Ended pool) right more = inl (pool, right, refl)
 
--- where the reading of pieces stops: after right lines, at a line with a fault, or at the last piece since the end is missing
+-- the reading of pieces stops after right lines: at a line with a fault, or at the last piece since the end is missing
 record Stops (number : ℕ) (progress : Progress) (pieces : List (List ℕ)) (fault : Fault) : Type 0 where
   before : List (List ℕ)
   line : List ℕ
@@ -140,7 +142,7 @@ stops_at bytes fault h =
     let some = some_piece bytes in
     subst (λ pieces. Stops 1 Begun pieces fault) (sym some.2) (stops 1 Begun some.0 some.1 fault (ap (read_lines reader 1 Begun) (sym some.2) ∙ h))
 
--- the lines before the faulty one, and those up to it
+-- if the reading stops at `fault` after the lines `before`, these are the lines before the faulty one
 before_is : (bytes : List ℕ) (fault : Fault) (at : Stops 1 Begun (pieces_of bytes) fault) → lines_before fault bytes ≡ at.before
 before_is bytes fault at =
     let n : fault.line - 1 ≡ length at.before = let p = at.place in omega arith in
@@ -170,7 +172,8 @@ before_is_closed bytes fault h third =
     subst (λ lines. IsPoolText (text_of lines) ⊎ IsPoolText (text_of (lines ++ end_line ∷ [])) ⊎ AwaitsHousehold lines) same
     (closed (after_lines Begun at.before) stood.0 (let p = at.place in omega (arith, size)))
 
--- right lines, then a line with a fault, then at least one piece have a first fault, whatever these pieces are
+-- if the lines `before` are right and `line` has a fault after them, the reading of `before`, `line` and at least one more piece finds a
+-- fault
 fault_again : (number : ℕ) (progress : Progress) (before : List (List ℕ)) (line next : List ℕ) (later : List (List ℕ)) (kind : ℕ) → Passes progress before → line_kind (after_lines progress before) line ≡ Some kind →
     (fault : Fault) × (read_lines reader number progress (before ++ line ∷ next ∷ later) ≡ Err fault)
 fault_again number progress [] line next later kind h k =

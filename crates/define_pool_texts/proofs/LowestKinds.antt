@@ -25,12 +25,12 @@ lowest_kind-append ((kind, false) ∷ first) second = lowest_kind-append first s
 abbrev pub encoding_kind : List ℕ → Option ℕ
 encoding_kind line = lowest_kind ((11, not (is_utf8 line)) ∷ [])
 
--- a line's kind is that of its entry, or if there is none, that of its encoding
+-- a line's kind is that of its entry, or, if the entry has no fault, that of its encoding
 pub line_kind_of : (pool : Pool) (passed : Passed) (line : List ℕ) →
     line_kind (Inside pool passed) line ≡ kind_or (entry_kind pool passed (entry_of (fields_of line))) (encoding_kind line)
 line_kind_of pool passed line = lowest_kind-append (entry_kinds pool passed (entry_of (fields_of line))) ((11, not (is_utf8 line)) ∷ [])
 
--- if all kinds of a list are above `least`, each of them that applies is
+-- if all kinds of a list are above `least`, so is each kind that applies
 above_all : (kinds : List (ℕ × Bool)) (least other : ℕ) → list_all (λ y. ltb least y) (map (λ k. k.0) kinds) ≡ true → applies_among kinds other ≡ true → least < other
 above_all [] least other h k = absurd (false≢true k)
 above_all ((kind, test) ∷ kinds) least other h k =
@@ -80,7 +80,7 @@ entry_kinds_rise pool passed (OfStanding standing id) last = refl
 entry_kinds_rise pool passed TheEnd last = refl
 entry_kinds_rise pool passed Unknown last = refl
 
--- the kinds of a line rise
+-- the kinds of fault that a line may have are in rising order
 pub line_kinds_rise : (progress : Progress) (line : List ℕ) → is_increasing (map (λ k. k.0) (line_kinds progress line)) ≡ true
 line_kinds_rise Begun line = refl
 line_kinds_rise (Versioned second) line = refl

@@ -1,4 +1,4 @@
--- A name is a field.
+-- Names can be fields of a line.
 use Rattle.std.proofs.Common.{◌≡◌, ℕ, ◌<◌, true, false, not, ◌&&◌, eqb, leb, List, [], ◌∷◌, lit<, arith}
 use Rattle.std.specs.List.{AllByRecursion, list_all}
 use Rattle.std.specs.Str.{is_utf8}

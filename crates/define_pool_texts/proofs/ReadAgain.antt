@@ -29,11 +29,12 @@ use Rattle.define_lines.proofs.NumberLemmas.{bytes_same, number_again}
 use Rattle.define_pool_texts.proofs.NameFields.{name_field}
 use Rattle.define_pool_texts.proofs.LowestKinds.{kind_or, encoding_kind, line_kind_of}
 
--- none of these lines has an LF or a fault, and they lead from one progress to another
+-- no line has an LF or a fault, and the lines lead from the first progress to the second
 abbrev pub Runs : Progress → List (List ℕ) → Progress → Type 0
 Runs = reading.Runs reader
 
--- the line of fields that are read as an entry, without a fault, leads on to the progress after this entry
+-- if fields are read as an entry without a fault, and `lines` lead from the progress after this entry to `after`, then the fields' line and
+-- `lines` lead to `after` from the progress before the entry
 run_entry : (pool : Pool) (passed : Passed) (field : List ℕ) (fields : List (List ℕ)) (entry : Entry) (lines : List (List ℕ)) (after : Progress) → AllByRecursion IsField (field ∷ fields) →
     entry_of (field ∷ fields) ≡ entry → entry_kind pool passed entry ≡ None → Runs (after_entry pool passed entry) lines after → Runs (Inside pool passed) (line_of (field ∷ fields) ∷ lines) after
 run_entry pool passed field fields entry lines after are e none rest =
@@ -47,7 +48,7 @@ run_entry pool passed field fields entry lines after are e none rest =
       subst (λ said. Runs (after_entry pool passed said) lines after) (sym same) rest,
     )
 
--- if names are all different, a name isn't among those before it
+-- if names are all different, no name is among those before it
 new_among : (before : List (List ℕ)) (name : List ℕ) (later : List (List ℕ)) → all_different (before ++ name ∷ later) ≡ true → includes_list before name ≡ false
 new_among [] name later h = refl
 new_among (first ∷ before) name later h =
@@ -78,7 +79,7 @@ with_value-push (first ∷ next ∷ later) category value = ap (λ rest. first �
 bound_again : (n : ℕ) → n ≤ 999 → bound_of (decimal n) ≡ n
 bound_again n h = ap (λ o. unwrap_or o 1000) (number_again 999 n (omega arith) h)
 
--- a value with a new name, within its limits, has no fault if its category has room
+-- if a value has a new name and is within its limits, and its category has room, it has no fault
 value_is_new : (size : ℕ) (before : List Category) (name : List ℕ) (values : List BoundedValue) (value : BoundedValue) →
     includes_list (value_names values) value.name ≡ false → is_value value ≡ true → length values < 50 → value_kind (made size (before ++ named name values ∷ []) []) value ≡ None
 value_is_new size before name values value new is room =
@@ -114,7 +115,7 @@ values_run second size before name done (value ∷ todo) are different few =
     said (value_is_new size before name done value new parts.0 (omega (arith, sizes)))
     (subst (λ categories. Runs (Inside (made size categories []) (none_passed second)) (map value_line todo) after) (sym (with_value-push before (named name done) value)) rest_to)
 
--- what is known of a category
+-- the parts of `is_category`: a right name, and at most 50 right values with different names
 record IsCategory (category : Category) : Type 0 where
   name : is_name category.name ≡ true
   few : length category.values ≤ 50
@@ -152,7 +153,7 @@ categories_run second size done (category ∷ todo) are different few =
     run_entry (made size done []) (none_passed second) (codes "category") (category.name ∷ []) (OfCategory category.name) (map value_line category.values ++ flat_map category_lines todo) after
     (plain_field (codes "category") refl, (name_field category.name is.name, tt)) refl (category_is_new size done category.name new is.name (omega (arith, sizes))) all
 
--- a name that isn't in a list differs from the name at each place; so if names are all different, each is found at its own place
+-- if `name` isn't in `names`, it differs from the name at each place
 absent_at : (names : List (List ℕ)) (name : List ℕ) (i : ℕ) → includes_list names name ≡ false → i < length names → bytes_eq name (get_or names i []) ≡ false
 absent_at [] name i h l = absurd (omega arith)
 absent_at (first ∷ names) name zero h l = (or_parts (bytes_eq name first) (includes_list names name) h).0
@@ -179,7 +180,7 @@ name_at_is_field (value ∷ values) zero h l =
     name_field value.name (and_parts (is_name value.name) (are_bounds value.lower value.upper) (and_parts (is_value value) (list_all is_value values) h).0).0
 name_at_is_field (value ∷ values) (suc place) h l = name_at_is_field values place (and_parts (is_value value) (list_all is_value values) h).1 (omega arith)
 
--- what is known of the names at a volunteer's places
+-- the names at a volunteer's places are known, one for each category; their places are these places; and each is a field
 record AreNamesAt (categories : List Category) (places : List ℕ) : Type 0 where
   known : are_known categories (names_at categories places) ≡ true
   each : length (names_at categories places) ≡ length categories
@@ -212,11 +213,11 @@ volunteer_is_new pool id names known each new is room =
     let few : leb 400 (length pool.volunteers) ≡ false = lt-leb 400 (length pool.volunteers) room in
     rw (known, same, new, limits, few) refl
 
--- a volunteer as their own line leaves them: open, without a household
+-- the volunteer as the volunteer's own line leaves them: open, without a household
 abbrev opened : Volunteer → Volunteer
 opened volunteer = record { id = volunteer.id; values = volunteer.values; standing = Open; household = None }
 
--- a volunteer as their own line and their household line leave them: open, with their household
+-- the volunteer as the volunteer's own line and household line leave them: open, with the household
 abbrev lodged : Volunteer → Volunteer
 lodged volunteer = record { id = volunteer.id; values = volunteer.values; standing = Open; household = volunteer.household }
 
@@ -247,7 +248,7 @@ volunteers_run second size categories done (volunteer ∷ todo) are names have d
     (volunteer_is_new pool volunteer.id given at.known at.each new name.0 (omega arith))
     (subst (λ p. Runs (Inside p (none_passed second)) (map (volunteer_line categories) todo) after) (sym again) rest_to)
 
--- a volunteer who comes after others with other ids is found by the id
+-- if a volunteer's id isn't among the ids before, the volunteer is found by the id
 found_behind : (done later : List Volunteer) (volunteer : Volunteer) → includes_list (ids done) volunteer.id ≡ false → number_of (done ++ volunteer ∷ later) volunteer.id ≡ Some (length done)
 found_behind done later volunteer new =
     let all = done ++ volunteer ∷ later in
@@ -280,7 +281,7 @@ ids_behind : (done : List Volunteer) (volunteer same : Volunteer) (todo : List V
 ids_behind done volunteer same todo e =
     ap (λ names. names ++ ids todo) (map-append (λ v. v.id) done (same ∷ [])) ∙ (append_assoc (ids done) (same.id ∷ []) (ids todo) ∙ ap (λ id. ids done ++ id ∷ ids todo) e)
 
--- the household lines, after the volunteers' lines, in a text of version 2
+-- ---- the household lines, after the volunteers' lines, in a text of version 2
 module _ (size : ℕ) (categories : List Category) where
   -- the progress with these volunteers, of whom household lines have passed the first `passed`
   housing : ℕ → List Volunteer → Progress
@@ -293,7 +294,7 @@ module _ (size : ℕ) (categories : List Category) where
       (last : ℕ) × (passed ≤ last) × (list_any (λ (v : Volunteer). is_some v.household) todo ≡ true → 0 < last)
       × Runs (housing passed (done ++ map opened todo)) (household_lines todo) (housing last (done ++ map lodged todo))
 
-  -- `Houses` holds with one more volunteer in front of `todo`, who has a household
+  -- if `Houses` holds after a volunteer who has a household, it holds with this volunteer in front of `todo`
   one_houses : (done todo : List Volunteer) (volunteer : Volunteer) (passed : ℕ) (name : List ℕ) → passed ≤ length done → all_different (ids done ++ volunteer.id ∷ ids todo) ≡ true →
       is_name volunteer.id ≡ true → is_name name ≡ true → Some name ≡ volunteer.household → Houses (done ++ lodged volunteer ∷ []) todo (length done + 1) → Houses done (volunteer ∷ todo) passed
   unfolding Houses housing
@@ -324,7 +325,7 @@ module _ (size : ℕ) (categories : List Category) where
       let more : length done + 1 ≤ last = rest.1 in
       (last, omega arith, (λ some. omega arith), subst (λ h. Runs (Inside pool at) (household_line h volunteer.id ++ household_lines todo) after) same runs)
 
-  -- `Houses` holds with one more volunteer in front of `todo`, who has no household
+  -- if `Houses` holds after a volunteer who has no household, it holds with this volunteer in front of `todo`
   alone_houses : (done todo : List Volunteer) (volunteer : Volunteer) (passed : ℕ) → None ≡ volunteer.household → Houses (done ++ lodged volunteer ∷ []) todo passed → Houses done (volunteer ∷ todo) passed
   unfolding Houses housing
   alone_houses done todo volunteer passed same rest =
@@ -374,7 +375,7 @@ none_housed (volunteer ∷ volunteers) h =
     no_household None k = refl
     no_household (Some name) k = cc
 
--- in the pool's own version, its household lines lead to a progress at which no household line is due
+-- in the pool's own version, its household lines lead to a progress at which no household line is missing
 pool_houses : (pool : Pool) → IsPool pool → (second : Bool) → has_households pool ≡ second →
     (households : ℕ) × ((second && eqb households 0) ≡ false)
     × Runs (Inside (made pool.size pool.categories (map opened pool.volunteers)) (none_passed second)) (household_lines pool.volunteers)
@@ -391,7 +392,7 @@ pool_houses pool is false none =
           (sym alone.0) (ap (λ volunteers. Inside (made pool.size pool.categories volunteers) (none_passed false)) alone.1),
     )
 
--- the standing lines, after the household lines, at a progress at which no household line is due
+-- ---- the standing lines, after the household lines, at a progress at which no household line is missing
 module _ (size : ℕ) (categories : List Category) (second : Bool) (households : ℕ) (due : (second && eqb households 0) ≡ false) where
   -- how far the lines have come if standing lines have passed the first `passed` volunteers
   standing_at : ℕ → Passed
@@ -402,7 +403,7 @@ module _ (size : ℕ) (categories : List Category) (second : Bool) (households :
   Leads : List Volunteer → List Volunteer → ℕ → Type 0
   Leads done todo passed = (last : ℕ) × Runs (Inside (made size categories (done ++ map lodged todo)) (standing_at passed)) (standing_lines todo) (Inside (made size categories (done ++ todo)) (standing_at last))
 
-  -- `Leads` holds with one more volunteer in front of `todo`, who isn't open
+  -- if `Leads` holds after a volunteer who isn't open, it holds with this volunteer in front of `todo`
   one_leads : (done todo : List Volunteer) (volunteer : Volunteer) (passed : ℕ) (word : List ℕ) (standing : Standing) → passed ≤ length done → all_different (ids done ++ volunteer.id ∷ ids todo) ≡ true →
       IsField word → is_name volunteer.id ≡ true → entry_of (word ∷ volunteer.id ∷ []) ≡ OfStanding standing volunteer.id → standing ≡ volunteer.standing →
       standing_line volunteer.standing volunteer.id ≡ line_of (word ∷ volunteer.id ∷ []) ∷ [] →
@@ -433,7 +434,7 @@ module _ (size : ℕ) (categories : List Category) (second : Bool) (households :
       (subst (λ progress. Runs progress (standing_lines todo) after) (sym goes) rest_to) in
       (last, subst (λ lines. Runs (Inside pool at) (lines ++ standing_lines todo) after) (sym line) runs)
 
-  -- `Leads` holds with one more volunteer in front of `todo`, who is open
+  -- if `Leads` holds after a volunteer who is open, it holds with this volunteer in front of `todo`
   open_leads : (done todo : List Volunteer) (volunteer : Volunteer) (passed : ℕ) → Open ≡ volunteer.standing → Leads (done ++ volunteer ∷ []) todo passed → Leads done (volunteer ∷ todo) passed
   unfolding Leads standing_at
   open_leads done todo volunteer passed same rest =
@@ -467,12 +468,12 @@ module _ (size : ℕ) (categories : List Category) (second : Bool) (households :
             (ap (λ s. standing_line s volunteer.id) (sym same)) behind
       ]) refl
 
--- the first line leads to the progress after it, in its version
+-- the first line of a version, read from the beginning, leads to `Versioned`
 version_runs : (second : Bool) (lines : List (List ℕ)) (after : Progress) → Runs (Versioned second) lines after → Runs Begun (version_line second ∷ lines) after
 version_runs true lines after runs = (line_lacks_feed (codes "pool" ∷ codes "2" ∷ []) (plain_field (codes "pool") refl, (plain_field (codes "2") refl, tt)), refl, runs)
 version_runs false lines after runs = (line_lacks_feed (codes "pool" ∷ codes "1" ∷ []) (plain_field (codes "pool") refl, (plain_field (codes "1") refl, tt)), refl, runs)
 
--- the lines of a pool lead to its end
+-- the lines of a pool's text, read from the beginning, lead to `Ended` with this pool
 pub pool_runs : (pool : Pool) → IsPool pool → Runs Begun (lines_before_end pool ++ end_line ∷ []) (Ended pool)
 pool_runs pool is =
     let size = pool.size in

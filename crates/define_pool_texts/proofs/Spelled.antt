@@ -28,7 +28,7 @@ use Rattle.define_lines.proofs.LineLemmas.{each_field_is_utf8, line_of-fields_of
 use Rattle.define_lines.proofs.NumberLemmas.{bytes_are, number_spelled}
 use Rattle.define_pool_texts.proofs.LowestKinds.{kind_or, encoding_kind, line_kind_of}
 
--- if there is no first of two kinds, there is neither of them
+-- if `kind_or` of two kinds is None, both are None
 pub neither : (first second : Option ℕ) → kind_or first second ≡ None → (first ≡ None) × (second ≡ None)
 neither None second h = (refl, h)
 neither (Some kind) second h = cc
@@ -40,7 +40,7 @@ lines_so_far (Versioned second) = version_line second ∷ []
 lines_so_far (Inside pool passed) = lines_in passed.second pool
 lines_so_far (Ended pool) = lines_before_end pool ++ end_line ∷ []
 
--- the line that says an entry; an open standing has none
+-- the line of an entry; an open standing has none
 abbrev pub entry_lines : Entry → List (List ℕ)
 entry_lines (OfCategory name) = line_of (codes "category" ∷ name ∷ []) ∷ []
 entry_lines (OfValue value) = value_line value ∷ []
@@ -63,7 +63,7 @@ bounds_in_range lower upper h =
     let parts = and_parts (leb lower upper) (leb upper 999) h in
     let a = leb-true lower upper parts.0 in let b = leb-true upper 999 parts.1 in (omega arith, omega arith)
 
--- how a word is spelled
+-- `first` is the spelling of the word
 abbrev IsWord : List ℕ → Word → Type 0
 IsWord first CategoryWord = first ≡ codes "category"
 IsWord first ValueWord = first ≡ codes "value"
@@ -88,7 +88,7 @@ is_word first word h =
         same : (one : Word) → Some one ≡ Some word → one ≡ word
         same one l = cc
 
--- the line of fields that say a right entry is the entry's line
+-- if fields are read as an entry without a fault, their line is the entry's line
 module _ (pool : Pool) (passed : Passed) where
   Spells : List (List ℕ) → Entry → Type 0
   Spells fields entry = entry_kind pool passed entry ≡ None → line_of fields ∷ [] ≡ entry_lines entry
@@ -131,7 +131,7 @@ module _ (pool : Pool) (passed : Passed) where
         | Some word ↦ λ e. spells word first fields (is_word first word e)
       ]) refl h
 
--- the lines of the categories, if the last category gets one more value
+-- if the last category gets one more value, the lines of the categories get one more line, the value's
 flat_map-with_value : (categories : List Category) (value : BoundedValue) → (length categories ≡ 0 → ⊥) →
     flat_map category_lines (with_value categories value) ≡ flat_map category_lines categories ++ value_line value ∷ []
 flat_map-with_value [] value some = absurd (some refl)
@@ -144,13 +144,13 @@ flat_map-with_value (category ∷ next ∷ later) value some =
     ap (λ lines. category_lines category ++ lines) (flat_map-with_value (next ∷ later) value (λ e. omega arith))
     ∙ sym (append_assoc (category_lines category) (flat_map category_lines (next ∷ later)) (value_line value ∷ []))
 
--- the name at the place of a known name is this name
+-- if a name is among the values' names, the name at its place is this name
 name_at_place : (values : List BoundedValue) (name : List ℕ) → includes_list (value_names values) name ≡ true → get_or (value_names values) (unwrap_or (place_of values name) 0) [] ≡ name
 name_at_place values name h =
     let known = place_at values name h in
     ap (λ place. get_or (value_names values) (unwrap_or place 0) []) known.1 ∙ known.3
 
--- the names at the places of known names are these names
+-- if each name is known in its category, the names at their places are these names
 pub names_at-places_of : (categories : List Category) (names : List (List ℕ)) → are_known categories names ≡ true → length names ≡ length categories → names_at categories (places_of categories names) ≡ names
 names_at-places_of [] [] known e = refl
 names_at-places_of [] (name ∷ names) known e = absurd (omega arith)
@@ -160,7 +160,7 @@ names_at-places_of (category ∷ categories) (name ∷ names) known e =
     let rest = names_at-places_of categories names parts.1 (omega arith) in
     let here = name_at_place category.values name parts.0 in cc
 
--- if there are no volunteers, one more line of the categories is one more line of all
+-- if there are no volunteers, a line appended to the categories' lines is appended to all lines
 under_nobody : (f g : Volunteer → List ℕ) (volunteers : List Volunteer) (after before : List (List ℕ)) (line : List ℕ) →
     volunteers ≡ [] → after ≡ before ++ line ∷ [] →
     ((after ++ map f volunteers) ++ household_lines volunteers) ++ standing_lines volunteers ≡ (((before ++ map g volunteers) ++ household_lines volunteers) ++ standing_lines volunteers) ++ line ∷ []
@@ -170,13 +170,13 @@ under_nobody f g [] after before line e h = nils after ∙ (h ∙ ap (λ lines. 
     nils lines = append-nil ((lines ++ []) ++ []) ∙ (append-nil (lines ++ []) ∙ append-nil lines)
 under_nobody f g (volunteer ∷ volunteers) after before line e h = cc
 
--- the standing has no line
+-- true if the standing is open; only then it has no line
 abbrev pub is_open : Standing → Bool
 is_open Open = true
 is_open Seated = false
 is_open Gone = false
 
--- all volunteers from this number on are open
+-- all volunteers from `number` on are open
 abbrev pub open_from : ℕ → List Volunteer → Bool
 open_from number volunteers = list_all (λ (volunteer : Volunteer). is_open volunteer.standing) (drop number volunteers)
 
@@ -193,7 +193,8 @@ no_lines (volunteer ∷ volunteers) h =
     let parts = and_parts (is_open volunteer.standing) (open_from 0 volunteers) h in
     rw (no_line volunteer.standing volunteer.id parts.0) (no_lines volunteers parts.1)
 
--- to set the standing of a volunteer whom no standing line has passed adds one standing line
+-- if the volunteers from `passed` on are open, and `number` is at least `passed`, setting the standing of volunteer `number` appends the
+-- line of this standing, if it has one, to the standing lines
 one_standing : (volunteers : List Volunteer) (passed number : ℕ) (standing : Standing) (d : Volunteer) → open_from passed volunteers ≡ true → passed ≤ number → number < length volunteers →
     standing_lines (with_standing volunteers number standing) ≡ standing_lines volunteers ++ standing_line standing (get_or volunteers number d).id
 one_standing [] passed number standing d h l m = absurd (omega arith)
@@ -209,7 +210,8 @@ one_standing (volunteer ∷ volunteers) (suc passed) (suc number) standing d h l
     ap (λ lines. standing_line volunteer.standing volunteer.id ++ lines) (one_standing volunteers passed number standing d h (omega arith) (omega arith))
     ∙ sym (append_assoc (standing_line volunteer.standing volunteer.id) (standing_lines volunteers) (standing_line standing (get_or volunteers number d).id))
 
--- after the volunteer whose standing is set, all are open as before
+-- if the volunteers from `passed` on are open, and the standing of a volunteer `number`, at least `passed`, is set, then those after this
+-- volunteer are open
 open_behind : (volunteers : List Volunteer) (passed number : ℕ) (standing : Standing) → open_from passed volunteers ≡ true → passed ≤ number → open_from (suc number) (with_standing volunteers number standing) ≡ true
 open_behind [] passed number standing h l = refl
 open_behind (volunteer ∷ volunteers) zero zero standing h l = (and_parts (is_open volunteer.standing) (open_from 0 volunteers) h).1
@@ -218,7 +220,7 @@ open_behind (volunteer ∷ volunteers) zero (suc number) standing h l =
 open_behind (volunteer ∷ volunteers) (suc passed) zero standing h l = absurd (omega arith)
 open_behind (volunteer ∷ volunteers) (suc passed) (suc number) standing h l = open_behind volunteers passed number standing h (omega arith)
 
--- all volunteers from this number on have no household
+-- no volunteer from `number` on has a household
 abbrev pub alone_from : ℕ → List Volunteer → Bool
 alone_from number volunteers = list_all (λ (volunteer : Volunteer). not (is_some volunteer.household)) (drop number volunteers)
 
@@ -234,7 +236,8 @@ no_houses (volunteer ∷ volunteers) h =
     let parts = and_parts (not (is_some volunteer.household)) (alone_from 0 volunteers) h in
     rw (no_house volunteer.household volunteer.id parts.0) (no_houses volunteers parts.1)
 
--- to set the household of a volunteer whom no household line has passed adds one household line
+-- if the volunteers from `passed` on have no household, and `number` is at least `passed`, setting the household of volunteer `number`
+-- appends its line to the household lines
 one_household : (volunteers : List Volunteer) (passed number : ℕ) (name : List ℕ) (d : Volunteer) → alone_from passed volunteers ≡ true → passed ≤ number → number < length volunteers →
     household_lines (with_household volunteers number name) ≡ household_lines volunteers ++ household_line (Some name) (get_or volunteers number d).id
 one_household [] passed number name d h l m = absurd (omega arith)
@@ -250,7 +253,8 @@ one_household (volunteer ∷ volunteers) (suc passed) (suc number) name d h l m 
     ap (λ lines. household_line volunteer.household volunteer.id ++ lines) (one_household volunteers passed number name d h (omega arith) (omega arith))
     ∙ sym (append_assoc (household_line volunteer.household volunteer.id) (household_lines volunteers) (household_line (Some name) (get_or volunteers number d).id))
 
--- after the volunteer whose household is set, nobody has a household, as before
+-- if the volunteers from `passed` on have no household, and that of a volunteer `number`, at least `passed`, is set, then those after this
+-- volunteer have none
 alone_behind : (volunteers : List Volunteer) (passed number : ℕ) (name : List ℕ) → alone_from passed volunteers ≡ true → passed ≤ number → alone_from (suc number) (with_household volunteers number name) ≡ true
 alone_behind [] passed number name h l = refl
 alone_behind (volunteer ∷ volunteers) zero zero name h l = (and_parts (not (is_some volunteer.household)) (alone_from 0 volunteers) h).1
@@ -259,7 +263,7 @@ alone_behind (volunteer ∷ volunteers) zero (suc number) name h l =
 alone_behind (volunteer ∷ volunteers) (suc passed) zero name h l = absurd (omega arith)
 alone_behind (volunteer ∷ volunteers) (suc passed) (suc number) name h l = alone_behind volunteers passed number name h (omega arith)
 
--- to set a standing changes no household, and to set a household changes no standing
+-- setting a standing doesn't change whether the volunteers from `passed` on are without a household
 alone-with_standing : (volunteers : List Volunteer) (passed number : ℕ) (standing : Standing) → alone_from passed (with_standing volunteers number standing) ≡ alone_from passed volunteers
 alone-with_standing [] passed number standing = refl
 alone-with_standing (volunteer ∷ volunteers) zero zero standing = refl
@@ -295,7 +299,7 @@ housed-with_household [] number name l = absurd (omega arith)
 housed-with_household (volunteer ∷ volunteers) zero name l = refl
 housed-with_household (volunteer ∷ volunteers) (suc number) name l = or_right (is_some volunteer.household) _ (housed-with_household volunteers number name (omega arith))
 
--- the id of a household or standing line without a fault is that of a volunteer whom no line of this sort has passed
+-- the id of a household or standing line without a fault is that of a volunteer whose number is at least `passed`
 record IdFits (pool : Pool) (passed : ℕ) (id : List ℕ) : Type 0 where
   number : ℕ
   found : number_of pool.volunteers id ≡ Some number
@@ -319,14 +323,14 @@ id_fits pool passed id h =
           }
     ]) refl (not-false (is_ahead passed (number_of pool.volunteers id)) h)
 
--- what holds of a standing line without a fault: no household line is due, and the id is right
+-- if a standing line has no fault, no household line is missing, and the id fits
 standing_fits : (pool : Pool) (passed : Passed) (standing : Standing) (id : List ℕ) → entry_kind pool passed (OfStanding standing id) ≡ None →
     (awaits_household passed ≡ false) × IdFits pool passed.standings id
 standing_fits pool passed standing id h =
     let first = no_kind (awaits_household passed) 1 _ h in
     (first.0, id_fits pool passed.standings id (no_kind (not (is_ahead passed.standings (number_of pool.volunteers id))) 9 None first.1).0)
 
--- what holds of a household line without a fault
+-- a household line has no fault: the version is 2, no standing line came before it, and the id and the household's name are right
 record HouseholdFits (pool : Pool) (passed : Passed) (id name : List ℕ) : Type 0 where
   second : passed.second ≡ true
   no_standing : passed.standings ≡ 0
@@ -341,7 +345,7 @@ household_fits pool passed id name h =
     let none = ltb-false 0 passed.standings place.1 in
     record { second = not-false passed.second place.0; no_standing = omega arith; fits = id_fits pool passed.households id next.0; kind = next.1 }
 
--- what holds of a volunteer's line without a fault: no household or standing line came before it, and building has no fault
+-- if a volunteer's line has no fault, no household or standing line came before it, and building finds no fault
 volunteer_parts : (pool : Pool) (passed : Passed) (id : List ℕ) (names : List (List ℕ)) → entry_kind pool passed (OfVolunteer id names) ≡ None →
     (passed.households ≡ 0) × (passed.standings ≡ 0) × (volunteer_kind pool id names ≡ None)
 volunteer_parts pool passed id names h =
@@ -359,7 +363,7 @@ pub record IsRightInside (pool : Pool) (passed : Passed) : Type 0 where
   pub housed : has_households pool ≡ ltb 0 passed.households
   pub first : passed.second ≡ false → passed.households ≡ 0
 
--- if no household line is due, the pool's own version is that of the text
+-- if no household line is missing, the pool's own version is that of the text
 pub own_version : (pool : Pool) (passed : Passed) → IsRightInside pool passed → awaits_household passed ≡ false → has_households pool ≡ passed.second
 own_version pool passed right h = right.housed ∙ same passed.second passed.households h right.first
   where
@@ -376,7 +380,7 @@ IsRight (Versioned second) = Unit {0}
 IsRight (Inside pool passed) = IsRightInside pool passed
 IsRight (Ended pool) = IsPool pool
 
--- a right entry adds its line to the lines so far
+-- after right lines, an entry without a fault adds its line to the lines so far
 pub entry_adds : (pool : Pool) (passed : Passed) (entry : Entry) → IsRight (Inside pool passed) → entry_kind pool passed entry ≡ None →
     lines_so_far (after_entry pool passed entry) ≡ lines_in passed.second pool ++ entry_lines entry
 entry_adds pool passed (OfCategory name) right h =
@@ -467,7 +471,7 @@ entry_adds pool passed TheEnd right h =
     let due = no_kind (awaits_household passed) 1 None h in ap (λ second. lines_in second pool ++ end_line ∷ []) (own_version pool passed right due.0)
 entry_adds pool passed Unknown right h = cc
 
--- fields that are read as a size in range are those of the size's line
+-- if fields are read as a size in range, their line is the line of this size
 size_spelled : (fields : List (List ℕ)) → size_kind (size_of fields) ≡ None → line_of fields ≡ size_line (size_of fields)
 size_spelled [] h = cc
 size_spelled (first ∷ []) h = cc
@@ -558,7 +562,7 @@ module _ (pool : Pool) (passed : Passed) (right : IsRight (Inside pool passed)) 
         | Some word ↦ keeps word fields utf8.1
       ]) h
 
--- a line without a fault keeps the progress right, and adds itself to the lines so far
+-- if a line has no fault, the progress after it is right, and its lines are the earlier ones with this line appended
 pub line_adds : (progress : Progress) (line : List ℕ) → IsRight progress → line_kind progress line ≡ None →
     IsRight (after_line progress line) × (lines_so_far (after_line progress line) ≡ lines_so_far progress ++ line ∷ [])
 line_adds Begun line right h =
@@ -584,7 +588,7 @@ line_adds (Inside pool passed) line right h =
     )
 line_adds (Ended pool) line right h = cc
 
--- if the text ends with a pool, the lines so far and the last bytes are the spelling of this pool
+-- if the reading ends with a pool, the lines so far and the last bytes together are the spelling of this pool
 last_is_spelled : (number : ℕ) (progress : Progress) (bytes : List ℕ) (pool : Pool) → IsRight progress → at_last number progress bytes ≡ Ok pool →
     IsPool pool × (text_of (lines_so_far progress) ++ bytes ≡ spelling pool)
 last_is_spelled number Begun bytes pool right h = cc

@@ -1,4 +1,4 @@
--- The first fault of a text, said without reading it line by line. Over PoolReading. Only the laws of this crate cite it.
+-- The first fault of a text, described without reading it line by line. Over PoolReading. Only the laws of this crate cite it.
 use Rattle.std.specs.Prelude.{◌≡◌, ℕ, ◌-◌, ◌==◌, ◌≤◌, Bool, true, false, ◌&&◌, IsTrue, List, [], ◌++◌, take, slice_index_or}
 use Rattle.std.specs.List.{fold, list_any}
 use Rattle.define_pools.specs.Pool.{Pool, IsPool, has_households}
@@ -14,8 +14,8 @@ IsPoolText bytes = (pool : Pool) × IsPool pool × (bytes ≡ spelling pool)
 abbrev pub BeginsPoolText : List (List ℕ) → Type 0
 BeginsPoolText lines = (pool : Pool) × (rest : List ℕ) × IsPool pool × (spelling pool ≡ text_of lines ++ rest)
 
--- these are all lines, before the end, of a pool without households, in version 2. They are right so far, but a household line must come
--- before the end
+-- `lines` are the lines, before the end line, of a pool without households, in version 2. They are right so far, but a household line must
+-- come before the end
 abbrev pub AwaitsHousehold : List (List ℕ) → Type 0
 AwaitsHousehold lines = (pool : Pool) × IsPool pool × (has_households pool ≡ false) × (lines ≡ lines_in true pool)
 
@@ -23,15 +23,15 @@ AwaitsHousehold lines = (pool : Pool) × IsPool pool × (has_households pool ≡
 abbrev pub lines_before : Fault → List ℕ → List (List ℕ)
 lines_before fault bytes = take (fault.line - 1) (pieces_of bytes)
 
--- the lines up to the faulty one, and this one
+-- the lines up to and with the faulty one
 abbrev pub lines_up_to : Fault → List ℕ → List (List ℕ)
 lines_up_to fault bytes = take fault.line (pieces_of bytes)
 
--- a kind is in this list and applies
+-- `kind` is in the list and applies
 abbrev pub applies_among : List (ℕ × Bool) → ℕ → Bool
 applies_among kinds kind = list_any (λ one. (one.0 == kind) && one.1) kinds
 
--- a kind is the lowest of those that apply
+-- `kind` is the lowest of the kinds in the list that apply
 abbrev pub IsLowest : List (ℕ × Bool) → ℕ → Type 0
 IsLowest kinds kind = IsTrue (applies_among kinds kind) × ((other : ℕ) → IsTrue (applies_among kinds other) → kind ≤ other)
 

@@ -1,5 +1,5 @@
--- What bytes say as the text of a pool: the pool, or the first faulty line and its lowest kind of fault. Over PoolText and Building of
--- `define_pools`. `pool_text` reads so, and the readings of bundles and proofs go through it.
+-- How bytes are read as the text of a pool: as the pool, or as the first faulty line and its lowest kind of fault. Over PoolText and
+-- Building of `define_pools`. `pool_text` reads so, and the readings of bundles and proofs go through it.
 use Rattle.std.specs.Prelude.{ℕ, ◌+◌, ◌==◌, nat_lt, nat_le, if◌then◌else◌, Bool, true, false, not, ◌&&◌, ◌||◌, List, [], ◌∷◌, ◌++◌, bytes_eq, codes, Option, Some, None, Result, Ok, Err, unwrap_or, position}
 use Rattle.std.specs.Str.{is_utf8}
 use Rattle.define_pools.specs.declared.Standing.{Standing}
@@ -23,7 +23,7 @@ pub data Progress : Type 0 where
   -- after the end
   Ended : (pool : Pool) → Progress
 
--- a line between the size and the end, by its first field and its number of fields
+-- a line after the size line, read by its first field and its number of fields
 pub data Entry : Type 0 where
   OfCategory : (name : List ℕ) → Entry
   OfValue : (value : BoundedValue) → Entry
@@ -33,7 +33,7 @@ pub data Entry : Type 0 where
   TheEnd : Entry
   Unknown : Entry
 
--- the words that such a line may begin with
+-- the words that a line after the size line may begin with
 pub data Word : Type 0 where
   CategoryWord : Word
   ValueWord : Word
@@ -47,7 +47,7 @@ words =
     (codes "category", CategoryWord) ∷ (codes "value", ValueWord) ∷ (codes "volunteer", VolunteerWord)
     ∷ (codes "household", HouseholdWord) ∷ (codes "seated", StandingWord Seated) ∷ (codes "gone", StandingWord Gone) ∷ (codes "end", EndWord) ∷ []
 
--- which of these words a field is
+-- the word of the list that `field` spells, if there is one
 abbrev pub word_among : List (List ℕ × Word) → List ℕ → Option Word
 word_among [] field = None
 word_among ((spelled, word) ∷ later) field = if bytes_eq field spelled then Some word else word_among later field
@@ -66,33 +66,33 @@ entry_of_word (StandingWord standing) (id ∷ []) = OfStanding standing id
 entry_of_word EndWord [] = TheEnd
 entry_of_word _ _ = Unknown
 
--- the entry of the word, if there is one, and the fields after it
+-- the entry of a line that begins with this word, if it is one, and has `fields` after it
 abbrev pub entry_behind : Option Word → List (List ℕ) → Entry
 entry_behind None fields = Unknown
 entry_behind (Some word) fields = entry_of_word word fields
 
--- the entry of the fields of a line
+-- the entry of a line with these fields
 abbrev pub entry_of : List (List ℕ) → Entry
 entry_of [] = Unknown
 entry_of (first ∷ fields) = entry_behind (word_among words first) fields
 
--- the number of the volunteer of an id
+-- the number of the volunteer who has this id
 abbrev pub number_of : List Volunteer → List ℕ → Option ℕ
 number_of volunteers id = position (λ volunteer. bytes_eq id volunteer.id) volunteers
 
--- there is a number, and it is that of a volunteer after the first `passed`, whom the lines have passed
+-- true if there is a number, and it is at least `passed`: the volunteers 0 to `passed` - 1 have been passed
 abbrev pub is_ahead : ℕ → Option ℕ → Bool
 is_ahead passed None = false
 is_ahead passed (Some number) = nat_le passed number
 
--- a household line is due: in version 2 one comes before each standing line and before the end
+-- true in version 2 until the first household line: it must come before any standing line and before the end
 abbrev pub awaits_household : Passed → Bool
 awaits_household passed = passed.second && passed.households == 0
 
--- the kinds of fault that an entry may have, rising, each with whether it applies, given the pool so far and how far the lines have
--- come. 1: it isn't allowed here: a volunteer after a household or standing line, a household in version 1 or after a standing line, a
--- standing or the end while a household line is due; 9: the id isn't that of a volunteer after the one of the household or standing line
--- before
+-- the kinds of fault that an entry may have, in rising order, each with whether it applies, given the pool so far and `passed`. 1: the
+-- entry is unknown, or not allowed here: a volunteer after a household or standing line, a household in version 1 or after a standing line,
+-- in version 2 a standing or the end before the first household line. 9: the id of a household line isn't that of a volunteer after the one
+-- of the household line before; for a standing line likewise
 abbrev pub entry_kinds : Pool → Passed → Entry → List (ℕ × Bool)
 entry_kinds pool passed (OfCategory name) = category_kinds pool name
 entry_kinds pool passed (OfValue value) = value_kinds pool value
@@ -114,8 +114,8 @@ abbrev pub size_of : List (List ℕ) → ℕ
 size_of (first ∷ field ∷ []) = if bytes_eq first (codes "size") then unwrap_or (number_up_to 200 field) 0 else 0
 size_of _ = 0
 
--- the kinds of fault that a line may have, rising, each with whether it applies, given the progress before it. 1: another first line, or
--- a line after the end; 2: no size; 11: the line isn't UTF-8
+-- the kinds of fault that a line may have, in rising order, each with whether it applies, given the progress before it. 1: the first line
+-- isn't a version line, or a line follows the end; 2: the line has no size; 11: the line isn't UTF-8
 abbrev pub line_kinds : Progress → List ℕ → List (ℕ × Bool)
 line_kinds Begun line = (1, not (bytes_eq line (version_line false) || bytes_eq line (version_line true))) ∷ []
 line_kinds (Versioned second) line = size_kinds (size_of (fields_of line))
@@ -126,11 +126,11 @@ line_kinds (Ended pool) line = (1, true) ∷ []
 abbrev pub line_kind : Progress → List ℕ → Option ℕ
 line_kind progress line = lowest_kind (line_kinds progress line)
 
--- the progress after the household line of the volunteer of this number
+-- the progress after the household line of volunteer `number`
 abbrev pub after_household : Pool → Passed → ℕ → List ℕ → Progress
 after_household pool passed number name = Inside (household_set pool number name) (record passed { households = number + 1 })
 
--- the progress after the standing line of the volunteer of this number
+-- the progress after the standing line of volunteer `number`
 abbrev pub after_standing : Pool → Passed → ℕ → Standing → Progress
 after_standing pool passed number standing = Inside (standing_set pool number standing) (record passed { standings = number + 1 })
 
@@ -144,7 +144,7 @@ after_entry pool passed (OfStanding standing id) = after_standing pool passed (u
 after_entry pool passed TheEnd = Ended pool
 after_entry pool passed Unknown = Inside pool passed
 
--- the text of this version has no household line and no standing line yet
+-- how far a text of this version has come before any household or standing line
 abbrev pub none_passed : Bool → Passed
 none_passed second = record { second = second; households = 0; standings = 0 }
 

@@ -9,7 +9,7 @@ use Rattle.define_pools.specs.Pool.{BoundedValue, Category, Volunteer, Pool, has
 use Rattle.define_pools.specs.Building.{value_names}
 use Rattle.define_lines.specs.Lines.{line_of, text_of}
 
--- how the version is spelled: 2 if `second` is true, else 1
+-- the field of the version: "2" for true, "1" for false
 abbrev pub version : Bool → List ℕ
 version true = codes "2"
 version false = codes "1"
@@ -28,7 +28,7 @@ value_line value = line_of (codes "value" ∷ value.name ∷ decimal value.lower
 abbrev pub category_lines : Category → List (List ℕ)
 category_lines category = line_of (codes "category" ∷ category.name ∷ []) ∷ map value_line category.values
 
--- for each category the name of the value at the place that is given
+-- for each category, the name of its value at the category's place in `places`
 abbrev pub names_at : List Category → List ℕ → List (List ℕ)
 names_at [] places = []
 names_at (category ∷ categories) [] = []
@@ -47,7 +47,7 @@ household_line (Some name) id = line_of (codes "household" ∷ id ∷ name ∷ [
 abbrev pub household_lines : List Volunteer → List (List ℕ)
 household_lines volunteers = flat_map (λ volunteer. household_line volunteer.household volunteer.id) volunteers
 
--- the line of a standing, if it has one: its word, and the volunteer's id
+-- the line of a volunteer's standing, if it isn't open: its word, and the volunteer's id
 abbrev pub standing_line : Standing → List ℕ → List (List ℕ)
 standing_line Open id = []
 standing_line Seated id = line_of (codes "seated" ∷ id ∷ []) ∷ []

@@ -19,7 +19,7 @@ ghost use Rattle.define_pool_texts.specs.FirstFault.{IsPoolText, BeginsPoolText,
 /// How far the lines after the size have come.
 #[derive(Clone, Copy, Debug, PartialEq, Eq)]
 pub struct Passed {
-    /// The text is of version 2.
+    /// True if the text is of version 2.
     pub second: bool,
     /// How many volunteers household lines have passed: 0 before the first household line, else all up to the volunteer of the last one,
     /// this volunteer included.
@@ -58,15 +58,16 @@ pub fn first_fault_is_first()
     ensures missing_end { (bytes : List ℕ) (fault : Fault) → read bytes ≡ Err fault → fault.kind ≡ 12 → length (pieces_of bytes) ≡ fault.line }
 {}
 
-/// The kinds that a line may have are one rising list, and the first fault's kind is the lowest of those that apply to its line.
+/// The kinds that a line may have are one rising list. The first fault's kind is the lowest of those that apply to its line, unless it is
+/// 12, a missing end.
 pub fn first_fault_is_lowest()
     ensures lowest { (kinds : List (ℕ × Bool)) (kind : ℕ) → IsTrue (is_increasing (map (λ one. one.0) kinds)) → lowest_kind kinds ≡ Some kind → IsLowest kinds kind }
     ensures rising { (progress : Progress) (line : List ℕ) → IsTrue (is_increasing (map (λ one. one.0) (line_kinds progress line))) }
     ensures fault { (bytes : List ℕ) (fault : Fault) → read bytes ≡ Err fault → fault.kind ≢ 12 → IsLowest (kinds_at fault bytes) fault.kind }
 {}
 
-/// The texts of two women and two men, of the same after a dropout, of the same with a and c in one household, and of nobody; and bytes
-/// that are no text.
+/// Worked examples: the texts of two women and two men, of the same after a dropout, of the same with a and c in one household, and of
+/// nobody; and bytes that are no text.
 pub fn worked_texts()
     ensures four_length { length (spelling four) ≡ 138 }
     ensures four { read (spelling four) ≡ Ok four }

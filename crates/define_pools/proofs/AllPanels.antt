@@ -1,4 +1,4 @@
--- What holds of each panel in a pool's list `panels` holds of each quota panel.
+-- If P holds of each panel in a pool's list `panels`, P holds of each quota panel.
 use Rattle.std.proofs.Common.{◌≡◌, ℕ, zero, suc, ◌+◌, ◌≤◌, ◌<◌, true, ◌&&◌, eqb, ltb, List, [], ◌∷◌, map, length, sym, ⊎_elim, arith, subst}
 use Rattle.std.specs.List.{list_all, AllByRecursion, range_with_len}
 use Rattle.std.proofs.lemmas.Bool.{and_from, and_parts, cases_eq, eq-eqb, eqb-true, ltb-true}
@@ -6,7 +6,8 @@ use Rattle.laws_basic.proofs.Each.{each_from_list_all, each_from_filter, each_ma
 use Rattle.define_pools.specs.Lists.{choices, is_increasing}
 use Rattle.define_pools.specs.Pool.{Pool, everybody, is_quota_panel, panels, keeps_standings, keeps_households, meets_quotas}
 
--- what holds of all choices from the numbers `first..first + count` holds of each increasing list of these numbers
+-- If P holds of all choices of `length xs` of the numbers `first..first + count`, and `xs` is an increasing list of these numbers, P holds
+-- of `xs`.
 pub chosen : (P : List ℕ → Type 0) (first count : ℕ) (xs : List ℕ) → is_increasing xs ≡ true → AllByRecursion (λ x. first ≤ x) xs → AllByRecursion (λ x. x < first + count) xs →
     AllByRecursion P (choices (length xs) (range_with_len first count)) → P xs
 chosen P first zero [] up low high each = each.0
@@ -26,7 +27,7 @@ chosen P first (suc count) (x ∷ xs) up low high each =
     (λ (ne : first ≡ x → ⊥). chosen P (first + 1) count (x ∷ xs) up (omega arith, lows) (omega arith, below) without)
     (cases_eq first x)
 
--- what is known of a quota panel
+-- the properties of a quota panel
 pub record Quota (pool : Pool) (panel : List ℕ) : Type 0 where
   pub size : length panel ≡ pool.size
   pub up : is_increasing panel ≡ true
@@ -44,7 +45,7 @@ quota_parts pool panel h =
     let c = and_parts (A && B) C d.0 in let b = and_parts A B c.0 in
     record { size = eqb-true (length panel) pool.size b.0; up = b.1; below = c.1; standings = d.1; quotas = e.1; households = f.1 }
 
--- a panel of which this is known is a quota panel
+-- A panel with the properties of `Quota` is a quota panel.
 pub quota_from : (pool : Pool) (panel : List ℕ) → Quota pool panel → is_quota_panel pool panel ≡ true
 quota_from pool panel q =
     let A = eqb (length panel) pool.size in let B = is_increasing panel in let C = list_all (λ i. ltb i (length pool.volunteers)) panel in

@@ -1,4 +1,4 @@
--- If a step of building has no fault, what it makes is a pool again.
+-- If a step of building has no fault, the result is a pool again.
 use Rattle.std.proofs.Common.{◌≡◌, ℕ, zero, suc, ◌+◌, ◌<◌, Bool, true, false, cond, eqb, ltb, leb, not, ◌&&◌, ◌||◌, List, [], ◌∷◌, ◌++◌, length, Option, Some, None, option_map, unwrap_or, refl, sym, ap, ◌∙◌, arith, add-one, get_or}
 use Rattle.std.specs.List.{list_all}
 use Rattle.std.specs.Str.{is_utf8, bytes_eq}
@@ -15,7 +15,7 @@ use Rattle.define_pools.specs.Lists.{includes_list, all_different}
 use Rattle.define_pools.specs.Pool.{BoundedValue, Category, Volunteer, Pool, keeps_name_limits, is_name, is_size, are_bounds, is_value, is_category, has_values, is_household, IsPool}
 use Rattle.define_pools.specs.Building.{category_names, value_names, ids, last_values, with_value, place_of, places_of, are_known, empty_pool, size_kind, category_added, category_kind, value_added, value_kind, volunteer_added, volunteer_kind, with_standing, standing_set, with_household, household_set, household_kind}
 
--- if no kind applies, the first test is false, and no later kind applies
+-- If `if test then Some kind else rest` is None, `test` is false and `rest` is None.
 pub no_kind : (test : Bool) (kind : ℕ) (rest : Option ℕ) → cond test (Some kind) rest ≡ None → (test ≡ false) × (rest ≡ None)
 no_kind true kind rest h = cc
 no_kind false kind rest h = (refl, h)
@@ -25,7 +25,7 @@ same_bytes_comm xs ys =
     let there = bytes_eq-Decides ys xs in
     same_from_decides (bytes_eq xs ys) (bytes_eq ys xs) (bytes_eq-Decides xs ys) (λ e. sym (there.0 e), λ e. there.1 (sym e))
 
--- if a list isn't among lists that are all different, they are all different with it too
+-- If the lists `xss` are all different and `xs` isn't among them, they are all different with `xs` appended.
 pub all_different_push : (xss : List (List ℕ)) (xs : List ℕ) → all_different xss ≡ true → includes_list xss xs ≡ false → all_different (xss ++ xs ∷ []) ≡ true
 all_different_push [] xs h k = refl
 all_different_push (ys ∷ yss) xs h k =
@@ -35,13 +35,14 @@ all_different_push (ys ∷ yss) xs h k =
     let none : includes_list (yss ++ xs ∷ []) ys ≡ false = list_any-append (bytes_eq ys) yss (xs ∷ []) ∙ or_from (includes_list yss ys) (bytes_eq ys xs || false) (not-true (includes_list yss ys) parts.0) (or_from (bytes_eq ys xs) false other refl) in
     and_from (not (includes_list (yss ++ xs ∷ []) ys)) (all_different (yss ++ xs ∷ [])) (not_from_false (includes_list (yss ++ xs ∷ []) ys) none) (all_different_push yss xs parts.1 apart.1)
 
--- if the last test of a step is false, the name keeps the limits and there is room for one more
+-- If the test for kind 10 is false, which is that the name breaks the limits or `count` is at least `limit`, then the name keeps the limits
+-- and `count` is below `limit`.
 limits_and_room : (name : List ℕ) (limit count : ℕ) → (not (keeps_name_limits name) || leb limit count) ≡ false → (keeps_name_limits name ≡ true) × (count < limit)
 limits_and_room name limit count h =
     let parts = or_parts (not (keeps_name_limits name)) (leb limit count) h in
     (not-false (keeps_name_limits name) parts.0, leb-false limit count parts.1)
 
--- if the size has no fault, the empty pool of this size is a pool
+-- If the size has no fault, the empty pool of this size is a pool.
 pub IsPool-empty_pool : (size : ℕ) → size_kind size ≡ None → IsPool (empty_pool size)
 IsPool-empty_pool size h = record {
   size = not-false (is_size size) (no_kind _ _ _ h).0;
@@ -89,18 +90,19 @@ IsPool-category_added pool name p kind utf8 =
       households = p.households;
     }
 
--- a value that is added to the last category changes no category's name
+-- Adding a value to the last category doesn't change the number of categories.
 length-with_value : (categories : List Category) (value : BoundedValue) → length (with_value categories value) ≡ length categories
 length-with_value [] value = refl
 length-with_value (category ∷ []) value = refl
 length-with_value (category ∷ (next ∷ later)) value = ap suc (length-with_value (next ∷ later) value)
 
+-- Adding a value to the last category doesn't change the categories' names.
 category_names-with_value : (categories : List Category) (value : BoundedValue) → category_names (with_value categories value) ≡ category_names categories
 category_names-with_value [] value = refl
 category_names-with_value (category ∷ []) value = refl
 category_names-with_value (category ∷ (next ∷ later)) value = ap (λ names. category.name ∷ names) (category_names-with_value (next ∷ later) value)
 
--- a category with one more value, of a new name, is a category
+-- If a category has room and gets a value of a new name, it is a category again.
 is_category_push : (category : Category) (value : BoundedValue) → is_category category ≡ true → is_value value ≡ true → includes_list (value_names category.values) value.name ≡ false → length category.values < 50 →
     is_category (record category { values = category.values ++ value ∷ [] }) ≡ true
 is_category_push category value h good new room =
@@ -169,7 +171,7 @@ IsPool-value_added pool value p kind utf8 =
       households = p.households;
     }
 
--- a name that is among those of the values has a place there
+-- If a value of `values` has the name `name`, `place_of` returns the place of a value with this name.
 pub place_at : (values : List BoundedValue) (name : List ℕ) → includes_list (value_names values) name ≡ true →
     (place : ℕ) × (place_of values name ≡ Some place) × (place < length values) × (get_or (value_names values) place [] ≡ name)
 place_at [] name h = absurd (false≢true h)
@@ -182,7 +184,7 @@ place_at (value ∷ values) name h =
           (suc rest.0, ap (option_map (λ p. p + 1)) rest.1 ∙ ap Some (add-one rest.0), let l = rest.2 in omega arith, rest.3)
     ]) refl h
 
--- known names give a place in each category
+-- If each name is that of a value of its category, and there is one name per category, the places of the names are places of values.
 has_values_places : (categories : List Category) (names : List (List ℕ)) → are_known categories names ≡ true → length names ≡ length categories → has_values categories (places_of categories names) ≡ true
 has_values_places [] names h k = refl
 has_values_places (category ∷ categories) [] h k = absurd (omega arith)
@@ -231,7 +233,9 @@ IsPool-volunteer_added pool id names p kind utf8 =
       households = list_all-push (λ (v : Volunteer). is_household v.household) pool.volunteers volunteer p.households refl;
     }
 
--- to set a volunteer's standing changes nothing else
+-- ---- setting a volunteer's standing changes nothing else
+
+-- Setting a volunteer's standing doesn't change the number of volunteers.
 pub length-with_standing : (volunteers : List Volunteer) (number : ℕ) (standing : Standing) → length (with_standing volunteers number standing) ≡ length volunteers
 length-with_standing [] number standing = refl
 length-with_standing (volunteer ∷ volunteers) zero standing = refl
@@ -274,7 +278,9 @@ IsPool-standing_set pool number standing p = record {
   households = rw (households-with_standing pool.volunteers number standing) p.households;
 }
 
--- to set a volunteer's household changes nothing else
+-- ---- setting a volunteer's household changes nothing else
+
+-- Setting a volunteer's household doesn't change the number of volunteers.
 pub length-with_household : (volunteers : List Volunteer) (number : ℕ) (name : List ℕ) → length (with_household volunteers number name) ≡ length volunteers
 length-with_household [] number name = refl
 length-with_household (volunteer ∷ volunteers) zero name = refl

@@ -35,11 +35,12 @@ fold_parts stage sum (i ∷ panel) = omega (arith, sum_is_lem sum (weight_of sta
 pub weight_parts : (stage : Stage) (panel : List ℕ) → up (panel_weight stage panel) + total (minus stage) panel ≡ total (plus stage) panel + down (panel_weight stage panel)
 weight_parts stage panel = omega (arith, fold_parts stage (pos 0) panel)
 
--- the two sides of `weight = cap`, each with the parts that are added there: weights above 0 and a negative cap, or weights below 0 and a
--- positive cap
+-- `weight = cap` as an equation of natural numbers is `heavy = light`. The heavy side is the sum of the members' weights above 0,
+-- and the cap without its sign if it is negative
 abbrev heavy : Stage → List ℕ → ℕ
 heavy stage panel = total (plus stage) panel + down stage.cap
 
+-- the light side: the sum of the members' weights below 0, without their signs, and the cap if it is positive
 abbrev light : Stage → List ℕ → ℕ
 light stage panel = total (minus stage) panel + up stage.cap
 
@@ -78,8 +79,8 @@ total-weight : (rows : List LotteryRow) (f : List ℕ → ℕ) (k : ℕ) → tot
 total-weight [] f k = omega arith
 total-weight (row ∷ rows) f k = omega (arith, total-weight rows f k)
 
--- the sum over rows of weight times (the sum of the members' `f`, and `k`), as the sum over volunteers of `f` times count, and `k` times
--- the total
+-- The sum over rows of weight times (the sum of `f` over the panel, plus `k`) equals the sum over volunteers of `f` times count, plus `k`
+-- times the total.
 by_members : (pool : Pool) (lottery : Lottery) → IsLottery pool lottery → (f : ℕ → ℕ) (k : ℕ) →
     total (λ row. (total f row.panel + k) * row.weight) lottery.rows ≡ total (λ i. f i * count lottery i) (everybody pool) + k * lottery.total
 by_members pool lottery is f k =
@@ -102,17 +103,19 @@ positive_total pool lottery is =
 -- ---- two lotteries over one pool
 
 module _ (pool : Pool) (mine other : Lottery) (is_mine : IsLottery pool mine) (is_other : IsLottery pool other) where
-  -- the chances in both lotteries, as numerators over the product of the two totals
+  -- the chance of volunteer `i` in the first lottery, `mine`, as a numerator over the product of the two totals
   abbrev x : ℕ → ℕ
   x i = count mine i * other.total
 
+  -- the chance of volunteer `i` in the other lottery, over the same product
   abbrev y : ℕ → ℕ
   y i = count other i * mine.total
 
-  -- how many chances are at most `u`
+  -- `at_most` over the first lottery's sorted counts is how many of its chances are at most `u`
   mine_at : (u : ℕ) → at_most other.total u (rising (counts pool mine)) ≡ total (λ i. le_one (x i) u) (everybody pool)
   mine_at u = at_most-rising other.total u (counts pool mine) ∙ at_most-map other.total u (count mine) (everybody pool)
 
+  -- `at_most` over the other lottery's sorted counts is how many of its chances are at most `u`
   other_at : (u : ℕ) → at_most mine.total u (rising (counts pool other)) ≡ total (λ i. le_one (y i) u) (everybody pool)
   other_at u = at_most-rising mine.total u (counts pool other) ∙ at_most-map mine.total u (count other) (everybody pool)
 
@@ -147,7 +150,7 @@ module _ (pool : Pool) (mine other : Lottery) (is_mine : IsLottery pool mine) (i
           (λ i p. record { equal = p.0; high = λ s. mul-le-mul_right other.total (p.1 s); low = λ s. zero-le }) (everybody pool)
           (each_both (λ i. is_settled earlier i ≡ true → x i ≡ y i) (λ i. is_settled earlier i ≡ false → T ≤ count mine i) (everybody pool) agrees.equal low_counts)
 
-      -- in the other lottery too, each unsettled volunteer has at least the level
+      -- in the other lottery too, each unsettled volunteer's chance is at least the level
       known : AllByRecursion (λ i. Known (is_settled earlier i) (x i) (y i) level level) (everybody pool)
       known = all_reach (everybody pool) (is_settled earlier) x y level (λ h. false≢true (sym (not_above h) ∙ above)) known_first level (le_of_eq refl)
 
@@ -181,13 +184,14 @@ module _ (pool : Pool) (mine other : Lottery) (is_mine : IsLottery pool mine) (i
           (λ i p. record { none_negative = p.0; at_level = p.1 }) (everybody pool)
           (each_both (λ i. is_settled earlier i ≡ false → minus stage i ≡ 0) (λ i. is_settled earlier i ≡ false → 0 < plus stage i → x i ≡ level) (everybody pool) no_minus at_level)
 
-      -- each panel of the first lottery weighs the cap, and no panel of the other weighs more
+      -- each panel of the first lottery weighs the cap
       mine_rows : AllByRecursion (λ row. heavy stage row.panel ≡ light stage row.panel) mine.rows
       mine_rows =
           each_map (λ row. int_eq (panel_weight stage row.panel) stage.cap ≡ true) (λ row. heavy stage row.panel ≡ light stage row.panel)
           (λ row e. equal_from_test stage row.panel e) mine.rows
           (each_from_list_all (λ row. int_eq (panel_weight stage row.panel) stage.cap) mine.rows holds_stage.reached)
 
+      -- each panel of the other lottery weighs at most the cap
       other_rows : AllByRecursion (λ row. heavy stage row.panel ≤ light stage row.panel) other.rows
       other_rows =
           each_map (λ row. (is_quota_panel pool row.panel ≡ true) × (attains earlier row.panel ≡ true)) (λ row. heavy stage row.panel ≤ light stage row.panel)
@@ -249,7 +253,7 @@ module _ (pool : Pool) (mine other : Lottery) (is_mine : IsLottery pool mine) (i
           (each_both (λ row. leb 1 row.weight ≡ true) (λ row. heavy stage row.panel * row.weight ≡ light stage row.panel * row.weight) other.rows
           (each_from_list_all (λ row. leb 1 row.weight) other.rows is_other.total_agrees.weights) same)
 
-      -- so this holds after the stage too
+      -- so the lotteries also agree after the stage
       agree_after : Agrees (stage ∷ earlier)
       agree_after = record {
         equal =

@@ -1,4 +1,4 @@
--- A list is increasing if each number is below the next one, which is what code tests.
+-- A list is increasing exactly if each number is below the next one, which is what code tests.
 use Rattle.std.proofs.Common.{◌≡◌, ℕ, suc, zero, ◌+◌, ◌<◌, true, ltb, List, [], ◌∷◌, ◌&&◌, arith, refl}
 use Rattle.std.specs.List.{list_all}
 use Rattle.std.specs.List.Sorted.{IsStrictlyIncreasing}

@@ -1,4 +1,4 @@
--- Sorted lists compared in lexicographic order, by how many elements lie at or below a number.
+-- Sorted lists compared in lexicographic order, by how many of their numbers are at most a given one.
 use Rattle.std.proofs.Common.{◌≡◌, ℕ, zero, suc, ◌+◌, ◌*◌, ◌≤◌, ◌<◌, Bool, true, false, cond, leb, ltb, eqb, List, [], ◌∷◌, map, refl, sym, ap, ◌∙◌, ⊎_elim, true≢false, arith, le_refl, le_of_lt, le_of_eq, mul-le-mul_right}
 use Rattle.std.specs.List.{AllByRecursion}
 use Rattle.std.proofs.lemmas.Bool.{leb-true, leb-false, le-leb, lt-leb, cases_lt, le-ltb, eqb-true}
@@ -25,7 +25,7 @@ at_most-put_in_order k t x (y ∷ ys) =
       | false ↦ omega (arith, rest)
     ]
 
--- to sort a list doesn't change how many of its numbers are at most `t`
+-- Sorting a list doesn't change how many of its numbers are at most `t`.
 pub at_most-rising : (k t : ℕ) (xs : List ℕ) → at_most k t (rising xs) ≡ at_most k t xs
 at_most-rising k t [] = refl
 at_most-rising k t (x ∷ xs) = omega (arith, at_most-put_in_order k t x (rising xs), at_most-rising k t xs)
@@ -57,7 +57,7 @@ pub Rises-rising : (xs : List ℕ) → Rises (rising xs)
 Rises-rising [] = tt
 Rises-rising (x ∷ xs) = Rises-put x (rising xs) (Rises-rising xs)
 
--- if all numbers are at least `a`, and `a * k` is above `t`, none of them is at most `t`
+-- If all numbers are at least `a`, and `a * k` is above `t`, no number times `k` is at most `t`.
 none_at_most : (k t a : ℕ) (xs : List ℕ) → t < a * k → AllByRecursion (λ y. a ≤ y) xs → at_most k t xs ≡ 0
 none_at_most k t a [] h r = refl
 none_at_most k t a (x ∷ xs) h r =
@@ -65,12 +65,12 @@ none_at_most k t a (x ∷ xs) h r =
     let high : leb (x * k) t ≡ false = lt-leb (x * k) t (omega arith) in
     let rest = none_at_most k t a xs h r.1 in rw (high, rest) refl
 
--- at least one number, the first itself, is at most the first
+-- In a list that begins with `a`, at least one number times `k` is at most `a * k`.
 some_at_most : (k a : ℕ) (xs : List ℕ) → 1 ≤ at_most k (a * k) (a ∷ xs)
 some_at_most k a xs =
     let same : leb (a * k) (a * k) ≡ true = le-leb (a * k) (a * k) (omega arith) in rw same (omega arith)
 
--- at the first number where `f` and `g` differ, `g` is less
+-- at the first number where `f` and `g` differ, if there is one, `g` is less
 abbrev pub NoMoreAtFirst : (ℕ → ℕ) → (ℕ → ℕ) → Type 0
 NoMoreAtFirst f g = (u : ℕ) → ((w : ℕ) → w < u → f w ≡ g w) → g u ≤ f u
 
@@ -80,8 +80,8 @@ tails A B a b as' bs e h u below =
     let one : (w : ℕ) → one_at B w a ≡ one_at A w b = λ w. ap (λ m. cond (leb m w) 1 0) e in
     let here = h u (λ w l. omega (arith, below w l, one w)) in omega (arith, here, one u)
 
--- of two rising lists the first isn't greater, if at the first `u` where the lists differ in how many numbers are at most `u` the second
--- has fewer
+-- Take the rising lists `as'` times `B` and `bs` times `A`, and the least `u` for which they have different numbers of elements up to `u`.
+-- If there is no `u` like this, or `bs` has fewer elements up to `u`, then `as'` isn't greater than `bs`.
 pub not_greater : (A B : ℕ) (as' bs : List ℕ) → Rises as' → Rises bs →
     NoMoreAtFirst (λ u. at_most B u as') (λ u. at_most A u bs) → first_is_greater A B as' bs ≡ false
 not_greater A B [] bs r s h = refl
@@ -142,8 +142,8 @@ no_more_at_first f g t same more u eqs =
     (λ (l : t ≤ u). ⊎_elim (λ (p : t < u). absurd (omega (arith, eqs t p))) (λ (p : u ≤ t). let e : u ≡ t = omega arith in rw e (le_of_lt more)) (cases_lt t u))
     (cases_lt u t)
 
--- if the second lottery is above the first, as `NoMoreAtFirst` says it, each unsettled volunteer's chance in it is at least `t`, for each
--- `t` up to the level
+-- Take the numbers of chances up to `u` in the second lottery and in the first. If `NoMoreAtFirst` fails for them, and `Known` holds for
+-- `t = 0`, it holds for each `t` up to `level`: each unsettled volunteer's chance in the second lottery is at least `t`.
 pub all_reach : (xs : List ℕ) (settled : ℕ → Bool) (x y : ℕ → ℕ) (level : ℕ) →
     (NoMoreAtFirst (λ u. total (λ i. le_one (y i) u) xs) (λ u. total (λ i. le_one (x i) u) xs) → ⊥) →
     AllByRecursion (λ i. Known (settled i) (x i) (y i) level 0) xs →

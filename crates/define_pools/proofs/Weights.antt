@@ -22,7 +22,7 @@ one_member f x first (suc count) h k =
           omega (arith, one_member f x (first + 1) count (omega arith) (omega arith))
     ]) refl
 
--- a number that is below each number of a list isn't in the list
+-- If a number is below each number of a list, it isn't in the list.
 pub not_held : (x : ℕ) (xs : List ℕ) → list_all (λ y. ltb x y) xs ≡ true → includes xs x ≡ false
 not_held x [] h = refl
 not_held x (y ∷ ys) h =
@@ -34,7 +34,7 @@ either : (b c : Bool) (v : ℕ) → (b ≡ true → c ≡ false) → cond (b || 
 either true c v h = let e = h refl in rw e (omega arith)
 either false c v h = omega arith
 
--- the sum of `f` over a panel, as a sum over everybody to which those who aren't members add 0
+-- The sum of `f` over a panel is a sum over everybody, to which those who aren't members add 0.
 pub total_panel : (f : ℕ → ℕ) (count : ℕ) (panel : List ℕ) → is_increasing panel ≡ true → list_all (λ i. ltb i count) panel ≡ true →
     total f panel ≡ total (λ i. cond (includes panel i) (f i) 0) (range_with_len 0 count)
 total_panel f count [] up below = sym (total-zero (λ i. 0) (λ i. refl) (range_with_len 0 count))
@@ -62,7 +62,7 @@ spread_out : (b : Bool) (f m c : ℕ) → f * (cond b m 0 + c) ≡ cond b f 0 * 
 spread_out true f m c = omega arith
 spread_out false f m c = omega arith
 
--- the sum over rows of weight times the sum of the members' `f`, as the sum over volunteers of `f` times count
+-- The sum over rows of weight times the sum of `f` over the panel equals the sum over volunteers of `f` times count.
 pub exchange : (f : ℕ → ℕ) (count : ℕ) (rows : List LotteryRow) → AllByRecursion (λ row. Fits count row.panel) rows →
     total (λ row. total f row.panel * row.weight) rows ≡ total (λ i. f i * counted rows i) (range_with_len 0 count)
 exchange f count [] h = sym (total-zero (λ i. f i * 0) (λ i. omega arith) (range_with_len 0 count))

@@ -6,7 +6,7 @@ use Rattle.define_pools.specs.declared.Standing.TheVariants.{Open}
 use Rattle.define_pools.specs.Lists.{includes_list}
 use Rattle.define_pools.specs.Pool.{Pool, Category, BoundedValue, Volunteer, is_size, are_bounds, keeps_name_limits}
 
--- the lowest kind that applies, given kinds in rising order, each with whether it applies
+-- the first kind of the list that applies, or None. The list has kinds in rising order, each with whether it applies
 abbrev pub lowest_kind : List (ℕ × Bool) → Option ℕ
 lowest_kind [] = None
 lowest_kind ((kind, applies) ∷ rest) = if applies then Some kind else lowest_kind rest
@@ -32,24 +32,24 @@ with_value [] value = []
 with_value (category ∷ []) value = record category { values = category.values ++ value ∷ [] } ∷ []
 with_value (category ∷ next ∷ later) value = category ∷ with_value (next ∷ later) value
 
--- the place of the value of this name, if there is one
+-- the place of the value with the name `name`, if there is one
 abbrev pub place_of : List BoundedValue → List ℕ → Option ℕ
 place_of [] name = None
 place_of (value ∷ values) name = if bytes_eq name value.name then Some 0 else option_map (λ place. place + 1) (place_of values name)
 
--- for each category the place of the value that the given name names
+-- category by category, the place of the value whose name `names` gives, or 0 if no value has this name. Ends with the shorter list
 abbrev pub places_of : List Category → List (List ℕ) → List ℕ
 places_of [] names = []
 places_of (category ∷ categories) [] = []
 places_of (category ∷ categories) (name ∷ names) = unwrap_or (place_of category.values name) 0 ∷ places_of categories names
 
--- each name that is given for a category is one of its values
+-- category by category, the name that `names` gives is that of a value. Names past the last category aren't tested
 abbrev pub are_known : List Category → List (List ℕ) → Bool
 are_known [] names = true
 are_known (category ∷ categories) [] = true
 are_known (category ∷ categories) (name ∷ names) = includes_list (value_names category.values) name && are_known categories names
 
--- a pool with nothing in it yet
+-- a pool of size `size` without categories and volunteers
 abbrev pub empty_pool : ℕ → Pool
 empty_pool size = record { size = size; categories = []; volunteers = [] }
 
@@ -90,7 +90,7 @@ value_kinds pool value =
 abbrev pub value_kind : Pool → BoundedValue → Option ℕ
 value_kind pool value = lowest_kind (value_kinds pool value)
 
--- the pool with one more volunteer, of this id and of the values of these names, without a household
+-- the pool with one more volunteer, open and without a household, who has the id `id` and the values that `names` names
 abbrev pub volunteer_added : Pool → List ℕ → List (List ℕ) → Pool
 volunteer_added pool id names =
     record pool { volunteers = pool.volunteers ++ record { id = id; values = places_of pool.categories names; standing = Open; household = None } ∷ [] }
@@ -108,7 +108,7 @@ volunteer_kinds pool id names =
 abbrev pub volunteer_kind : Pool → List ℕ → List (List ℕ) → Option ℕ
 volunteer_kind pool id names = lowest_kind (volunteer_kinds pool id names)
 
--- the volunteers, with another standing for the one of this number, counted from 0
+-- the volunteers, with the standing `standing` for volunteer `number`, counted from 0
 abbrev pub with_standing : List Volunteer → ℕ → Standing → List Volunteer
 with_standing [] number standing = []
 with_standing (volunteer ∷ volunteers) zero standing = record volunteer { standing = standing } ∷ volunteers
@@ -117,7 +117,7 @@ with_standing (volunteer ∷ volunteers) (suc number) standing = volunteer ∷ w
 abbrev pub standing_set : Pool → ℕ → Standing → Pool
 standing_set pool number standing = record pool { volunteers = with_standing pool.volunteers number standing }
 
--- the volunteers, with a household of this name for the one of this number, counted from 0
+-- the volunteers, with a household of the name `name` for volunteer `number`, counted from 0
 abbrev pub with_household : List Volunteer → ℕ → List ℕ → List Volunteer
 with_household [] number name = []
 with_household (volunteer ∷ volunteers) zero name = record volunteer { household = Some name } ∷ volunteers

@@ -10,11 +10,11 @@ pub record Stage : Type 0 where
   pub weights : List ℤ
   pub cap : ℤ
 
--- a volunteer's weight
+-- the weight of volunteer `i`
 abbrev pub weight_of : Stage → ℕ → ℤ
 weight_of stage i = slice_index_or stage.weights i (pos 0)
 
--- a volunteer's weight is above 0
+-- the weight of volunteer `i` is above 0
 abbrev pub is_positive : Stage → ℕ → Bool
 is_positive stage i = int_lt (pos 0) (weight_of stage i)
 
@@ -22,7 +22,7 @@ is_positive stage i = int_lt (pos 0) (weight_of stage i)
 abbrev pub panel_weight : Stage → List ℕ → ℤ
 panel_weight stage panel = fold (λ sum i. sum +ℤ weight_of stage i) (pos 0) panel
 
--- a volunteer is settled by stages if one of them has a weight above 0 for this volunteer
+-- volunteer `i` has a weight above 0 in one of the stages
 abbrev pub is_settled : List Stage → ℕ → Bool
 is_settled stages i = list_any (λ stage. is_positive stage i) stages
 
@@ -30,7 +30,7 @@ is_settled stages i = list_any (λ stage. is_positive stage i) stages
 abbrev pub attains : List Stage → List ℕ → Bool
 attains stages panel = list_all (λ stage. int_le stage.cap (panel_weight stage panel)) stages
 
--- the volunteers that stages leave unsettled
+-- the volunteers whom the stages leave unsettled
 abbrev pub unsettled : Pool → List Stage → List ℕ
 unsettled pool earlier = filter (λ i. not (is_settled earlier i)) (everybody pool)
 
@@ -60,7 +60,7 @@ pub record StageHolds (pool : Pool) (lottery : Lottery) (earlier : List Stage) (
   -- each panel of the lottery weighs the cap
   pub reached : IsTrue (list_all (λ row. int_eq (panel_weight stage row.panel) stage.cap) lottery.rows)
 
--- each of the stages holds after the ones before it, and at the end everybody is settled
+-- each of the later stages holds after `earlier` and the later stages before it, and at the end everybody is settled
 abbrev pub StagesHold : Pool → Lottery → List Stage → List Stage → Type 0
 StagesHold pool lottery earlier [] = IsTrue (list_all (is_settled earlier) (everybody pool))
 StagesHold pool lottery earlier (stage ∷ later) =

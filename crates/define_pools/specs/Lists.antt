@@ -1,8 +1,8 @@
--- Words on lists of numbers, for Pool and Lottery.
+-- Definitions on lists, for Pool and Lottery.
 use Rattle.std.specs.Prelude.{ℕ, zero, suc, Bool, true, not, ◌&&◌, ◌==◌, nat_lt, nat_le, if◌then◌else◌, List, [], ◌∷◌, ◌++◌, map, bytes_eq}
 use Rattle.std.specs.List.{list_all, list_any}
 
--- all ways to choose `count` elements of a list, in its order; those that take its first element come first
+-- `choices size xs` has all ways to choose `size` elements of `xs`, in the order of `xs`; those that take its first element come first
 abbrev pub choices : ℕ → List ℕ → List (List ℕ)
 choices zero xs = [] ∷ []
 choices (suc size) [] = []
@@ -17,11 +17,11 @@ abbrev pub is_increasing : List ℕ → Bool
 is_increasing [] = true
 is_increasing (x ∷ xs) = list_all (λ y. nat_lt x y) xs && is_increasing xs
 
--- the lists include the list
+-- `xs` is among the lists
 abbrev pub includes_list : List (List ℕ) → List ℕ → Bool
 includes_list rest xs = list_any (bytes_eq xs) rest
 
--- no list comes twice
+-- no two lists are equal
 abbrev pub all_different : List (List ℕ) → Bool
 all_different [] = true
 all_different (xs ∷ rest) = not (includes_list rest xs) && all_different rest

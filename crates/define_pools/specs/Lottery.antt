@@ -9,7 +9,7 @@ pub record LotteryRow : Type 0 where
   pub panel : List ℕ
   pub weight : ℕ
 
--- panels with their weights, and the weights' sum
+-- panels with their weights, and a total. That the total is the weights' sum is said by `TotalAgrees`
 pub record Lottery : Type 0 where
   pub total : ℕ
   pub rows : List LotteryRow
@@ -26,7 +26,7 @@ pub record IsLottery (pool : Pool) (lottery : Lottery) : Type 0 where
   pub different : IsTrue (all_different (map (λ row. row.panel) lottery.rows))
   pub total_agrees : TotalAgrees lottery
 
--- the sum of the weights of the panels that hold a volunteer; the volunteer's chance is this over the total
+-- the sum of the weights of the panels with volunteer `i`; the chance of `i` is this over the total
 abbrev pub count : Lottery → ℕ → ℕ
 count lottery i = sum_by (λ row. row.weight) (filter (λ row. includes row.panel i) lottery.rows)
 
@@ -34,8 +34,7 @@ count lottery i = sum_by (λ row. row.weight) (filter (λ row. includes row.pane
 abbrev pub counts : Pool → Lottery → List ℕ
 counts pool lottery = map (count lottery) (everybody pool)
 
--- the first list of counts is greater than the second: at the first place where the fractions count over total of the two lists differ, the
--- first list's fraction is greater
+-- of two lists of counts, equally long, the first is lexicographically greater, each count as a fraction of its list's total
 abbrev pub first_is_greater : ℕ → ℕ → List ℕ → List ℕ → Bool
 first_is_greater first_total second_total [] seconds = false
 first_is_greater first_total second_total (first ∷ firsts) [] = false
@@ -48,7 +47,7 @@ abbrev pub is_above : Pool → Lottery → Lottery → Bool
 is_above pool first second =
     first_is_greater first.total second.total (rising (counts pool first)) (rising (counts pool second))
 
--- a lottery such that no lottery over the same pool is above it
+-- a lottery above which there is no other lottery over the pool
 pub record LeximinGreatest (pool : Pool) (lottery : Lottery) : Type 0 where
   pub is_lottery : IsLottery pool lottery
   pub none_above : (other : Lottery) → IsLottery pool other → IsFalse (is_above pool other lottery)

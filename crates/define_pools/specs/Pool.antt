@@ -6,7 +6,7 @@ use Rattle.define_pools.specs.declared.Standing.{Standing}
 use Rattle.define_pools.specs.declared.Standing.TheVariants.{Open, Seated, Gone}
 use Rattle.define_pools.specs.Lists.{choices, includes, is_increasing, all_different}
 
--- a value of a category, and how many of a panel may have it
+-- a value of a category, and the least and the greatest number of a panel's members who may have it
 pub record BoundedValue : Type 0 where
   pub name : List ℕ
   pub lower : ℕ
@@ -35,7 +35,7 @@ abbrev pub keeps_name_limits : List ℕ → Bool
 keeps_name_limits name =
     nat_le 1 (length name) && nat_le (length name) 200 && list_all (λ byte. nat_le 32 byte && not (byte == 127)) name
 
--- a name or an id: a text of UTF-8 within these limits
+-- a name or an id: a text of UTF-8 within the limits of a name
 abbrev pub is_name : List ℕ → Bool
 is_name name = keeps_name_limits name && is_utf8 name
 
@@ -89,7 +89,7 @@ has_households pool = list_any (λ volunteer. is_some volunteer.household) pool.
 abbrev pub everybody : Pool → List ℕ
 everybody pool = range_with_len 0 (length pool.volunteers)
 
--- the volunteer of a number
+-- volunteer `i`, counted from 0. If there are at most `i` volunteers, one without values who is gone
 abbrev pub volunteer : List Volunteer → ℕ → Volunteer
 volunteer volunteers i = slice_index_or volunteers i (record { id = []; values = []; standing = Gone; household = None })
 
@@ -98,7 +98,7 @@ abbrev pub members_with : List Volunteer → List ℕ → ℕ → ℕ → ℕ
 members_with volunteers panel category_place value_place =
     count_by (λ i. slice_index (volunteer volunteers i).values category_place == value_place) panel
 
--- the number of those who have a value lies within its bounds
+-- `number` lies within the bounds of the value
 abbrev pub is_within : BoundedValue → ℕ → Bool
 is_within value number = nat_le value.lower number && nat_le number value.upper
 
@@ -109,7 +109,7 @@ meets_quotas categories volunteers panel =
     list_all (λ (value_place, value). is_within value (members_with volunteers panel category_place value_place)) (enumerate_from 0 category.values))
     (enumerate_from 0 categories)
 
--- whether a standing allows that a volunteer is in the panel (true), or that the volunteer is not (false)
+-- the standing allows that the volunteer is on the panel (if `is_in` is true), or isn't (if it is false)
 abbrev pub allows : Standing → Bool → Bool
 allows Open is_in = true
 allows Seated is_in = is_in
@@ -120,13 +120,13 @@ abbrev pub keeps_standings : List Volunteer → List ℕ → Bool
 keeps_standings volunteers panel =
     list_all (λ (i, volunteer). allows volunteer.standing (includes panel i)) (enumerate_from 0 volunteers)
 
--- there are two household names, and they are the same
+-- there are two household names, and they are equal
 abbrev pub is_same_household : Option (List ℕ) → Option (List ℕ) → Bool
 is_same_household None other = false
 is_same_household (Some name) None = false
 is_same_household (Some name) (Some other) = bytes_eq name other
 
--- two volunteers are of one household
+-- volunteers `i` and `j` are of one household
 abbrev pub share_household : List Volunteer → ℕ → ℕ → Bool
 share_household volunteers i j = is_same_household (volunteer volunteers i).household (volunteer volunteers j).household
 
@@ -146,7 +146,6 @@ is_quota_panel pool panel =
     is_of_size pool panel && keeps_standings pool.volunteers panel && meets_quotas pool.categories pool.volunteers panel
     && keeps_households pool.volunteers panel
 
--- the quota panels of a pool: of all increasing lists of its size over the volunteers, in lexicographic order, those that are quota
--- panels
+-- the quota panels of a pool, in lexicographic order: of all choices of `size` volunteers those that are quota panels
 abbrev pub panels : Pool → List (List ℕ)
 panels pool = filter (is_quota_panel pool) (choices pool.size (everybody pool))

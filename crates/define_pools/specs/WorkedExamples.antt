@@ -1,4 +1,4 @@
--- Small pools with their lotteries and certificates, on which the definitions compute. Worked examples of many crates are over these.
+-- Small pools with their lotteries and certificates, on which the definitions are computed. Worked examples of many crates use them.
 use Rattle.std.specs.Prelude.{ℕ, List, [], ◌∷◌, ℤ, pos, negsuc, codes, None, Some}
 use Rattle.define_pools.specs.declared.Standing.TheVariants.{Open, Seated, Gone}
 use Rattle.define_pools.specs.Pool.{BoundedValue, Category, Volunteer, Pool}
@@ -82,7 +82,7 @@ family_stages =
     stage (pos 0) (pos 0 ∷ negsuc 0 ∷ pos 1 ∷ pos 0 ∷ []) ∷
     stage (pos 0) (negsuc 0 ∷ pos 1 ∷ negsuc 0 ∷ pos 1 ∷ []) ∷ []
 
--- one seat, for which one category asks for a and the other for b
+-- one seat: category `one` needs x, which only a has, and category `two` needs p, which only b has
 abbrev pub crossed : Pool
 crossed = record {
   size = 1;

@@ -1,8 +1,8 @@
 //! What the program is measured against: pools and quota panels, lotteries and their order, certificates, and how a pool is built. The
-//! definitions are in `specs/`. Stands on `laws_basic`. Above: every crate that speaks of pools, by `pool_model` for the values,
-//! `define_pool_texts` for their text and `define_searches` for classes.
+//! definitions are in `specs/`. Stands on `laws_basic`. Used by every crate that speaks of pools: `pool_model` has the values in code,
+//! `define_pool_texts` their text, and `define_searches` the classes.
 //!
-//! The functions have no body: their contracts are laws over the definitions, and the promise that matters most is
+//! The functions have no body: their contracts are laws over the definitions, and each is a promise. The one that matters most is
 //! `certified_is_greatest`. Worked examples are in `laws_worked`.
 #![tactic(auto)]
 
@@ -17,7 +17,7 @@ ghost use Rattle.define_pools.specs.Certificate.{Stage, Certifies};
 pub enum Standing {
     /// May be chosen.
     Open,
-    /// Is on the panel in each case.
+    /// Is on each panel.
     Seated,
     /// Can't be chosen any more.
     Gone,

@@ -1,4 +1,4 @@
--- The kinds of fault that a line of a proof's text may have are rising, so that the first that applies is the lowest.
+-- The kinds of fault that a line of a proof's text may have are in rising order, so the first that applies is the lowest.
 use Rattle.std.proofs.Common.{◌≡◌, ℕ, Bool, true, ltb, List, length, map, refl}
 use Rattle.define_pools.specs.Lists.{is_increasing}
 use Rattle.define_pool_texts.specs.PoolReading as pools
@@ -6,7 +6,7 @@ use Rattle.define_pool_texts.proofs.LowestKinds as pool_kinds
 use Rattle.define_bundles.specs.BundleReading as bundles
 use Rattle.define_proof_texts.specs.ProofReading.{Begun, Closed, InBundle, InNoPanel, InPool, InTrees, LineInTree, NextTree, OfNode, Opened, Progress, TheClose, Unknown, WithoutPanel, line_kinds, said_in_no_panel, said_in_trees, tree_kinds}
 
--- the numbers of kinds are rising
+-- the numbers of the kinds are in rising order
 abbrev Rise : List (ℕ × Bool) → Type 0
 Rise kinds = is_increasing (map (λ kind. kind.0) kinds) ≡ true
 

@@ -1,4 +1,4 @@
--- What a line of a tree says, and how a right one is spelled.
+-- What a line of a tree is read as, and that its spelling is the line.
 use Rattle.std.proofs.Common.{◌≡◌, ℕ, ◌+◌, ◌-◌, ◌<◌, ◌≤◌, ◌^◌, true, ◌&&◌, cond, eqb, leb, ltb, List, [], ◌∷◌, ◌++◌, map, refl, sym, ◌∙◌, ap, subst, arith, lit<, Option, Some, None}
 use Rattle.std.specs.Prelude.{bytes_eq, codes, ℤ, unsigned_abs}
 use Rattle.std.specs.Fmt.{decimal, signed_decimal}
@@ -21,16 +21,16 @@ use Rattle.define_additions.specs.TreeRanges.{is_leaf, is_multiplier, is_tree_li
 use Rattle.define_proof_texts.specs.ProofText.{close_line, most_trees, multiplier_fields, node_line, tree_line}
 use Rattle.define_proof_texts.specs.ProofReading.{LineInTree, NextTree, OfNode, TheClose, Unknown, leaf_of, leaf_said, line_in_tree, multiplier_of, multipliers_of, node_in_range, node_said, split_of, split_said}
 
--- ---- a line has the spelling of what it says
+-- ---- a line is the spelling of what it is read as
 
--- the line has the spelling of what it says inside tree `number` of `last`, and its numbers are in range
+-- inside tree `number` of `last`, the line is the spelling of `said`, and its numbers are in range
 abbrev pub IsSpelled : ℕ → ℕ → ℕ → List ℕ → LineInTree → Type 0
 IsSpelled volunteers number last line (OfNode node) = (line ≡ node_line node) × (is_tree_line volunteers node ≡ true)
 IsSpelled volunteers number last line NextTree = (line ≡ tree_line (number + 1)) × (number < last) × (number < most_trees)
 IsSpelled volunteers number last line TheClose = (line ≡ close_line) × (number ≡ last)
 IsSpelled volunteers number last line Unknown = Unit {0}
 
--- two fields that are read as a multiplier are those of this multiplier
+-- if two fields are read as a multiplier, they are the multiplier's fields
 pair_spelled : (number factor : List ℕ) (multiplier : Multiplier) → multiplier_of (number_up_to last_constraint number) (signed_up_to number_limit factor) ≡ Some multiplier →
     number ∷ factor ∷ [] ≡ multiplier_fields multiplier
 pair_spelled number factor multiplier h = by (number_up_to last_constraint number) (signed_up_to number_limit factor) refl refl h
@@ -101,7 +101,7 @@ module _ (volunteers number last : ℕ) where
       (λ e. split_spelled first fields (bytes_are first (codes "split") e))
       (λ _. cond_both (bytes_eq first (codes "bound")) (leaf_said volunteers fields) Unknown P (λ e. leaf_spelled first fields (bytes_are first (codes "bound") e)) (λ _. tt))
 
-  -- each line has the spelling of what it says
+  -- each line is the spelling of what it is read as
   pub line_spelled : (line : List ℕ) → Spells line (line_in_tree volunteers number last line)
   line_spelled line =
       let node = node_said volunteers (fields_of line) in
@@ -119,7 +119,7 @@ module _ (volunteers number last : ℕ) where
 limit_small : number_limit < 10 ^ 64
 limit_small = lit< tt
 
--- the spelling of a number with a sign is a field, as that of a stage's cap is
+-- if the absolute value of `z` is at most `number_limit`, the spelling of `z` is a field. The proof uses a stage with the cap `z`
 signed_field : (z : ℤ) → unsigned_abs z ≤ number_limit → IsField (signed_decimal z)
 signed_field z small =
     let stage : Stage = record { weights = []; cap = z } in
@@ -129,7 +129,7 @@ signed_field z small =
     wide : (n : ℕ) → n ≤ number_limit → n + 0 ≤ 2 ^ 127 - 1
     wide n h = let most : number_limit < 2 ^ 127 - 1 = lit< tt in omega arith
 
--- what is known of a right multiplier
+-- what holds of a multiplier in its ranges
 record MultiplierParts (multiplier : Multiplier) : Type 0 where
   number : multiplier.number ≤ last_constraint
   factor : unsigned_abs multiplier.factor ≤ number_limit
@@ -162,7 +162,7 @@ multipliers_again (multiplier ∷ multipliers) h =
     ∙ ap (λ o. with_number (multiplier_of (Some multiplier.number) o) rest) (signed_again number_limit multiplier.factor (omega arith) small)
     ∙ ap (with_number (Some multiplier)) (multipliers_again multipliers parts.1)
 
--- what is known of a right leaf
+-- what holds of a leaf in its ranges
 record LeafParts (leaf : Leaf) : Type 0 where
   scale : leaf.scale ≤ number_limit
   multipliers : list_all is_multiplier leaf.multipliers ≡ true
@@ -182,7 +182,7 @@ module _ (volunteers : ℕ) (small : volunteers ≤ 400) where
       let parts = leaf_parts leaf is in let most = parts.scale in let wide = limit_small in
       (plain_field (codes "bound") refl, (decimal_field leaf.scale (omega arith), multipliers_are_fields leaf.multipliers parts.multipliers))
 
-  -- a right node's line has no LF
+  -- the line of a node in its ranges has no LF
   pub node_lacks_feed : (node : TreeLine) → is_tree_line volunteers node ≡ true → Lacks line_feed (node_line node)
   node_lacks_feed (OfSplit i) is = line_lacks_feed (codes "split" ∷ decimal i ∷ []) (split_fields i is)
   node_lacks_feed (OfLeaf leaf) is = line_lacks_feed (codes "bound" ∷ decimal leaf.scale ∷ flat_map multiplier_fields leaf.multipliers) (leaf_fields leaf is)
@@ -201,12 +201,12 @@ module _ (volunteers : ℕ) (small : volunteers ≤ 400) where
       ∙ ap (leaf_of volunteers (Some leaf.scale)) (multipliers_again leaf.multipliers parts.multipliers)
       ∙ ap (λ test. cond test (OfNode (OfLeaf leaf)) Unknown) is
 
-  -- a right node's line is read as this node, in each tree
+  -- the line of a node in its ranges is read as this node, in each tree
   pub node_again : (number last : ℕ) (node : TreeLine) → is_tree_line volunteers node ≡ true → line_in_tree volunteers number last (node_line node) ≡ OfNode node
   node_again number last (OfSplit i) is = said_again (OfSplit i) is
   node_again number last (OfLeaf leaf) is = said_again (OfLeaf leaf) is
 
--- the line that begins the next tree is read as such
+-- inside tree `number`, if `number` is below `last` and `most_trees`, the line that begins the next tree is read as `NextTree`
 pub next_again : (volunteers number last : ℕ) → number < last → number < most_trees → line_in_tree volunteers number last (tree_line (number + 1)) ≡ NextTree
 next_again volunteers number last l m =
     let node = node_said volunteers (fields_of (tree_line (number + 1))) in
@@ -214,7 +214,7 @@ next_again volunteers number last l m =
     ap (λ test. cond test (cond (ltb number last && ltb number most_trees) NextTree Unknown) node) (bytes_same (tree_line (number + 1)) (tree_line (number + 1)) refl)
     ∙ ap (λ test. cond test NextTree Unknown) both
 
--- inside the last tree, the last line is read as such
+-- inside the last tree, the last line is read as `TheClose`
 pub close_again : (volunteers last : ℕ) → line_in_tree volunteers last last close_line ≡ TheClose
 close_again volunteers last = ap (λ test. cond test TheClose Unknown) (eq-eqb last last refl)
 

@@ -26,13 +26,13 @@ use Rattle.define_proof_texts.specs.ProofReading.{Begun, Closed, InBundle, InNoP
 use Rattle.define_proof_texts.proofs.NodeLines.{close_again, next_again, node_again, node_lacks_feed, tree_lacks_feed}
 use Rattle.define_proof_texts.proofs.Spelled.{keep_ranges}
 
--- none of these lines has an LF or a fault, and they lead from one progress to another
+-- none of the lines has an LF or a fault, and after them the first progress has become the second
 abbrev pub Runs : Progress → List (List ℕ) → Progress → Type 0
 Runs = reading.Runs reader
 
 -- ---- the lines of a pool
 
--- if lines of a pool lead to its end, they do so in a proof too
+-- if lines of a pool lead to the pool's end, they lead to it in a proof too
 pool_inside : (progress : pools.Progress) (lines : List (List ℕ)) (pool : Pool) → pool_again.Runs progress lines (pools.Ended pool) → Runs (InPool progress) lines (InPool (pools.Ended pool))
 pool_inside progress [] pool h = ap InPool h
 pool_inside pools.Begun (line ∷ lines) pool h = (h.0, h.1, pool_inside (pools.after_line pools.Begun line) lines pool h.2)
@@ -40,11 +40,12 @@ pool_inside (pools.Versioned second) (line ∷ lines) pool h = (h.0, h.1, pool_i
 pool_inside (pools.Inside other passed) (line ∷ lines) pool h = (h.0, h.1, pool_inside (pools.after_line (pools.Inside other passed) line) lines pool h.2)
 pool_inside (pools.Ended other) (line ∷ lines) pool h = let e = h.1 in cc
 
--- a pool's first line may come after the first line of a proof, and begins no bundle
+-- after the first line of a proof, a pool's first line has no fault
 pool_begins : (second : Bool) → line_kind Opened (version_line second) ≡ None
 pool_begins true = refl
 pool_begins false = refl
 
+-- after the first line of a proof, a pool's first line leads into the pool's lines, and not into a bundle's
 pool_goes : (second : Bool) → after_line Opened (version_line second) ≡ InPool (pools.after_line pools.Begun (version_line second))
 pool_goes true = refl
 pool_goes false = refl
@@ -60,7 +61,7 @@ pool_runs pool is =
 
 -- ---- the lines of a bundle
 
--- if lines of a bundle lead to its end, they do so in a proof too
+-- if lines of a bundle lead to the bundle's end, they lead to it in a proof too
 bundle_inside : (progress : bundles.Progress) (lines : List (List ℕ)) (bundle : Bundle) → bundle_again.Runs progress lines (bundles.Done bundle) → Runs (InBundle progress) lines (InBundle (bundles.Done bundle))
 bundle_inside progress [] bundle h = ap InBundle h
 bundle_inside bundles.Begun (line ∷ lines) bundle h = (h.0, h.1, bundle_inside (bundles.after_line bundles.Begun line) lines bundle h.2)
@@ -69,7 +70,7 @@ bundle_inside (bundles.InRows pool lottery) (line ∷ lines) bundle h = (h.0, h.
 bundle_inside (bundles.InStages pool answer) (line ∷ lines) bundle h = (h.0, h.1, bundle_inside (bundles.after_line (bundles.InStages pool answer) line) lines bundle h.2)
 bundle_inside (bundles.Done other) (line ∷ lines) bundle h = let e = h.1 in cc
 
--- after a proof's first line, all lines of a bundle lead to its end too
+-- if lines of a bundle lead from its beginning to its end, they do so after a proof's first line
 bundle_runs : (lines : List (List ℕ)) (bundle : Bundle) → bundle_again.Runs bundles.Begun lines (bundles.Done bundle) → Runs Opened lines (InBundle (bundles.Done bundle))
 bundle_runs [] bundle h = cc
 bundle_runs (line ∷ lines) bundle h =
@@ -83,7 +84,7 @@ bundle_runs (line ∷ lines) bundle h =
 
 -- ---- the lines of trees
 
--- the line that must come here has no fault
+-- a line that equals the one that is required has no fault of kind 22
 expected : (line : List ℕ) → lowest_kind ((22, not (bytes_eq line line)) ∷ []) ≡ None
 expected line = ap (λ b. cond (not b) (Some 22) None) (bytes_same line line refl)
 
@@ -91,7 +92,8 @@ module _ (bundle : Bundle) (small : length bundle.pool.volunteers ≤ 400) where
   abbrev n : ℕ
   n = length bundle.pool.volunteers
 
-  -- a line inside a tree that says `said`, without a fault, leads on
+  -- if `line` has no LF and is read as `said` without a fault, and from the progress after it the later lines lead to `after`, then `line`
+  -- and the later lines lead to `after`
   run_tree : (whole : List (List TreeLine)) (lines : List TreeLine) (line : List ℕ) (said : LineInTree) (later : List (List ℕ)) (after : Progress) → Lacks line_feed line → said_in_trees bundle whole line ≡ said →
       lowest_kind (tree_kinds said) ≡ None → Runs (after_tree bundle whole lines said) later after → Runs (InTrees bundle whole lines) (line ∷ later) after
   run_tree whole lines line said later after lacks e none rest =
@@ -106,7 +108,8 @@ module _ (bundle : Bundle) (small : length bundle.pool.volunteers ≤ 400) where
       (node_again n small (length whole + 1) (length bundle.answer.stages) node parts.0) refl
       (subst (λ lines. Runs (InTrees bundle whole (done ++ node ∷ [])) (map node_line todo) (InTrees bundle whole lines)) (append_assoc done (node ∷ []) todo) rest)
 
-  -- after a whole tree, the lines of the later trees and the last line lead to the end
+  -- if the later trees are in their ranges, and all trees together are as many as the stages and at most `most_trees`, then after the lines
+  -- of one tree, those of the later trees and the last line lead to the text's end
   later_run : (whole : List (List TreeLine)) (lines : List TreeLine) (later : List (List TreeLine)) → (length whole + 1) + length later ≡ length bundle.answer.stages → (length whole + 1) + length later ≤ most_trees →
       keep_ranges n later ≡ true →
       Runs (InTrees bundle whole lines) (trees_from ((length whole + 1) + 1) later ++ close_line ∷ []) (Closed (OfLottery bundle.pool bundle.answer (whole ++ lines ∷ later)))
@@ -129,7 +132,8 @@ module _ (bundle : Bundle) (small : length bundle.pool.volunteers ≤ 400) where
       (tree_lacks_feed number (omega (arith, few))) (next_again n (length whole + 1) (length bundle.answer.stages) (omega (arith, many)) (omega (arith, few))) refl
       (subst (λ trees. Runs (InTrees bundle more []) ((map node_line tree ++ trees_from (number + 1) later) ++ close_line ∷ []) (Closed (OfLottery bundle.pool bundle.answer trees))) (append_assoc whole (lines ∷ []) (tree ∷ later)) regrouped)
 
-  -- after a bundle, the lines of its trees and the last line lead to the end
+  -- if the trees are in their ranges, as many as the stages, and from 1 to `most_trees`, then after a bundle, the lines of the trees and
+  -- the last line lead to the text's end
   trees_run : (trees : List (List TreeLine)) → ltb 0 (length bundle.answer.stages) ≡ true → length trees ≡ length bundle.answer.stages → length trees ≤ most_trees → keep_ranges n trees ≡ true →
       Runs (InBundle (bundles.Done bundle)) (trees_from 1 trees ++ close_line ∷ []) (Closed (OfLottery bundle.pool bundle.answer trees))
   trees_run [] some many few are = let l = ltb-true 0 (length bundle.answer.stages) some in absurd (omega arith)
@@ -160,7 +164,8 @@ module _ (pool : Pool) (small : length pool.volunteers ≤ 400) where
         subst (λ s. Runs (after_no_panel pool done s) (map node_line todo ++ close_line ∷ []) (Closed (OfNoPanel pool (done ++ node ∷ todo)))) (sym said) rest,
       )
 
-  -- after a pool, the line that it has no quota panel, those of its tree and the last line lead to the end
+  -- if the tree's lines are in their ranges, then after a pool, the line `none`, the lines of the tree and the last line lead to the text's
+  -- end
   no_panel_runs : (lines : List TreeLine) → list_all (is_tree_line (length pool.volunteers)) lines ≡ true → Runs (InPool (pools.Ended pool)) ((none_line ∷ tree_lines 0 lines) ++ close_line ∷ []) (Closed (OfNoPanel pool lines))
   no_panel_runs lines are = (
     (plain_field (codes "none") refl).no_feed,
@@ -173,7 +178,7 @@ module _ (pool : Pool) (small : length pool.volunteers ≤ 400) where
 opens : (lines : List (List ℕ)) (after : Progress) → Runs Opened lines after → Runs Begun (proof_line ∷ lines) after
 opens lines after runs = (line_lacks_feed (codes "proof" ∷ codes "1" ∷ []) (plain_field (codes "proof") refl, (plain_field (codes "1") refl, tt)), refl, runs)
 
--- if lines lead to the end with a proof, and their text is its spelling, the spelling is read as this proof
+-- if lines lead to the end with a proof, and their text is the proof's spelling, the spelling is read as this proof
 runs_are_read : (lines : List (List ℕ)) (proof : Proof) → Runs Begun lines (Closed proof) → text_of lines ≡ proof_spelling proof → read_proof (proof_spelling proof) ≡ Ok proof
 runs_are_read lines proof runs same =
     ap read_proof (sym same) ∙ reading.text_is_read reader (Closed proof) proof (λ number. refl) 1 Begun lines runs

@@ -1,4 +1,4 @@
--- Lines that are read without a fault are those of the proof that is read.
+-- If lines are read as a proof without a fault, they are the lines of this proof.
 use Rattle.std.proofs.Common.{◌≡◌, ℕ, suc, ◌+◌, ◌<◌, Bool, true, false, not, cond, ◌||◌, List, [], ◌∷◌, ◌++◌, length, refl, sym, ◌∙◌, ap, subst, arith, append_assoc, length-append, Option, Some, None}
 use Rattle.std.specs.Prelude.{bytes_eq, Ok, is_none}
 use Rattle.std.specs.List.{list_all}
@@ -24,11 +24,11 @@ use Rattle.define_proof_texts.specs.ProofText.{IsNoPanelProof, IsProof, bundle_l
 use Rattle.define_proof_texts.specs.ProofReading.{Begun, Closed, InBundle, InNoPanel, InPool, InTrees, LineInTree, NextTree, OfNode, Opened, Progress, TheClose, Unknown, WithoutPanel, after_line, after_no_panel, after_tree, at_last, begins_bundle, begins_pool, line_kind, read_proof, said_in_no_panel, said_in_trees, tree_kinds, reader}
 use Rattle.define_proof_texts.proofs.NodeLines.{IsSpelled, line_spelled}
 
--- the lines of all trees keep their ranges, for a pool of this number of volunteers
+-- all lines of the trees are in their ranges, for a pool of `volunteers`
 abbrev pub keep_ranges : ℕ → List (List TreeLine) → Bool
 keep_ranges volunteers trees = list_all (λ lines. list_all (is_tree_line volunteers) lines) trees
 
--- the bundle, the whole trees so far and the lines of one more keep their limits
+-- the bundle, the trees `whole` and the lines of the next tree are within their limits, and this tree's stage is one of the bundle's
 pub record AreRightTrees (bundle : Bundle) (whole : List (List TreeLine)) (lines : List TreeLine) : Type 0 where
   pub is_bundle : IsBundle bundle
   pub one_left : length whole < length bundle.answer.stages
@@ -36,7 +36,7 @@ pub record AreRightTrees (bundle : Bundle) (whole : List (List TreeLine)) (lines
   pub whole_in_ranges : keep_ranges (length bundle.pool.volunteers) whole ≡ true
   pub in_ranges : list_all (is_tree_line (length bundle.pool.volunteers)) lines ≡ true
 
--- a progress is right: the bundle or the pool so far is right, and the trees so far or the proof keep their limits
+-- a progress is right: the bundle or the pool so far is right, and the trees so far, or the proof, are within their limits
 abbrev pub IsRight : Progress → Type 0
 IsRight Begun = Unit {0}
 IsRight Opened = Unit {0}
@@ -58,13 +58,13 @@ lines_so_far (InTrees bundle whole lines) = lines_before_close (OfLottery bundle
 lines_so_far (InNoPanel pool lines) = lines_before_close (OfNoPanel pool lines)
 lines_so_far (Closed proof) = lines_before_close proof ++ close_line ∷ []
 
--- the line leads to a right progress, and adds itself to the lines so far
+-- `after` is right, and its lines so far are those of `progress` and then `line`
 abbrev Adds : Progress → List ℕ → Progress → Type 0
 Adds progress line after = IsRight after × (lines_so_far after ≡ lines_so_far progress ++ line ∷ [])
 
 -- ---- the lines of trees
 
--- the lines of trees with one tree more
+-- appending a tree appends its lines to the lines of the trees
 pub trees-push : (number : ℕ) (whole : List (List TreeLine)) (lines : List TreeLine) → trees_from number (whole ++ lines ∷ []) ≡ trees_from number whole ++ tree_lines (number + length whole) lines
 trees-push number [] lines = let here : number ≡ number + 0 = omega arith in append-nil (tree_lines number lines) ∙ ap (λ n. tree_lines n lines) here
 trees-push number (tree ∷ whole) lines =
@@ -72,32 +72,32 @@ trees-push number (tree ∷ whole) lines =
     ap (λ rest. tree_lines number tree ++ rest) (trees-push (number + 1) whole lines ∙ ap (λ n. trees_from (number + 1) whole ++ tree_lines n lines) next)
     ∙ sym (append_assoc (tree_lines number tree) (trees_from (number + 1) whole) (tree_lines (number + suc (length whole)) lines))
 
--- the lines of a tree with one node more
+-- appending a node appends its line to the lines of a tree
 node-push : (number : ℕ) (lines : List TreeLine) (node : TreeLine) → tree_lines number (lines ++ node ∷ []) ≡ tree_lines number lines ++ node_line node ∷ []
 node-push number lines node = ap (λ rest. tree_line number ∷ rest) (map-append node_line lines (node ∷ []))
 
--- the lines of trees with one node more in the last tree
+-- appending a node to the last tree appends its line to the lines of the trees
 node_in_last : (whole : List (List TreeLine)) (lines : List TreeLine) (node : TreeLine) → trees_from 1 (whole ++ (lines ++ node ∷ []) ∷ []) ≡ trees_from 1 (whole ++ lines ∷ []) ++ node_line node ∷ []
 node_in_last whole lines node =
     let number = 1 + length whole in
     trees-push 1 whole (lines ++ node ∷ []) ∙ ap (λ rest. trees_from 1 whole ++ rest) (node-push number lines node)
     ∙ sym (append_assoc (trees_from 1 whole) (tree_lines number lines) (node_line node ∷ [])) ∙ ap (λ rest. rest ++ node_line node ∷ []) (sym (trees-push 1 whole lines))
 
--- the lines of trees with the first line of one tree more
+-- appending a tree without nodes appends its first line to the lines of the trees
 next_tree : (whole : List (List TreeLine)) (lines : List TreeLine) → trees_from 1 ((whole ++ lines ∷ []) ++ [] ∷ []) ≡ trees_from 1 (whole ++ lines ∷ []) ++ tree_line ((length whole + 1) + 1) ∷ []
 next_tree whole lines =
     let many : 1 + length (whole ++ lines ∷ []) ≡ (length whole + 1) + 1 = omega (arith, length-append whole (lines ∷ [])) in
     trees-push 1 (whole ++ lines ∷ []) [] ∙ ap (λ n. trees_from 1 (whole ++ lines ∷ []) ++ tree_line n ∷ []) many
 
--- a line that is added after a bundle's lines
+-- appending a line to those after a bundle appends it to the whole text's lines
 behind_bundle : (pool : Pool) (answer : Answer) (before after : List (List ℕ)) (line : List ℕ) → after ≡ before ++ line ∷ [] →
     proof_line ∷ (bundle_lines pool answer ++ after) ≡ (proof_line ∷ (bundle_lines pool answer ++ before)) ++ line ∷ []
 behind_bundle pool answer before after line e =
     ap (λ rest. proof_line ∷ (bundle_lines pool answer ++ rest)) e ∙ ap (λ rest. proof_line ∷ rest) (sym (append_assoc (bundle_lines pool answer) before (line ∷ [])))
 
--- ---- a line more
+-- ---- one more line
 
--- a test passes if the kind of fault that it would have by failing doesn't apply
+-- if a kind of fault that applies unless `test` is true doesn't apply, `test` is true
 passed : (test : Bool) (kind : ℕ) → lowest_kind ((kind, not test) ∷ []) ≡ None → test ≡ true
 passed test kind h = not-false test (no_kind (not test) kind None h).0
 
@@ -161,7 +161,7 @@ no_panel_adds pool lines line NextTree right spelled h = let l = spelled.1 in ab
 no_panel_adds pool lines line TheClose right spelled h = (right, ap (λ l. lines_before_close (OfNoPanel pool lines) ++ l ∷ []) (sym spelled.0))
 no_panel_adds pool lines line Unknown right spelled h = cc
 
--- a line of the bundle adds itself
+-- a line of the bundle without a fault keeps the progress right and is added to the lines so far
 within_bundle : (progress : bundles.Progress) (line : List ℕ) → bundle_read.IsRight progress → bundles.line_kind progress line ≡ None → Adds (InBundle progress) line (InBundle (bundles.after_line progress line))
 within_bundle progress line right h = let step = bundle_read.line_adds progress line right h in (step.0, ap (λ lines. proof_line ∷ lines) step.1)
 
@@ -177,7 +177,7 @@ bundle_adds (bundles.Done bundle) line right h =
       ap (λ l. proof_line ∷ (bundle_lines bundle.pool bundle.answer ++ l ∷ [])) (sym same),
     )
 
--- a line of the pool adds itself
+-- a line of the pool without a fault keeps the progress right and is added to the lines so far
 within_pool : (progress : pools.Progress) (line : List ℕ) → pool_read.IsRight progress → pools.line_kind progress line ≡ None → Adds (InPool progress) line (InPool (pools.after_line progress line))
 within_pool progress line right h = let step = pool_read.line_adds progress line right h in (step.0, ap (λ lines. proof_line ∷ lines) step.1)
 
@@ -193,7 +193,7 @@ none_is : (kind : Option ℕ) → is_none kind ≡ true → kind ≡ None
 none_is None h = refl
 none_is (Some kind) h = absurd (false≢true h)
 
--- the line after the first adds itself
+-- a second line without a fault keeps the progress right and is added to the lines so far
 opened_adds : (line : List ℕ) → line_kind Opened line ≡ None → Adds Opened line (after_line Opened line)
 opened_adds line h = by (begins_bundle line) refl (passed (begins_bundle line || begins_pool line) 22 h)
   where
@@ -201,7 +201,7 @@ opened_adds line h = by (begins_bundle line) refl (passed (begins_bundle line ||
     by true e some = within_bundle bundles.Begun line tt (none_is (bundles.line_kind bundles.Begun line) e)
     by false e some = within_pool pools.Begun line tt (none_is (pools.line_kind pools.Begun line) some)
 
--- a line without a fault keeps the progress right, and adds itself to the lines so far
+-- a line without a fault keeps the progress right, and is added to the lines so far
 pub line_adds : (progress : Progress) (line : List ℕ) → IsRight progress → line_kind progress line ≡ None → IsRight (after_line progress line) × (lines_so_far (after_line progress line) ≡ lines_so_far progress ++ line ∷ [])
 line_adds Begun line right h = (tt, ap (λ l. l ∷ []) (sym (bytes_are line proof_line (passed (bytes_eq line proof_line) 21 h))))
 line_adds Opened line right h = opened_adds line h
@@ -219,7 +219,7 @@ line_adds (Closed proof) line right h = cc
 
 -- ---- all lines
 
--- if the text ends with a proof, the lines so far and the last bytes are the spelling of this proof
+-- if the text ends with a proof, its lines and the last bytes are the spelling of this proof
 last_is_spelled : (number : ℕ) (progress : Progress) (bytes : List ℕ) (proof : Proof) → IsRight progress → at_last number progress bytes ≡ Ok proof →
     IsProof proof × (text_of (lines_so_far progress) ++ bytes ≡ proof_spelling proof)
 last_is_spelled number Begun bytes proof right h = cc

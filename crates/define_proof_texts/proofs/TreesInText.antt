@@ -15,18 +15,18 @@ use Rattle.define_additions.proofs.StepByStep.{fault_within}
 use Rattle.define_proof_texts.specs.LinesInText.{HasTree, NamesTextLine, lines_behind, proof_lines}
 use Rattle.define_proof_texts.specs.ProofText.{IsProof, bundle_lines, close_line, lines_before_close, node_line, none_line, proof_line, tree_line, tree_lines, trees_from}
 
--- to drop `xs` and `many` more lines is to drop `many` of `ys`
+-- dropping `length xs + many` lines of `xs ++ ys` leaves `ys` without its first `many`
 drop_behind : (xs ys : List (List ℕ)) (many : ℕ) → drop (length xs + many) (xs ++ ys) ≡ drop many ys
 drop_behind [] ys many = let e : 0 + many ≡ many = omega arith in ap (λ k. drop k ys) e
 drop_behind (x ∷ xs) ys many = let e : length (x ∷ xs) + many ≡ suc (length xs + many) = omega arith in ap (λ k. drop k (x ∷ (xs ++ ys))) e ∙ drop_behind xs ys many
 
--- to drop the first `place` lines of a tree is to drop as many nodes
+-- dropping `place` lines of a tree's nodes leaves the lines of the nodes from `place` on
 drop_nodes : (lines : List TreeLine) (rest : List (List ℕ)) (place : ℕ) → place ≤ length lines → drop place (map node_line lines ++ rest) ≡ map node_line (drop place lines) ++ rest
 drop_nodes lines rest zero l = refl
 drop_nodes [] rest (suc place) l = absurd (omega arith)
 drop_nodes (line ∷ lines) rest (suc place) l = drop_nodes lines rest place (omega arith)
 
--- to drop all lines before place `place` of tree `k` leaves the rest of this tree, the later trees and the lines after them
+-- dropping all lines before place `place` of tree `k` leaves the rest of this tree, the later trees and the lines after them
 drop_trees : (trees : List (List TreeLine)) (rest : List (List ℕ)) (number k place : ℕ) → k < length trees → place ≤ length (get_or trees k []) →
     drop (suc (lines_of_trees (take k trees) + place)) (trees_from number trees ++ rest) ≡ map node_line (drop place (get_or trees k [])) ++ (trees_from (number + k + 1) (drop (suc k) trees) ++ rest)
 drop_trees [] rest number k place l m = absurd (omega arith)
@@ -93,7 +93,7 @@ tree_lines_stand (OfNoPanel pool lines) stage place has m = of_none pool lines p
 
 -- ---- the line that a refusal names
 
--- if a tree of the proof has its first fault in a line, and the refusal names this line, it names a line of the text
+-- if the first fault of a proof's tree is in a line, and the refusal names this line, the refusal names a line of the text
 in_text : (proof : Proof) (refusal : Refusal) (problem : Problem) (all : List Standing) (line : ℕ) → HasTree proof refusal.stage → refusal.who ≡ line ∷ [] →
     tree_fault problem all (lines_before proof refusal.stage + 1) (tree_of proof refusal.stage) ≡ fault line refusal.reason → NamesTextLine proof refusal
 in_text proof refusal problem all line has who first =

@@ -1,5 +1,5 @@
--- The places of a proof's tree lines in its text. Over ProofText and Refusals of `define_additions`. The refusals of `verify` name
--- lines by it.
+-- Where the lines of a proof's trees are in its text. Over ProofText, and Refusals of `define_additions`. The refusals of `verify` name
+-- lines by their number in the text.
 use Rattle.std.specs.Prelude.{◌≡◌, ℕ, ◌+◌, ◌≤◌, List, [], ◌∷◌, ◌++◌, drop, length, map}
 use Rattle.define_checks.specs.Reasons.{Refusal}
 use Rattle.define_additions.specs.ProofVerdict.{OfLottery, OfNoPanel, Proof}
@@ -10,19 +10,20 @@ use Rattle.define_proof_texts.specs.ProofText.{close_line, lines_before_close, n
 abbrev pub proof_lines : Proof → List (List ℕ)
 proof_lines proof = lines_before_close proof ++ close_line ∷ []
 
--- a proof has a tree of this number: that of a stage, or 0 if there is to be no quota panel
+-- the proof has a tree of number `stage`: that of the stage, or tree 0 if the proof is that there is no quota panel
 abbrev pub HasTree : Proof → ℕ → Type 0
 HasTree (OfLottery pool answer trees) stage = (1 ≤ stage) × (stage ≤ length trees)
 HasTree (OfNoPanel pool lines) stage = stage ≡ 0
 
--- the lines after those of the tree of this number: of the later trees, and the last line
+-- the lines after those of tree `stage`: the later trees, and the last line
 abbrev pub lines_behind : Proof → ℕ → List (List ℕ)
 lines_behind (OfLottery pool answer trees) stage = trees_from (stage + 1) (drop stage trees) ++ close_line ∷ []
 lines_behind (OfNoPanel pool lines) stage = close_line ∷ []
 
--- a refusal names a line of the text: a line of its stage's tree, or, if the tree has no more, the next line of the text
+-- the refusal names the line of the text, counted from 1, at `place` in its stage's tree. If the tree has only `place` lines, this is the
+-- line after them
 pub record NamesTextLine (proof : Proof) (refusal : Refusal) : Type 0 where
-  -- how many of the tree's lines come before it
+  -- how many of the tree's lines come before the named line
   pub place : ℕ
   pub within : place ≤ length (tree_of proof refusal.stage)
   pub who : refusal.who ≡ (lines_before proof refusal.stage + place + 1) ∷ []

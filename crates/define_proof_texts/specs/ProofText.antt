@@ -1,5 +1,5 @@
--- The text of a proof: each proof has one spelling. Over BundleText of `define_bundles`, and TreeLines and TreeRanges of
--- `define_additions`. Proofs are written so.
+-- The text of a proof: each proof has exactly one. Over BundleText of `define_bundles`, and TreeLines and TreeRanges of
+-- `define_additions`. `proof_text` writes it.
 use Rattle.std.specs.Prelude.{◌≡◌, ℕ, ◌+◌, nat_le, IsTrue, List, [], ◌∷◌, ◌++◌, length, map, codes}
 use Rattle.std.specs.Fmt.{decimal, signed_decimal}
 use Rattle.std.specs.List.{flat_map, list_all}
@@ -12,18 +12,19 @@ use Rattle.define_additions.specs.ProofVerdict.{OfLottery, OfNoPanel, Proof}
 use Rattle.define_additions.specs.TreeLines.{OfLeaf, OfSplit, TreeLine}
 use Rattle.define_additions.specs.TreeRanges.{is_tree_line}
 
--- the most trees that a proof can have: each stage settles one of 400 volunteers
+-- the most trees that a proof can have: one for each stage, and each stage settles at least one of 400 volunteers
 abbrev pub most_trees : ℕ
 most_trees = 400
 
--- what holds of each proof of a lottery: it has a bundle, and one tree for each stage, of lines in their ranges
+-- what holds of each proof of a lottery: pool and answer are a bundle; each stage has a tree, whose lines are in their ranges; and there
+-- are at most `most_trees` trees
 pub record IsLotteryProof (pool : Pool) (answer : Answer) (trees : List (List TreeLine)) : Type 0 where
   pub is_bundle : IsBundle (record { pool = pool; answer = answer })
   pub one_each : length trees ≡ length answer.stages
   pub few_trees : IsTrue (nat_le (length trees) most_trees)
   pub in_ranges : IsTrue (list_all (λ lines. list_all (is_tree_line (length pool.volunteers)) lines) trees)
 
--- what holds of each proof that there is no quota panel
+-- what holds of each proof that there is no quota panel: the pool satisfies `IsPool`, and the tree's lines are in their ranges
 pub record IsNoPanelProof (pool : Pool) (lines : List TreeLine) : Type 0 where
   pub is_pool : IsPool pool
   pub in_ranges : IsTrue (list_all (is_tree_line (length pool.volunteers)) lines)
@@ -36,15 +37,15 @@ IsProof (OfNoPanel pool lines) = IsNoPanelProof pool lines
 abbrev pub proof_line : List ℕ
 proof_line = line_of (codes "proof" ∷ codes "1" ∷ [])
 
--- the line after a pool that is to have no quota panel
+-- the line after a pool without a quota panel
 abbrev pub none_line : List ℕ
 none_line = codes "none"
 
--- the line that begins the tree of a number: that of its stage, or 0 if there is to be no quota panel
+-- the line that begins tree `number`: the number is that of its stage, from 1, or 0 for the tree that there is no quota panel
 abbrev pub tree_line : ℕ → List ℕ
 tree_line number = line_of (codes "tree" ∷ decimal number ∷ [])
 
--- the number of a constraint, and its factor. A negative number has `-` before its digits
+-- the fields of a multiplier: the number of its constraint, and its factor, with `-` before the digits if the factor is negative
 abbrev pub multiplier_fields : Multiplier → List (List ℕ)
 multiplier_fields multiplier = decimal multiplier.number ∷ signed_decimal multiplier.factor ∷ []
 
@@ -57,11 +58,11 @@ abbrev pub node_line : TreeLine → List ℕ
 node_line (OfSplit i) = line_of (codes "split" ∷ decimal i ∷ [])
 node_line (OfLeaf leaf) = leaf_line leaf
 
--- the lines of the tree of a number
+-- the line that begins tree `number`, then the lines of its nodes
 abbrev pub tree_lines : ℕ → List TreeLine → List (List ℕ)
 tree_lines number lines = tree_line number ∷ map node_line lines
 
--- the lines of trees, which are numbered from `number` on
+-- the lines of trees, numbered from `number` on
 abbrev pub trees_from : ℕ → List (List TreeLine) → List (List ℕ)
 trees_from number [] = []
 trees_from number (lines ∷ later) = tree_lines number lines ++ trees_from (number + 1) later

@@ -11,43 +11,46 @@ use Rattle.define_additions.specs.WorkedTrees.{four_proof, four_trees, women_lea
 use Rattle.define_proof_texts.specs.ProofReading.{read_proof}
 use Rattle.define_proof_texts.specs.ProofText.{bundle_lines, close_line, lines_before_close, none_line, proof_line}
 
--- what is read from the text of these lines
+-- what the text of `lines` is read as
 abbrev pub read_text : List (List ℕ) → Result Proof Fault
 read_text lines = read_proof (text_of lines)
 
--- the first fault of a text
+-- the fault of kind `kind` in line `line`
 abbrev pub faulty : ℕ → ℕ → Result Proof Fault
 faulty line kind = Err (record { line = line; kind = kind })
 
--- a whole proof of the answer for two women and two men, by these trees
+-- the lines of a proof of the answer for two women and two men, with the trees `trees`
 abbrev pub whole : List (List TreeLine) → List (List ℕ)
 whole trees = lines_before_close (four_proof trees) ++ close_line ∷ []
 
--- a first line of another version
+-- a first line with version 2
 abbrev pub second_version : List (List ℕ)
 second_version = line_of (codes "proof" ∷ codes "2" ∷ []) ∷ []
 
--- neither a bundle nor a pool after the first line
+-- after the first line, a line that begins neither a bundle nor a pool
 abbrev pub without_pool : List (List ℕ)
 without_pool = proof_line ∷ none_line ∷ []
 
--- a pool whose size isn't allowed, and one whose end is missing
+-- a pool with the size 0, which isn't allowed
 abbrev pub without_size : List (List ℕ)
 without_size = proof_line ∷ version_line false ∷ line_of (codes "size" ∷ codes "0" ∷ []) ∷ []
 
+-- a pool without its end
 abbrev pub without_end : List (List ℕ)
 without_end = proof_line ∷ version_line false ∷ []
 
--- a bundle whose end is missing, and one without a tree
+-- a bundle without its end
 abbrev pub without_done : List (List ℕ)
 without_done = proof_line ∷ lines_before_done four four_answer
 
+-- a bundle without a tree
 abbrev pub without_tree : List (List ℕ)
 without_tree = proof_line ∷ (bundle_lines four four_answer ++ close_line ∷ [])
 
--- one tree for two stages, and three
+-- a proof of two stages with one tree
 abbrev pub one_tree : List (List ℕ)
 one_tree = whole ((OfLeaf women_leaf ∷ []) ∷ [])
 
+-- a proof of two stages with three trees
 abbrev pub three_trees : List (List ℕ)
 three_trees = whole (four_trees ++ (OfLeaf women_leaf ∷ []) ∷ [])

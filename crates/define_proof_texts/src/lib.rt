@@ -1,8 +1,9 @@
-//! The text of a proof that a lottery is leximin greatest, or that a pool has no quota panel, and the first fault of bytes that are no
-//! proof's text. The definitions are in `specs/`. Stands on `define_additions`, `define_bundles` and `define_lines`. Above: the crates that
-//! hold proofs as values, and read and write their text; `proof_verify`, whose refusals name lines; the commands `prove` and `verify`.
+//! The text of a proof, which shows that a lottery is leximin greatest or that a pool has no quota panel; and the first fault of bytes
+//! that are no proof's text. The definitions are in `specs/`. Stands on `define_additions`, `define_bundles` and `define_lines`. Used by
+//! `proof_model` and `proof_text`, which hold, read and write proofs; `proof_verify`, whose refusals name lines; the commands about
+//! proofs, and the office.
 //!
-//! The functions have no body: their contracts are laws over the definitions, and worked examples.
+//! The functions have no body. Their contracts are the promises: laws over the definitions, and worked examples.
 #![tactic(auto)]
 
 ghost use Rattle.std.specs.Prelude.{◌≡◌, ◌≢◌, ◌⊎◌, ◌≤◌, ◌+◌, ◌-◌, ◌^◌, ◌++◌, [], ◌∷◌, codes, drop, length, map, pos, negsuc, ℕ, List, IsTrue, Ok, Err, MatchResult};
@@ -18,7 +19,7 @@ ghost use Rattle.define_proof_texts.specs.ProofText.{IsProof, close_line, lines_
 ghost use Rattle.define_proof_texts.specs.ProofReading.{NextTree, OfNode, Progress, TheClose, Unknown, line_in_tree, line_kinds, read_proof};
 ghost use Rattle.define_proof_texts.specs.WorkedProofs.{faulty, one_tree, read_text, second_version, three_trees, whole, without_done, without_end, without_pool, without_size, without_tree};
 
-/// Bytes are either the text of a proof, and are read as this proof, or they have a first fault and are the text of none.
+/// Bytes are the text of a proof and are read as this proof, or they have a first fault and are the text of no proof.
 pub fn proof_or_fault()
     ensures { (bytes : List ℕ) → MatchResult (read_proof bytes)
         (λ proof. IsProof proof × (bytes ≡ proof_spelling proof))
@@ -35,14 +36,14 @@ pub fn one_proof_per_text()
     ensures { (first second : Proof) → IsProof first → IsProof second → proof_spelling first ≡ proof_spelling second → first ≡ second }
 {}
 
-/// The kinds of fault that a line may have are one rising list, so the first that applies is the lowest.
+/// The kinds of fault that a line may have are listed in rising order, so the first that applies is the lowest.
 pub fn kinds_rise()
     ensures { (progress : Progress) (line : List ℕ) → IsTrue (is_increasing (map (λ one. one.0) (line_kinds progress line))) }
 {}
 
-/// In the text, `lines_before` lines come before a tree's lines, which follow one another; after them comes the next tree, or the last
-/// line. So the line at `place` in the tree is line `lines_before + place + 1` of the text. If the tree has only `place` lines, that is the
-/// line after them.
+/// In the text, exactly `lines_before` lines come before those of tree `stage`. The tree's lines follow, then the next tree or the last
+/// line. So the line at `place` in the tree is line `lines_before + place + 1` of the text. If the tree has only `place` lines, that is
+/// the line after them.
 pub fn tree_lines_in_text()
     ensures { (proof : Proof) (stage place : ℕ) → HasTree proof stage → place ≤ length (tree_of proof stage) →
         drop (lines_before proof stage + place) (proof_lines proof) ≡ map node_line (drop place (tree_of proof stage)) ++ lines_behind proof stage }
@@ -54,7 +55,7 @@ pub fn refused_line_in_text()
         NamesTextLine proof refusal }
 {}
 
-/// The trees of two women and two men, and of a woman and a man of one household, as they are spelled.
+/// The spelled trees of two women and two men, and of a woman and a man of one household.
 pub fn worked_texts()
     ensures four { drop 18 (whole four_trees) ≡
         line_of (codes "tree" ∷ codes "1" ∷ []) ∷
@@ -75,8 +76,8 @@ pub fn worked_texts()
         line_of (codes "bound" ∷ codes "0" ∷ codes "0" ∷ codes "-1" ∷ codes "3" ∷ codes "1" ∷ []) ∷ [] }
 {}
 
-/// What lines say inside the first tree of two, for four volunteers. The last line comes too early; the next tree's line is the one of
-/// number 2; a split is on a number below 4; a leaf has rising numbers of constraints, each with a factor that isn't 0.
+/// What lines are read as inside tree 1 of 2, for four volunteers. `close` comes too early there; the next tree's line is that of tree 2;
+/// a split is on a number below 4; a leaf has constraints in rising order, each with a factor that isn't 0.
 pub fn worked_lines()
     ensures marks { map (line_in_tree 4 1 2) (codes "close" ∷ line_of (codes "tree" ∷ codes "2" ∷ []) ∷ line_of (codes "tree" ∷ codes "3" ∷ []) ∷ codes "none" ∷ [])
         ≡ Unknown ∷ NextTree ∷ Unknown ∷ Unknown ∷ [] }
@@ -93,8 +94,8 @@ pub fn worked_lines()
         ≡ Unknown ∷ Unknown ∷ Unknown ∷ Unknown ∷ Unknown ∷ Unknown ∷ Unknown ∷ Unknown ∷ Unknown ∷ Unknown ∷ [] }
 {}
 
-/// Texts that are read, and texts with a first fault: in the first line, in the second, within the pool or the bundle, which may run
-/// out, and after them.
+/// Texts that are read, and texts with a first fault: in the first line, in the second, in the pool or the bundle, at an end that is
+/// missing, and after the bundle or the pool.
 pub fn worked_faults()
     ensures read { read_text (whole four_trees) ≡ Ok (four_proof four_trees) }
     ensures empty { read_proof [] ≡ faulty 1 23 }

@@ -20,7 +20,7 @@ module _ (table : Table) (x : Var) where
   sum-none factors (row ∷ rows) h =
       omega (arith, ints, ap (λ z. factors 0 *ℤ z) (h 0 (omega arith)), mul-zero (factors 0), sum-none (λ k. factors (suc k)) rows (λ k l. h (suc k) (omega arith)))
 
-  -- if no row but row i has a coefficient on the variable, the sum is row i's term
+  -- if only row i has a coefficient other than 0 on x, the sum is row i's factor times its coefficient on x
   sum-one : (factors : ℕ → ℤ) (rows : List Row) (i : ℕ) → i < length rows → ((k : ℕ) → k < length rows → k ≢ i → coefficient table (get_or rows k zero_row) x ≡ pos 0) →
       sum_of_coefficients table x factors rows ≡ factors i *ℤ coefficient table (get_or rows i zero_row) x
   sum-one factors [] i l h = absurd (omega arith)
@@ -28,11 +28,12 @@ module _ (table : Table) (x : Var) where
   sum-one factors (row ∷ rows) (suc i) l h =
       omega (arith, ints, ap (λ z. factors 0 *ℤ z) (h 0 (omega arith) (λ e. omega (arith, e))), mul-zero (factors 0), sum-one (λ k. factors (suc k)) rows i (omega arith) (λ k l n. h (suc k) (omega arith) (λ e. n (omega (arith, e)))))
 
-  -- terms of at most 0 have a sum of at most 0; if their sum is 0, each term is 0
+  -- terms of at most 0 have a sum of at most 0
   sum-le : (factors : ℕ → ℤ) (rows : List Row) → ((k : ℕ) → k < length rows → (factors k *ℤ coefficient table (get_or rows k zero_row) x) ≤ℤ pos 0) → sum_of_coefficients table x factors rows ≤ℤ pos 0
   sum-le factors [] h = omega (arith, ints)
   sum-le factors (row ∷ rows) h = omega (arith, ints, h 0 (omega arith), sum-le (λ k. factors (suc k)) rows (λ k l. h (suc k) (omega arith)))
 
+  -- if each term is at most 0 and their sum is 0, each term is 0
   sum-zero : (factors : ℕ → ℤ) (rows : List Row) → ((k : ℕ) → k < length rows → (factors k *ℤ coefficient table (get_or rows k zero_row) x) ≤ℤ pos 0) → sum_of_coefficients table x factors rows ≡ pos 0 →
       (k : ℕ) → k < length rows → factors k *ℤ coefficient table (get_or rows k zero_row) x ≡ pos 0
   sum-zero factors [] h e k l = absurd (omega arith)
@@ -40,7 +41,9 @@ module _ (table : Table) (x : Var) where
   sum-zero factors (row ∷ rows) h e (suc k) l =
       sum-zero (λ k. factors (suc k)) rows (λ k l. h (suc k) (omega arith)) (omega (arith, ints, h 0 (omega arith), sum-le (λ k. factors (suc k)) rows (λ k l. h (suc k) (omega arith)))) k (omega arith)
 
--- the coefficients of variables in unit rows, by the kind of the variable
+-- ---- the coefficients of variables in unit rows, by the kind of the variable
+
+-- the variable is a column
 abbrev is_column : Var → Bool
 is_column (Slack t) = false
 is_column (Stage r) = false
@@ -73,12 +76,13 @@ class_of_other table (Stage r) t e = omega (arith, ints, class_of_stage table r 
 class_of_other table (Column c) t e = absurd cc
 
 module _ (table : Table) (h : IsInOrder table) where
-  -- the combination that makes a multiple of a unit row has, at each variable, this multiple of the unit row's coefficient
+  -- if a combination of the rows is a multiple of a unit row, each variable's coefficient in it is the same multiple of that in the unit
+  -- row
   spread : (place : ℕ) (s : IsSpanned table.rows (unit place)) (x : Var) → sum_of_coefficients table x s.factors table.rows ≡ pos s.multiple *ℤ value table x (unit place)
   spread place s x =
       sym (value-combination table x s.factors table.rows) ∙ value-same table x (combination s.factors table.rows) (λ l. pos s.multiple *ℤ unit place l) s.sums ∙ value-scaled table x (pos s.multiple) (unit place)
 
-  -- at a basic variable, the combination's coefficient is the term of the variable's own row
+  -- row i's factor times its own coefficient is `multiple` times the coefficient of row i's basic variable in the unit row
   one_factor : (place : ℕ) (s : IsSpanned table.rows (unit place)) (i : ℕ) → i < length table.rows →
       s.factors i *ℤ coefficient_at table i (basic_at table i) ≡ pos s.multiple *ℤ value table (basic_at table i) (unit place)
   one_factor place s i l = sym (sum-one table (basic_at table i) s.factors table.rows i l (λ k m n. h.basic_others k i m l n)) ∙ spread place s (basic_at table i)
@@ -123,7 +127,7 @@ module _ (table : Table) (h : IsInOrder table) where
             (subst (λ z. pos 0 ≤ℤ z) (sym (one_factor (suc t) s k l)) (product-not_negative (pos s.multiple) (value table (basic_at table k) (unit (suc t))) (omega (arith, ints)) (class_of_other table (basic_at table k) t c))) in
             product-not_positive (s.factors k) (coefficient_at table k v) factor (none k l)
 
-    -- if no row has a coefficient above 0 on the variable, neither has a class's unit row
+    -- if no row has a coefficient above 0 on v, no unit row of a class has one
     no_class : is_column v ≡ false → (t : ℕ) → t < length table.sizes → value table v (unit (suc t)) ≤ℤ pos 0
     no_class e t l =
         let s = h.units (suc t) (omega arith) in
@@ -134,8 +138,8 @@ module _ (table : Table) (h : IsInOrder table) where
         by : (z : ℤ) (m : ℕ) → (pos m *ℤ z) ≤ℤ pos 0 → 0 < m → z ≤ℤ pos 0
         by z m k p = le-unscaled z (pos 0) m p (omega (arith, ints, k, mul-zero (pos m)))
 
-    -- so some row has a coefficient above 0 on a variable of the table; for a stage's variable, some class must have been unsettled when
-    -- the stage was entered
+    -- so if v is a variable of the table, some row has a coefficient above 0 on v. For a stage's variable this supposes that some class
+    -- was unsettled when the stage was entered
     pub some_positive : IsKnown table v → ((r : ℕ) → v ≡ Stage r → (t : ℕ) × (t < length table.sizes) × (get_or (get_or table.stages r []) t false ≡ true)) → ⊥
     some_positive known stage = by v refl
       where

@@ -1,4 +1,4 @@
--- What Bland's choice says of the row that is left and of the variable that enters.
+-- What holds of the row that is left and of the variable that enters, if Bland's rule chooses them.
 use Rattle.std.proofs.Common.{◌≡◌, ℕ, ◌<◌, Bool, true, false, not, ◌&&◌, ◌||◌, ◌++◌, length, map, Option, Some, None, pos, ◌*ℤ◌, ◌≤ℤ◌, ◌<ℤ◌, refl, sym, ap, ◌∙◌, arith}
 use Rattle.std.specs.Prelude.{int_lt}
 use Rattle.std.specs.Ordering.{int_eq}
@@ -17,7 +17,7 @@ use Rattle.define_rows.specs.Table.{Table, coefficient_at, row_at, basic_at, row
 use Rattle.define_rows.specs.Choice.{entering, may_leave, leaves_before, is_least, leaving, choice}
 use Rattle.define_rows.specs.InOrder.{IsKnown}
 
--- what holds of each variable of the table holds of each in the list of all variables
+-- if Q holds of each variable that belongs to the table, it holds of each in the list of all variables
 pub each_variable : (table : Table) (Q : Var → Type 0) → ((v : Var) → IsKnown table v → Q v) → AllByRecursion Q (variables table)
 each_variable table Q h =
     each_append Q (map Slack (range_with_len 0 (length table.sizes)) ++ map Stage (range_with_len 0 (length table.stages))) (map Column (range_with_len 0 (length table.columns)))
@@ -77,7 +77,7 @@ module _ (table : Table) (r : ℕ) (v : Var) (c : IsChosen table r v) where
   pub left-positive : pos 0 <ℤ coefficient_at table r v
   left-positive = lt-tested (pos 0) (coefficient_at table r v) (and_parts (may_leave table v r) (list_all (λ j. not (may_leave table v j) || not (leaves_before table v j r)) (row_numbers table)) least).0
 
-  -- no row with a coefficient above 0 has a lesser ratio of right side to coefficient
+  -- no row with a coefficient above 0 has a lesser ratio of right side to coefficient than row r, which is left
   pub left-least : (i : ℕ) → i < length table.rows → pos 0 <ℤ coefficient_at table i v → ((row_at table r).b *ℤ coefficient_at table i v) ≤ℤ ((row_at table i).b *ℤ coefficient_at table r v)
   left-least i l positive =
       let all = each_from_list_all (λ j. not (may_leave table v j) || not (leaves_before table v j r)) (row_numbers table)

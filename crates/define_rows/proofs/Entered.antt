@@ -1,4 +1,4 @@
--- What a table in order says of the variable that enters.
+-- What holds of the variable that enters in a table in order.
 use Rattle.std.proofs.Common.{◌≡◌, ℕ, suc, ◌+◌, ◌-◌, ◌<◌, ◌≤◌, Bool, true, false, cond, not, ◌&&◌, List, [], ◌∷◌, length, map, get_or, Option, Some, None, ℤ, pos, ◌*ℤ◌, refl, sym, ap, ◌∙◌, subst, arith, inl, inr, ◌⊎◌, ⊎_elim}
 use Rattle.std.specs.Prelude.{int_lt, slice_index, count_by}
 use Rattle.std.specs.Ordering.{int_eq}
@@ -57,7 +57,7 @@ module _ (table : Table) (h : IsInOrder table) (open_now : table.in_stage ≡ tr
   pub stages_are : length table.stages ≡ length table.closed + 1
   stages_are = h.stage_count ∙ ap (λ b. length table.closed + cond b 1 0) open_now
 
-  -- the marks of the open stage are those of the classes that are unsettled now
+  -- the open stage marks exactly the classes that are unsettled now
   pub marks_now : get_or table.stages (length table.stages - 1) [] ≡ map not table.settled
   marks_now = let n : length table.stages - 1 ≡ length table.closed = omega (arith, stages_are) in ap (λ k. get_or table.stages k []) n ∙ h.open_same open_now
 

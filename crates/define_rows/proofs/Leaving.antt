@@ -1,4 +1,4 @@
--- The row that is left: the preferred one of the rows so far, and that there is one.
+-- The row that is left, found row by row as the best so far; and that there is one.
 use Rattle.std.proofs.Common.{◌≡◌, ◌≢◌, ℕ, zero, suc, ◌+◌, ◌<◌, ◌≤◌, Bool, true, false, not, ◌&&◌, ◌||◌, [], length, Option, Some, None, pos, ◌≤ℤ◌, refl, ap, ap₂, ◌∙◌, subst, arith, inl, inr, ◌⊎◌, ⊎_elim}
 use Rattle.std.specs.Prelude.{int_lt}
 use Rattle.std.specs.Option.{option_map, option_and_then}
@@ -26,7 +26,7 @@ module _ (table : Table) (v : Var) (sides : (i : ℕ) → i < length table.rows 
   candidate : (i : ℕ) → i < length table.rows → may_leave table v i ≡ true → IsCandidate (row_at table i).b (coefficient_at table i v)
   candidate i l e = record { side = sides i l; coefficient = lt-tested (pos 0) (coefficient_at table i v) e }
 
-  -- if row n is preferred to the best of the rows before it, it is the best from now on; else the best one stays
+  -- if b is the best of the first n rows and row n is preferred to it, row n is the best of the first n + 1
   pub IsBest-takes : (n b : ℕ) → n < length table.rows → IsBest table v n b → may_leave table v n ≡ true → leaves_before table v n b ≡ true → IsBest table v (n + 1) n
   IsBest-takes n b l h may before = record { before = omega arith; may = may; best = λ k m e. by k m e (cases_eq k n) }
     where
@@ -42,6 +42,7 @@ module _ (table : Table) (v : Var) (sides : (i : ℕ) → i < length table.rows 
               (candidate k (omega arith) e) (candidate n l may) (candidate b (omega arith) h.may) f before in
               let denied = h.best k (omega arith) e in absurd cc
 
+  -- if b is the best of the first n rows and row n may not be left, or isn't preferred to b, then b is the best of the first n + 1
   pub IsBest-keeps : (n b : ℕ) → IsBest table v n b → (may_leave table v n ≡ false) ⊎ (leaves_before table v n b ≡ false) → IsBest table v (n + 1) b
   IsBest-keeps n b h c = record { before = omega (arith, h.before); may = h.may; best = λ k m e. by k m e (cases_eq k n) }
     where
@@ -49,6 +50,7 @@ module _ (table : Table) (v : Var) (sides : (i : ℕ) → i < length table.rows 
       by k m e (inl s) = ⊎_elim (λ f. let g : may_leave table v k ≡ false = ap (may_leave table v) s ∙ f in absurd cc) (λ f. ap (λ j. leaves_before table v j b) s ∙ f) c
       by k m e (inr o) = h.best k (omega arith) e
 
+  -- if none of the first n rows may be left and row n may, row n is the best of the first n + 1
   pub IsBest-first : (n : ℕ) → n < length table.rows → ((k : ℕ) → k < n → may_leave table v k ≡ false) → may_leave table v n ≡ true → IsBest table v (n + 1) n
   IsBest-first n l none may = record { before = omega arith; may = may; best = λ k m e. by k m e (cases_eq k n) }
     where
@@ -75,7 +77,7 @@ module _ (table : Table) (v : Var) (sides : (i : ℕ) → i < length table.rows 
           test false f = inr (b, more b (IsBest-keeps n b h (inr f)))
           test true f = inr (n, more n (IsBest-takes n b l h e f))
 
-  -- the best of all rows is the one that `is_least` tests for
+  -- the best of all rows satisfies `is_least`
   pub best_is_least : (b : ℕ) → IsBest table v (length table.rows) b → is_least table v b ≡ true
   best_is_least b h =
       ap₂ (λ x y. x && y) h.may (list_all_from_each (λ j. not (may_leave table v j) || not (leaves_before table v j b)) (row_numbers table)

@@ -28,7 +28,7 @@ use Rattle.define_rows.proofs.Totals.{total, total-same, total-scaled, amount}
 use Rattle.define_rows.proofs.Solutions.{StandsAt, is_same_refl, stands-at, stands-value, stands-positive, solution-each, each-solution, found-basic}
 use Rattle.define_rows.proofs.Satisfied.{numerator-over, only, only-none, only-picks, in_row, satisfied, by-variable, solution-total, known-basic, solution-whole}
 
--- the product of the values of f below n, which each of them divides
+-- the product f 0 * .. * f (n - 1)
 product_to : ℕ → (ℕ → ℕ) → ℕ
 product_to zero f = 1
 product_to (suc n) f = f 0 * product_to n (λ k. f (suc k))
@@ -44,7 +44,7 @@ factor-divides zero f k l = absurd (omega arith)
 factor-divides (suc n) f zero l = dvd-mul_right (f 0) (product_to n (λ k. f (suc k)))
 factor-divides (suc n) f (suc k) l = dvd_trans (f (suc k)) (factor-divides n (λ k. f (suc k)) k (omega arith)) (dvd-mul_left (product_to n (λ k. f (suc k))) (f 0))
 
--- the sum of differences is the difference of the sums; and a sum over a range is a `total`
+-- the sum of differences is the difference of the sums
 total-sub : (n : ℕ) (f g : ℕ → ℤ) → total n (λ k. f k -ℤ g k) ≡ total n f -ℤ total n g
 total-sub zero f g = refl
 total-sub (suc n) f g = omega (arith, ints, total-sub n (λ k. f (suc k)) (λ k. g (suc k)))
@@ -56,6 +56,7 @@ ranged_from f a (suc n) at e =
     let rest = ranged_from f (a + 1) n (λ k. at (suc k)) (λ k. e (suc k) ∙ (let z : a + suc k ≡ (a + 1) + k = omega arith in z)) in
     ap pos (sum_by-cons f a (range_with_len (a + 1) n)) ∙ ap₂ (λ y z. pos y +ℤ z) (ap f (sym here)) rest
 
+-- the sum of f over the numbers below n is the `total` of f
 ranged-total : (f : ℕ → ℕ) (n : ℕ) → pos (sum_by f (range_with_len 0 n)) ≡ total n (λ k. pos (f k))
 ranged-total f n = ranged_from f 0 n (λ k. k) (λ k. let z : k ≡ 0 + k = omega arith in z)
 
@@ -66,7 +67,7 @@ only-same x kind n f g h = total-same n (λ c. cond (is_same x (kind c)) (f c) (
     by c l true e = h c l (is_same-true x (kind c) e)
     by c l false e = refl
 
--- if x times each term of one sum is y times the same term of another, x times the one sum is y times the other
+-- if x times f z is y times g z for each z, then x times the sum of f is y times the sum of g
 sums-same : {X : Type 0} (x y : ℕ) (f g : X → ℕ) (xs : List X) → AllByRecursion (λ z. x * f z ≡ y * g z) xs → x * sum_by f xs ≡ y * sum_by g xs
 sums-same x y f g [] h = omega arith
 sums-same x y f g (z ∷ zs) h =
@@ -88,7 +89,7 @@ module _ (table : Table) (a : AllSettled table) where
   unfolding ones
   all_closed = let n : length table.stages ≡ length table.closed + 0 = a.in_order.stage_count ∙ ap (λ b. length table.closed + cond b 1 0) a.shut in omega arith
 
-  -- each row's coefficient on its own basic variable, and the scale: the product of all of these
+  -- the absolute value of the coefficient of row i's basic variable in row i
   own : ℕ → ℕ
   own i = unsigned_abs (coefficient_at table i (basic_at table i))
 
@@ -96,6 +97,7 @@ module _ (table : Table) (a : AllSettled table) where
   unfolding own
   some_own i l = omega (arith, ints, a.in_order.basic_own i l)
 
+  -- the scale: the product of `own i` over all rows
   the_scale : ℕ
   the_scale = product_to (length table.rows) own
 
@@ -103,7 +105,7 @@ module _ (table : Table) (a : AllSettled table) where
   unfolding the_scale
   some_scale = product-positive (length table.rows) own some_own
 
-  -- the amount of each row's basic variable: the right side over the own coefficient, times the scale
+  -- the amount of row i's basic variable: the right side over `own i`, times the scale
   amount_of : ℕ → ℕ
   amount_of i = unsigned_abs (row_at table i).b * (the_scale / own i)
 
@@ -127,7 +129,7 @@ module _ (table : Table) (a : AllSettled table) where
       let none : unsigned_abs (row_at table i).b ≡ 0 = ap unsigned_abs (let z : (row_at table i).b ≡ pos 0 = omega (arith, ints, a.in_order.sides i (record { b = pos 0; a = [] }) l) in z) in
       ap (λ n. n * (the_scale / own i)) none ∙ (let z : 0 * (the_scale / own i) ≡ 0 = omega arith in z)
 
-  -- the level of a closed stage and the value of a column, each as an amount
+  -- the level of closed stage k times the scale: the amount of the stage's variable
   level_of : ℕ → ℕ
   level_of k = amount_of (slice_index table.closed k)
 
@@ -135,6 +137,7 @@ module _ (table : Table) (a : AllSettled table) where
   amount_at None = 0
   amount_at (Some i) = amount_of i
 
+  -- the value of column c times the scale: the amount of the column, 0 if it is not basic
   value_of_column : ℕ → ℕ
   value_of_column c = amount_at (basic_row table (Column c))
 
@@ -194,30 +197,32 @@ module _ (table : Table) (a : AllSettled table) where
         let above = s.above in
         omega (arith, ints, zero, coefficient-Slack table (row_at table j) t)
 
-    -- a stage's weight for this class: the class's size if it was unsettled when the stage was entered, else 0
+    -- the weight of stage r for class t: the class's size if it was unsettled when the stage was entered, else 0
     weight : ℕ → ℕ
     weight r = cond (was_unsettled table r t) (slice_index table.sizes t) 0
 
     count : ℕ → ℕ
     count c = count_in table.columns c t
 
-    -- the coefficients of stages and columns in the class's unit row
+    -- in the unit row of class t, the variable of stage r has the coefficient `weight r`
     at_stage : (r : ℕ) → r < length table.stages → value table (Stage r) (unit (suc t)) ≡ pos (weight r)
     unfolding weight
     at_stage r m =
         dot-picks (sizes_where (get_or table.stages r []) table.sizes) t (λ k. unit (suc t) (suc k)) (λ k e. unit-same (suc t) (suc k) (ap suc e)) (λ k n. unit-other (suc t) (suc k) (λ e. n (omega (arith, e))))
         ∙ ap pos (get_or-sizes_where (get_or table.stages r []) table.sizes t (a.in_order.stage_each r [] m))
 
+    -- in the unit row of class t, column c has the coefficient `-(count c)`
     at_column : (c : ℕ) → value table (Column c) (unit (suc t)) ≡ pos 0 -ℤ pos (count c)
     unfolding count
     at_column c =
         ap₂ (λ y z. y -ℤ z) (unit-other (suc t) 0 (λ e. omega (arith, e)))
         (dot-picks (get_or table.columns c []) t (λ k. unit (suc t) (suc k)) (λ k e. unit-same (suc t) (suc k) (ap suc e)) (λ k n. unit-other (suc t) (suc k) (λ e. n (omega (arith, e)))))
 
-    -- the term of a row in the class's equation, if its basic variable is a stage's, or a column's
+    -- row i's term of stages in the equation of class t: `weight r` times row i's amount if its basic variable is that of stage r, else 0
     stage_terms : ℕ → ℤ
     stage_terms i = only (basic_at table i) Stage (length table.stages) (λ r. pos (weight r) *ℤ pos (amount_of i))
 
+    -- row i's term of columns in the equation of class t: `count c` times row i's amount if its basic variable is column c, else 0
     column_terms : ℕ → ℤ
     column_terms i = only (basic_at table i) Column (length table.columns) (λ c. pos (count c) *ℤ pos (amount_of i))
 
@@ -300,7 +305,8 @@ module _ (table : Table) (a : AllSettled table) where
     class-counts : count_of table value_of_column t ≡ slice_index table.sizes t * class_levels table level_of t
     class-counts = same_pos (count_of table value_of_column t) (slice_index table.sizes t * class_levels table level_of t) (sym columns_total ∙ sym balanced ∙ stages_total)
 
-  -- a column's numerator over `common`, times the scale, is its value times `common`; both times its count of the class
+  -- if the column's denominator divides `common`, the scale times the numerator over `common` is `common` times `value_of_column`; here
+  -- both sides are also multiplied by the column's count of class t
   numerator-same : (common c t : ℕ) (there : ColumnValue) → StandsAt table c there → (lowest_of there.side there.coefficient).den ∣ common →
       the_scale * (numerator_over common there * count_in table.columns there.column t) ≡ common * (value_of_column there.column * count_in table.columns there.column t)
   numerator-same common c t there s d =

@@ -10,7 +10,7 @@ use Rattle.define_rows.specs.declared.Var.TheVariants.{Slack, Stage, Column}
 use Rattle.define_rows.specs.Table.{comes_before}
 use Rattle.define_rows.specs.Choice.{goes_before}
 
--- a variable's kind and number, by which variables are ordered
+-- a variable's kind. Variables are ordered by their kind, then by their number
 kind : Var → ℕ
 kind (Slack t) = 0
 kind (Stage r) = 1
@@ -60,7 +60,7 @@ same_variable (Column c) (Slack u) e f = absurd (let k : 2 ≡ 0 = e in omega ar
 same_variable (Column c) (Stage s) e f = absurd (let k : 2 ≡ 1 = e in omega arith)
 same_variable (Column c) (Column d) e f = ap Column f
 
--- what `goes_before` says if right sides and coefficients are natural numbers
+-- `goes_before`, for right sides and coefficients that are natural numbers
 record Goes (m n : ℕ) (x : Var) (m' n' : ℕ) (y : Var) : Type 0 where
   ratio : (m * n' < m' * n) ⊎ ((m * n' ≡ m' * n) × Before x y)
 

@@ -31,7 +31,7 @@ cancel a b (pos zero) l e = absurd (omega (arith, ints))
 cancel a b (pos (suc n)) l e = same-unscaled a b (suc n) (omega arith) e
 cancel a b (negsuc n) l e = absurd (omega (arith, ints))
 
--- f c if the variable is `kind c` for some c below n, else 0
+-- f c if variable x is `kind c` for some c below n, else 0
 abbrev pub only : Var → (ℕ → Var) → ℕ → (ℕ → ℤ) → ℤ
 only x kind n f = total n (λ c. cond (is_same x (kind c)) (f c) (pos 0))
 
@@ -45,14 +45,14 @@ only-picks x kind n c f l same one = total-picks n c (λ k. cond (is_same x (kin
     by k o true e = absurd (o (one k (is_same-true x (kind k) e)))
     by k o false e = refl
 
--- f of the row in which a variable is basic, or 0 if it is not basic
+-- f i if the variable is basic in row i, or 0 if it is not basic
 abbrev pub in_row : Option ℕ → (ℕ → ℤ) → ℤ
 in_row None f = pos 0
 in_row (Some i) f = f i
 
 module _ (table : Table) (h : IsInOrder table) where
-  -- some combination of the rows is a multiple of the unit row: at a basic variable it is the factor of its own row times the own
-  -- coefficient
+  -- if a combination of the rows is `multiple` times a unit row, then row i's factor times its own coefficient is `multiple` times the
+  -- coefficient of row i's basic variable in the unit row
   factor_at : (place : ℕ) (s : IsSpanned table.rows (unit place)) (i : ℕ) → i < length table.rows →
       s.factors i *ℤ coefficient_at table i (basic_at table i) ≡ pos s.multiple *ℤ value table (basic_at table i) (unit place)
   factor_at place s i l =
@@ -60,7 +60,8 @@ module _ (table : Table) (h : IsInOrder table) where
       ∙ sym (coefficients-total table (basic_at table i) s.factors table.rows) ∙ sym (value-combination table (basic_at table i) s.factors table.rows)
       ∙ value-same table (basic_at table i) (combination s.factors table.rows) (λ l. pos s.multiple *ℤ unit place l) s.sums ∙ value-scaled table (basic_at table i) (pos s.multiple) (unit place)
 
-  -- amounts that are right side over own coefficient, times `scale`, satisfy the equation of each unit row, times `scale`
+  -- suppose that each row's amount times its own coefficient is `scale` times its right side, except for rows whose basic variable has the
+  -- coefficient 0 in the unit row. Then the amounts satisfy `scale` times the unit row's equation
   pub satisfied : (place : ℕ) → place ≤ length table.sizes → (scale : ℤ) (amounts : ℕ → ℤ) →
       ((i : ℕ) → i < length table.rows →
       value table (basic_at table i) (unit place) *ℤ (amounts i *ℤ coefficient_at table i (basic_at table i)) ≡ value table (basic_at table i) (unit place) *ℤ (scale *ℤ (row_at table i).b)) →
@@ -83,7 +84,7 @@ module _ (table : Table) (h : IsInOrder table) where
           (λ i m. term (pos s.multiple) (value table (basic_at table i) (unit place)) (amounts i) (coefficient_at table i (basic_at table i)) scale (s.factors i) (row_at table i).b (h.basic_own i m) (own i m) (factor_at place s i m))
           ∙ total-scaled (length table.rows) scale (λ i. s.factors i *ℤ (row_at table i).b) ∙ ap (λ z. scale *ℤ z) (sym (combination-total s.factors table.rows 0) ∙ s.sums 0) ∙ mul-left_comm scale (pos s.multiple) (unit place 0)
 
-  -- a sum over the rows whose basic variable is of a kind, as a sum over the variables of this kind
+  -- the sum over the rows whose basic variable is of `kind` equals the sum over the variables of this kind
   pub by-variable : (kind : ℕ → Var) (n : ℕ) (f : ℕ → ℕ → ℤ) → total (length table.rows) (λ i. only (basic_at table i) kind n (f i)) ≡ total n (λ c. in_row (basic_row table (kind c)) (λ i. f i c))
   by-variable kind n f =
       total-swap (length table.rows) n (λ i c. cond (is_same (basic_at table i) (kind c)) (f i c) (pos 0))
@@ -110,7 +111,7 @@ module _ (table : Table) (h : IsInOrder table) where
           other i l n true k = absurd (n (h.basic_different i j l in_rows (is_same-true (basic_at table i) (kind c) k ∙ sym place.1)))
           other i l n false k = refl
 
-  -- a sum over the solution, as a sum over the rows
+  -- a sum over the solution equals a sum over the rows
   pub solution-total : (f : ColumnValue → ℕ) →
       pos (sum_by f (solution table)) ≡ total (length table.rows) (λ i. only (basic_at table i) Column (length table.columns) (λ c. amount f (value_in table c i)))
   unfolding solution
@@ -123,7 +124,8 @@ module _ (table : Table) (h : IsInOrder table) where
       by c None = refl
       by c (Some i) = refl
 
-  -- if f is the column's value times `scale`, then f times the own coefficient is the right side times `scale`
+  -- if column c is basic in row i and f is the column's value times `scale`, then f (or 0 if the column has no value) times row i's own
+  -- coefficient is `scale` times its right side
   pub amount-own : (f : ColumnValue → ℕ) (scale i c : ℕ) → i < length table.rows → basic_at table i ≡ Column c → ((there : ColumnValue) → value_of table c ≡ Some there → f there * there.coefficient ≡ scale * there.side) →
       amount f (value_in table c i) *ℤ coefficient_at table i (basic_at table i) ≡ pos scale *ℤ (row_at table i).b
   amount-own f scale i c l e each = by (int_lt (pos 0) (row_at table i).b) refl
@@ -143,14 +145,15 @@ module _ (table : Table) (h : IsInOrder table) where
           let none : (row_at table i).b ≡ pos 0 = omega (arith, ints, h.sides i (record { b = pos 0; a = [] }) l) in
           mul_comm (pos 0) (coefficient_at table i (basic_at table i)) ∙ mul-zero (coefficient_at table i (basic_at table i)) ∙ sym (mul-zero (pos scale)) ∙ ap (λ z. pos scale *ℤ z) (sym none)
 
-  -- in the unit row of place 0, a column has coefficient 1 and any other variable 0
+  -- in the unit row of place 0, a column has coefficient 1
   first_of_column : (c : ℕ) → value table (Column c) (unit 0) ≡ pos 1
   first_of_column c = omega (arith, ints, unit-same 0 0 refl, dot-none (get_or table.columns c []) (λ t. unit 0 (suc t)) (λ k. unit-other 0 (suc k) (λ e. omega (arith, e))))
 
+  -- in the unit row of place 0, a stage's variable has coefficient 0
   first_of_stage : (r : ℕ) → value table (Stage r) (unit 0) ≡ pos 0
   first_of_stage r = dot-none (sizes_where (get_or table.stages r []) table.sizes) (λ t. unit 0 (suc t)) (λ k. unit-other 0 (suc k) (λ e. omega (arith, e)))
 
-  -- so in that unit row the amounts of columns count alone
+  -- so multiplying `only x Column` by the coefficient of x in that unit row doesn't change it
   first_counts : (x : Var) (f : ℕ → ℤ) → value table x (unit 0) *ℤ only x Column (length table.columns) f ≡ only x Column (length table.columns) f
   first_counts (Slack t) f = let none = only-none (Slack t) Column (length table.columns) f (λ c. refl) in ap (λ z. unit 0 (suc t) *ℤ z) none ∙ mul-zero (unit 0 (suc t)) ∙ sym none
   first_counts (Stage r) f =

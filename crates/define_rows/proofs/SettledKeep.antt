@@ -94,7 +94,7 @@ pivot-keeps_stages table made r v p h =
     subst KeepsStages same (replaced-keeps table parts.0 r v (subst (HasClosedRowsOf table) (sym same) kept) h)
 
 -- ---- a stage is entered
--- a class that is marked as unsettled is unsettled
+-- a class that `map not settled` marks is unsettled
 unsettled_marks : (settled : List Bool) (t : ℕ) → get_or (map not settled) t false ≡ true → (t < length settled) × (get_or settled t false ≡ false)
 unsettled_marks settled t e = by (cases_lt t (length settled))
   where

@@ -1,4 +1,4 @@
--- What each value of the solution is, and that the numbers of its columns rise.
+-- What the values of the solution are, and that its columns are in rising order.
 use Rattle.std.proofs.Common.{◌≡◌, ◌≢◌, ℕ, zero, suc, ◌+◌, ◌<◌, ◌≤◌, Bool, true, false, cond, length, Option, Some, None, ℤ, pos, ◌<ℤ◌, refl, sym, ap, ◌∙◌, subst, arith, inl, inr, ◌⊎◌}
 use Rattle.std.specs.Prelude.{int_lt, unsigned_abs, filter_map}
 use Rattle.std.specs.List.{All, AllPairs, AllByRecursion, range_with_len, cons_option}
@@ -22,7 +22,7 @@ is_same_refl (Slack t) = eq-eqb t t refl
 is_same_refl (Stage r) = eq-eqb r r refl
 is_same_refl (Column c) = eq-eqb c c refl
 
--- if Q holds of whatever g gives for a number of the range, it holds of each element of the filtered map
+-- if Q holds of each value that g returns for a number of the range, it holds of each element of the filtered map
 pub filtered-each : {X : Type 0} (Q : X → Type 0) (g : ℕ → Option X) (a n : ℕ) → ((k : ℕ) (x : X) → a ≤ k → k < a + n → g k ≡ Some x → Q x) → AllByRecursion Q (filter_map g (range_with_len a n))
 filtered-each Q g a zero h = tt
 filtered-each {X} Q g a (suc n) h = by (g a) refl (filtered-each Q g (a + 1) n (λ k x l m e. h k x (omega arith) (omega arith) e))
@@ -31,7 +31,7 @@ filtered-each {X} Q g a (suc n) h = by (g a) refl (filtered-each Q g (a + 1) n (
     by None e rest = rest
     by (Some x) e rest = (h a x (omega arith) (omega arith) e, rest)
 
--- conversely, if Q holds of each element of the filtered map, it holds of whatever g gives for a number of the range
+-- conversely, if Q holds of each element of the filtered map, it holds of each value that g returns for a number of the range
 pub each-filtered : {X : Type 0} (Q : X → Type 0) (g : ℕ → Option X) (a n k : ℕ) (x : X) → AllByRecursion Q (filter_map g (range_with_len a n)) → a ≤ k → k < a + n → g k ≡ Some x → Q x
 each-filtered Q g a zero k x h l m e = absurd (omega arith)
 each-filtered {X} Q g a (suc n) k x h l m e = by (g a) refl (cases_eq k a) h (λ o r. each-filtered Q g (a + 1) n k x r (omega arith) (omega arith) e)
@@ -42,7 +42,7 @@ each-filtered {X} Q g a (suc n) k x h l m e = by (g a) refl (cases_eq k a) h (λ
     by (Some y) f (inl s) h later = let same : ◌≡◌ {A = Option X} (Some y) (Some x) = sym f ∙ ap g (sym s) ∙ e in (let z : y ≡ x = cc in subst Q z h.0)
     by (Some y) f (inr o) h later = later o h.1
 
--- the filtered map of a range rises, if `number` gives back the number that each of its elements was made of
+-- if `number x` is k for each x that g returns for k, the filtered map of a range rises by `number`
 filtered_rises : {X : Type 0} (number : X → ℕ) (g : ℕ → Option X) (a n : ℕ) → ((k : ℕ) (x : X) → g k ≡ Some x → number x ≡ k) → AllPairs (λ x y. number x < number y) (filter_map g (range_with_len a n))
 filtered_rises number g a zero h = λ i j d l m. absurd (omega arith)
 filtered_rises {X} number g a (suc n) h = by (g a) refl (filtered_rises number g (a + 1) n h)
@@ -92,7 +92,7 @@ module _ (table : Table) (h : IsInOrder table) where
                 coefficient_is = sym (ap (λ v. v.coefficient) same);
               }
 
-  -- conversely, such a column has the value `there`
+  -- conversely, if column c is basic in a row with a right side above 0, `value_of` returns `there`
   pub stands-value : (c : ℕ) (there : ColumnValue) → StandsAt table c there → value_of table c ≡ Some there
   stands-value c there s =
       ap (option_and_then (value_in table c)) s.found ∙ ap (λ b. cond b (Some (record { column = c; side = unsigned_abs (row_at table s.row).b; coefficient = unsigned_abs (coefficient_at table s.row (Column c)) })) None) (tested-lt (pos 0) (row_at table s.row).b s.above)
@@ -101,11 +101,12 @@ module _ (table : Table) (h : IsInOrder table) where
       same : (c s k : ℕ) (there : ColumnValue) → there.column ≡ c → there.side ≡ s → there.coefficient ≡ k → record { column = c; side = s; coefficient = k } ≡ there
       same c s k there e f g = λ i. record { column = sym e i; side = sym f i; coefficient = sym g i }
 
-  -- what holds of the value of each such column holds of the whole solution, and conversely
+  -- if Q holds of the value of each column that is basic in a row with a right side above 0, it holds of each value in the solution
   pub solution-each : (Q : ColumnValue → Type 0) → ((c : ℕ) (there : ColumnValue) → c < length table.columns → StandsAt table c there → Q there) → All Q (solution table)
   unfolding solution
   solution-each Q each = All-from_recursion Q (solution table) (filtered-each Q (value_of table) 0 (length table.columns) (λ k x l m e. each k x (omega arith) (stands-at k x e)))
 
+  -- conversely, if Q holds of each value in the solution, it holds of the value of each column that has one
   pub each-solution : (Q : ColumnValue → Type 0) (c : ℕ) (there : ColumnValue) → All Q (solution table) → c < length table.columns → value_of table c ≡ Some there → Q there
   unfolding solution
   each-solution Q c there all l e = each-filtered Q (value_of table) 0 (length table.columns) c there (recursion_from_All Q (solution table) all) (omega arith) (omega arith) e
@@ -123,7 +124,7 @@ module _ (table : Table) (h : IsInOrder table) where
       above_abs : (z : ℤ) (n : ℕ) → pos 0 <ℤ z → n ≡ unsigned_abs z → 0 < n
       above_abs z n l e = omega (arith, ints)
 
-  -- `basic_row` finds the row in which a variable is basic
+  -- if v is basic in row i, `basic_row` finds row i
   pub found-basic : (i : ℕ) (v : Var) → i < length table.rows → basic_at table i ≡ v → basic_row table v ≡ Some i
   found-basic i v l e = by (basic_row table v) refl
     where

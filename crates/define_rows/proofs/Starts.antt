@@ -42,7 +42,7 @@ length_le : (xs : List ℕ) → AllByRecursion (λ x. 1 ≤ x) xs → length xs 
 length_le [] h = omega arith
 length_le (x ∷ xs) h = omega (arith, sum_by-cons (λ x. x) x xs, length_le xs h.1, h.0)
 
--- there are no more classes than volunteers
+-- if each element is at least 1, the list is no longer than the sum of its elements
 pub length-le-sum : (xs : List ℕ) → All (λ x. 1 ≤ x) xs → length xs ≤ sum xs
 length-le-sum xs h = length_le xs (recursion_from_All (λ x. 1 ≤ x) xs h)
 
@@ -54,7 +54,7 @@ module _ (sizes first : List ℕ) (bits : ℕ) (some : 0 < length sizes) (each :
   m : ℕ
   m = length first
 
-  -- the rows of the first table by their numbers: row 0, then the row of each class
+  -- row t + 1 of the first table is the row of class t
   row_of_class : (t : ℕ) → t < length first → get_or (first_rows first) (suc t) (record { b = pos 0; a = [] }) ≡ class_row (length first) (t, get_or first t 0)
   row_of_class t l =
       get_or-map (class_row (length first)) (enumerate_from 0 first) t (0, 0) (record { b = pos 0; a = [] }) (omega (arith, length-enumerate_from 0 first))
@@ -63,7 +63,7 @@ module _ (sizes first : List ℕ) (bits : ℕ) (some : 0 < length sizes) (each :
   rows_long : length (first_rows first) ≡ suc (length first)
   rows_long = ap suc (length-map (enumerate_from 0 first) (class_row (length first)) ∙ length-enumerate_from 0 first)
 
-  -- the number at each place of these rows
+  -- the total row has the numbers of the unit row of place 0
   total_at : (l : ℕ) → number_at (total_row (length first)) l ≡ unit 0 l
   total_at zero = sym (unit-same 0 0 refl)
   total_at (suc t) = ⊎_elim (λ l. get_or-replicate (length first) t (pos 0) (pos 0) l) (λ l. get_or_past (replicate (length first) (pos 0)) t (pos 0) (omega (arith, length-replicate (length first) (pos 0)))) (cases_lt t (length first)) ∙ sym (unit-other 0 (suc t) (λ e. omega (arith, e)))
@@ -88,19 +88,22 @@ module _ (sizes first : List ℕ) (bits : ℕ) (some : 0 < length sizes) (each :
       class_entry t u k
       ∙ omega (arith, ints, ap (λ z. pos (get_or first t 0) *ℤ z) (unit-other 0 (suc u) (λ e. omega (arith, e))), mul-zero (pos (get_or first t 0)), one-mul (unit (suc t) (suc u)))
 
-  -- the coefficients of the slacks and of the first column in these rows
+  -- in the total row, each slack has the coefficient 0
   slack_total : (t : ℕ) → coefficient table (total_row (length first)) (Slack t) ≡ pos 0
   slack_total t = coefficient-Slack table (total_row (length first)) t ∙ total_at (suc t) ∙ unit-other 0 (suc t) (λ e. omega (arith, e))
 
+  -- in the total row, column 0 has the coefficient 1
   column_total : coefficient table (total_row (length first)) (Column 0) ≡ pos 1
   unfolding table
   column_total =
       coefficient-value (first_table sizes first bits) (total_row (length first)) (Column 0)
       ∙ omega (arith, ints, dot-none first (λ t. number_at (total_row (length first)) (suc t)) (λ t. total_at (suc t) ∙ unit-other 0 (suc t) (λ e. omega (arith, e))))
 
+  -- in the row of class t, slack u has the coefficient 1 if u is t, else 0
   slack_class : (t u : ℕ) → t < length first → coefficient table (class_row (length first) (t, get_or first t 0)) (Slack u) ≡ unit (suc t) (suc u)
   slack_class t u l = coefficient-Slack table (class_row (length first) (t, get_or first t 0)) u ∙ class_entry t u l
 
+  -- in the row of class t, column 0 has the coefficient 0
   column_class : (t : ℕ) → t < length first → coefficient table (class_row (length first) (t, get_or first t 0)) (Column 0) ≡ pos 0
   unfolding table
   column_class t l =
@@ -163,7 +166,7 @@ module _ (sizes first : List ℕ) (bits : ℕ) (some : 0 < length sizes) (each :
       (subst (λ r. IsSpanned (first_rows first) (number_at r)) (row_of_class t k) (span-member (first_rows first) (suc t) (record { b = pos 0; a = [] }) (omega (arith, rows_long))))
       spans_total)
 
-  -- the lengths of these rows, and that their numbers are small
+  -- each row of the first table has an entry for each class
   pub first_entries : All (λ row. length row.a ≡ length sizes) (first_rows first)
   first_entries = all_rows (λ row. length row.a ≡ length sizes) (length-replicate (length first) (pos 0) ∙ long) (λ t l. length-set (replicate (length first) (pos 0)) t (pos 1) ∙ length-replicate (length first) (pos 0) ∙ long)
 

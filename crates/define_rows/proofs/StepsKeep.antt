@@ -81,7 +81,7 @@ length-settled_by (x ∷ xs) [] = refl
 length-settled_by [] (b ∷ was) = refl
 length-settled_by (x ∷ xs) (b ∷ was) = ap suc (length-settled_by xs was)
 
--- a class that is unsettled after the closing was so before, and its entry is not above 0
+-- a class that is unsettled after the closing was unsettled before, and its entry in the closing row is not above 0
 still_unsettled : (xs : List ℤ) (was : List Bool) (t : ℕ) → length xs ≡ length was → get_or (settled_by xs was) t true ≡ false → (get_or was t true ≡ false) × (int_lt (pos 0) (get_or xs t (pos 0)) ≡ false)
 still_unsettled [] [] t e k = absurd cc
 still_unsettled (x ∷ xs) [] t e k = absurd (omega arith)
@@ -128,7 +128,7 @@ some_term (true ∷ marks) (size ∷ sizes) (x ∷ xs) l = by (int_lt (pos 0) x)
     by false e rest = let r = rest (omega (arith, ints, product-not_positive (pos size) x (omega (arith, ints)) (omega (arith, ints)))) in (suc r.0, r.1, r.2)
 
 module _ (table : Table) (h : IsInOrder table) (open_now : table.in_stage ≡ true) (none : choice table ≡ None) where
-  -- the stage's variable is basic, and no slack enters
+  -- the stage's variable is basic in some row r, and no eligible slack has a coefficient below 0 in row r
   pub open_found : (r : ℕ) × (basic_row table (stage_variable table) ≡ Some r) × ((t : ℕ) → t < length table.sizes → (is_eligible table (Slack t) && int_lt (coefficient_at table r (Slack t)) (pos 0)) ≡ false)
   unfolding entering
   open_found = by (basic_row table (stage_variable table)) refl (entering-none table h open_now none)

@@ -44,17 +44,18 @@ total-picks (suc n) zero f l h = omega (arith, ints, total-none n (λ k. f (suc 
 total-picks (suc n) (suc i) f l h =
     omega (arith, ints, h 0 (omega arith) (λ e. omega (arith, e)), total-picks n i (λ k. f (suc k)) (omega arith) (λ k m o. h (suc k) (omega arith) (λ e. o (omega (arith, e)))))
 
--- a combination at a place, as a sum over the rows; and the combination of a variable's coefficients
+-- a combination's number at `place` is the sum over the rows of factor times number
 pub combination-total : (factors : ℕ → ℤ) (rows : List Row) (place : ℕ) → combination factors rows place ≡ total (length rows) (λ i. factors i *ℤ number_at (get_or rows i (record { b = pos 0; a = [] })) place)
 combination-total factors [] place = refl
 combination-total factors (row ∷ rows) place = ap (λ z. factors 0 *ℤ number_at row place +ℤ z) (combination-total (λ i. factors (suc i)) rows place)
 
+-- `sum_of_coefficients` is the sum over the rows of factor times coefficient on v
 pub coefficients-total : (table : Table) (v : Var) (factors : ℕ → ℤ) (rows : List Row) →
     sum_of_coefficients table v factors rows ≡ total (length rows) (λ i. factors i *ℤ coefficient table (get_or rows i (record { b = pos 0; a = [] })) v)
 coefficients-total table v factors [] = refl
 coefficients-total table v factors (row ∷ rows) = ap (λ z. factors 0 *ℤ coefficient table row v +ℤ z) (coefficients-total table v (λ i. factors (suc i)) rows)
 
--- f of the element if there is one, else 0
+-- f x for Some x, and 0 for None
 abbrev pub amount : {X : Type 0} → (X → ℕ) → Option X → ℤ
 amount f None = pos 0
 amount f (Some x) = pos (f x)
@@ -71,6 +72,6 @@ filtered_from f g a (suc n) at e =
     ∙ ap₂ (λ y z. y +ℤ z) (ap (amount f) (sym (e 0 ∙ ap g here)))
     (filtered_from f g (a + 1) n (λ k. at (suc k)) (λ k. e (suc k) ∙ (let next : a + suc k ≡ (a + 1) + k = omega arith in ap g next)))
 
--- the sum of f over a filtered map of the numbers below n
+-- the sum of f over the filtered map of g on the numbers below n is the sum of `amount f (g k)` over each k below n
 pub filtered-total : {X : Type 0} (f : X → ℕ) (g : ℕ → Option X) (n : ℕ) → pos (sum_by f (filter_map g (range_with_len 0 n))) ≡ total n (λ k. amount f (g k))
 filtered-total f g n = filtered_from f g 0 n g (λ k. let e : k ≡ 0 + k = omega arith in ap g e)

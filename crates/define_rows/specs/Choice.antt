@@ -6,7 +6,7 @@ use Rattle.std.specs.Option.{option_map, option_and_then}
 use Rattle.define_rows.specs.declared.Var.{Var}
 use Rattle.define_rows.specs.Table.{Table, coefficient_at, row_at, basic_at, row_numbers, variables, is_same, comes_before, stage_variable}
 
--- a variable is eligible: its coefficient is 0 in each closed row
+-- variable v is eligible: its coefficient is 0 in each closed row
 abbrev pub is_eligible : Table → Var → Bool
 is_eligible table v = list_all (λ i. int_eq (coefficient_at table i v) (pos 0)) table.closed
 
@@ -14,8 +14,8 @@ is_eligible table v = list_all (λ i. int_eq (coefficient_at table i v) (pos 0))
 abbrev pub basic_row : Table → Var → Option ℕ
 basic_row table v = position (λ x. is_same x v) table.basic
 
--- the variable that enters, given the row in which the stage's variable is basic. If there is no such row, the stage's variable enters;
--- else the first eligible variable, in order, whose coefficient in this open row is below 0
+-- the variable that enters, given the row in which the stage's variable is basic. If the stage's variable isn't basic, it enters; else the
+-- first eligible variable, in order, whose coefficient in row `open_row` is below 0
 abbrev pub entering_from : Table → Option ℕ → Option Var
 entering_from table None = Some (stage_variable table)
 entering_from table (Some open_row) = find (λ v. is_eligible table v && int_lt (coefficient_at table open_row v) (pos 0)) (variables table)

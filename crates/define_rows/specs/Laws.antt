@@ -1,5 +1,5 @@
--- Laws of the steps: each keeps a table in order. And what the choice and the closing of a stage bring about. The functions of this crate
--- promise them.
+-- Laws that the functions of this crate promise: each step keeps a table in order, an entering variable has a row to leave, and closing a
+-- stage settles a class.
 use Rattle.std.specs.Prelude.{◌≡◌, ◌≢◌, ℕ, ◌<◌, ◌≤◌, true, false, List, [], length, sum, Some, None, Ok, slice_index, slice_index_or}
 use Rattle.std.specs.List.{All}
 use Rattle.define_rows.specs.declared.Var.{Var}
@@ -9,9 +9,9 @@ use Rattle.define_rows.specs.Choice.{entering, leaving, choice}
 use Rattle.define_rows.specs.Steps.{enter_stage, close_stage, add_column}
 use Rattle.define_rows.specs.InOrder.{IsInOrder, settled_count}
 
--- a table may start with these sizes, first column and width
+-- a table may start with class sizes `sizes`, column `first` and a width of `bits`
 pub record MayStart (sizes first : List ℕ) (bits : ℕ) : Type 0 where
-  -- there is a class, at most 400 volunteers, and each size is at least 1
+  -- there is at least one class, each size is at least 1, and the sizes sum to at most 400
   pub some_class : 0 < length sizes
   pub sizes_each : All (λ size. 1 ≤ size) sizes
   pub few : sum sizes ≤ 400
@@ -26,7 +26,7 @@ pub record MayStart (sizes first : List ℕ) (bits : ℕ) : Type 0 where
 abbrev pub StartKeepsOrder : Type 0
 StartKeepsOrder = (sizes first : List ℕ) (bits : ℕ) (made : Table) → MayStart sizes first bits → start sizes first bits ≡ Ok made → IsInOrder made
 
--- a stage may be entered: none is open, and some class is unsettled
+-- a stage may be entered: the table is in order, no stage is open, and some class is unsettled
 pub record MayEnter (table : Table) : Type 0 where
   pub in_order : IsInOrder table
   pub shut : table.in_stage ≡ false
@@ -36,7 +36,7 @@ pub record MayEnter (table : Table) : Type 0 where
 abbrev pub EnterKeepsOrder : Type 0
 EnterKeepsOrder = (table : Table) → MayEnter table → IsInOrder (enter_stage table)
 
--- a column may be added: it has a count for each class, from 0 to its size, and the table has no such column yet
+-- the column `counts` may be added: the table is in order and doesn't have the column, which has a count for each class, from 0 to its size
 pub record MayAdd (table : Table) (counts : List ℕ) : Type 0 where
   pub in_order : IsInOrder table
   pub each : length counts ≡ length table.sizes
@@ -47,7 +47,7 @@ pub record MayAdd (table : Table) (counts : List ℕ) : Type 0 where
 abbrev pub AddKeepsOrder : Type 0
 AddKeepsOrder = (table : Table) (counts : List ℕ) → MayAdd table counts → IsInOrder (add_column table counts)
 
--- `made` is the table after the pivot that is chosen in the open stage: at row r, where v enters
+-- `table` is in order with a stage open, and `made` is the table after the chosen pivot, at row r, where v enters
 pub record IsPivoted (table made : Table) (r : ℕ) (v : Var) : Type 0 where
   pub in_order : IsInOrder table
   pub open_now : table.in_stage ≡ true
@@ -58,7 +58,7 @@ pub record IsPivoted (table made : Table) (r : ℕ) (v : Var) : Type 0 where
 abbrev pub PivotKeepsOrder : Type 0
 PivotKeepsOrder = (table made : Table) (r : ℕ) (v : Var) → IsPivoted table made r v → IsInOrder made
 
--- `made` has the closed rows of `table`, with their numbers and basic variables
+-- `made` has the same closed rows as `table`, with the same numbers and basic variables
 pub record HasClosedRowsOf (table made : Table) : Type 0 where
   pub closed : made.closed ≡ table.closed
   pub numbers : All (λ i. row_at made i ≡ row_at table i) table.closed
@@ -68,17 +68,17 @@ pub record HasClosedRowsOf (table made : Table) : Type 0 where
 abbrev pub PivotKeepsClosedRows : Type 0
 PivotKeepsClosedRows = (table made : Table) (r : ℕ) (v : Var) → IsPivoted table made r v → HasClosedRowsOf table made
 
--- a variable that enters has a row to leave
+-- in a table in order with a stage open, some row is left when the entering variable v enters
 abbrev pub SomeRowLeaves : Type 0
 SomeRowLeaves = (table : Table) (v : Var) → IsInOrder table → table.in_stage ≡ true → entering table ≡ Some v → leaving table v ≢ None
 
--- a stage may be closed: it is open, and no pivot is chosen
+-- a stage may be closed: the table is in order, a stage is open, and no pivot is chosen
 pub record MayClose (table : Table) : Type 0 where
   pub in_order : IsInOrder table
   pub open_now : table.in_stage ≡ true
   pub done : choice table ≡ None
 
--- if no pivot is chosen, no variable enters
+-- in a table in order with a stage open, no variable enters if no pivot is chosen
 abbrev pub NothingEnters : Type 0
 NothingEnters = (table : Table) → MayClose table → entering table ≡ None
 

@@ -1,5 +1,5 @@
--- The solution of a table in order: columns of positive value, in rising order, whose values sum to one. Over InOrder. The run spreads
--- them.
+-- The solution of a table in order: columns of positive value, in rising order, whose values sum to one. Over InOrder. `define_runs`
+-- spreads the columns over panels.
 use Rattle.std.specs.Prelude.{◌≡◌, ℕ, ◌*◌, ◌/◌, ◌<◌, [], length, sum_by, slice_index_or}
 use Rattle.std.specs.Int.{◌∣◌}
 use Rattle.std.specs.List.{All, AllPairs}
@@ -9,7 +9,7 @@ use Rattle.define_rows.specs.Table.{Table, row_at}
 use Rattle.define_rows.specs.Steps.{ColumnValue, solution}
 use Rattle.define_rows.specs.InOrder.{IsInOrder}
 
--- a value's numerator over a common multiple of the denominators
+-- a column's value as a numerator over `common`, a common multiple of the denominators
 abbrev pub numerator_over : ℕ → ColumnValue → ℕ
 numerator_over common there = (lowest_of there.side there.coefficient).num * (common / (lowest_of there.side there.coefficient).den)
 
@@ -23,7 +23,7 @@ pub record SolutionStands (table : Table) : Type 0 where
   -- over each common multiple of the denominators, the numerators sum to this multiple: the values sum to one
   pub one : (common : ℕ) → All (λ there. (lowest_of there.side there.coefficient).den ∣ common) (solution table) → sum_by (numerator_over common) (solution table) ≡ common
 
--- the solution of each table in order meets this
+-- the solution of each table in order is as `SolutionStands` says
 abbrev pub SolutionsStand : Type 0
 SolutionsStand = (table : Table) → IsInOrder table → SolutionStands table
 

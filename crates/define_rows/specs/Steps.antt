@@ -1,4 +1,4 @@
--- The steps beside the pivot: entering and closing a stage, adding a column; and the solution. Over Table. `exact_table` makes them.
+-- The steps other than the pivot: entering and closing a stage, adding a column; and the solution. Over Table. `exact_table` makes them.
 use Rattle.std.specs.Prelude.{if◌then◌else◌, ℕ, Bool, true, false, not, ◌||◌, List, [], ◌∷◌, ◌++◌, map, length, Option, Some, None, ℤ, pos, int_lt, unsigned_abs, unwrap_or}
 use Rattle.std.specs.List.{filter_map, range_with_len}
 use Rattle.std.specs.Option.{option_and_then}
@@ -15,13 +15,13 @@ enter_stage table = record table { stages = table.stages ++ map not table.settle
 abbrev pub open_row : Table → ℕ
 open_row table = unwrap_or (basic_row table (stage_variable table)) 0
 
--- the marks of the settled classes after a row with these entries closes: those marked before, and those whose entry is above 0
+-- the marks of settled classes after a row with entries `xs` closes: a class is marked if it was before, or if its entry is above 0
 abbrev pub settled_by : List ℤ → List Bool → List Bool
 settled_by xs [] = []
 settled_by [] (was ∷ settled) = was ∷ settled
 settled_by (x ∷ xs) (was ∷ settled) = (was || int_lt (pos 0) x) ∷ settled_by xs settled
 
--- the stage closes in this row, with these entries: the classes whose entry is above 0 are settled
+-- the stage closes in row `row`, which has the entries `entries`: each class whose entry is above 0 is settled
 unfoldable pub closed_by : ℕ → List ℤ → Table → Table
 closed_by row entries table = record table {
   closed = table.closed ++ row ∷ [];
@@ -47,7 +47,7 @@ pub record ColumnValue : Type 0 where
 abbrev pub fraction_of : ColumnValue → ℕ × Fraction
 fraction_of there = (there.column, lowest_of there.side there.coefficient)
 
--- a column's value, if it is basic in row i
+-- the value of column c, which is basic in row i; None if the value is 0
 abbrev pub value_in : Table → ℕ → ℕ → Option ColumnValue
 value_in table c i =
     if int_lt (pos 0) (row_at table i).b then Some (record {
@@ -56,7 +56,7 @@ value_in table c i =
       coefficient = unsigned_abs (coefficient_at table i (Column c));
     }) else None
 
--- a column's value, if it is positive
+-- the value of column c; None if the column isn't basic or its value is 0
 abbrev pub value_of : Table → ℕ → Option ColumnValue
 value_of table c = option_and_then (value_in table c) (basic_row table (Column c))
 

@@ -1,5 +1,5 @@
--- A run with two classes of one volunteer each under a width of 2 bits, on which the definitions compute. `define_runs` goes on with
--- it.
+-- A run with two classes of one volunteer each under a width of 2 bits; each step is computed from the definitions. `define_runs`
+-- continues it.
 use Rattle.std.specs.Prelude.{true, false, List, [], ◌∷◌, ℤ, pos, negsuc}
 use Rattle.define_rows.specs.declared.Var.TheVariants.{Slack, Stage, Column}
 use Rattle.define_rows.specs.Row.{Row}
@@ -29,7 +29,7 @@ started = record {
 abbrev pub entered : Table
 entered = record started { stages = (true ∷ true ∷ []) ∷ []; in_stage = true }
 
--- its variable enters at row 2
+-- the variable of stage 0 enters at row 2
 abbrev pub once : Table
 once = record entered {
   rows = row (pos 1) (pos 0) (pos 0) ∷ row (pos 1) (pos 1) (negsuc 0) ∷ row (pos 0) (pos 0) (pos 1) ∷ [];
@@ -41,7 +41,7 @@ once = record entered {
 abbrev pub widened : Table
 widened = record once { columns = (1 ∷ 0 ∷ []) ∷ (0 ∷ 1 ∷ []) ∷ [] }
 
--- it enters at row 1
+-- column 1 enters at row 1
 abbrev pub twice : Table
 twice = record widened {
   rows = row (pos 1) (negsuc 0) (pos 1) ∷ row (pos 1) (pos 1) (negsuc 0) ∷ row (pos 1) (pos 1) (pos 1) ∷ [];

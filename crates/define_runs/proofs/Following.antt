@@ -1,4 +1,4 @@
--- A run that has ended stays ended, so it has one ending; and where a run is after one more step.
+-- A run that has ended stays ended, so it has one ending. From a table that a run reaches, the run goes on by `step`.
 use Rattle.std.proofs.Common.{◌≡◌, ℕ, zero, suc, refl, ap, ◌∙◌}
 use Rattle.define_searches.specs.Classes.{Classes}
 use Rattle.define_rows.specs.Table.{Table}

@@ -1,4 +1,4 @@
--- Each step of a run keeps what all its tables keep.
+-- Each step of a run keeps `KeepsRun`.
 use Rattle.std.proofs.Common.{◌≡◌, ℕ, zero, suc, ◌+◌, ◌<◌, ◌≤◌, Bool, true, false, List, [], ◌∷◌, ◌++◌, length, length-append, map, take, Some, None, Result, Ok, refl, sym, ap, ap₂, ◌∙◌, subst, arith, inl, inr, ◌⊎◌}
 use Rattle.std.specs.Prelude.{slice_index, slice_set, sum, Contains}
 use Rattle.std.specs.List.{All}
@@ -125,7 +125,7 @@ module _ (all : Classes) (limits : RunLimits) (table : Table) (keeps : KeepsRun 
       more : (n : ℕ) → n < limits.pivots → n + 1 ≤ limits.pivots
       more n l = omega arith
 
-  -- if the run goes on after a step, the table that was made keeps it
+  -- if the run goes on after a step, `KeepsRun` holds of the table that was made
   pub step_kept : KeepsLimits all → (made : Table) → step all limits table ≡ GoOn made → KeepsRun all limits made
   step_kept limited made e = by (step all limits table) e (step_is all limits table)
     where
@@ -169,7 +169,7 @@ may_begin all limited first there = record {
     composes = (each_contains (λ counts. Contains (all_counts all.classes) counts × (is_composition all counts ≡ true)) (compositions all) first
         (filtered (Contains (all_counts all.classes)) (is_composition all) (all_counts all.classes) (each_itself (all_counts all.classes))) there).1
 
--- a start that ends well gives the first table of the definition
+-- if `start` doesn't fail, it returns the definition's `first_table`
 pub first_table_is : (sizes first : List ℕ) (bits : ℕ) (made : Table) → start sizes first bits ≡ Ok made → ◌≡◌ {A = Table} (first_table sizes first bits) made
 unfolding start
 first_table_is sizes first bits made e =

@@ -1,4 +1,4 @@
--- A run that ended with an answer, or without a panel, ends so again under greater limits.
+-- A run that ended with an answer, or without a panel, ends the same under greater limits.
 use Rattle.std.proofs.Common.{◌≡◌, ℕ, zero, suc, ◌≤◌, Bool, true, false, cond, leb, ltb, List, [], length, map, Option, Some, None, Result, Ok, Err, refl, sym, ap, ◌∙◌, subst, arith}
 use Rattle.std.specs.Prelude.{slice_index_or}
 use Rattle.define_pools.specs.Lottery.{Lottery}
@@ -27,7 +27,7 @@ pub record Allows (limits more : RunLimits) : Type 0 where
   pub opening : limits.opening ≤ more.opening
   pub pricing : limits.pricing ≤ more.pricing
 
--- the run stops before it has an answer, or knows that there is no panel
+-- true unless the ending is an answer, or that there is no panel
 abbrev pub stops : Ending → Bool
 stops NoPanel = false
 stops (Found last answer) = false
@@ -40,7 +40,7 @@ abbrev stops_next : Next → Bool
 stops_next (GoOn table) = false
 stops_next (Ended ending) = stops ending
 
--- the same ending, with a last table of another width
+-- the same ending; if it is an answer, the last table has the width `bits`
 abbrev pub wider_ending : ℕ → Ending → Ending
 wider_ending bits NoPanel = NoPanel
 wider_ending bits (Found last answer) = Found (wider bits last) answer
@@ -53,7 +53,7 @@ abbrev wider_next : ℕ → Next → Next
 wider_next bits (GoOn table) = GoOn (wider bits table)
 wider_next bits (Ended ending) = Ended (wider_ending bits ending)
 
--- a table that the run goes on from is at most this wide
+-- if the run goes on, the width of its table is at most `bits`
 abbrev IsWithin : ℕ → Next → Type 0
 IsWithin bits (GoOn table) = table.bits ≤ bits
 IsWithin bits (Ended ending) = Unit {0}
@@ -122,7 +122,7 @@ module _ (all : Classes) (limits more : RunLimits) (allows : Allows limits more)
 
   -- ---- the width of the tables
 
-  -- no step changes the width
+  -- if the width of a table is at most that of `more`, so is the width of the table after a step
   within_next : (table : Table) → table.bits ≤ more.bits → IsWithin more.bits (step all limits table)
   within_next table within = by (step all limits table) (step_is all limits table)
     where

@@ -22,7 +22,7 @@ allows limits more may = record { bits = may.bits; pivots = may.pivots; opening 
 pub budgets_keep_ending : BudgetsKeepEnding
 budgets_keep_ending pool limits more ending has ends kept = ends_same (classes_of pool) (run_limits limits) (run_limits more) (has_more limits more has) ending ends kept
 
--- limits of this width, with the sum of both budgets of pivots and the sum of both budgets of visits
+-- limits of the width `bits`, with the sum of both budgets of pivots and the sum of both budgets of visits
 abbrev both : ℕ → Limits → Limits → Limits
 both bits limits other = record { bits = bits; pivots = limits.pivots + other.pivots; nodes = limits.nodes + other.nodes }
 
@@ -39,7 +39,7 @@ limits_keep_answer pool limits more answer may (last, ends) =
 pub limits_keep_no_panel : LimitsKeepNoPanel
 limits_keep_no_panel pool limits more may ends = ends_wider (classes_of pool) (run_limits limits) (run_limits more) (allows limits more may) NoPanel ends refl
 
--- limits that allow at least as much as each of the two: the sums of both
+-- the sums of the limits in `limits` and `other`, which allow at least as much as each of them
 abbrev sum : Limits → Limits → Limits
 sum limits other = both (limits.bits + other.bits) limits other
 

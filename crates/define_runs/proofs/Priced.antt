@@ -1,4 +1,4 @@
--- A composition that pricing finds isn't a column of the table, and once it is one, a pivot is chosen.
+-- A composition that pricing finds isn't a column of the table yet. Once it is added as a column, a pivot is chosen.
 use Rattle.std.proofs.Common.{◌≡◌, ◌≢◌, ℕ, zero, suc, ◌+◌, ◌<◌, ◌≤◌, Bool, true, false, ◌&&◌, List, [], ◌∷◌, ◌++◌, length, length-append, map, take, get_or, Option, Some, None, pos, ◌-ℤ◌, refl, sym, ap, ◌∙◌, subst, arith}
 use Rattle.std.specs.Prelude.{int_lt, int_le, slice_index, Contains}
 use Rattle.std.specs.Ordering.{int_eq}

@@ -15,18 +15,23 @@ use Rattle.define_searches.specs.Visits.{first_search}
 use Rattle.define_spreads.specs.Spreading.{spread}
 use Rattle.define_runs.specs.Run.{Next, GoOn, Ended, NoPanel, TooWide, NodesSpent, PivotsSpent, RunLimits, answered, closed_rows, opened, opening, parts_of, pivoted, priced, pricing_visits, started, step, step_in_stage}
 
--- `next` is what the step from a table leads to, in one of these cases
+-- the cases of a step from `table`. In each, `next` is where the step leads
 pub data StepIs (all : Classes) (limits : RunLimits) (table : Table) (next : Next) : Type 0 where
-  -- no stage is open: one is entered, or everybody is settled and the run ends
+  -- no stage is open, and not all are settled: a stage is entered
   Enters : table.in_stage ≡ false → settled_count table < length table.sizes → next ≡ GoOn (enter_stage table) → StepIs all limits table next
+  -- no stage is open, and everybody is settled: the run ends with the answer, or because the total passes 10 ^ 38
   Answers : table.in_stage ≡ false → length table.sizes ≤ settled_count table → next ≡ Ended (answered all table (spread all (parts_of table))) → StepIs all limits table next
-  -- a pivot is chosen: the budget of pivots is spent, or it is made, or it passes the width
+  -- a stage is open, and the budget of pivots is spent: the run ends
   NoPivot : table.in_stage ≡ true → limits.pivots ≤ table.pivots → next ≡ Ended (PivotsSpent table) → StepIs all limits table next
+  -- a pivot is chosen, the budget allows it, and it stays within the width: it is made
   Pivots : table.in_stage ≡ true → (r : ℕ) (v : Var) (made : Table) → choice table ≡ Some (r, v) → table.pivots < limits.pivots → pivot table r v ≡ Ok made → next ≡ GoOn made → StepIs all limits table next
+  -- a pivot is chosen, the budget allows it, and it passes the width: the run ends
   Passes : table.in_stage ≡ true → (r : ℕ) (v : Var) (pass : Pass) → choice table ≡ Some (r, v) → table.pivots < limits.pivots → pivot table r v ≡ Err pass → next ≡ Ended (TooWide (Some table) pass) → StepIs all limits table next
-  -- no pivot is chosen: pricing needs more visits than its budget, or finds a composition, or finds none
+  -- no pivot is chosen, and pricing needs more visits than its budget: the run ends
   NoVisits : table.in_stage ≡ true → choice table ≡ None → limits.pricing < pricing_visits all (closed_rows table) (row_at table (open_row table)) → next ≡ Ended (NodesSpent (Some table)) → StepIs all limits table next
+  -- no pivot is chosen, and pricing finds a composition: it becomes a column
   Widens : table.in_stage ≡ true → choice table ≡ None → (counts : List ℕ) → price all (closed_rows table) (row_at table (open_row table)) ≡ Some counts → next ≡ GoOn (add_column table counts) → StepIs all limits table next
+  -- no pivot is chosen, and pricing finds no composition: the stage closes
   Closes : table.in_stage ≡ true → choice table ≡ None → price all (closed_rows table) (row_at table (open_row table)) ≡ None → next ≡ GoOn (close_stage table) → StepIs all limits table next
 
 pub step_is : (all : Classes) (limits : RunLimits) (table : Table) → StepIs all limits table (step all limits table)
@@ -64,7 +69,7 @@ step_is all limits table = by table.in_stage refl
     by true t = in_stage t (choice table) refl
     by false t = between t (ltb (settled_count table) (length table.sizes)) refl
 
--- `next` is what the opening leads to, in one of these cases
+-- the cases of the opening. In each, `next` is where the opening leads
 pub data OpeningIs (all : Classes) (limits : RunLimits) (next : Next) : Type 0 where
   Spends : limits.opening < (first_search all).visits → next ≡ Ended (NodesSpent None) → OpeningIs all limits next
   FindsNoPanel : (first_search all).visits ≤ limits.opening → first_composition all ≡ None → next ≡ Ended NoPanel → OpeningIs all limits next

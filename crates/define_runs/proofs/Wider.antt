@@ -23,7 +23,7 @@ use Rattle.define_rows.proofs.PivotLaws.{after-Ok_parts, operation-Ok_parts}
 
 -- ---- steps that don't pass
 
--- if the first ends well, the second ends well with the same outcome
+-- if `first` doesn't fail, `second` doesn't either, and has the same outcome
 abbrev pub Lasts : {A : Type 0} → Result A Pass → Result A Pass → Type 0
 Lasts {A} first second = (x : A) → first ≡ Ok x → second ≡ Ok x
 
@@ -193,7 +193,7 @@ start_lasts sizes first bits more made greater e =
     inside : (t u : Table) → ◌≡◌ {A = Result Table Pass} (Ok t) (Ok u) → t ≡ u
     inside t u k = cc
 
--- ---- the other steps
+-- ---- entering and closing a stage, and adding a column, under another width
 
 module _ (bits : ℕ) (table : Table) where
   pub entered_wider : enter_stage (wider bits table) ≡ wider bits (enter_stage table)

@@ -69,7 +69,7 @@ less_by_enter : (limits : RunLimits) (table : Table) → table.in_stage ≡ fals
 unfolding work_left enter_stage
 less_by_enter limits table shut = omega (arith, shut_turns table shut, turns_in_stage (choice (enter_stage table)))
 
--- a step after which the run goes on leaves less to do
+-- if the run goes on after a step, less is left to do
 module _ (all : Classes) (limits : RunLimits) (table : Table) (limited : KeepsLimits all) (keeps : KeepsRun all limits table) where
   pub step_lessens : (made : Table) → step all limits table ≡ GoOn made → work_left limits made < work_left limits table
   step_lessens made e = by (step all limits table) e (step_is all limits table)
@@ -95,7 +95,7 @@ module _ (all : Classes) (limits : RunLimits) (table : Table) (limited : KeepsLi
 -- ---- the whole run
 
 module _ (all : Classes) (limits : RunLimits) (limited : KeepsLimits all) (ranges : AreRunLimits limits) where
-  -- the run that is at `next` ends after some number of steps
+  -- the run that is at `next` has an ending, after `steps` more steps
   record ComesTo (next : Next) : Type 0 where
     ending : Ending
     steps : ℕ

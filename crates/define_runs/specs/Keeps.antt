@@ -1,4 +1,4 @@
--- What each table of a run keeps, from step to step. Over Run. `leximin_run` and `laws_of_runs` rest on it.
+-- What holds of each table of a run. Over Run. `leximin_run` and `laws_of_runs` rest on it.
 use Rattle.std.specs.Prelude.{◌≡◌, ◌≢◌, ℕ, ◌<◌, ◌≤◌, true, List, length, take, slice_index, Contains, Some, None}
 use Rattle.std.specs.List.{All}
 use Rattle.define_rows.specs.Choice.{choice}
@@ -26,7 +26,7 @@ pub record IsReached (all : Classes) (limits : RunLimits) (table : Table) : Type
   pub steps : ℕ
   pub there : follow all limits (opening all limits) steps ≡ GoOn table
 
--- what each table of a run keeps
+-- what holds of each table of a run
 pub record KeepsRun (all : Classes) (limits : RunLimits) (table : Table) : Type 0 where
   pub in_order : IsInOrder table
   pub sizes : table.sizes ≡ sizes_of all
@@ -34,27 +34,28 @@ pub record KeepsRun (all : Classes) (limits : RunLimits) (table : Table) : Type 
   pub pivots : table.pivots ≤ limits.pivots
   -- each column is a composition
   pub columns : All (Contains (compositions all)) table.columns
-  -- no composition that attains the rows closed earlier weighs more in a closed row than its right side
+  -- for each closed row, no composition that attains the rows closed before it weighs more in it than its right side
   pub priced_out : (k : ℕ) → k < length table.closed → price all (take k (closed_rows table)) (row_at table (slice_index table.closed k)) ≡ None
 
--- each table that a run reaches, over classes within the limits of a pool, keeps this
+-- over classes within the limits of a pool, `KeepsRun` holds of each table that a run reaches
 abbrev pub ReachedIsKept : Type 0
 ReachedIsKept = (all : Classes) (limits : RunLimits) (table : Table) → KeepsLimits all → AreRunLimits limits → IsReached all limits table → KeepsRun all limits table
 
--- a stage is open, no pivot is chosen, and pricing found a composition
+-- `KeepsRun` holds of the table, a stage is open, no pivot is chosen, and pricing finds `counts`
 pub record IsPriced (all : Classes) (limits : RunLimits) (table : Table) (counts : List ℕ) : Type 0 where
   pub keeps : KeepsRun all limits table
   pub open_now : table.in_stage ≡ true
   pub done : choice table ≡ None
   pub found : price all (closed_rows table) (row_at table (open_row table)) ≡ Some counts
 
--- a composition that pricing found may become a column, and after that a pivot is chosen
+-- a composition that pricing found may become a column
 abbrev pub PricedMayBeAdded : Type 0
 PricedMayBeAdded = (all : Classes) (limits : RunLimits) (table : Table) (counts : List ℕ) → KeepsLimits all → IsPriced all limits table counts → MayAdd table counts
 
+-- after a composition that pricing found has become a column, a pivot is chosen
 abbrev pub PricedIsChosen : Type 0
 PricedIsChosen = (all : Classes) (limits : RunLimits) (table : Table) (counts : List ℕ) → KeepsLimits all → IsPriced all limits table counts → choice (add_column table counts) ≢ None
 
--- the columns of positive value are different compositions, with fractions that sum to one
+-- if `KeepsRun` holds of a table, its columns of positive value are different compositions, with fractions that sum to one
 abbrev pub PartsSpread : Type 0
 PartsSpread = (all : Classes) (limits : RunLimits) (table : Table) → KeepsRun all limits table → AreParts all (parts_of table)

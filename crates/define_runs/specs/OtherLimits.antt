@@ -29,21 +29,23 @@ pub record AllowsMore (limits more : Limits) : Type 0 where
 abbrev pub BudgetsKeepEnding : Type 0
 BudgetsKeepEnding = (pool : Pool) (limits more : Limits) (ending : Ending) → HasMoreBudget limits more → RunEnds pool limits ending → IsFalse (is_spent ending) → RunEnds pool more ending
 
--- so under one width, all endings that are no spent budget are the same, whatever the budgets
+-- so under one width, a run has at most one ending that is not a spent budget, whatever the budgets
 abbrev pub OneEndingOverBudgets : Type 0
 OneEndingOverBudgets = (pool : Pool) (limits other : Limits) (first second : Ending) → limits.bits ≡ other.bits → RunEnds pool limits first → RunEnds pool other second →
     IsFalse (is_spent first) → IsFalse (is_spent second) → first ≡ second
 
--- with greater limits a run that finds an answer finds the same one, and one that finds no panel finds none
+-- under greater limits, a run that found an answer finds the same one
 abbrev pub LimitsKeepAnswer : Type 0
 LimitsKeepAnswer = (pool : Pool) (limits more : Limits) (answer : Answer) → AllowsMore limits more → RunFinds pool limits answer → RunFinds pool more answer
 
+-- under greater limits, a run that found no panel finds none
 abbrev pub LimitsKeepNoPanel : Type 0
 LimitsKeepNoPanel = (pool : Pool) (limits more : Limits) → AllowsMore limits more → RunEnds pool limits NoPanel → RunEnds pool more NoPanel
 
--- so a pool has one answer, or no panel, whatever the limits
+-- so if runs over one pool under different limits find answers, these are the same
 abbrev pub OneAnswerOverLimits : Type 0
 OneAnswerOverLimits = (pool : Pool) (limits other : Limits) (first second : Answer) → RunFinds pool limits first → RunFinds pool other second → first ≡ second
 
+-- so if a run finds an answer, no run over the same pool under other limits finds that there is no panel
 abbrev pub AnswerOrNoPanel : Type 0
 AnswerOrNoPanel = (pool : Pool) (limits other : Limits) (answer : Answer) → RunFinds pool limits answer → RunEnds pool other NoPanel → ⊥

@@ -27,7 +27,7 @@ pub record Limits : Type 0 where
   pub pivots : ℕ
   pub nodes : ℕ
 
--- the limits as the run takes them: the opening search and each pricing have budgets of their own
+-- the limits as the run uses them: the opening search and each pricing have budgets of their own
 pub record RunLimits : Type 0 where
   pub bits : ℕ
   pub pivots : ℕ
@@ -40,7 +40,7 @@ pub record RunLimits : Type 0 where
 abbrev pub run_limits : Limits → RunLimits
 run_limits limits = record { bits = limits.bits; pivots = limits.pivots; opening = limits.nodes; pricing = limits.nodes }
 
--- how a run ends. A refusal has the table as it was when the refused step was due, if there was one yet
+-- how a run ends. A refusal comes with the table before the refused step, or None if there was no table yet
 pub data Ending : Type 0 where
   -- there is no composition
   NoPanel : Ending
@@ -50,7 +50,7 @@ pub data Ending : Type 0 where
   TooWide : (stood : Option Table) (pass : Pass) → Ending
   -- the total of the lottery passes 10 ^ 38
   TotalPasses : (stood : Table) (pass : TotalPass) → Ending
-  -- a pivot is due, and the budget of pivots is spent
+  -- a pivot is chosen, and the budget of pivots is spent
   PivotsSpent : (stood : Table) → Ending
   -- a search needs more visits than its budget
   NodesSpent : (stood : Option Table) → Ending
@@ -75,12 +75,12 @@ stage_of all row = record {
 abbrev pub parts_of : Table → List (List ℕ × Fraction)
 parts_of table = map (λ (c, value). (slice_index_or table.columns c [], value)) (map fraction_of (solution table))
 
--- when everybody is settled: the columns are spread, and the closed rows are the stages
+-- the ending once everybody is settled: the lottery that the columns are spread to, with the closed rows as its stages
 abbrev pub answered : Classes → Table → Result Lottery TotalPass → Ending
 answered all table (Ok lottery) = Found table (record { lottery = lottery; stages = map (stage_of all) (closed_rows table) })
 answered all table (Err pass) = TotalPasses table pass
 
--- after a pivot: the run goes on from the table that was made, or ends as an operation passes the width
+-- after a pivot: the run goes on from the table that was made, or ends because an operation passes the width
 abbrev pub pivoted : Table → Result Table Pass → Next
 pivoted table (Ok made) = GoOn made
 pivoted table (Err pass) = Ended (TooWide (Some table) pass)
@@ -109,7 +109,7 @@ step all limits table =
     else if nat_lt (settled_count table) (length table.sizes) then GoOn (enter_stage table)
     else Ended (answered all table (spread all (parts_of table)))
 
--- after the start: the run goes on from the first table, or ends as an operation passes the width
+-- after the start: the run goes on from the first table, or ends because an operation passes the width
 abbrev pub started : Result Table Pass → Next
 started (Ok table) = GoOn table
 started (Err pass) = Ended (TooWide None pass)
@@ -118,12 +118,12 @@ abbrev pub opened : Classes → RunLimits → Option (List ℕ) → Next
 opened all limits None = Ended NoPanel
 opened all limits (Some first) = started (start (sizes_of all) first limits.bits)
 
--- the opening: the first composition is sought, and the first table starts with it
+-- the opening: searches for the first composition, and starts the first table with it
 unfoldable pub opening : Classes → RunLimits → Next
 opening all limits =
     if nat_lt limits.opening (first_search all).visits then Ended (NodesSpent None) else opened all limits (first_composition all)
 
--- where the run is after `steps` more steps
+-- the table that the run is at, or its ending, `steps` steps after `next`
 abbrev pub follow : Classes → RunLimits → Next → ℕ → Next
 follow all limits next zero = next
 follow all limits (GoOn table) (suc more) = follow all limits (step all limits table) more

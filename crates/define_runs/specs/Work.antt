@@ -25,10 +25,10 @@ abbrev pub StepLeavesLess : Type 0
 StepLeavesLess = (all : Classes) (limits : RunLimits) (table next : Table) → KeepsLimits all → KeepsRun all limits table → step all limits table ≡ GoOn next →
     work_left limits next < work_left limits table
 
--- the run over classes within the limits of a pool has an ending
+-- a run over classes within the limits of a pool, under limits in their ranges, has an ending
 abbrev pub EachEnds : Type 0
 EachEnds = (all : Classes) (limits : RunLimits) → KeepsLimits all → AreRunLimits limits → (ending : Ending) × Ends all limits ending
 
--- the run over a pool has an ending
+-- a run over a pool, under limits in their ranges, has an ending
 abbrev pub EachRunEnds : Type 0
 EachRunEnds = (pool : Pool) (limits : Limits) → IsPool pool → AreLimits limits → (ending : Ending) × RunEnds pool limits ending

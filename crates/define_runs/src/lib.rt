@@ -1,7 +1,7 @@
-//! The run that finds the lottery: the opening search, then stage by stage pivots, pricing and closing, and how it ends. The
-//! definitions are in `specs/`. Stands on the table of `define_rows`, the searches of `define_searches` and `define_waves`,
-//! and the spreading of `define_spreads`. Above: `laws_of_runs`, on what its ends say of the pool; `leximin_run`, which runs it; the
-//! commands and the program's words, for `Limits` and `Workers`; summaries, for `RunSizes`.
+//! The run that finds the lottery: the opening search, then stage by stage pivots, pricing and closing, and how it ends. The definitions
+//! are in `specs/`. Stands on the table of `define_rows`, the searches of `define_searches` and `define_waves`, and the spreading of
+//! `define_spreads`. Above: `laws_of_runs` proves what each ending says of the pool; `leximin_run` executes the run; the commands and the
+//! office use `Limits` and `Workers`; the summary prints `RunSizes`.
 //!
 //! The functions without a body are the promises: laws over the definitions, and worked examples.
 #![tactic(auto)]
@@ -26,8 +26,8 @@ pub use ranges::{
 };
 pub use sizes::RunSizes;
 
-/// A run has one ending under its limits. Under other budgets of pivots and visits it has the same one, or one of the two is a spent
-/// budget. An answer, or that there is no panel, is the same under every width and budget.
+/// A run has one ending under its limits. Under other budgets of pivots and visits it ends the same, unless a budget is spent in one of the
+/// two. Two runs that find an answer or no panel find the same, whatever their widths and budgets.
 pub fn one_ending()
     ensures limits { (pool : Pool) (limits : Seen) (first second : Ending) → RunEnds pool limits first → RunEnds pool limits second → first ≡ second }
     ensures budgets { OneEndingOverBudgets }
@@ -61,7 +61,7 @@ pub fn priced_may_be_added()
     ensures { PricedMayBeAdded }
 {}
 
-/// After such a composition has become a column, a pivot is chosen.
+/// After a composition that pricing found has become a column, a pivot is chosen.
 pub fn priced_is_chosen()
     ensures { PricedIsChosen }
 {}
@@ -71,7 +71,7 @@ pub fn parts_can_be_spread()
     ensures { PartsSpread }
 {}
 
-/// One seat for one of two volunteers: two pivots, and a search of 3 visits at most.
+/// Runs over small pools. One seat for one of two volunteers needs a width of 2 bits, two pivots, and searches of at most 3 visits.
 pub fn worked_runs()
     ensures found { RunEnds either (limits 2 2 3) (Found ended halves) }
     ensures too_wide { RunEnds either (limits 1 2 3) (TooWide None (record { row = 1; op = Add; x = pos 1; y = pos 1 })) }

@@ -48,7 +48,7 @@ impl Model for Limits {
 }
 
 impl Limits {
-    /// Returns the limits of these numbers, or None exactly if one is out of its range.
+    /// Returns the limits with these numbers, or None exactly if a number is out of its range.
     pub fn new(bits: u32, pivots: u64, nodes: u64) -> Option<Limits>
         ensures { result ≡ (if nat_le 1 bits && nat_le bits 127 && nat_le pivots 1000000000 && nat_le nodes 1000000000000
             then Some (record { bits = bits; pivots = pivots; nodes = nodes }) else None) }
@@ -109,7 +109,7 @@ impl Model for Workers {
 }
 
 impl Workers {
-    /// Returns this number of workers, or None exactly if it is out of its range.
+    /// Returns `number` as a number of workers, or None exactly if it is not from 1 to 64.
     pub fn new(number: u32) -> Option<Workers>
         ensures { result ≡ (if nat_le 1 number && nat_le number 64 then Some number else None) }
     {

@@ -1,4 +1,4 @@
-//! The sizes of a run's last table. The run counts them, and the summary says them.
+//! The sizes of a run's last table. The run counts them, and the summary prints them.
 
 /// The sizes of a run's last table: the classes, the columns, and the pivots that were made.
 #[derive(Clone, Copy, Debug)]

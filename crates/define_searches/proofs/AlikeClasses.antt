@@ -32,7 +32,7 @@ module _ (pool : Pool) where
   abbrev shares : ℕ → Bool
   shares = shares_household pool
 
-  -- two volunteers who are alike are the same one, or have the same values and standing and share no household
+  -- volunteers `i` and `j` have equal values and equal standing, and neither shares a household. So have any two different alike volunteers
   pub record Alike (i j : ℕ) : Type 0 where
     values : (at i).values ≡ (at j).values
     standing : (at i).standing ≡ (at j).standing

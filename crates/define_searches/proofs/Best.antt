@@ -13,7 +13,8 @@ use Rattle.define_searches.proofs.Order.{Ordered, compositions_ordered, not_back
 
 -- ---- the first of greatest weight above a floor
 
--- the place of the first of greatest weight: it weighs more than the floor and than all before it, and none after it weighs more
+-- `counts` is the first list of greatest weight in `xs`: it weighs more than the floor and than all before it, and none after it weighs
+-- more
 record StandsFirst (weight : List ℕ → ℤ) (floor : ℤ) (xs : List (List ℕ)) (counts : List ℕ) : Type 0 where
   before : List (List ℕ)
   after : List (List ℕ)
@@ -22,7 +23,7 @@ record StandsFirst (weight : List ℕ → ℤ) (floor : ℤ) (xs : List (List �
   lighter : AllByRecursion (λ x. int_lt (weight x) (weight counts) ≡ true) before
   no_heavier : AllByRecursion (λ x. int_lt (weight counts) (weight x) ≡ false) after
 
--- if nothing is found, nothing weighs more than the floor
+-- if `first_greatest` finds nothing, no list weighs more than the floor
 pub none_above : (weight : List ℕ → ℤ) (floor : ℤ) (xs : List (List ℕ)) → first_greatest weight floor xs ≡ None → AllByRecursion (λ x. int_lt floor (weight x) ≡ false) xs
 none_above weight floor [] n = tt
 none_above weight floor (x ∷ xs) n = by (int_lt floor (weight x)) refl (λ s. none_above weight floor xs s) n

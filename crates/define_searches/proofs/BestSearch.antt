@@ -67,12 +67,13 @@ live_from_better all closed row floor pre later front counts split gives entries
         (at_least_of r.b (weight_in r.a (front ++ counts)) (optimistic all r front) (weight_within_optimistic all pre later front counts r split gives h.0 composes) parts.0)
         (each_closed closed h.1 parts.1)
 
--- a live front of all classes is a composition that attains the closed rows and weighs more than the floor
+-- `front` is a composition that attains the closed rows and weighs more than `floor` in `row`
 pub record Whole (all : Classes) (closed : List Row) (row : Row) (floor : ℤ) (front : List ℕ) : Type 0 where
   pub composes : is_composition all front ≡ true
   pub attained : attains closed front ≡ true
   pub above : int_lt floor (weight_in row.a front) ≡ true
 
+-- a live front of all classes is a composition that attains the closed rows and weighs more than the floor
 pub whole_from_live : (all : Classes) (closed : List Row) (row : Row) (floor : ℤ) (pre : List Class) (front : List ℕ) → Split all pre [] front → is_live_above all closed row floor front ≡ true → Whole all closed row floor front
 whole_from_live all closed row floor pre front split live =
     let all_parts = and_parts (is_reachable all front && list_all (λ r. int_le r.b (optimistic all r front)) closed) (int_lt floor (optimistic all row front)) live in
@@ -157,11 +158,11 @@ children_keep enter live L weight enters dead (c ∷ cs) now =
     ]) refl in
     rest ∙ ap (λ begun. fold (keep weight) begun (flat_map L cs)) here ∙ sym (fold-append (keep weight) (told now) (L c) (flat_map L cs))
 
--- the compositions that begin with a front, which these classes come after, and that attain the closed rows
+-- the compositions that begin with `front` and attain the closed rows. `later` are the classes after the front
 abbrev pub sought : Classes → List Row → List ℕ → List Class → List (List ℕ)
 sought all closed front later = filter (attains closed) (completions all front later)
 
--- if a front isn't live above a floor, no such composition weighs more than the floor
+-- if `front` isn't live above `floor`, no composition that is sought weighs more than `floor`
 pub none_better : (all : Classes) (closed : List Row) (row : Row) (floor : ℤ) (pre later : List Class) (front : List ℕ) → Split all pre later front → InOrder later → HaveEntries all (row ∷ closed) →
     is_live_above all closed row floor front ≡ false → AllByRecursion (λ counts. int_lt floor (weight_in row.a counts) ≡ false) (sought all closed front later)
 none_better all closed row floor pre later front split order entries dead =

@@ -21,7 +21,7 @@ place p (x ∷ xs) = cond (p x) 0 (1 + place p xs)
 place_is : {X : Type 0} (p : X → Bool) (xs : List X) → position_or_len p xs ≡ place p xs
 place_is p xs = sym (is_position_or_len (place p) p refl (λ x xs. refl) xs)
 
--- if exactly one element passes, the first place that passes is in the list, and its element passes
+-- if exactly one element passes a test, the first place that passes is in the list, and its element passes
 place_below : (p : ℕ → Bool) (xs : List ℕ) → total (λ x. one_if (p x)) xs ≡ 1 → place p xs < length xs
 place_below p [] one = absurd (omega arith)
 place_below p (x ∷ xs) one =
@@ -43,7 +43,7 @@ none_at p [] k d none l t = omega arith
 none_at p (x ∷ xs) zero d none l t = let one = ap one_if t in omega arith
 none_at p (x ∷ xs) (suc k) d none l t = none_at p xs k d (omega arith) (omega arith) t
 
--- if exactly one element passes, the first place that passes is its place
+-- if exactly one element passes, its place is the first place that passes
 place_of : (p : ℕ → Bool) (xs : List ℕ) (k d : ℕ) → total (λ x. one_if (p x)) xs ≡ 1 → k < length xs → p (get_or xs k d) ≡ true → place p xs ≡ k
 place_of p [] k d one l t = absurd (omega arith)
 place_of p (x ∷ xs) zero d one l t = ap (λ b. cond b 0 (1 + place p xs)) t
@@ -112,7 +112,7 @@ module _ (pool : Pool) (alike : ℕ → ℕ → Bool) (makes : MakesClasses pool
   pub class_is : (t : ℕ) (d : Class) → t < length firsts → get_or (classes_by alike pool).classes t d ≡ class_by alike pool (leader_at t)
   class_is t d inside = get_or-map (class_by alike pool) firsts t 0 d inside
 
-  -- the class with a volunteer's number contains the volunteer
+  -- a volunteer's class number is the number of a class that contains the volunteer
   pub number_has : (i : ℕ) (d : Class) → i < n → includes (get_or (classes_by alike pool).classes (number i) d).members i ≡ true
   number_has i d below =
       let inside : number i < length firsts = omega (arith, number_below i below, class_count) in

@@ -1,4 +1,4 @@
--- A panel whose composition over the classes of a pool is one of the compositions is a quota panel.
+-- If a panel's composition over the classes of a pool is among the compositions, the panel is a quota panel.
 use Rattle.std.proofs.Common.{◌≡◌, ℕ, ◌≤◌, ◌<◌, Bool, true, ltb, List, length, sym, ◌∙◌, subst}
 use Rattle.std.specs.List.{list_all, Contains}
 use Rattle.std.proofs.lemmas.Bool.{ltb-true}

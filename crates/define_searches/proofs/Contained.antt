@@ -1,4 +1,4 @@
--- What lists contain.
+-- Lists and the elements that they contain.
 use Rattle.std.proofs.Common.{◌≡◌, ℕ, zero, suc, Bool, true, false, cond, List, [], ◌∷◌, filter, take, refl, ap, ◌∙◌, subst, arith}
 use Rattle.std.specs.Prelude.{Contains, slice_get, Some}
 use Rattle.std.specs.List.{AllByRecursion, list_all}
@@ -16,7 +16,7 @@ pub first_there : {X : Type 0} (xs : List X) (first : X) → slice_get xs 0 ≡ 
 first_there [] first e = absurd cc
 first_there (x ∷ xs) first e = let same : x ≡ first = cc in subst (Contains (x ∷ xs)) same (contains_first x xs)
 
--- what holds of each element of a list holds of an element that it contains
+-- if P holds of each element of a list, and the list contains `x`, P holds of `x`
 pub each_contains : {X : Type 0} (P : X → Type 0) (xs : List X) (x : X) → AllByRecursion P xs → Contains xs x → P x
 each_contains P [] x h (k, l, e) = absurd (omega arith)
 each_contains P (y ∷ xs) x h (zero, l, e) = subst P e h.0

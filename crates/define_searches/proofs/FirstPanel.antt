@@ -74,7 +74,7 @@ holds_filter p i first (suc count) l m =
       | false ↦ rest
     ]) (cases_eq first i)
 
--- a range with one more number at its end has one more term
+-- lengthening a range by one number adds that number's term to the sum
 total-range_more : (f : ℕ → ℕ) (first count : ℕ) → total f (range_with_len first (suc count)) ≡ total f (range_with_len first count) + f (first + count)
 total-range_more f first zero = let e : first + 0 ≡ first = omega arith in rw e (omega arith)
 total-range_more f first (suc count) =
@@ -82,7 +82,7 @@ total-range_more f first (suc count) =
     let e : first + 1 + count ≡ first + suc count = omega arith in
     let last : f (first + 1 + count) ≡ f (first + suc count) = ap f e in omega (arith, rest, last)
 
--- ---- the first c of a class
+-- ---- the first members of a class
 
 -- how many members of a class have a number below i
 abbrev pub rank : (ℕ → Bool) → ℕ → ℕ
@@ -137,7 +137,7 @@ module _ (alike : ℕ → ℕ → Bool) (same : IsEquivalenceTest alike) (count 
   abbrev panel : List ℕ
   panel = first_panel alike count (map g firsts)
 
-  -- how many members are taken of a volunteer's class: the count of the class's leader
+  -- the number of members taken of volunteer `i`'s class is the count of the class's leader
   own : (i : ℕ) → i < count → taken_of (λ l. alike l i) firsts (map g firsts) ≡ g (leader_of i).at
   unfolding leads
   own i l =
@@ -149,7 +149,7 @@ module _ (alike : ℕ → ℕ → Bool) (same : IsEquivalenceTest alike) (count 
       (λ j. lift (leads alike same count j) (alike j i) (eqb first.at j) (g j) (is_first alike same count i first j)) (range_with_len 0 count)
       ∙ one_member g first.at 0 count (omega arith) inside
 
-  -- the leader of a volunteer who is alike to a leader is that leader
+  -- if `l` leads and `i` is alike to `l`, the leader of `i` is `l`
   leader_is : (l i : ℕ) → leads alike same count l ≡ true → alike l i ≡ true → (leader_of i).at ≡ l
   leader_is l i lead t =
       let e = is_first alike same count i (leader_of i) l in
@@ -164,7 +164,7 @@ module _ (alike : ℕ → ℕ → Bool) (same : IsEquivalenceTest alike) (count 
       (λ (p : alike i j ≡ false). ⊎_elim (λ (q : alike l j ≡ true). absurd (false≢true (sym p ∙ same.along i l j (same.back l i t) q))) (λ (q : alike l j ≡ false). p ∙ sym q) (cases_Bool (alike l j)))
       (cases_Bool (alike i j))
 
-  -- a volunteer is on the first panel if fewer members of the class come before than are taken of it
+  -- volunteer `i` is on the first panel if fewer members of `i`'s class have lower numbers than are taken of the class
   abbrev in_panel : ℕ → Bool
   in_panel i = ltb (count_by (alike i) (range_with_len 0 i)) (taken_of (λ leader. alike leader i) firsts (map g firsts))
 
@@ -179,7 +179,7 @@ module _ (alike : ℕ → ℕ → Bool) (same : IsEquivalenceTest alike) (count 
       (λ (t : alike l i ≡ true). ap (λ b. cond b (one_if (alike l i)) 0) (in_class l i lead below t))
       (λ (t : alike l i ≡ false). rw t (cond_zero (in_panel i) ∙ sym (cond_zero (ltb (rank (alike l) i) (g l))))) (cases_Bool (alike l i))
 
-  -- the first panel takes as many members of a class as its count says
+  -- if the class of leader `l` has at least `g l` members, the first panel has exactly `g l` of them
   takes : (l : ℕ) → leads alike same count l ≡ true → g l ≤ rank (alike l) count → count_by (alike l) panel ≡ g l
   takes l lead fits =
       let a = count_by-total (alike l) panel in
@@ -205,7 +205,7 @@ module _ (alike : ℕ → ℕ → Bool) (same : IsEquivalenceTest alike) (count 
 
 -- ---- each composition in the list
 
--- the first panel of these counts is a quota panel, and has these counts as its composition
+-- the first panel of `counts` is a quota panel, and its composition is `counts`
 abbrev pub FitsAndComposes : Pool → (ℕ → ℕ → Bool) → List ℕ → Type 0
 FitsAndComposes pool alike counts =
     (is_quota_panel pool (first_panel alike (length pool.volunteers) counts) ≡ true)
@@ -215,7 +215,7 @@ pub leaders_rise : (pool : Pool) (alike : ℕ → ℕ → Bool) → MakesClasses
 unfolding leads
 leaders_rise pool alike makes = filter_increases (leads alike makes.same (length pool.volunteers)) 0 (length pool.volunteers)
 
--- this holds for each composition
+-- the first panel of each composition is a quota panel with that composition
 pub each_first_panel : (pool : Pool) (alike : ℕ → ℕ → Bool) → MakesClasses pool alike → AllByRecursion (FitsAndComposes pool alike) (compositions pool alike)
 unfolding leads
 each_first_panel pool alike makes =

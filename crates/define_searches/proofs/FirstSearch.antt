@@ -38,7 +38,7 @@ pub taken_none : (p : Class → Bool) (classes : List Class) → taken_of p clas
 taken_none p [] = refl
 taken_none p (class ∷ classes) = refl
 
--- a front with the counts after it takes what the front takes and what the counts take
+-- the members that `front ++ counts` takes are those that `front` takes plus those that `counts` takes
 pub taken-append : (p : Class → Bool) (pre later : List Class) (front counts : List ℕ) → length front ≡ length pre →
     taken_of p (pre ++ later) (front ++ counts) ≡ taken_of p (pre ++ later) front + taken_of p later counts
 taken-append p [] later [] counts e = omega (arith, taken_none p later)
@@ -98,7 +98,7 @@ composition_parts all counts composes =
     let parts = and_parts size bounds both.0 in
     record { size = eqb-true (taken_of (λ class. true) all.classes counts) all.size parts.0; bounds = parts.1; households = both.1 }
 
--- a front takes at most as many members of a household as a list that begins with it
+-- if `front ++ counts` takes at most one member of a household, so does `front`
 one_of_front : (all : Classes) (pre later : List Class) (front counts : List ℕ) → Split all pre later front → (household : Option ℕ) →
     takes_one_of all.classes (front ++ counts) household ≡ true → takes_one_of all.classes front household ≡ true
 one_of_front all pre later front counts split None one = refl
@@ -108,7 +108,7 @@ one_of_front all pre later front counts split (Some h) one =
     let parts = taken_split all pre later front counts split of in
     le-leb (taken_of of all.classes front) 1 (omega arith)
 
--- a front with which a composition begins is live
+-- if a composition begins with a front, the front is live
 pub live_from_composition : (all : Classes) (pre later : List Class) (front counts : List ℕ) → Split all pre later front → Gives later counts →
     is_composition all (front ++ counts) ≡ true → is_reachable all front ≡ true
 live_from_composition all pre later front counts split gives composes =
@@ -153,7 +153,7 @@ composition_from_live all pre front split live =
         let parts = and_parts (leb count upper) (leb lower (count + 0)) h in
         let l = leb-true lower (count + 0) parts.1 in and_from (leb lower count) (leb count upper) (le-leb lower count (omega arith)) parts.0
 
--- ---- the compositions that a front goes on to
+-- ---- the compositions that begin with a front
 
 abbrev pub completions : Classes → List ℕ → List Class → List (List ℕ)
 completions all front later = filter (is_composition all) (map (λ counts. front ++ counts) (all_counts later))
@@ -171,7 +171,7 @@ joined front c [] = refl
 joined front c (x ∷ xs) =
     let e : front ++ (c ∷ x) ≡ (front ++ c ∷ []) ++ x = sym (append_assoc front (c ∷ []) x) in let rest = joined front c xs in cc
 
--- the compositions that begin with a front are those that begin with its children, one child after the other
+-- the compositions that begin with a front are those that begin with its children, in the order of the children
 pub of_children : (all : Classes) (front : List ℕ) (later : List Class) (cs : List ℕ) →
     flat_map (λ child. completions all child later) (map (λ c. front ++ c ∷ []) cs)
     ≡ filter (is_composition all) (map (λ counts. front ++ counts) (flat_map (λ c. map (λ counts. c ∷ counts) (all_counts later)) cs))

@@ -1,4 +1,4 @@
--- The greatest sum of some number of units is at least the sum of any choice of as many units.
+-- The greatest sum of `count` units is at least the sum of any `count` units.
 use Rattle.std.proofs.Common.{◌≡◌, ℕ, zero, suc, ◌+◌, ◌*◌, ◌≤◌, true, false, cond, List, [], ◌∷◌, ◌++◌, length, take, drop, fold, ℤ, pos, ◌+ℤ◌, ◌*ℤ◌, refl, arith}
 use Rattle.std.specs.Prelude.{int_le, replicate}
 use Rattle.std.specs.List.{AllByRecursion}
@@ -66,7 +66,7 @@ pub length-falling : (xs : List ℤ) → length (falling xs) ≡ length xs
 length-falling [] = refl
 length-falling (x ∷ xs) = omega (arith, length-put x (falling xs), length-falling xs)
 
--- ---- the first of a falling list, with one more number
+-- ---- the greatest numbers of a list, after one number is added
 
 put_taken : (x : ℤ) (xs : List ℤ) (k : ℕ) → k ≤ length xs →
     up x + total up (take k xs) + total down (take (suc k) (put_falling x xs)) ≤ total up (take (suc k) (put_falling x xs)) + down x + total down (take k xs)
@@ -102,10 +102,11 @@ put_left x (y ∷ ys) (suc k) f l =
       | false ↦ λ e. omega arith
     ]) refl
 
--- the parts above 0 and below 0 of the greatest sum of k numbers
+-- the sum of those of the `k` greatest numbers of `xs` that are above 0
 abbrev high : ℕ → List ℤ → ℕ
 high k xs = total up (take k (falling xs))
 
+-- the sum of the absolute values of those of the `k` greatest numbers of `xs` that are below 0
 abbrev low : ℕ → List ℤ → ℕ
 low k xs = total down (take k (falling xs))
 
@@ -113,7 +114,7 @@ pub length-replicate : (m : ℕ) (x : ℤ) (ys : List ℤ) → length (replicate
 length-replicate zero x ys = omega arith
 length-replicate (suc m) x ys = omega (arith, length-replicate m x ys)
 
--- j copies of x with the greatest k of the other numbers sum to at most the greatest sum of j + k of them all
+-- `j` copies of `x` and the `k` greatest of `ys` sum to at most the greatest sum of `j + k` numbers of `ys` and `m` copies of `x`
 some_of : (m : ℕ) (x : ℤ) (ys : List ℤ) (j k n : ℕ) → j ≤ m → k ≤ length ys → n ≡ j + k →
     j * up x + high k ys + low n (replicate m x ++ ys) ≤ high n (replicate m x ++ ys) + j * down x + low k ys
 some_of zero x ys zero k n a b e = let s : n ≡ k = omega arith in rw s (omega arith)
@@ -150,14 +151,14 @@ weight_bound (class ∷ later) (x ∷ entries) (c ∷ counts) e g =
     let some = some_of class.most x (units later entries) c (taken_of (λ class. true) later counts) (c + taken_of (λ class. true) later counts) here (few_units later entries counts (omega arith) g.1) refl in
     omega (arith, rest, some, product-parts c x, sum_is_lem (pos c *ℤ x) (weight_in entries counts))
 
--- counts that the later classes can give weigh at most the greatest sum of as many units as they take
+-- if the later classes can give `counts`, these weigh at most the greatest sum of as many units as they take members
 pub weight_within_greatest : (later : List Class) (entries : List ℤ) (counts : List ℕ) → length entries ≡ length later → Gives later counts →
     AtMost (weight_in entries counts) (greatest_sum (taken_of (λ class. true) later counts) later entries)
 weight_within_greatest later entries counts e g =
     let n = taken_of (λ class. true) later counts in
     omega (arith, weight_bound later entries counts e g, sum_parts (take n (falling (units later entries))))
 
--- a front with the counts after it weighs what the front weighs and what the counts weigh
+-- the weight of `front ++ counts` is the weight of `front` plus the weight of `counts`
 pub weight-append : (entries : List ℤ) (front counts : List ℕ) → length front ≤ length entries →
     up (weight_in entries (front ++ counts)) + down (weight_in entries front) + down (weight_in (drop (length front) entries) counts)
     ≡ down (weight_in entries (front ++ counts)) + up (weight_in entries front) + up (weight_in (drop (length front) entries) counts)

@@ -15,7 +15,7 @@ use Rattle.define_searches.specs.Compositions.{is_of_household}
 
 -- ---- who shares a household
 
--- volunteers who share a household have the same name of a household
+-- if two volunteers share a household, their household names are equal
 pub same_name : (a b : Option (List ℕ)) → is_same_household a b ≡ true → a ≡ b
 same_name None b h = absurd (false≢true h)
 same_name (Some name) None h = absurd (false≢true h)
@@ -50,7 +50,7 @@ module _ (volunteers : List Volunteer) where
   share_along : (i j k : ℕ) → share i j ≡ true → share i k ≡ share j k
   share_along i j k h = ap (λ name. is_same_household name (household k)) (same_household i j h)
 
-  -- and so they have the same household number
+  -- volunteers who share a household have the same household number
   pub share_number : (i j : ℕ) → share i j ≡ true → shared_household volunteers i ≡ shared_household volunteers j
   share_number i j h =
       let count = total_ext (λ k. one_if (share i k)) (λ k. one_if (share j k)) (λ k. ap one_if (share_along i j k h)) everybody in
@@ -58,7 +58,7 @@ module _ (volunteers : List Volunteer) where
       let found = find_agrees (share i) (share j) (λ k. share_along i j k h) everybody in
       rw (many, found) refl
 
-  -- a household number is the first volunteer who shares the household
+  -- a household number is the number of the first volunteer who shares the household
   number_is : (i h : ℕ) → shared_household volunteers i ≡ Some h → find (share i) everybody ≡ Some h
   number_is i h e =
       (elim (leb 2 (count_by (share i) everybody)) as (λ b. cond b (find (share i) everybody) None ≡ Some h → find (share i) everybody ≡ Some h) [
@@ -97,7 +97,8 @@ module _ (volunteers : List Volunteer) where
   implied_le true b f = let t = f refl in rw t (le_of_eq refl)
   implied_le false b f = omega arith
 
-  -- if any two of a list's elements that pass are of one kind, and at most one element of each kind is in the list, at most one passes
+  -- if `q` relates any two elements that pass `p`, and each element of `xs` to at most one of `whole`, then no element of `xs` passes, or
+  -- at most one of `whole` does
   one_at_most : (p : ℕ → Bool) (q : ℕ → ℕ → Bool) → ((i j : ℕ) → p i ≡ true → p j ≡ true → q i j ≡ true) → (whole xs : List ℕ) →
       AllByRecursion (λ i. total (λ j. one_if (q i j)) whole ≤ 1) xs → (total (λ j. one_if (p j)) xs ≡ 0) ⊎ (total (λ j. one_if (p j)) whole ≤ 1)
   one_at_most p q related whole [] once = inl refl

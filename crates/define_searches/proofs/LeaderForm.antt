@@ -54,7 +54,7 @@ compositions pool alike =
     (all_counts (λ leader. least_taken (volunteer pool.volunteers leader).standing (length (class_of alike n leader)))
     (λ leader. most_taken (volunteer pool.volunteers leader).standing (length (class_of alike n leader))) firsts)
 
--- the volunteers for whom fewer members of their class come before than are taken of it
+-- the first panel of `counts`: volunteer `i` is on it if fewer members of `i`'s class have lower numbers than `counts` takes of the class
 abbrev pub first_panel : (ℕ → ℕ → Bool) → ℕ → List ℕ → List ℕ
 first_panel alike count counts =
     filter (λ i. nat_lt (count_by (alike i) (range_with_len 0 i)) (taken_of (λ leader. alike leader i) (leaders alike count) counts)) (range_with_len 0 count)

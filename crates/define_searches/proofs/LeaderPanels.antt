@@ -1,4 +1,4 @@
--- A panel whose composition is one of the compositions, by leaders, is a quota panel.
+-- If a panel's composition, by leaders, is among the compositions, the panel is a quota panel.
 use Rattle.std.proofs.Common.{◌≡◌, ℕ, ◌+◌, ◌-◌, ◌≤◌, ◌<◌, Bool, true, false, cond, not, ◌&&◌, eqb, leb, ltb, List, [], ◌∷◌, map, length, count_by, slice_index, Some, None, refl, sym, ap, ◌∙◌, ⊎_elim, arith, subst, le_of_eq}
 use Rattle.std.specs.Prelude.{is_some}
 use Rattle.std.specs.List.{list_all, list_any, AllByRecursion, range_with_len, enumerate_from}
@@ -21,7 +21,7 @@ use Rattle.define_searches.proofs.Contained.{filtered}
 use Rattle.define_searches.proofs.Listed.{each_count}
 use Rattle.define_searches.proofs.PanelCompositions.{passing, term_most}
 
--- two functions that give the same list are equal at each of its elements
+-- if two functions map a list to the same list, they are equal at each of its elements
 same_at_each : (f g : ℕ → ℕ) (xs : List ℕ) → map f xs ≡ map g xs → AllByRecursion (λ x. f x ≡ g x) xs
 same_at_each f g [] e = tt
 same_at_each f g (x ∷ xs) e = (cc, same_at_each f g xs cc)
@@ -75,7 +75,7 @@ module _ (pool : Pool) (alike : ℕ → ℕ → Bool) (makes : MakesClasses pool
       is_out true e = absurd (omega arith)
       is_out false e = refl
 
-  -- what holds of each element of the list of leaders holds of each number that is a leader
+  -- if P holds of each element of the list of leaders, it holds of each volunteer who leads
   at_leaders : (P : ℕ → Type 0) → AllByRecursion P firsts → (l : ℕ) → l < n → leads alike makes.same n l ≡ true → P l
   unfolding leads
   at_leaders P each l inside lead =
@@ -116,7 +116,7 @@ module _ (pool : Pool) (alike : ℕ → ℕ → Bool) (makes : MakesClasses pool
     parts : (eqb (taken_of (λ leader. true) firsts counts) pool.size ≡ true) × (meets_bounds pool firsts counts ≡ true)
     parts = and_parts (eqb (taken_of (λ leader. true) firsts counts) pool.size) (meets_bounds pool firsts counts) both.0
 
-    -- how many members of the panel pass, from its composition
+    -- the number of panel members that pass equals the sum of the counts of the leaders that pass
     taken_by : (passes : ℕ → Bool) → ((i j : ℕ) → alike i j ≡ true → passes i ≡ passes j) → count_by passes panel ≡ taken_of passes firsts counts
     taken_by passes respects = sym (passing alike makes.same n passes respects panel each_below) ∙ ap (taken_of passes firsts) composed
 
@@ -177,7 +177,7 @@ module _ (pool : Pool) (alike : ℕ → ℕ → Bool) (makes : MakesClasses pool
 
 -- ---- each composition in the list
 
--- the counts as a function of leaders, each from the least to the greatest of its class
+-- `counts` as a function `of` the leaders, with each leader's count from `low` to `high`
 pub record ByLeader (low high : ℕ → ℕ) (firsts counts : List ℕ) : Type 0 where
   pub of : ℕ → ℕ
   pub is : counts ≡ map of firsts
@@ -215,7 +215,7 @@ least_to_most Open size = omega arith
 least_to_most Seated size = le_of_eq refl
 least_to_most Gone size = le_of_eq refl
 
--- the counts of each composition in this form
+-- each composition is a function of the leaders, with each count from the least to the most of the leader's class
 pub each_by_leader : (pool : Pool) (alike : ℕ → ℕ → Bool) → is_increasing (leaders alike (length pool.volunteers)) ≡ true →
     AllByRecursion (λ counts. ByLeader (λ l. least_taken (volunteer pool.volunteers l).standing (length (class_of alike (length pool.volunteers) l)))
     (λ l. most_taken (volunteer pool.volunteers l).standing (length (class_of alike (length pool.volunteers) l))) (leaders alike (length pool.volunteers)) counts

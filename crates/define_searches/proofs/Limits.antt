@@ -1,4 +1,4 @@
--- The classes of a pool keep the limits that follow from the limits of a pool.
+-- The classes of a pool are within the limits that follow from the limits of a pool.
 use Rattle.std.proofs.Common.{◌≡◌, ℕ, zero, suc, ◌≤◌, ◌<◌, Bool, true, ◌&&◌, leb, ltb, List, [], ◌∷◌, map, length, get_or, slice_index, sum_by, refl, arith, le_of_eq, Option, Some, None}
 use Rattle.std.specs.Prelude.{not}
 use Rattle.std.specs.List.{All, AllByRecursion, list_all, list_any, range_with_len}
@@ -70,7 +70,7 @@ module _ (pool : Pool) (alike : ℕ → ℕ → Bool) (is_pool : IsPool pool) (m
   abbrev many : ℕ
   many = length pool.volunteers
 
-  -- what holds of the class of each volunteer as a leader holds of each class of the pool
+  -- if P holds of `class_by alike pool l` for each volunteer `l`, it holds of each class of the pool
   of_leaders : (P : Class → Type 0) → ((l : ℕ) → l < many → P (class_by alike pool l)) → AllByRecursion P (classes_by alike pool).classes
   of_leaders P f =
       each_mapped P (class_by alike pool) (leaders alike many)

@@ -1,10 +1,10 @@
--- What holds of each element of lists that are made for counts that go down.
+-- Properties of the elements of lists that are made for falling counts and joined.
 use Rattle.std.proofs.Common.{ℕ, zero, suc, ◌+◌, ◌≤◌, List, [], refl, arith, le_of_eq}
 use Rattle.std.specs.List.{flat_map, AllByRecursion}
 use Rattle.laws_basic.proofs.Each.{each_append}
 use Rattle.define_searches.specs.Compositions.{counts_down}
 
--- what holds of each element of the list for each count holds of each element of these lists joined
+-- if P holds of each element of `F c` for each count `c`, it holds of each element of the joined lists
 pub each_count : {X : Type 0} (P : X → Type 0) (F : ℕ → List X) (least more : ℕ) → ((c : ℕ) → least ≤ c → c ≤ least + more → AllByRecursion P (F c)) → AllByRecursion P (flat_map F (counts_down least more))
 each_count P F least zero f = each_append P (F least) [] (f least (le_of_eq refl) (omega arith)) tt
 each_count P F least (suc more) f =

@@ -13,9 +13,9 @@ abbrev pub Ordered : List (List ℕ) → Type 0
 Ordered [] = Unit {0}
 Ordered (x ∷ xs) = AllByRecursion (λ y. comes_before x y ≡ true) xs × Ordered xs
 
--- ---- one before another
+-- ---- which of two lists comes first
 
--- of two lists, it isn't so that each comes before the other
+-- if `xs` comes before `ys`, `ys` doesn't come before `xs`
 pub not_back : (xs ys : List ℕ) → comes_before xs ys ≡ true → comes_before ys xs ≡ true → ⊥
 not_back [] ys e f = cc
 not_back (c ∷ xs) [] e f = cc

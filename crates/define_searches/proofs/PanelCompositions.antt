@@ -25,7 +25,7 @@ use Rattle.define_searches.proofs.Households.{alike_number, one_of_number}
 
 -- ---- lists with a count for each leader
 
--- what holds of each element of the joined lists holds of those for one count
+-- if P holds of each element of the lists `F` of all counts joined, it holds of each element of `F c`
 at_count : (P : List ℕ → Type 0) (F : ℕ → List (List ℕ)) (least more c : ℕ) → least ≤ c → c ≤ least + more → AllByRecursion P (flat_map F (counts_down least more)) → AllByRecursion P (F c)
 at_count P F least zero c l m each =
     let s : least ≡ c = omega arith in
@@ -72,7 +72,7 @@ weight_is alike w panel (l ∷ firsts) =
     omega (arith, rest, parts, upper, lower, sum_is_lem (pos c *ℤ w l) (composition_weight w firsts (composition_of alike firsts panel)))
 
 module _ (alike : ℕ → ℕ → Bool) (same : IsEquivalenceTest alike) (count : ℕ) where
-  -- how many members of a panel pass, from its composition
+  -- the number of a panel's members that pass equals the sum of its composition's counts over the leaders that pass
   pub passing : (passes : ℕ → Bool) → ((i j : ℕ) → alike i j ≡ true → passes i ≡ passes j) → (panel : List ℕ) → AllByRecursion (λ i. i < count) panel →
       taken_of passes (leaders alike count) (composition_of alike (leaders alike count) panel) ≡ count_by passes panel
   passing passes respects panel below =
@@ -80,7 +80,7 @@ module _ (alike : ℕ → ℕ → Bool) (same : IsEquivalenceTest alike) (count 
       ∙ sym (by_class alike same count (λ i. one_if (passes i)) (λ i j a b e. ap one_if (respects i j e)) panel below)
       ∙ sym (count_by-total passes panel)
 
-  -- the weight of a panel, from its composition
+  -- a panel weighs in a stage what its composition weighs
   pub weighing : (stage : Stage) → ((i j : ℕ) → i < count → j < count → alike i j ≡ true → weight_of stage i ≡ weight_of stage j) → (panel : List ℕ) → AllByRecursion (λ i. i < count) panel →
       composition_weight (weight_of stage) (leaders alike count) (composition_of alike (leaders alike count) panel) ≡ panel_weight stage panel
   weighing stage respects panel below =
@@ -91,18 +91,22 @@ module _ (alike : ℕ → ℕ → Bool) (same : IsEquivalenceTest alike) (count 
 
 -- ---- a quota panel's composition
 
--- what one volunteer adds to a class's count. `s` is the standing, `h` whether the volunteer is on the panel, `a` whether in the class
+-- In the next three lemmas `s` is a volunteer's standing, `h` says whether the volunteer is on the panel, `a` whether in the class.
+
+-- if everyone in the class is seated, a member of the class counts at most what the member counts on the panel
 term_seated : (s : Standing) (h a : Bool) → allows s h ≡ true → (a ≡ true → s ≡ Seated) → one_if a ≤ cond h (one_if a) 0
 term_seated s h false e f = omega arith
 term_seated s h true e f =
     let t : h ≡ true = subst (λ z. allows z h ≡ true) (f refl) e in rw t (le_of_eq refl)
 
+-- if everyone in the class is gone, no volunteer counts as a member of the class on the panel
 term_gone : (s : Standing) (h a : Bool) → allows s h ≡ true → (a ≡ true → s ≡ Gone) → cond h (one_if a) 0 ≤ 0
 term_gone s true false e f = le_of_eq refl
 term_gone s false false e f = le_of_eq refl
 term_gone s true true e f = absurd (false≢true (subst (λ z. allows z true ≡ true) (f refl) e))
 term_gone s false true e f = le_of_eq refl
 
+-- on the panel, a volunteer counts at most what the volunteer counts in the class
 pub term_most : (h a : Bool) → cond h (one_if a) 0 ≤ one_if a
 term_most true a = le_of_eq refl
 term_most false a = omega arith
@@ -191,7 +195,7 @@ module _ (pool : Pool) (alike : ℕ → ℕ → Bool) (respects : MakesClasses p
       (list_all_from_each (λ leader. takes_one_of pool (leaders alike n) mine (shared_household pool.volunteers leader)) (leaders alike n)
       (each_everywhere (λ leader. takes_one_of pool (leaders alike n) mine (shared_household pool.volunteers leader) ≡ true) (λ leader. household_is (shared_household pool.volunteers leader)) (leaders alike n)))
 
-  -- what holds of all compositions holds of this panel's
+  -- if P holds of all compositions, it holds of this panel's composition
   pub of_compositions : (P : List ℕ → Type 0) → AllByRecursion P (compositions pool alike) → P mine
   of_compositions P each =
       let low : ℕ → ℕ = λ leader. least_taken (standing_of leader) (length (class_of alike n leader)) in
@@ -207,7 +211,7 @@ attains_same pool alike respects panel quota (stage ∷ stages) weigh =
     let here = weighing alike respects.same (length pool.volunteers) stage weigh.0 panel (below pool alike respects panel quota) in
     let rest = attains_same pool alike respects panel quota stages weigh.1 in rw (here, rest) refl
 
--- if no composition that attains the earlier caps weighs more than the cap, no such quota panel does
+-- if no composition that attains the earlier caps weighs more than the cap, no quota panel that attains them does
 pub capped_from_compositions : (pool : Pool) (alike : ℕ → ℕ → Bool) → MakesClasses pool alike → (earlier : List Stage) (stage : Stage) → WeighAlike alike (length pool.volunteers) (stage ∷ earlier) →
     list_all (λ counts. not (composition_attains earlier (leaders alike (length pool.volunteers)) counts) || int_le (composition_weight (weight_of stage) (leaders alike (length pool.volunteers)) counts) stage.cap) (compositions pool alike) ≡ true →
     list_all (λ panel. not (attains earlier panel) || int_le (panel_weight stage panel) stage.cap) (panels pool) ≡ true

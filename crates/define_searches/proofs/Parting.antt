@@ -23,7 +23,7 @@ module _ (pool : Pool) (alike : ℕ → ℕ → Bool) (makes : MakesClasses pool
   members_below : (l : ℕ) → AllByRecursion (λ i. i < many) (class_of alike many l)
   members_below l = each_filter (λ i. i < many) (alike l) (range_with_len 0 many) (each_range (λ i. alike l i ≡ true → i < many) 0 many (λ i low high t. omega arith))
 
-  -- a volunteer is in as many classes as there are leaders to whom the volunteer is alike
+  -- the number of classes that contain a volunteer equals the number of leaders to whom the volunteer is alike
   classes_with : (i : ℕ) → i < many → (xs : List ℕ) → total (λ (class : Class). cond (includes class.members i) 1 0) (map (class_by alike pool) xs) ≡ total (λ l. one_if (alike l i)) xs
   classes_with i below [] = refl
   classes_with i below (l ∷ xs) =

@@ -94,7 +94,7 @@ module _ (pool : Pool) (alike : ℕ → ℕ → Bool) where
 
 -- ---- first members
 
--- a number below a range is not in it, however it is filtered
+-- if `i` is below `first`, a filtered range from `first` doesn't contain `i`
 not_before : (p : ℕ → Bool) (i c first count : ℕ) → i < first → includes (take c (filter p (range_with_len first count))) i ≡ false
 not_before p i c first zero l = nothing c
   where
@@ -113,7 +113,7 @@ not_before p i c first (suc count) l =
     with_first zero e rest = refl
     with_first (suc c) e rest = let r = rest c in rw (e, r) refl
 
--- the first c numbers of a range that pass are those that pass and have fewer than c before them that pass
+-- `first + d` is among the first `c` numbers of a range that pass iff it passes and fewer than `c` numbers of the range before it do
 first_holds : (p : ℕ → Bool) (c first count d : ℕ) → d < count →
     includes (take c (filter p (range_with_len first count))) (first + d) ≡ (p (first + d) && ltb (total (λ j. one_if (p j)) (range_with_len first d)) c)
 first_holds p c first zero d l = absurd (omega arith)
@@ -237,7 +237,7 @@ module _ (pool : Pool) (alike : ℕ → ℕ → Bool) (makes : MakesClasses pool
       (each_map (FitsAndComposes pool alike) (λ counts. is_quota_panel pool (first_panel (classes_by alike pool) counts) ≡ true)
       (λ counts fits. let e = first_panel_same counts in rw e fits.0) (by_leader.compositions pool alike) (each_first_panel pool alike makes))
 
-  -- the members of a class are those alike to its leader, so a panel's composition is the same in both forms
+  -- the members of a class are the volunteers alike to its leader, so a panel's composition is the same in both forms
   pub composition_of_same : (panel : List ℕ) → AllByRecursion (λ i. i < many) panel → (xs : List ℕ) → map (λ class. count_by (includes class.members) panel) (map class_at xs) ≡ by_leader.composition_of alike xs panel
   composition_of_same panel below [] = refl
   composition_of_same panel below (l ∷ xs) =
@@ -262,7 +262,7 @@ module _ (pool : Pool) (alike : ℕ → ℕ → Bool) (makes : MakesClasses pool
 pub first_panel_rises : (all : Classes) (counts : List ℕ) → is_increasing (first_panel all counts) ≡ true
 first_panel_rises all counts = filter_increases (is_taken all.classes counts) 0 (sum_by (λ class. length class.members) all.classes)
 
--- ---- what the search for the first composition says of the pool
+-- ---- what the first search shows about the pool
 
 from_first : (P : List ℕ → Type 0) (Q : Type 0) (xs : List (List ℕ)) → (xs ≡ [] → Q) → AllByRecursion P xs → MatchOption (slice_get xs 0) Q P
 from_first P Q [] f h = f refl

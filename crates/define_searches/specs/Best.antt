@@ -4,7 +4,7 @@ use Rattle.define_rows.specs.Row.{Row}
 use Rattle.define_searches.specs.Classes.{Classes}
 use Rattle.define_searches.specs.Compositions.{attains, compositions, weight_in}
 
--- a composition that attains the closed rows, and weighs more in the priced row than its right side
+-- `counts` are a composition that attains the closed rows, and weighs more in `row` than the right side of `row`
 pub record Qualifies (all : Classes) (closed : List Row) (row : Row) (counts : List ℕ) : Type 0 where
   pub composition : Contains (compositions all) counts
   pub attained : IsTrue (attains closed counts)
@@ -16,7 +16,7 @@ comes_before [] others = false
 comes_before (c ∷ counts) [] = false
 comes_before (c ∷ counts) (d ∷ others) = nat_lt d c || (c == d && comes_before counts others)
 
--- a composition that qualifies. Of all that qualify, none weighs more, and none that comes before it weighs as much
+-- `counts` qualify. Of all that qualify, none weighs more, and none that comes before `counts` weighs as much
 pub record IsBest (all : Classes) (closed : List Row) (row : Row) (counts : List ℕ) : Type 0 where
   pub qualifies : Qualifies all closed row counts
   pub none_heavier : (other : List ℕ) → Qualifies all closed row other → IsTrue (int_le (weight_in row.a other) (weight_in row.a counts))

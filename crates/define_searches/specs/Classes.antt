@@ -10,14 +10,15 @@ use Rattle.define_searches.specs.declared.Bounds.{Bounds}
 
 -- volunteers with the same values and standing; someone who shares a household is in a class alone
 pub record Class : Type 0 where
-  -- their numbers, in rising order
+  -- the members' numbers, in rising order
   pub members : List ℕ
   -- for each category, the place of the value that all of them have
   pub values : List ℕ
-  -- the least and the greatest number of members that a panel can have
+  -- the least number of the class's members that a panel can have
   pub least : ℕ
+  -- the greatest number of the class's members that a panel can have
   pub most : ℕ
-  -- the number of the household that the one member shares with a volunteer of another class
+  -- the number of the household that the class's only member shares, if there is one
   pub household : Option ℕ
 
 -- what a search for panels needs: the size of a panel, for each category the bounds of its values, and the classes
@@ -31,7 +32,7 @@ pub record HasPlaces (bounds : List (List Bounds)) (class : Class) : Type 0 wher
   pub one_each : length class.values ≡ length bounds
   pub within : (c : ℕ) → c < length bounds → slice_index class.values c < length (slice_index_or bounds c [])
 
--- each class can give at least as many members as a panel must have of it
+-- no class has a `least` above its `most`
 pub record IsSearchable (all : Classes) : Type 0 where
   pub in_order : AllByRecursion (λ class. class.least ≤ class.most) all.classes
 
@@ -43,37 +44,41 @@ class_number classes i = position_or_len (λ class. includes class.members i) cl
 abbrev pub volunteer_count : Classes → ℕ
 volunteer_count all = sum_by (λ class. length class.members) all.classes
 
--- each number below the count of volunteers is in exactly one class, and no other number is in any
+-- each class lists its members in rising order. Each number below the count of volunteers is in exactly one class, and no other is in any
 pub record PartVolunteers (all : Classes) : Type 0 where
   pub rising : AllByRecursion (λ class. IsTrue (is_increasing class.members)) all.classes
   pub known : AllByRecursion (λ class. AllByRecursion (λ i. i < volunteer_count all) class.members) all.classes
   pub once : (i : ℕ) → i < volunteer_count all → count_by (λ class. includes class.members i) all.classes ≡ 1
 
--- the number of a household, if there is one, is that of a volunteer
+-- if there is a household number, it is less than `count`
 abbrev pub IsKnownHousehold : ℕ → Option ℕ → Type 0
 IsKnownHousehold count None = Unit {0}
 IsKnownHousehold count (Some h) = h < count
 
--- the limits that the classes of each pool keep: numbers so small that sums over them stay small
+-- the limits that the classes of each pool keep, so that sums over them stay small
 pub record KeepsLimits (all : Classes) : Type 0 where
   -- a panel has 1 to 200 members
   pub size : (1 ≤ all.size) × (all.size ≤ 200)
-  -- at most 20 categories, each of at most 50 values, with bounds in order and at most 999
+  -- at most 20 categories
   pub few_categories : length all.bounds ≤ 20
+  -- at most 50 values a category
   pub few_values : All (λ values. length values ≤ 50) all.bounds
+  -- the bounds of each value are in order and at most 999
   pub bounds : All (λ values. All (λ bound. (bound.lower ≤ bound.upper) × (bound.upper ≤ 999)) values) all.bounds
-  -- at most 400 classes, with at most 400 members in all
+  -- at most 400 classes
   pub few_classes : length all.classes ≤ 400
+  -- at most 400 members in all
   pub few_members : volunteer_count all ≤ 400
-  -- each class has a member, and at most all its members are taken
+  -- each class has a member
   pub members : All (λ class. 1 ≤ length class.members) all.classes
+  -- the `most` of a class is at most the number of its members
   pub most : All (λ class. class.most ≤ length class.members) all.classes
   pub searchable : IsSearchable all
   -- each class has one value per category
   pub values : All (HasPlaces all.bounds) all.classes
   pub households : All (λ class. IsKnownHousehold (volunteer_count all) class.household) all.classes
 
--- how many members of this standing a panel must have: all who are seated, else none
+-- how many members of a class of `size` volunteers with this standing a panel must have: all if they are seated, else none
 abbrev pub least_taken : Standing → ℕ → ℕ
 least_taken Open size = 0
 least_taken Seated size = size
@@ -84,13 +89,13 @@ most_taken Open size = size
 most_taken Seated size = size
 most_taken Gone size = 0
 
--- the number of the household that a volunteer shares: the number of its first member. A household of one volunteer has no number
+-- the number of the household that volunteer `i` shares: the number of the household's first member. A household of one has no number
 abbrev pub shared_household : List Volunteer → ℕ → Option ℕ
 shared_household volunteers i =
     let everybody = range_with_len 0 (length volunteers) in
     if nat_le 2 (count_by (share_household volunteers i) everybody) then find (share_household volunteers i) everybody else None
 
--- the first member of each class, among the first `count` volunteers: those to whom nobody before them is alike
+-- the leaders among the first `count` volunteers: those to whom nobody with a lower number is alike. Each is the first member of a class
 abbrev pub leaders : (ℕ → ℕ → Bool) → ℕ → List ℕ
 leaders alike count = filter (λ i. not (list_any (λ j. alike j i) (range_with_len 0 i))) (range_with_len 0 count)
 
@@ -146,11 +151,11 @@ abbrev pub are_alike : Pool → ℕ → ℕ → Bool
 are_alike pool i j =
     i == j || (are_equal (volunteer pool.volunteers i) (volunteer pool.volunteers j) && not (shares_household pool i) && not (shares_household pool j))
 
--- the classes of a pool
+-- the classes of a pool, by the test `are_alike`
 abbrev pub classes_of : Pool → Classes
 classes_of pool = classes_by (are_alike pool) pool
 
--- an equivalence of volunteers, as a test
+-- `alike` is an equivalence: reflexive, symmetric and transitive
 pub record IsEquivalenceTest (alike : ℕ → ℕ → Bool) : Type 0 where
   pub itself : (i : ℕ) → IsTrue (alike i i)
   pub back : (i j : ℕ) → IsTrue (alike i j) → IsTrue (alike j i)

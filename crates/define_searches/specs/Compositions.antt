@@ -41,12 +41,12 @@ meets_bounds bounds classes counts =
     list_all (λ (v, bound). lies_within bound (taken_of (has_value c v) classes counts)) (enumerate_from 0 values))
     (enumerate_from 0 bounds)
 
--- the one member of a class is of the household with number h
+-- there is a household number, and it is `h`
 abbrev pub is_of_household : ℕ → Option ℕ → Bool
 is_of_household h None = false
 is_of_household h (Some number) = number == h
 
--- at most one member is taken of a household, if there is one
+-- if there is a household number, at most one member of that household is taken
 abbrev pub takes_one_of : List Class → List ℕ → Option ℕ → Bool
 takes_one_of classes counts None = true
 takes_one_of classes counts (Some h) = nat_le (taken_of (λ class. is_of_household h class.household) classes counts) 1
@@ -68,7 +68,7 @@ compositions all = filter (is_composition all) (all_counts all.classes)
 abbrev pub first_composition : Classes → Option (List ℕ)
 first_composition all = slice_get (compositions all) 0
 
--- volunteer i is taken: among the first members of a class, as many as the counts take of it
+-- volunteer `i` is taken: a class with the count `c` has `i` among its first `c` members
 abbrev pub is_taken : List Class → List ℕ → ℕ → Bool
 is_taken [] counts i = false
 is_taken (class ∷ classes) [] i = false

@@ -23,7 +23,7 @@ sizes_of all = map (λ class. length class.members) all.classes
 abbrev pub HaveReach : Classes → List Row → Type 0
 HaveReach all rows = AllByRecursion (λ row. reach (sizes_of all) row < 2 ^ 127) rows
 
--- how many members the later classes that pass a test can give at most
+-- the sum of `most` over those `later` classes that pass a test
 abbrev pub most_given : (Class → Bool) → List Class → ℕ
 most_given passes later = sum_by (λ class. if passes class then class.most else 0) later
 
@@ -31,12 +31,12 @@ most_given passes later = sum_by (λ class. if passes class then class.most else
 abbrev pub taken_by : Classes → List ℕ → ℕ
 taken_by all front = taken_of (λ class. true) all.classes front
 
--- a front takes at most the size, and with all that later classes can give at least the size
+-- `front` takes at most `size` members, and can reach `size` with all that the later classes can give
 abbrev pub size_reachable : Classes → List ℕ → Bool
 size_reachable all front =
     nat_le (taken_by all front) all.size && nat_le all.size (taken_by all front + most_given (λ class. true) (later_than front all.classes))
 
--- the count of a value is at most its upper bound, and with all that later classes can give at least its lower bound
+-- the front's count of value `v` is at most the upper bound, and can reach the lower bound with all that the later classes can give
 abbrev pub value_reachable : Classes → List ℕ → ℕ → ℕ × Bounds → Bool
 value_reachable all front c (v, bound) =
     let count = taken_of (has_value c v) all.classes front in
@@ -69,17 +69,18 @@ units (class ∷ later) (x ∷ entries) = replicate class.most x ++ units later 
 abbrev pub sum_of : List ℤ → ℤ
 sum_of xs = fold (λ total x. total +ℤ x) (pos 0) xs
 
--- the greatest sum of `count` units of classes with these entries
+-- the greatest sum of `count` units of the classes
 abbrev pub greatest_sum : ℕ → List Class → List ℤ → ℤ
 greatest_sum count classes entries = sum_of (take count (falling (units classes entries)))
 
--- the optimistic weight of a front: its weight in a row, plus the greatest sum of as many units of later classes as it lacks members
+-- the optimistic weight of a front: its weight in a row, plus the greatest sum of units of later classes, one unit for each member that the
+-- front lacks
 abbrev pub optimistic : Classes → Row → List ℕ → ℤ
 optimistic all row front =
     weight_in row.a front +ℤ greatest_sum (all.size - taken_by all front) (later_than front all.classes) (drop (length front) row.a)
 
--- a front is live for the best composition above a floor: it is live for the first, and its optimistic weight is at least the right side
--- in each closed row and above the floor in the priced row
+-- a front is live for the best composition above a floor: it is live for the first composition, and its optimistic weight is at least the
+-- right side in each closed row and above the floor in the priced row
 abbrev pub is_live_above : Classes → List Row → Row → ℤ → List ℕ → Bool
 is_live_above all closed row floor front =
     is_reachable all front && list_all (λ r. int_le r.b (optimistic all r front)) closed && int_lt floor (optimistic all row front)

@@ -1,4 +1,4 @@
--- Stages of a certificate as rows over classes. Over Classes and Certificate. The run and the checks turn the one into the other.
+-- Stages of a certificate as rows over classes. Over Classes and Certificate. The run and the checks use them.
 use Rattle.std.specs.Prelude.{◌≡◌, ℕ, ◌<◌, Bool, IsTrue, List, map, length}
 use Rattle.std.specs.List.{AllByRecursion}
 use Rattle.define_pools.specs.Pool.{Pool}

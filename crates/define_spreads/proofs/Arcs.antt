@@ -19,13 +19,13 @@ sum_step g x (suc w) same =
     let here = same (x + w) (omega arith) (omega arith) in
     rw e (omega (arith, rest, here))
 
--- g is the same from each place of a list up to the next one, and from the last one up to the end
+-- `g` has one value from each place of a list up to the next place, and from the last place up to `end`
 abbrev pub Steps : (ℕ → ℕ) → ℕ → List ℕ → Type 0
 Steps g end [] = Unit {0}
 Steps g end (x ∷ []) = (x ≤ end) × ((z : ℕ) → x ≤ z → z < end → g z ≡ g x)
 Steps g end (x ∷ (y ∷ ys)) = ((x ≤ y) × ((z : ℕ) → x ≤ z → z < y → g z ≡ g x)) × Steps g end (y ∷ ys)
 
--- so the sum over the arcs, each times its length, is the sum over all places
+-- if `g` has one value on each arc, the sum over the arcs of length times `g` is the sum of `g` over the places from `x` to `end`
 pub arcs_sum : (g : ℕ → ℕ) (end x : ℕ) (xs : List ℕ) → Steps g end (x ∷ xs) → total (λ a. a.1 * g a.0) (arcs_between end (x ∷ xs)) + sum_below g x ≡ sum_below g end
 arcs_sum g end x [] steps =
     let low = steps.0 in
@@ -45,11 +45,13 @@ arcs_sum g end x (y ∷ ys) steps =
 same_quotient : (q x z : ℕ) → x ≤ z → z < x / q * q + q → z / q ≡ x / q
 same_quotient q x z low below = div-eq_of_lt-le q (omega (arith, div-mul-le_self x q)) (omega arith)
 
--- marks are q places apart. From a place of the list up to the next one, or to the end, the mark before stays the same
+-- the marks are the multiples of `q` below `end`
 module _ (f : ℕ → ℕ) (q size end : ℕ) (some : 0 < q) (whole : q * size ≡ end) where
   last : (x : ℕ) → size ≤ x / q + 1 → end ≤ x / q * q + q
   last x l = let more = mul-le-mul_right q l in omega (arith, more, whole)
 
+  -- if an increasing list contains all marks after its first place `x`, then `z / q`, the number of the last mark up to place z, is the
+  -- same for all z from one place of the list to before the next, and from the last place to before `end`
   pub steps_turn : (x : ℕ) (xs : List ℕ) → is_increasing (x ∷ xs) ≡ true → AllByRecursion (λ y. y < end) (x ∷ xs) →
       ((j : ℕ) → j < size → x < j * q → includes xs (j * q) ≡ true) → Steps (λ z. f (z / q)) end (x ∷ xs)
   steps_turn x [] up below marked =
@@ -77,7 +79,7 @@ module _ (f : ℕ → ℕ) (q size end : ℕ) (some : 0 < q) (whole : q * size �
       from_above y [] h = tt
       from_above y (z ∷ ys) h = let parts = and_parts (ltb y z) (list_all (λ z. ltb y z) ys) h in let l = ltb-true y z parts.0 in (omega arith, from_above y ys parts.1)
 
-  -- the sum over the places of the first m marks is q times the sum over these marks
+  -- the sum of `f (z / q)` over the places z below `m * q` is q times the sum of f below m
   pub whole_turns : (m : ℕ) → sum_below (λ z. f (z / q)) (m * q) ≡ q * sum_below f m
   whole_turns zero = let e : 0 * q ≡ 0 = omega arith in rw e (omega arith)
   whole_turns (suc m) =
@@ -88,7 +90,7 @@ module _ (f : ℕ → ℕ) (q size end : ℕ) (some : 0 < q) (whole : q * size �
       let term : q * f (m * q / q) ≡ q * f m = ap (λ n. q * n) value in
       rw e (omega (arith, sum, term, whole_turns m))
 
--- ---- what holds of each arc
+-- ---- facts of each arc
 
 pub each_arc : (P : ℕ → Type 0) (end : ℕ) (xs : List ℕ) → AllByRecursion P xs → AllByRecursion (λ a. P a.0) (arcs_between end xs)
 each_arc P end [] each = tt

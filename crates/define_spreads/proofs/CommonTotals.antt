@@ -41,7 +41,7 @@ dial-positive all counts = fold_positive 1 (partly_taken all.classes counts) (om
           | false ↦ λ e. rest
         ]) refl
 
--- what the total of some parts is, if the total before them is `before`
+-- `total` is above 0, at most 10 ^ 38, and a multiple of `before` and of each part's denominator times the length of its dial
 pub record Grows (all : Classes) (parts : List (List ℕ × Fraction)) (before total : ℕ) : Type 0 where
   divided : before ∣ total
   positive : 0 < total

@@ -10,7 +10,7 @@ use Rattle.define_pools.proofs.Orders.{Rises, Rises-rising}
 use Rattle.define_searches.specs.Classes.{Classes}
 use Rattle.define_spreads.specs.Spreading.{partly_taken, dial, marks, once_each, cuts}
 
--- ---- what a sorted list holds
+-- ---- the numbers of a sorted list
 
 swap : (a b c : Bool) → (a || (b || c)) ≡ (b || (a || c))
 swap true true c = refl
@@ -45,7 +45,7 @@ includes-once z (x ∷ (y ∷ ys)) =
     twice true b c e = let s : b ≡ true = sym e in rw s refl
     twice false b c e = refl
 
--- ---- what holds of each of a sorted list
+-- ---- facts of each number of a sorted list
 
 each_put : (P : ℕ → Type 0) (x : ℕ) (xs : List ℕ) → P x → AllByRecursion P xs → AllByRecursion P (put_in_order x xs)
 each_put P x [] h each = (h, tt)
@@ -90,11 +90,11 @@ increases-once (x ∷ (y ∷ ys)) r =
 
 -- ---- cuts
 
--- the numbers of a list, sorted and each once, increase
+-- sorting a list and dropping repeated numbers gives an increasing list
 pub once_increases : (xs : List ℕ) → is_increasing (once_each (rising xs)) ≡ true
 once_increases xs = increases-once (rising xs) (Rises-rising xs)
 
--- they are the numbers of the list
+-- sorting a list and dropping repeated numbers leaves the same numbers in it
 pub includes-once_rising : (xs : List ℕ) (z : ℕ) → includes (once_each (rising xs)) z ≡ includes xs z
 includes-once_rising xs z = includes-once z (rising xs) ∙ includes-rising z xs
 
@@ -113,7 +113,7 @@ pub includes-append : (xs ys : List ℕ) (z : ℕ) → includes (xs ++ ys) z ≡
 includes-append [] ys z = refl
 includes-append (x ∷ xs) ys z = ap (λ b. eqb x z || b) (includes-append xs ys z) ∙ sym (or_assoc (eqb x z) (includes xs z) (includes ys z))
 
--- joined lists contain a number that one of them contains
+-- if the list `f x` of some `x` in `xs` contains `z`, the joined lists contain `z`
 pub includes-flat_map : (f : ℕ → List ℕ) (xs : List ℕ) (x z : ℕ) → includes xs x ≡ true → includes (f x) z ≡ true → includes (flat_map f xs) z ≡ true
 includes-flat_map f [] x z h k = cc
 includes-flat_map f (y ∷ ys) x z h k =
@@ -149,7 +149,7 @@ from_zero (x ∷ xs) up h = first (cases_eq x 0)
 pub cuts_begin : (all : Classes) (counts : List ℕ) → (rest : List ℕ) × (cuts all counts ≡ 0 ∷ rest)
 cuts_begin all counts = from_zero (cuts all counts) (cuts_increase all counts) (includes-cuts all counts 0)
 
--- ---- how many
+-- ---- the number of cuts
 
 length-put : (x : ℕ) (xs : List ℕ) → length (put_in_order x xs) ≡ suc (length xs)
 length-put x [] = refl
@@ -174,7 +174,7 @@ length-once (x ∷ (y ∷ ys)) =
       | false ↦ omega (arith, rest)
     ]
 
--- if a list contains 0, then 0 put before it gives at most as many cuts as the list has numbers
+-- if a list contains 0, putting 0 before it gives at most as many different numbers as the list is long
 pub zero_again : (xs : List ℕ) → includes xs 0 ≡ true → length (once_each (rising (0 ∷ xs))) ≤ length xs
 zero_again xs h = by (rising xs) (Rises-rising xs) (includes-rising 0 xs ∙ h) (length-rising xs)
   where

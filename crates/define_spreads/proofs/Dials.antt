@@ -15,7 +15,7 @@ use Rattle.define_spreads.specs.Spreading.{is_partly_taken, partly_taken, dial, 
 use Rattle.define_spreads.proofs.CommonTotals.{lcm_of-positive, dial-positive}
 use Rattle.define_spreads.proofs.Cuts.{each_cut, includes-cuts, includes-flat_map}
 
--- what holds of each element of a list holds of a number that the list includes
+-- if P holds of each element of a list, it holds of each number that the list includes
 pub each_included : (P : ℕ → Type 0) (xs : List ℕ) (x : ℕ) → AllByRecursion P xs → includes xs x ≡ true → P x
 each_included P [] x each h = absurd cc
 each_included P (y ∷ ys) x each h = by (eqb y x) refl h (λ later. each_included P ys x each.1 later)
@@ -26,7 +26,7 @@ each_included P (y ∷ ys) x each h = by (eqb y x) refl h (λ later. each_includ
 
 -- ---- classes taken in part
 
--- this is the size of a class that is taken in part
+-- `size` is the size of a class that is taken in part
 pub record IsPartly (classes : List Class) (counts : List ℕ) (size : ℕ) : Type 0 where
   pub place : ℕ
   pub class : Class
@@ -94,7 +94,7 @@ fold_multiple a (x ∷ xs) some each =
     let rest = fold_multiple (lcm_of a x) xs (lcm_of-positive a x some each.0) each.1 in
     (dvd_trans _ least.0 rest.0, (dvd_trans _ least.1 rest.0, rest.1))
 
--- a length is a multiple of a size: the size times `step`
+-- the length `len` is a multiple of `size`: `size` times `step`
 pub record Divided (size len : ℕ) : Type 0 where
   pub step : ℕ
   pub some : 0 < step
@@ -125,19 +125,19 @@ divided_dial all counts =
     both [] has multiple = tt
     both (size ∷ sizes) has multiple = (divided size (dial all counts) has.0 (dial-positive all counts) multiple.0, both sizes has.1 multiple.1)
 
--- the marks of a class are `step` places apart
+-- mark j of a class of `size` members is at place `j * step`
 pub mark_is : (size len j : ℕ) → (d : Divided size len) → j * len / size ≡ j * d.step
 mark_is size len j d =
     let e : j * len ≡ j * d.step * size = ap (λ n. j * n) (sym d.is) ∙ omega arith in
     ap (λ n. n / size) e ∙ mul-div_cancel (j * d.step) d.has
 
--- so at each place of the dial the class's window is that of the last mark up to the place
+-- at place z of the dial, the class's window begins with member `z / step`, the number of the last mark up to z
 pub turn_is : (size len z : ℕ) → (d : Divided size len) → z * size / len ≡ z / d.step
 turn_is size len z d = ap (λ n. z * size / n) (sym d.is) ∙ mul-div-mul_right z d.step d.has
 
 -- ---- marks
 
--- a place of the dial is a mark of a class that is taken in part
+-- place z of the dial is a mark of a class that is taken in part
 pub record IsMark (all : Classes) (counts : List ℕ) (z : ℕ) : Type 0 where
   pub size : ℕ
   pub partly : IsPartly all.classes counts size
@@ -146,7 +146,7 @@ pub record IsMark (all : Classes) (counts : List ℕ) (z : ℕ) : Type 0 where
   pub below : number < size
   pub is : z ≡ number * divided.step
 
--- a cut is a place of the dial, and it is 0 or a mark
+-- z is a place of the dial, and it is 0 or a mark
 abbrev pub Cut : Classes → List ℕ → ℕ → Type 0
 Cut all counts z = (z < dial all counts) × ((z ≡ 0) ⊎ IsMark all counts z)
 

@@ -79,7 +79,7 @@ apart_from_different (xs ∷ xss) h =
 
 -- ---- the weights of a part
 
--- the weights of a part's rows: multiples of a unit
+-- the row of an arc weighs the arc's length times `num * unit`, and the part's fraction of `sum` is the dial's length times `num * unit`
 record Weighed (all : Classes) (sum : ℕ) (part : List ℕ × Fraction) : Type 0 where
   unit : ℕ
   some : 0 < part.1.num * unit
@@ -248,7 +248,7 @@ module _ (all : Classes) (sum : ℕ) where
         (λ part h. part_chance part h.0 h.1 t i class at is_member) parts (each_both (Weighed all sum) IsWithin parts w within))
         ∙ sym (sum_by-is-total (λ part. slice_index part.0 t * (part.1.num * (sum / part.1.den))) parts)
 
--- ---- what spreading gives
+-- ---- the lottery that is spread
 
 -- the lottery that is spread has a common total, and the rows for it
 pub record IsSpread (all : Classes) (parts : List (List ℕ × Fraction)) (lottery : Lottery) : Type 0 where

@@ -22,14 +22,14 @@ use Rattle.define_spreads.proofs.Windows.{all_times, all_windows, at_most_once, 
 
 -- ---- counts within the classes
 
--- a count for each class, at most all its members
+-- `counts` has a number for each class, at most the number of its members
 abbrev pub Within : List Class → List ℕ → Type 0
 Within [] [] = Unit {0}
 Within [] (c ∷ counts) = ⊥
 Within (class ∷ classes) [] = ⊥
 Within (class ∷ classes) (c ∷ counts) = (c ≤ length class.members) × Within classes counts
 
--- each class can give a count from its least to its most, which is at most all its members
+-- for each class, the least number to take is at most the most, and the most is at most the number of its members
 abbrev pub CanGive : List Class → Type 0
 CanGive classes = AllByRecursion (λ class. (class.least ≤ class.most) × (class.most ≤ length class.members)) classes
 
@@ -70,7 +70,7 @@ told_by f (class ∷ classes) (c ∷ counts) e h =
     let here : f class ≡ c = h 0 class refl in
     let rest = told_by f classes counts (omega arith) (λ t k at. h (suc t) k at) in rw (here, rest) refl
 
--- ---- who is given
+-- ---- whom the classes give
 
 window_holds : (j c : ℕ) (members : List ℕ) (i : ℕ) → includes members i ≡ false → includes (turned j c members) i ≡ false
 window_holds j c members i h = includes-none (turned j c members) i (omega (arith, times-turned-le j c members i, times-none members i h))
@@ -89,7 +89,7 @@ given_none len at (class ∷ classes) (c ∷ counts) i none =
     later : (b : Bool) → one_if b + total (λ (class : Class). one_if (includes class.members i)) classes ≡ 0 → total (λ (class : Class). one_if (includes class.members i)) classes ≡ 0
     later b none = omega arith
 
--- a member of class t is on the panel of a place exactly if the class gives this member there
+-- if no class but class t has its member i, then i is given at place `at` exactly if i is in the window of class t there
 given_at : (len at : ℕ) (classes : List Class) (counts : List ℕ) (t : ℕ) (class : Class) (i : ℕ) → slice_get classes t ≡ Some class → t < length counts →
     includes class.members i ≡ true → total (λ (class : Class). one_if (includes class.members i)) classes ≤ 1 →
     is_given len at classes counts i ≡ includes (turned (at * length class.members / len) (get_or counts t 0) class.members) i
@@ -170,7 +170,7 @@ module _ (all : Classes) (parting : PartVolunteers all) (counts : List ℕ) (wit
     held_times : (at i : ℕ) → includes class.members i ≡ true → one_if (includes (panel_at all counts at) i) ≡ times (window t class at) i
     held_times at i h = ap one_if (held at i h) ∙ one_if-includes (window t class at) i (window_once at i)
 
-    -- a panel takes as many of the class as the composition says
+    -- the panel of each place takes as many members of class `t` as the composition
     takes : (at : ℕ) → at < len → count_by (includes class.members) (panel_at all counts at) ≡ get_or counts t 0
     takes at below =
         let a = count_by-total (includes class.members) (panel_at all counts at) in
@@ -208,7 +208,7 @@ module _ (all : Classes) (parting : PartVolunteers all) (counts : List ℕ) (wit
         each_window : (P : ℕ → Type 0) (j c : ℕ) (xs : List ℕ) → AllByRecursion P xs → AllByRecursion P (turned j c xs)
         each_window P j c xs h = each_take P c (drop j xs ++ take j xs) (each_append P (drop j xs) (take j xs) (each_drop P j xs h) (each_take P j xs h))
 
-  -- so each panel of an arc has this composition
+  -- so the panel at each place of the dial has the composition `counts`
   pub panel_composes : (at : ℕ) → at < len → composition_of all (panel_at all counts at) ≡ counts
   panel_composes at below = told_by (λ class. count_by (includes class.members) (panel_at all counts at)) all.classes counts (same_length all.classes counts within) (λ t class is_at. takes t class is_at at below)
 
@@ -245,7 +245,8 @@ module _ (all : Classes) (parting : PartVolunteers all) (counts : List ℕ) (wit
 
   -- ---- even chances
 
-  -- if a function depends only on the mark before a place, its sum over the arcs is q times its sum over the marks
+  -- if `q * size` is the dial's length and each multiple of q below it is a cut, the sum over the arcs of length times `f (place / q)`, at
+  -- the arc's first place, is q times the sum of f below `size`
   over_arcs : (f : ℕ → ℕ) (q size : ℕ) → 0 < q → q * size ≡ len → ((j : ℕ) → j < size → includes (cuts all counts) (j * q) ≡ true) →
       total (λ a. a.1 * f (a.0 / q)) (arcs all counts) ≡ q * sum_below f size
   over_arcs f q size some whole marked = by (cuts_begin all counts)
@@ -276,7 +277,7 @@ module _ (all : Classes) (parting : PartVolunteers all) (counts : List ℕ) (wit
       zero_cut : includes (cuts all counts) 0 ≡ true
       zero_cut = let begins = cuts_begin all counts in ap (λ xs. includes xs 0) begins.1
 
-  -- each member of a class is on panels for the same length of the dial
+  -- the arcs whose panels have member i of class t have lengths whose sum, times the class's size, is its count times the dial's length
   pub chance : (t : ℕ) (class : Class) → slice_get all.classes t ≡ Some class → (i : ℕ) → includes class.members i ≡ true →
       total (λ a. a.1 * one_if (includes (panel_at all counts a.0) i)) (arcs all counts) * length class.members ≡ get_or counts t 0 * len
   chance t class is_at i h = ⊎_elim partly whole (cases_Bool (is_partly_taken class (get_or counts t 0)))
@@ -310,7 +311,7 @@ module _ (all : Classes) (parting : PartVolunteers all) (counts : List ℕ) (wit
           (λ (m : length class.members ≤ get_or counts t 0). let f = fits t class is_at in inr (omega arith)) (cases_lt (get_or counts t 0) (length class.members)))
           (λ (l : get_or counts t 0 ≤ 0). inl (omega arith)) (cases_lt 0 (get_or counts t 0))
 
-      -- if all members are taken or none, each member is in every window or in none
+      -- if `count` is 0 or the class's size, how often a window contains member i, times the class's size, is `count`
       each_window_same : (count j : ℕ) → j ≤ length class.members → (count ≡ 0) ⊎ (count ≡ length class.members) → times (turned j count class.members) i * length class.members ≡ count
       each_window_same count j low (inl e) =
           let w = times-turned j 0 class.members i low (omega arith) in

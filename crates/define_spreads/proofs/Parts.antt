@@ -15,13 +15,13 @@ pub some_parts : (all : Classes) (parts : List (List ℕ × Fraction)) → ArePa
 some_parts all [] are = let sum : ℕ = 0 in let none : sum ≡ 1 = are.one 1 (λ k d h. absurd (omega arith)) in absurd (omega arith)
 some_parts all (part ∷ parts) are = omega arith
 
--- what holds of each composition holds of the composition of each part
+-- if P holds of each composition of the classes, it holds of the composition of each part
 pub each_composition : (P : List ℕ → Type 0) (all : Classes) (parts : List (List ℕ × Fraction)) → AreParts all parts → AllByRecursion P (compositions all) → AllByRecursion (λ part. P part.0) parts
 each_composition P all parts are each =
     recursion_from_All (λ part. P part.0) parts
     (All-weaker (λ part. Contains (compositions all) part.0) (λ part. P part.0) (λ part h. All-contains P (compositions all) part.0 (All-from_recursion P (compositions all) each) h) parts are.compositions)
 
--- over a common total, the parts' numerators sum to it
+-- with the common total as denominator, the parts' numerators sum to the total
 pub sum_is_total : (all : Classes) (parts : List (List ℕ × Fraction)) (total : ℕ) → AreParts all parts → IsCommonTotal all parts total →
     sum_by (λ part. part.1.num * (total / part.1.den)) parts ≡ total
 sum_is_total all parts total are common = are.one total (All-from_recursion (λ part. part.1.den ∣ total) parts (each_den all parts total common))

@@ -1,4 +1,4 @@
--- What holds of the panels of each composition holds of the panels that are spread.
+-- If P holds of the panels of each composition, it holds of each panel of the lottery that is spread.
 use Rattle.std.proofs.Common.{◌≡◌, ℕ, Bool, true, ltb, List, map, length, Ok, sym, ap, subst}
 use Rattle.std.specs.List.{flat_map, list_all, AllByRecursion}
 use Rattle.laws_basic.proofs.Each.{each_both, each_map, each_mapped, each_of_map, each_flat_map}
@@ -17,7 +17,7 @@ module _ (pool : Pool) (alike : ℕ → ℕ → Bool) (makes : MakesClasses pool
   abbrev all : Classes
   all = classes_by alike pool
 
-  -- P holds of each panel of the pool's volunteers that has this composition
+  -- P holds of each panel of the pool's volunteers whose composition is `counts`
   abbrev pub OfComposition : List ℕ → Type 0
   OfComposition counts = (panel : List ℕ) → list_all (λ i. ltb i (length pool.volunteers)) panel ≡ true → composition_of all panel ≡ counts → P panel
 

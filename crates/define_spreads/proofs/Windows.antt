@@ -1,5 +1,5 @@
--- How often a number is in a list, and in its windows. A window is a part of the list from a place on, which goes on with the first members
--- after the last.
+-- How often a number is in a list, and in its windows. A window begins at a place of the list, and goes on with the first members after the
+-- last one.
 use Rattle.std.proofs.Common.{◌≡◌, ℕ, zero, suc, ◌+◌, ◌-◌, ◌*◌, ◌≤◌, ◌<◌, true, false, ◌||◌, eqb, ltb, List, [], ◌∷◌, ◌++◌, take, drop, length, get_or, refl, sym, ap, ◌∙◌, ⊎_elim, arith, length-append, length-drop}
 use Rattle.std.specs.List.{AllByRecursion, list_all, range_with_len}
 use Rattle.std.proofs.lemmas.Bool.{and_parts, cases_lt, eq-eqb, eqb-true, ne_eqb, lt-ltb, le-ltb, ltb-true}
@@ -35,7 +35,7 @@ includes-times (x ∷ xs) i =
       | false ↦ let e : 0 + times xs i ≡ times xs i = omega arith in rw e rest
     ]
 
--- if a number is in a list at most once, it is there once if the list includes it, and else never
+-- if a number is in a list at most once, it is there once if the list includes it, else never
 pub one_if-includes : (xs : List ℕ) (i : ℕ) → times xs i ≤ 1 → one_if (includes xs i) ≡ times xs i
 one_if-includes xs i few = ap one_if (includes-times xs i) ∙ ⊎_elim
     (λ (l : 0 < times xs i). let e = lt-ltb 0 (times xs i) l in rw e (omega arith))
@@ -71,7 +71,7 @@ at_most_once (x ∷ xs) h i =
         let e : eqb y i ≡ false = ne_eqb y i (λ e. omega arith) in
         let rest = none_above xs x i parts.1 l in rw e (omega (arith, rest))
 
--- each element of a list is counted once if all numbers are counted
+-- summing over all numbers below `n` how often each is in a list counts each of the list's elements once
 pub all_times : (n : ℕ) (xs : List ℕ) → AllByRecursion (λ i. i < n) xs → total (λ i. times xs i) (range_with_len 0 n) ≡ length xs
 all_times n [] each = total-zero (λ i. 0) (λ i. refl) (range_with_len 0 n)
 all_times n (x ∷ xs) each =
@@ -111,7 +111,8 @@ length-turned j c xs within few =
 
 -- ---- all windows of a class
 
--- how often the windows that begin at the first m places contain number i, by how often the first members of the list do
+-- let `S n` be the sum over k below n of how often the first k members contain i. The windows of c members that begin at the first m places
+-- contain i, all together, `S (m + c) + S (m + c - length xs) - S m - S c` times
 windows_below : (xs : List ℕ) (i c m : ℕ) → c ≤ length xs → m ≤ length xs →
     sum_below (λ j. times (turned j c xs) i) m + sum_below (λ k. times (take k xs) i) m + sum_below (λ k. times (take k xs) i) c
     ≡ sum_below (λ k. times (take k xs) i) (m + c) + sum_below (λ k. times (take k xs) i) (m + c - length xs)
@@ -173,7 +174,7 @@ take_less (suc k) (suc l) (x ∷ xs) i h = omega (arith, take_less k l xs i (ome
 within_all : (k : ℕ) (xs : List ℕ) (i : ℕ) → times (take k xs) i ≤ times xs i
 within_all k xs i = let whole = ap (λ zs. times zs i) (take-append-drop k xs) in omega (arith, whole, times-append (take k xs) (drop k xs) i)
 
--- if no number comes twice, the first k members contain the member of place p exactly if p is below k
+-- if no number is in the list twice, the first k members contain the member of place p once if p is below k, else never
 at_place : (xs : List ℕ) (p k : ℕ) → ((i : ℕ) → times xs i ≤ 1) → p < length xs → times (take k xs) (get_or xs p 0) ≡ one_if (ltb p k)
 at_place xs p k once inside =
     let i = get_or xs p 0 in
@@ -182,7 +183,8 @@ at_place xs p k once inside =
     (λ (l : p < k). let e = lt-ltb p k l in rw e (omega (arith, more, take_less (suc p) k xs i (omega arith), within_all k xs i, once i)))
     (λ (l : k ≤ p). let e = le-ltb p k l in rw e (omega (arith, more, take_less k p xs i l, within_all (suc p) xs i, once i))) (cases_lt p k)
 
--- how often a window contains the member of place p
+-- if no number is in the list twice, the window of c members from place j contains the member of place p once if p is in `j..j + c` or
+-- below `j + c - length xs`, else never
 in_window : (xs : List ℕ) (p j c : ℕ) → ((i : ℕ) → times xs i ≤ 1) → p < length xs → j ≤ length xs → c ≤ length xs →
     times (turned j c xs) (get_or xs p 0) + one_if (ltb p j) ≡ one_if (ltb p (j + c)) + one_if (ltb p (j + c - length xs))
 in_window xs p j c once inside within few =

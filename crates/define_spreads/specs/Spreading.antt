@@ -1,5 +1,5 @@
 -- Compositions with fractions, spread over panels so that all members of a class have the same chance. Over Compositions of
--- `define_searches`. `alike` spreads so.
+-- `define_searches`. `alike` spreads them exactly so.
 use Rattle.std.specs.Prelude.{◌≡◌, ℕ, ◌+◌, ◌-◌, ◌*◌, ◌/◌, ◌^◌, ◌<◌, ◌≤◌, ◌==◌, nat_lt, nat_le, if◌then◌else◌, Bool, false, ◌&&◌, ◌||◌, IsTrue, List, [], ◌∷◌, ◌++◌, drop, filter, fold, length, map, slice_get, slice_index, sum_by, take, Contains, Some, Result, Ok, Err}
 use Rattle.std.specs.Int.{◌∣◌}
 use Rattle.std.specs.List.{All, AllByRecursion, flat_map, range_with_len}
@@ -25,7 +25,7 @@ partly_taken (class ∷ classes) (count ∷ counts) =
 abbrev pub dial : Classes → List ℕ → ℕ
 dial all counts = fold lcm_of 1 (partly_taken all.classes counts)
 
--- the marks of a class: as many as it has members, evenly along a dial of this length
+-- the marks of a class of `size` members: `size` places, evenly along a dial of this length, the first at 0
 abbrev pub marks : ℕ → ℕ → List ℕ
 marks length_of_dial size = map (λ j. j * length_of_dial / size) (range_with_len 0 size)
 
@@ -49,11 +49,11 @@ arcs_between end (x ∷ (y ∷ ys)) = (x, y - x) ∷ arcs_between end (y ∷ ys)
 abbrev pub arcs : Classes → List ℕ → List (ℕ × ℕ)
 arcs all counts = arcs_between (dial all counts) (cuts all counts)
 
--- `count` members from a place on; after the last member come the first ones
+-- a window: `count` members from `place` on, going on with the first members after the last one
 abbrev pub turned : ℕ → ℕ → List ℕ → List ℕ
 turned place count members = take count (drop place members ++ take place members)
 
--- volunteer i is among the members whom the classes give on the arc that begins at place `at` of the dial
+-- true if a class gives volunteer `i` on the arc that begins at place `at` of the dial: `i` is in the class's window there
 abbrev pub is_given : ℕ → ℕ → List Class → List ℕ → ℕ → Bool
 is_given length_of_dial at [] counts i = false
 is_given length_of_dial at (class ∷ classes) [] i = false
@@ -80,8 +80,8 @@ pub record TotalPass : Type 0 where
   pub total : ℕ
   pub den : ℕ
 
--- the least common multiple of the total so far and, for each part, its denominator times the length of its dial; or the first part at
--- which it passes
+-- the least common multiple of `total`, the total so far, and for each part its denominator times the length of its dial. If it gets
+-- greater than 10 ^ 38, the `TotalPass` of the first part that makes it so
 abbrev pub total_from : Classes → ℕ → ℕ → List (List ℕ × Fraction) → Result ℕ TotalPass
 total_from all place total [] = Ok total
 total_from all place total ((counts, fraction) ∷ parts) =
@@ -89,7 +89,7 @@ total_from all place total ((counts, fraction) ∷ parts) =
     then total_from all (place + 1) (lcm_of total (fraction.den * dial all counts)) parts
     else Err (record { place = place; total = total; den = fraction.den })
 
--- the lottery of all parts' rows for this total, or the pass
+-- the lottery of all parts' rows for this total; the `TotalPass` if there is no total
 abbrev pub lottery_of : Classes → List (List ℕ × Fraction) → Result ℕ TotalPass → Result Lottery TotalPass
 lottery_of all parts (Ok total) = Ok (record { total = total; rows = flat_map (rows_of all total) parts })
 lottery_of all parts (Err pass) = Err pass
@@ -107,7 +107,7 @@ pub record AreParts (all : Classes) (parts : List (List ℕ × Fraction)) : Type
   -- over each common denominator the numerators sum to it: the fractions sum to one
   pub one : (common : ℕ) → All (λ part. part.1.den ∣ common) parts → sum_by (λ part. part.1.num * (common / part.1.den)) parts ≡ common
 
--- different compositions of the classes, each with a share of a whole
+-- different compositions of the classes, each with a share of at least 1; the shares sum to `whole`, which is above 0
 pub record AreShares (all : Classes) (whole : ℕ) (shares : List (List ℕ × ℕ)) : Type 0 where
   pub compositions : AllByRecursion (λ part. Contains (compositions all) part.0) shares
   pub different : IsTrue (all_different (map (λ part. part.0) shares))
@@ -119,7 +119,7 @@ pub record AreShares (all : Classes) (whole : ℕ) (shares : List (List ℕ × �
 abbrev pub with_fraction : ℕ → List ℕ × ℕ → List ℕ × Fraction
 with_fraction whole (counts, share) = (counts, lowest_of share whole)
 
--- a total of at most 10 ^ 38 that is a multiple of each denominator times the length of its part's dial
+-- a positive total of at most 10 ^ 38 that is a multiple of each denominator times the length of its part's dial
 pub record IsCommonTotal (all : Classes) (parts : List (List ℕ × Fraction)) (total : ℕ) : Type 0 where
   pub positive : 0 < total
   pub within : total ≤ greatest_total

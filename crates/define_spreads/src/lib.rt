@@ -1,8 +1,9 @@
 //! Spreading: compositions with fractions become panels with weights, so that all members of a class have one chance. The definitions
-//! are in `specs/`. Stands on `define_searches` and the least common multiples of `frac128`. Above: `alike`, which spreads, and
-//! `define_runs`, whose run ends by it.
+//! are in `specs/`. Stands on `define_searches` and the least common multiples of `frac128`. Above: `alike`, which spreads;
+//! `define_runs`, whose run ends with spreading; the laws on runs.
 //!
-//! The functions have no body: their contracts are laws over the definitions, and worked examples.
+//! The functions have no body: their contracts are laws over the definitions, and worked examples. The promises that matter most are
+//! `spread_is_lottery` and `spread_has_even_chances`.
 #![tactic(auto)]
 
 ghost use Rattle.std.specs.Prelude.{◌≡◌, ◌≤◌, ◌<◌, ℕ, Bool, List, [], ◌∷◌, length, map, Ok};
@@ -25,7 +26,7 @@ pub fn total_is_common()
         IsCommonTotal all parts total }
 {}
 
-/// The lottery that is spread over the classes of a pool is a lottery over the pool's quota panels, of a total of at most 10^38.
+/// Spreading over the classes of a pool gives a lottery over the pool's quota panels. Its total is at most 10^38.
 pub fn spread_is_lottery()
     ensures lottery { (pool : Pool) (alike : ℕ → ℕ → Bool) (parts : List (List ℕ × Fraction)) (lottery : Lottery) → MakesClasses pool alike →
         AreParts (classes_by alike pool) parts → spread (classes_by alike pool) parts ≡ Ok lottery → IsLottery pool lottery }
@@ -34,7 +35,7 @@ pub fn spread_is_lottery()
 {}
 
 /// All members of a class have the same chance: each member's count times the class's size is the number expected of the class, times the
-/// total. It holds over any classes that part the volunteers, and so over the classes of a pool.
+/// total. This holds for any classes that have each volunteer in exactly one, and so for the classes of a pool.
 pub fn spread_has_even_chances()
     ensures classes { (all : Classes) (parts : List (List ℕ × Fraction)) (lottery : Lottery) → KeepsLimits all → PartVolunteers all →
         AreParts all parts → spread all parts ≡ Ok lottery → HasEvenChances all parts lottery }
@@ -42,7 +43,7 @@ pub fn spread_has_even_chances()
         AreParts (classes_by alike pool) parts → spread (classes_by alike pool) parts ≡ Ok lottery → HasEvenChances (classes_by alike pool) parts lottery }
 {}
 
-/// Each composition is spread over at least one panel, and over at most as many panels as there are volunteers.
+/// If the pool has a volunteer, each composition is spread over at least one panel, and over at most as many as there are volunteers.
 pub fn few_panels()
     ensures { (pool : Pool) (alike : ℕ → ℕ → Bool) (total : ℕ) (part : List ℕ × Fraction) → MakesClasses pool alike → 0 < length pool.volunteers →
         (0 < length (rows_of (classes_by alike pool) total part)) × (length (rows_of (classes_by alike pool) total part) ≤ length pool.volunteers) }

@@ -76,7 +76,7 @@ filters_swap p q (x ∷ xs) =
       ])
     ]) refl
 
--- of lists that begin with d, those that begin with c and a front: none if c is not d
+-- of lists that begin with `d`, those that begin with `c ∷ front`: if `c` is `d`, those whose rest begins with `front`, else none
 with_first : (c d : ℕ) (front : List ℕ) (xs : List (List ℕ)) → filter (begins_with (c ∷ front)) (map (λ counts. d ∷ counts) xs) ≡ cond (eqb c d) (map (λ counts. d ∷ counts) (filter (begins_with front) xs)) []
 with_first c d front [] = by (eqb c d)
   where
@@ -97,7 +97,7 @@ with_first c d front (x ∷ xs) = by (eqb c d) (with_first c d front xs)
         ]
     by false rest = rest
 
--- if no list for another count than c passes, the lists that pass are those for c
+-- if no list for a count other than `c` satisfies `p`, the lists that satisfy it are those of `lists c` that do
 module _ (p : List ℕ → Bool) (lists : ℕ → List (List ℕ)) (c : ℕ) (others : (d : ℕ) → c ≢ d → filter p (lists d) ≡ []) where
   none_left : (least more : ℕ) → least + more < c → filter p (flat_map lists (counts_down least more)) ≡ []
   none_left least zero l = filter-append p (lists least) [] ∙ ap (λ xs. xs ++ []) (others least (λ e. absurd (omega arith)))
@@ -144,7 +144,7 @@ lists_begin (class ∷ classes) (c ∷ front) fits =
     differ : (c d : ℕ) → c ≢ d → eqb c d ≡ false
     differ c d other = false_from_ne_true (eqb c d) (λ e. other (eqb-true c d e))
 
--- the compositions that begin with a front are those that it can be completed to
+-- the compositions that begin with a front are its completions
 pub below_goes_on : (all : Classes) (front : List ℕ) → IsFront all front → below all front ≡ completions all front (later_than front all.classes)
 below_goes_on all front is =
     filters_swap (begins_with front) (is_composition all) (all_counts all.classes) ∙ ap (filter (is_composition all)) (lists_begin all.classes front (front_fits all front is))
@@ -216,7 +216,7 @@ found_qualifies all closed row front floor counts e =
     let found = greatest_is (λ x. (Contains (compositions all) x × (begins_with front x ≡ true)) × (attains closed x ≡ true)) (weight_in row.a) floor (filter (attains closed) (below all front)) counts attaining e in
     record { composition = found.0.0.0; begun = found.0.0.1; attained = found.0.1; above = found.1 }
 
--- ---- where nothing is found
+-- ---- when nothing is found
 
 none_found : (weight : List ℕ → ℤ) (floor : ℤ) (xs : List (List ℕ)) → AllByRecursion (λ x. int_lt floor (weight x) ≡ false) xs → first_greatest weight floor xs ≡ None
 none_found weight floor [] h = refl

@@ -1,4 +1,4 @@
--- Searching below the pieces keeps the same composition as searching through all; and the front of each piece is a front.
+-- Searching below the pieces keeps the same composition as searching through all, and the front of each piece is a front (`IsFront`).
 use Rattle.std.proofs.Common.{◌≡◌, ℕ, zero, suc, ◌+◌, ◌-◌, ◌≤◌, Bool, true, false, cond, List, [], ◌∷◌, ◌++◌, map, length, filter, take, drop, fold, ℤ, Some, refl, sym, ap, ◌∙◌, arith, subst, length-append, append_assoc}
 use Rattle.std.specs.Prelude.{int_lt, nat_le, not}
 use Rattle.std.specs.List.{flat_map, AllByRecursion, position_or_len, range_with_len}
@@ -21,7 +21,7 @@ use Rattle.define_waves.proofs.Below.{Fits, fits_none, fitting_is_front}
 
 -- ---- a floor that has risen
 
--- the first floor is at least the second
+-- `floor` is at least `base`
 abbrev pub IsAtLeast : ℤ → ℤ → Type 0
 IsAtLeast floor base = int_lt floor base ≡ false
 
@@ -50,7 +50,7 @@ not_above floor base x h e = by (int_lt floor x) refl
 -- ---- the compositions below the pieces
 
 module _ (all : Classes) (closed : List Row) (row : Row) (later : List Class) where
-  -- the compositions below each of these fronts
+  -- the compositions below `fronts`, front by front
   abbrev below_each : List (List ℕ) → List (List ℕ)
   below_each fronts = flat_map (λ front. sought all closed front later) fronts
 
@@ -85,7 +85,8 @@ module _ (all : Classes) (closed : List Row) (row : Row) (later : List Class) wh
             ∙ sym (fold-append (keep (weight_in row.a)) kept L M)
       ]) refl
 
-  -- from a floor that is at least the row's right side, the compositions below the pieces keep the same as all compositions below the front
+  -- if the floor is at least the row's right side, going through the compositions below the pieces keeps the same composition as going
+  -- through all those below `front`
   pub pieces_keep : (pre firsts : List Class) (front : List ℕ) (kept : Kept) → Split all pre (firsts ++ later) front → InOrder (firsts ++ later) → HaveEntries all (row ∷ closed) → IsAtLeast kept.0 row.b →
       keeping kept (below_each (pieces_below all closed row firsts front).fronts) ≡ keeping kept (sought all closed front (firsts ++ later))
   pieces_keep pre [] front kept split order entries h = ap (keeping kept) (append-nil (sought all closed front later))
@@ -134,7 +135,7 @@ piece_lengths all closed row =
       | false ↦ tt
     ]
 
--- ---- each is a front
+-- ---- the front of each piece is a front
 
 fits_more : (pre later : List Class) (class : Class) (front : List ℕ) (c : ℕ) → Fits (pre ++ class ∷ later) front → length front ≡ length pre → class.least ≤ c → c ≤ class.most → Fits (pre ++ class ∷ later) (front ++ c ∷ [])
 fits_more [] later class [] c fits e l m = ((l, m), fits_none later)

@@ -1,4 +1,4 @@
--- The search in waves keeps the price.
+-- The search in waves finds the price.
 use Rattle.std.proofs.Common.{◌≡◌, ℕ, zero, suc, ◌+◌, ◌*◌, ◌/◌, ◌≤◌, Bool, true, false, cond, List, [], ◌∷◌, ◌++◌, map, length, filter, take, drop, fold, ℤ, Option, Some, None, refl, sym, ap, ◌∙◌, arith, subst}
 use Rattle.std.specs.Prelude.{int_lt, unwrap_or}
 use Rattle.std.specs.List.{flat_map, AllByRecursion, range_with_len}
@@ -20,7 +20,7 @@ use Rattle.define_waves.specs.Waves.{best_in_waves, keep_heavier, piece_depth, p
 use Rattle.define_waves.proofs.Below.{finds_greatest, greatest_is}
 use Rattle.define_waves.proofs.Pieces.{IsAtLeast, floor_rises, not_above, pieces_keep, piece_lengths, depth_within}
 
--- ---- what a piece kept is taken
+-- ---- taking what a piece kept
 
 itself : (z : ℤ) → IsAtLeast z z
 itself z = by (int_lt z z) refl
@@ -29,7 +29,7 @@ itself z = by (int_lt z z) refl
     by false e = refl
     by true e = absurd (omega (arith, lt-true z z e))
 
--- a composition that was found is kept if it weighs more than the floor
+-- a composition that was found is kept if it weighs more than the floor of `now`
 abbrev keep_found : (List ℕ → ℤ) → Kept → Option (List ℕ) → Kept
 keep_found weight now None = now
 keep_found weight now (Some counts) = keep weight now counts
@@ -37,7 +37,8 @@ keep_found weight now (Some counts) = keep weight now counts
 greatest_above : (weight : List ℕ → ℤ) (floor : ℤ) (xs : List (List ℕ)) (counts : List ℕ) → first_greatest weight floor xs ≡ Some counts → int_lt floor (weight counts) ≡ true
 greatest_above weight floor xs counts e = (greatest_is (λ x. Unit {0}) weight floor xs counts (each_everywhere (λ x. Unit {0}) (λ x. tt) xs) e).1
 
--- what a search with a lower floor finds, once kept, is what would be kept with the higher floor all along
+-- if `floor` is at least `base`, keeping the first list of greatest weight above `base`, if it is above `floor`, keeps the same as going
+-- through all of `xs` from `floor` on
 found_keeps : (weight : List ℕ → ℤ) (base floor : ℤ) (kept : Option (List ℕ)) (xs : List (List ℕ)) → IsAtLeast floor base →
     keep_found weight (floor, kept) (first_greatest weight base xs) ≡ fold (keep weight) (floor, kept) xs
 found_keeps weight base floor kept [] h = refl
@@ -48,7 +49,8 @@ found_keeps weight base floor kept (x ∷ xs) h =
       | false ↦ λ low. let same = not_above floor base (weight x) h low in rw same (found_keeps weight base floor kept xs h)
     ]) refl
   where
-    -- of x and the one found after it, the heavier is kept
+    -- let `x` be above the floor, and `o` the first list of greatest weight in `xs` that is heavier than `x`, if there is one. Keeping `o`,
+    -- or `x` if there is none, keeps the same as keeping `x` and then `o`
     second : (o : Option (List ℕ)) → first_greatest weight (weight x) xs ≡ o → int_lt floor (weight x) ≡ true → keep_found weight (floor, kept) (Some (unwrap_or o x)) ≡ keep_found weight (weight x, Some x) o
     second None n t = rw t refl
     second (Some z) n t =
@@ -92,7 +94,8 @@ module _ (all : Classes) (closed : List Row) (row : Row) (searchable : IsSearcha
             | false ↦ refl
           ]
 
-  -- the outcomes of a wave's pieces, searched with the wave's floor, keep the same as the compositions below their fronts
+  -- if the floor of `now` is at least `base`, the outcomes of pieces that are searched with the floor `base` keep the same as going through
+  -- all compositions below their fronts that attain the closed rows
   pieces_taken : (base : ℤ) (fronts : List (List ℕ)) (now : Pricing) → AllByRecursion IsShort fronts → IsAtLeast now.floor base →
       told (fold (take_piece row) now (map (λ front. search_from all closed row front base) fronts)) ≡ keeping (told now) (flat_map attaining fronts)
   pieces_taken base [] now short h = refl
@@ -117,7 +120,7 @@ module _ (all : Classes) (closed : List Row) (row : Row) (searchable : IsSearcha
 
   -- ---- all pieces
 
-  -- if the same classes come after each front, the compositions below the fronts are those with these classes to come
+  -- if `later` are the classes after each front, the compositions below the fronts are their completions over `later`
   same_below : (later : List Class) (fronts : List (List ℕ)) → AllByRecursion (λ front. later_than front all.classes ≡ later) fronts → flat_map attaining fronts ≡ flat_map (λ front. sought all closed front later) fronts
   same_below later [] h = refl
   same_below later (front ∷ fronts) h =

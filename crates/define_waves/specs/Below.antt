@@ -1,5 +1,5 @@
--- Fronts, the compositions that begin with one, the search below one front with a floor of its own, and the best composition below it.
--- Over Visits of `define_searches`. `panel_search` searches so.
+-- Fronts, the compositions that begin with a front, the best of them, and the search below a front with a floor of its own. Over Visits of
+-- `define_searches`. `panel_search` searches so.
 use Rattle.std.specs.Prelude.{ℕ, ◌==◌, ◌≤◌, ◌<◌, if◌then◌else◌, Bool, IsTrue, List, filter, map, length, slice_index, Contains, ℤ, int_lt, Option, None}
 use Rattle.std.specs.List.{starts_with}
 use Rattle.define_rows.specs.Row.{Row}
@@ -14,7 +14,7 @@ pub record IsFront (all : Classes) (front : List ℕ) : Type 0 where
   pub least : (t : ℕ) → t < length front → slice_index (map (λ class. class.least) all.classes) t ≤ slice_index front t
   pub most : (t : ℕ) → t < length front → slice_index front t ≤ slice_index (map (λ class. class.most) all.classes) t
 
--- a list of counts begins with a front
+-- the list `counts` begins with `front`
 abbrev pub begins_with : List ℕ → List ℕ → Bool
 begins_with front counts = starts_with (λ c d. c == d) counts front
 
@@ -26,7 +26,7 @@ below all front = filter (begins_with front) (compositions all)
 abbrev pub best_below : Classes → List Row → Row → List ℕ → ℤ → Option (List ℕ)
 best_below all closed row front floor = first_greatest (weight_in row.a) floor (filter (attains closed) (below all front))
 
--- a composition that begins with a front, attains the closed rows, and weighs more in the priced row than a floor
+-- `counts` is a composition that begins with `front`, attains the closed rows, and weighs more than `floor` in `row`
 pub record QualifiesBelow (all : Classes) (closed : List Row) (row : Row) (front : List ℕ) (floor : ℤ) (counts : List ℕ) : Type 0 where
   pub composition : Contains (compositions all) counts
   pub begun : IsTrue (begins_with front counts)

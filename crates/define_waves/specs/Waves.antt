@@ -1,6 +1,6 @@
--- The search for the best composition in pieces, which run in waves. A piece is the search below one front. The pieces of a wave have
--- one floor, so each can run without the others. The result and the visits depend on the rows alone, and on no number of workers. Over
--- Below. `pricing_pool` searches so.
+-- The search for the best composition in pieces, which run in waves. A piece is the search below one front. The pieces of a wave have one
+-- floor, so each can run without the others, and the number of workers changes neither the result nor the visits. Over Below.
+-- `pricing_pool` searches so.
 use Rattle.std.specs.Prelude.{ℕ, ◌+◌, ◌-◌, ◌*◌, ◌/◌, nat_le, if◌then◌else◌, List, [], ◌∷◌, ◌++◌, drop, filter, fold, length, map, take, int_lt, Option, Some, None}
 use Rattle.std.specs.List.{position_or_len, range_with_len}
 use Rattle.define_rows.specs.Row.{Row}
@@ -23,13 +23,13 @@ pub record Pieces : Type 0 where
   pub visits : ℕ
   pub fronts : List (List ℕ)
 
--- the pieces of several parts, one part after the other
+-- several parts as one: the sum of their visits, and their fronts, one part after the other
 abbrev pub together : List Pieces → Pieces
 together [] = record { visits = 0; fronts = [] }
 together (part ∷ later) = record { visits = part.visits + (together later).visits; fronts = part.fronts ++ (together later).fronts }
 
--- the pieces below a live front, with the classes that a piece's front has beyond it. If there are none, this front is a piece's; else it
--- is entered, by one visit
+-- the pieces below a live front, given the classes that the fronts of pieces have beyond it. If there are none, this front is a piece's;
+-- else entering it is one visit
 abbrev pub pieces_below : Classes → List Row → Row → List Class → List ℕ → Pieces
 pieces_below all closed row [] front = record { visits = 0; fronts = front ∷ [] }
 pieces_below all closed row (class ∷ later) front =
@@ -41,17 +41,17 @@ abbrev pub pieces : Classes → List Row → Row → Pieces
 pieces all closed row =
     if is_live_above all closed row row.b [] then pieces_below all closed row (take (piece_depth all) all.classes) [] else record { visits = 1; fronts = [] }
 
--- a composition that was found is kept if it weighs more than the floor, and its weight is the floor from then on
+-- a composition that a piece found is kept if it weighs more than the floor; its weight is then the floor
 abbrev pub keep_heavier : Row → Pricing → Option (List ℕ) → Pricing
 keep_heavier row so_far None = so_far
 keep_heavier row so_far (Some counts) =
     if int_lt so_far.floor (weight_in row.a counts) then record so_far { floor = weight_in row.a counts; kept = Some counts } else so_far
 
--- the outcome of a piece is added: its visits, and what it kept if that weighs more than the floor
+-- adds the outcome of a piece: its visits, and the composition that it kept if that weighs more than the floor
 abbrev pub take_piece : Row → Pricing → Pricing → Pricing
 take_piece row so_far piece = keep_heavier row (record so_far { visits = so_far.visits + piece.visits }) piece.kept
 
--- a wave: each piece is searched with the wave's floor, the greatest weight kept so far, and the outcomes are added in order
+-- a wave: each piece is searched with the floor before the wave, and the outcomes are added in order
 abbrev pub wave : Classes → List Row → Row → Pricing → List (List ℕ) → Pricing
 wave all closed row so_far fronts = fold (take_piece row) so_far (map (λ front. search_from all closed row front so_far.floor) fronts)
 

@@ -1,8 +1,8 @@
-//! The search for the best composition in pieces, which run in waves. The definitions are in `specs/`. Stands on `define_searches`
-//! and the rows of `define_rows`. Above: `panel_search`, which cuts a search into pieces and searches one, `pricing_pool`, which
-//! runs waves on threads, and `define_runs`, whose visits are these.
+//! The search for the best composition in pieces, which run in waves. The definitions are in `specs/`. Stands on `define_searches` and the
+//! rows of `define_rows`. Above: `panel_search`, which cuts a search into pieces and searches one; `pricing_pool`, which runs waves on
+//! threads; and `define_runs`, whose pricing counts the visits of this search.
 //!
-//! The functions have no body: their contracts are laws over the definitions, and worked examples.
+//! The functions have no body. They are the promises: laws over the definitions, and worked examples.
 #![tactic(auto)]
 
 ghost use Rattle.std.specs.Prelude.{◌≡◌, ◌↔◌, ℕ, List, [], ◌∷◌, ◌++◌, filter, map, length, None, Some, IsTrue, IsFalse, pos, ℤ, int_lt};
@@ -52,7 +52,7 @@ pub fn no_class_is_one_visit()
     ensures { (all : Classes) (closed : List Row) (priced : Row) → all.classes ≡ [] → (best_in_waves all closed priced).visits ≡ 1 }
 {}
 
-/// The best compositions of small pools in a row, with the visits of the pieces and those of the fronts before them.
+/// Searches in waves over small pools: the fronts of the pieces with the visits before them, and the best composition with all visits.
 pub fn worked_waves()
     ensures apart_pieces { pieces (classes_of apart) [] (row (pos 0) (pos 0 ∷ pos 0 ∷ pos 1 ∷ pos 0 ∷ []))
         ≡ record { visits = 9; fronts = (1 ∷ 0 ∷ 1 ∷ 0 ∷ []) ∷ (0 ∷ 1 ∷ 1 ∷ 0 ∷ []) ∷ (0 ∷ 0 ∷ 1 ∷ 1 ∷ []) ∷ [] } }

@@ -1,4 +1,5 @@
-//! Searches and trees of small programs. What they find, what they spend and the lines are those of a reference program in another language.
+//! Searches and trees of small programs. A reference program in another language made the expected results, lines and counts of nodes and
+//! pivots.
 
 use proof_branching::{Found, Step, prove_empty, search};
 use proof_limits::{Budget, Narrow, Span};

@@ -1,4 +1,4 @@
-//! A pool that is built part by part, with a refusal, and which panels fit it.
+//! A pool built part by part, a call that is refused, and tests of whether panels fit the pool.
 
 use crate::shown::spelled;
 use pool_model::{BuildStop, Name, Panel, Pool, Standing, fits};

@@ -10,7 +10,7 @@ use std::test::Fail;
 /// How often a held piece looks whether piece 2 has started.
 const TURNS: u64 = 1_000_000_000;
 
-/// Holds pieces 0 and 1 until piece 2 has started, for `TURNS` looks at most. `seen` says whether it did.
+/// Holds pieces 0 and 1 until piece 2 has started, for `TURNS` looks at most. `seen` is true if piece 2 did start.
 #[derive(Drop)]
 struct Holding {
     started: AtomicBool,

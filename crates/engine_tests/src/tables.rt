@@ -92,7 +92,7 @@ fn refutes(program: &SmallProgram, multipliers: &[Narrow]) -> bool {
     total < 0
 }
 
-// True if a run of the program says rightly whether there is a point, and its point or its refutation is right.
+// True if a run finds rightly whether the program has a point, and its point or its refutation is right.
 fn is_right(alloc: Global, program: &SmallProgram, budget: &mut Budget) -> Result<bool, ProveStop> {
     let mut table = table_of(alloc, program)?;
     let columns = [

@@ -151,7 +151,7 @@ const FOUR_CHANGED: &[(&str, usize, usize, &str)] = &[
     ),
 ];
 
-/// The same for `COUPLE_PROOF`.
+/// For `COUPLE_PROOF`, the verdicts and the changes, in the form of `FOUR_CHANGED`.
 const COUPLE_CHANGED: &[(&str, usize, usize, &str)] = &[
     ("valid", 0, 0, ""),
     ("valid", 14, 14, "bound 0 0 -1 3 1/"),
@@ -190,7 +190,7 @@ const COUPLE_CHANGED: &[(&str, usize, usize, &str)] = &[
     ("0 12 [14]", 9, 10, "household a g/household b h/"),
 ];
 
-/// The same for `DROPOUT`.
+/// For `DROPOUT`, the verdicts and the changes, in the form of `FOUR_CHANGED`.
 const DROPOUT_CHANGED: &[(&str, usize, usize, &str)] = &[
     ("valid", 0, 0, ""),
     ("valid", 23, 23, "bound 7/"),
@@ -216,7 +216,7 @@ const DROPOUT_CHANGED: &[(&str, usize, usize, &str)] = &[
     ("valid", 25, 25, "split 3/bound 1/bound 0 2 1/"),
 ];
 
-/// The same for `HOUSE`.
+/// For `HOUSE`, the verdicts and the changes, in the form of `FOUR_CHANGED`.
 const HOUSE_CHANGED: &[(&str, usize, usize, &str)] = &[
     ("valid", 0, 0, ""),
     (
@@ -252,8 +252,8 @@ const FAMILY_BUNDLE: &str =
 const ALIKE_BUNDLE: &str =
     "bundle 2/pool 2/size 2/category gender/value female 0 2/value male 0 2/volunteer a female/volunteer b female/volunteer c female/volunteer d male/household a h/household b h/end/total 2/panel 1 0 2/panel 1 1 3/stage 1 0 1 1 0/done/";
 
-/// A bundle, the first and the last of the lines that are replaced, the lines in their place, the visits that a search may make, and what
-/// the check says.
+/// A bundle, the first and the last of the lines that are replaced, the lines in their place, the visits that a search may make, and the
+/// verdict that the check returns.
 const CHECKED: &[(&str, usize, usize, &str, u64, &str)] = &[
     (FOUR_BUNDLE, 15, 16, "stage 2 1 1 1 1/", 1, "valid"),
     (

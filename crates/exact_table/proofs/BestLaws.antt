@@ -15,15 +15,19 @@ use Rattle.define_rows.proofs.Leaving.{IsBest, IsBest-takes, IsBest-keeps, IsBes
 use Rattle.exact_table.specs.Parts.{AreDifferent}
 use Rattle.exact_table.specs.Best.{better, best_of}
 
--- finding the first of `f k` to `f (n - 1)` that passes, by looking at `f k` and then at the others
+-- ---- `find` over `f k` to `f (n - 1)`
+
+-- from `k` to `n - 1` there is one number more than from `k + 1` on, if `k` is below `n`
 one_left : (k n : ℕ) → k < n → n - k ≡ suc (n - (k + 1))
 one_left k n l = omega arith
 
+-- if `k` is below `n` and `p` holds of `f k`, `find` over `f k` to `f (n - 1)` returns `f k`
 pub find_from-found : {X : Type 0} (p : X → Bool) (f : ℕ → X) (k n : ℕ) → k < n → p (f k) ≡ true → find p (map f (range_with_len k (n - k))) ≡ Some (f k)
 find_from-found p f k n l e =
     ap (λ m. find p (map f (range_with_len k m))) (one_left k n l)
     ∙ ap (λ b. cond b (Some (f k)) (find p (map f (range_with_len (k + 1) (n - (k + 1)))))) e
 
+-- if `k` is below `n` and `p` doesn't hold of `f k`, `find` returns what it finds from `f (k + 1)` on
 pub find_from-more : {X : Type 0} (p : X → Bool) (f : ℕ → X) (k n : ℕ) → k < n → p (f k) ≡ false → find p (map f (range_with_len k (n - k))) ≡ find p (map f (range_with_len (k + 1) (n - (k + 1))))
 find_from-more p f k n l e =
     ap (λ m. find p (map f (range_with_len k m))) (one_left k n l)
@@ -32,7 +36,7 @@ find_from-more p f k n l e =
 pub find_from-end : {X : Type 0} (p : X → Bool) (f : ℕ → X) (k n : ℕ) → n ≤ k → find p (map f (range_with_len k (n - k))) ≡ None
 find_from-end p f k n l = let e : n - k ≡ 0 = omega arith in ap (λ m. find p (map f (range_with_len k m))) e
 
--- finding in two lists, one after the other
+-- if `find` finds `x` in `xs`, it finds `x` in `xs ++ ys`
 pub find-left : {X : Type 0} (p : X → Bool) (xs ys : List X) (x : X) → find p xs ≡ Some x → find p (xs ++ ys) ≡ Some x
 find-left p [] ys x e = absurd cc
 find-left p (y ∷ xs) ys x e = by (p y) e (λ f. find-left p xs ys x f)
@@ -41,6 +45,7 @@ find-left p (y ∷ xs) ys x e = by (p y) e (λ f. find-left p xs ys x f)
     by true f rest = f
     by false f rest = rest f
 
+-- if `find` finds nothing in `xs`, it returns over `xs ++ ys` what it finds in `ys`
 pub find-right : {X : Type 0} (p : X → Bool) (xs ys : List X) → find p xs ≡ None → find p (xs ++ ys) ≡ find p ys
 find-right p [] ys e = refl
 find-right p (y ∷ xs) ys e = by (p y) e (λ f. find-right p xs ys f)
@@ -50,7 +55,7 @@ find-right p (y ∷ xs) ys e = by (p y) e (λ f. find-right p xs ys f)
     by false f rest = rest f
 
 module _ (table : Table) (v : Var) (sides : (i : ℕ) → i < length table.rows → pos 0 ≤ℤ (row_at table i).b) where
-  -- what holds of the best of the first `n` rows: None if none of them may be left, else the best of them
+  -- the state after the first `n` rows: None if none of them may be left, else the best of those that may
   abbrev IsState : ℕ → Option ℕ → Type 0
   IsState n None = (k : ℕ) → k < n → may_leave table v k ≡ false
   IsState n (Some b) = IsBest table v n b
@@ -72,7 +77,7 @@ module _ (table : Table) (v : Var) (sides : (i : ℕ) → i < length table.rows 
   state_of zero l = λ k m. absurd (omega arith)
   state_of (suc n) l = state_more n (omega arith) (best_of table v n) (state_of n (omega arith)) (may_leave table v n) refl
 
-  -- the best of all rows is the one that is least by the definition
+  -- if no variable is basic in two rows, the best of all rows is the one that the definition calls least
   module _ (different : AreDifferent table.basic) (each : length table.basic ≡ length table.rows) where
     not_before : (b k : ℕ) → IsBest table v (length table.rows) b → k < b → (t : Bool) → is_least table v k ≡ t → is_least table v k ≡ false
     not_before b k h l false e = e

@@ -1,4 +1,4 @@
--- What the calls on the parts do to the table that the parts make up.
+-- Each call on a frame changes the frame's table as the definition's step does.
 use Rattle.std.proofs.Common.{◌≡◌, ℕ, ◌+◌, ◌-◌, ◌<◌, ◌≤◌, Bool, true, false, List, length, set, take, refl, ap, ap₂, ◌∙◌, arith, ℤ}
 use Rattle.std.proofs.lemmas.List.{take_more_set}
 use Rattle.std.proofs.lemmas.Bool.{true≢false, false≢true}

@@ -1,14 +1,15 @@
--- What enters and what leaves, found by looking at the variables and the rows in turn. Over Choice of `define_rows`. For `choosing`.
+-- Which variable enters and which row it enters at, found by looking at the variables and the rows in order. Over Choice of `define_rows`.
+-- For `choosing`.
 use Rattle.std.specs.Prelude.{◌≡◌, ◌<◌, ℕ, zero, suc, length, ℤ, ◌≤ℤ◌, ◌<ℤ◌, if◌then◌else◌, Bool, ◌&&◌, Option, Some, None, pos, int_lt}
 use Rattle.define_rows.specs.declared.Var.{Var}
 use Rattle.define_rows.specs.Table.{Table, coefficient_at, row_at, basic_at}
 use Rattle.define_rows.specs.Choice.{is_eligible, may_leave, leaves_before}
 
--- a variable is eligible, and its coefficient in the row is below 0
+-- variable `v` is eligible, and its coefficient in row `i` is below 0
 abbrev pub may_enter : Table → ℕ → Var → Bool
 may_enter table i v = is_eligible table v && int_lt (coefficient_at table i v) (pos 0)
 
--- what is known of a row that may be left: its right side, its positive coefficient and its basic variable
+-- what is known of a row that may be left when `v` enters: its right side, `v`'s positive coefficient, and its basic variable
 pub record IsLeaver (table : Table) (v : Var) (row : ℕ) (side coefficient : ℤ) (basic : Var) : Type 0 where
   pub place : row < length table.rows
   pub side_is : side ≡ (row_at table row).b
@@ -17,16 +18,16 @@ pub record IsLeaver (table : Table) (v : Var) (row : ℕ) (side coefficient : �
   pub some_side : pos 0 ≤ℤ side
   pub positive : pos 0 <ℤ coefficient
 
--- the better of row `i` and the best row so far
+-- of row `i` and the best row so far, the one that Bland's rule prefers to leave when `v` enters; row `i` if there is no best row so far
 abbrev pub better : Table → Var → ℕ → Option ℕ → Option ℕ
 better table v i None = Some i
 better table v i (Some b) = if leaves_before table v i b then Some i else Some b
 
--- the best row after row `i` was looked at
+-- the best row so far, with row `i` taken into account if it may be left
 abbrev pub next_best : Table → Var → ℕ → Option ℕ → Option ℕ
 next_best table v i best = if may_leave table v i then better table v i best else best
 
--- the best of the first `n` rows that may be left, or None if there is none
+-- of the first `n` rows, the best one that may be left, or None if none may be
 abbrev pub best_of : Table → Var → ℕ → Option ℕ
 best_of table v zero = None
 best_of table v (suc n) = next_best table v n (best_of table v n)

@@ -1,4 +1,5 @@
--- How the table keeps who is settled: for each class the stage at whose close it was settled. For `marks` and `frame`.
+-- The marks of classes. A settled class's mark is the number of the stage at whose close it was settled; an unsettled class's is `never`.
+-- For `marks` and `frame`.
 use Rattle.std.specs.Prelude.{◌≢◌, ℕ, ◌-◌, ◌<◌, ◌^◌, nat_le, nat_lt, ◌==◌, ◌&&◌, if◌then◌else◌, Bool, List, [], ◌∷◌, map, ℤ, pos, int_lt}
 use Rattle.std.specs.List.{All, range_with_len}
 
@@ -6,11 +7,11 @@ use Rattle.std.specs.List.{All, range_with_len}
 abbrev pub never : ℕ
 never = 2 ^ 64 - 1
 
--- for each class, whether it was unsettled before the stage
+-- for each class, whether it was unsettled before stage `stage`
 abbrev pub unsettled_before : List ℕ → ℕ → List Bool
 unsettled_before settled_at stage = map (λ at. nat_le stage at) settled_at
 
--- for each stage that was entered, which classes were unsettled then
+-- for each stage that was entered, which classes were unsettled when it was entered
 abbrev pub marks_of : List ℕ → ℕ → List (List Bool)
 marks_of settled_at stages = map (unsettled_before settled_at) (range_with_len 0 stages)
 
@@ -22,7 +23,7 @@ settled_of settled_at = map (λ at. nat_lt at never) settled_at
 abbrev pub AreMarks : List ℕ → ℕ → Type 0
 AreMarks settled_at stages = All (λ at. at ≢ never → at < stages) settled_at
 
--- the marks after a stage closes: its number for each unsettled class of positive entry
+-- the marks after stage `stage` closes: unsettled classes of positive entry get the stage's number, and the other marks stay
 abbrev pub settled_marks : ℕ → List ℤ → List ℕ → List ℕ
 settled_marks stage [] marks = marks
 settled_marks stage (x ∷ xs) [] = []

@@ -9,11 +9,11 @@ use Rattle.define_rows.specs.Table.{Table, coefficient_at, row_at}
 use Rattle.define_rows.specs.InOrder.{count_in, IsInOrder}
 use Rattle.exact_table.specs.Marks.{marks_of, settled_of, AreMarks}
 
--- the count after one more, which stays at 2 ^ 64 - 1
+-- the count of pivots after one more pivot; at 2 ^ 64 - 1 it stays
 abbrev pub counted_on : ℕ → ℕ
 counted_on count = if nat_lt count (2 ^ 64 - 1) then count + 1 else count
 
--- how many of the entered stages are closed
+-- how many of the entered stages are closed: all, or all except the open one
 abbrev pub closed_count : ℕ → Bool → ℕ
 closed_count stages in_stage = stages - (if in_stage then 1 else 0)
 
@@ -46,7 +46,7 @@ pub record IsFrame (sizes settled_at : List ℕ) (stages : ℕ) (columns : List 
   pub some_bits : 1 ≤ bits
   pub few_bits : bits ≤ 127
 
--- the parts with rows and their basic variables
+-- the frame's table with these rows and their basic variables
 abbrev pub with_rows : Table → List Row → List Var → Table
 with_rows frame rows basic = record frame { rows = rows; basic = basic }
 
@@ -56,7 +56,8 @@ pub record AreRows (table : Table) : Type 0 where
   pub small : All (λ row. reach table.sizes row < 2 ^ 127) table.rows
   pub sides : All (λ row. pos 0 ≤ℤ row.b) table.rows
 
--- the answer about a column: None if it is basic in no row, else the right side of its row, and its coefficient there, which is above 0
+-- what `basic_entry` returns for a column: None if the column is basic in no row, else the right side of its row, and its coefficient
+-- there, which is above 0
 abbrev pub TellsBasic : Table → ℕ → Option (ℤ × ℤ) → Type 0
 TellsBasic table column None = basic_row table (Column column) ≡ None
 TellsBasic table column (Some entry) =
@@ -71,11 +72,11 @@ pub record IsSmall (row : Row) : Type 0 where
 abbrev pub IsNew : Table → List ℕ → Type 0
 IsNew table counts = (c : ℕ) → c < length table.columns → slice_index_or table.columns c [] ≢ counts
 
--- no variable comes twice
+-- no variable is basic in two rows
 abbrev pub AreDifferent : List Var → Type 0
 AreDifferent basic = (i j : ℕ) (d : Var) → i < length basic → j < length basic → slice_index_or basic i d ≡ slice_index_or basic j d → i ≡ j
 
--- what holds of the table: it is in order, and there is a second list of as many rows of the same length, into which a pivot writes
+-- what holds of the table: it is in order, and `room` has as many rows of the same length, into which a pivot writes
 pub record IsTable (frame : Table) (rows room : List Row) (basic : List Var) : Type 0 where
   pub order : IsInOrder (with_rows frame rows basic)
   pub room_count : length room ≡ length rows

@@ -164,7 +164,7 @@ struct Leaver {
     basic: Var,
 }
 
-// True if row `one` is left rather than `other`: the smaller right side over coefficient goes first, then the earlier basic variable.
+// True if row `one` is left rather than `other`: its ratio of right side to coefficient is less, or equal with an earlier basic variable.
 fn goes_before(one: Leaver, other: Leaver) -> bool
     requires side { pos 0 ≤ℤ one.side }
     requires coefficient { pos 0 <ℤ one.coefficient }
@@ -179,7 +179,7 @@ fn goes_before(one: Leaver, other: Leaver) -> bool
     }
 }
 
-// Returns the row, if the variable's coefficient in it is positive.
+// Returns row `row` with what the choice needs of it, if the variable's coefficient in it is positive.
 fn leaver_at(
     frame: &Frame,
     rows: &[Row],
@@ -209,7 +209,7 @@ fn leaver_at(
     }
 }
 
-// Returns the best row after `row` was looked at, given the best row before.
+// Returns the better of row `row`, if it may be left, and `best`, the best of the rows before it.
 fn next_best(
     frame: &Frame,
     rows: &[Row],
@@ -275,7 +275,7 @@ fn entering(frame: &Frame, rows: &[Row], basic: &[Var]) -> Option<Var>
     }
 }
 
-// Returns Bland's choice: the row that is left and the variable that enters.
+// Returns Bland's choice: the row that is left and the variable that enters, or None if no pivot is chosen.
 pub(crate) fn choose(frame: &Frame, rows: &[Row], basic: &[Var]) -> Option<(usize, Var)>
     requires rows { AreRows (with_rows frame.now rows.now []) }
     requires closed { All (λ i. i < length rows.now) frame.now.closed }

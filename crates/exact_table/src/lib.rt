@@ -1,6 +1,6 @@
-//! The exact simplex table of the leximin program, in whole numbers under a width: rows `(b; a_1 .. a_m)` whose greatest common divisor
-//! is 1, Bland's rule, and a pivot that is made whole or stops at the first operation that passes the width. Stands on `frac128`, and
-//! on `define_rows`, whose table its value is. Above: `leximin_run`.
+//! The exact simplex table of the leximin program, in whole numbers under a width: rows `(b; a_1 .. a_m)` whose greatest common divisor is
+//! 1, Bland's rule, and a pivot that is made whole or stops at the first operation that passes the width. Stands on `frac128`, and on
+//! `define_rows`, which defines the table that the value of a `Table` is. Above: `leximin_run`.
 //!
 //! Promises: the calls of `Table`, each exactly the definition's step. All other modules are helpers over numbers and slices.
 #![tactic(auto)]

@@ -1,5 +1,5 @@
 //! Compares each bundle in `data/` with what `lottery` prints for the pool whose text the bundle holds. A program for the gate. Stands on
-//! `command_shell`, the shell, and on `command_pools`, which has the command.
+//! `command_shell`, the shell, and on `command_pools`, which has the command. No crate stands on it, and it has no promises.
 #![tactic(auto)]
 
 use command_pools::{Lottery, call_lottery};
@@ -13,7 +13,7 @@ use std::{fs, io};
 /// The names of the bundles. Each has the pool of its name in `examples/`.
 const NAMES: &[&str] = &["districts", "dropout", "family", "small"];
 
-/// How many bytes `out` has room for.
+/// The most bytes that `out` holds, and that `errs` holds.
 const ROOM: usize = 1_000_000;
 
 fn main(rt: HostRuntime) -> io::Result<()> {

@@ -4,7 +4,7 @@ use Rattle.std.specs.Ordering.{nat_cmp}
 use Rattle.std.proofs.lemmas.Bool.Decides.{nat_tests}
 use Rattle.std.proofs.Math.Nat.{mul-le-mul_right, mul-pos, mul-lt-mul_of_pos_left, div-add-mod', lt-div-mul-add, div-mul-le_self}
 
--- two comparisons are equal if the order of `a` and `b` gives that of `c` and `d`
+-- If `a` and `b` being less, equal or greater implies the same of `c` and `d`, the two comparisons are equal.
 pub nat_cmp-same : (a b c d : ℕ) → (a < b → c < d) → (a ≡ b → c ≡ d) → (b < a → d < c) → nat_cmp a b ≡ nat_cmp c d
 nat_cmp-same a b c d less same more = grind (arith, nat_tests)
 
@@ -15,12 +15,12 @@ less_from_quotients an ad bn bd q p above below h some_bd =
     let three : p * bd * ad ≤ bn * ad = mul-le-mul_right ad below in
     omega arith
 
--- a smaller quotient is a smaller fraction
+-- If the quotient of a fraction is less, the fraction is less.
 less_by_quotients : (an ad bn bd : ℕ) → 0 < ad → 0 < bd → an / ad < bn / bd → an * bd < bn * ad
 less_by_quotients an ad bn bd some_ad some_bd h =
     less_from_quotients an ad bn bd (an / ad) (bn / bd) (lt-div-mul-add some_ad) (div-mul-le_self bn bd) h some_bd
 
--- if the quotients differ, the fractions compare as the quotients do
+-- If the quotients differ, the fractions compare as the quotients do.
 pub nat_cmp_by_quotients : (an ad bn bd : ℕ) → 0 < ad → 0 < bd → an / ad ≢ bn / bd → nat_cmp (an / ad) (bn / bd) ≡ nat_cmp (an * bd) (bn * ad)
 nat_cmp_by_quotients an ad bn bd some_ad some_bd other =
     nat_cmp-same (an / ad) (bn / bd) (an * bd) (bn * ad)
@@ -34,13 +34,13 @@ nat_cmp_from_rests an ad bn bd q ar br a_is b_is =
     let b_product : (q * bd + br) * ad ≡ bn * ad = ap (λ n. n * ad) b_is in
     nat_cmp-same (bd * ar) (ad * br) (an * bd) (bn * ad) (λ h. omega arith) (λ h. omega arith) (λ h. omega arith)
 
--- if the quotients are equal, the fractions compare as the divisors over the remainders do, the other way round
+-- If the quotients are equal, an/ad compares with bn/bd as (an % ad)/ad does with (bn % bd)/bd.
 pub nat_cmp_by_rests : (an ad bn bd : ℕ) → an / ad ≡ bn / bd → nat_cmp (bd * (an % ad)) (ad * (bn % bd)) ≡ nat_cmp (an * bd) (bn * ad)
 nat_cmp_by_rests an ad bn bd e =
     nat_cmp_from_rests an ad bn bd (an / ad) (an % ad) (bn % bd) (div-add-mod' an ad)
     (subst (λ q. q * bd + bn % bd ≡ bn) (sym e) (div-add-mod' bn bd))
 
--- a remainder of 0 is the lesser, whatever the divisors
+-- If `ar` or `br` is 0, `ar` and `br` compare as `bd * ar` and `ad * br` do.
 pub nat_cmp_at_zero : (ad bd ar br : ℕ) → 0 < ad → 0 < bd → (ar ≡ 0) ⊎ (br ≡ 0) → nat_cmp ar br ≡ nat_cmp (bd * ar) (ad * br)
 nat_cmp_at_zero ad bd ar br some_ad some_bd (inl e) =
     let none : bd * ar ≡ 0 = ap (λ n. bd * n) e ∙ omega arith in
@@ -55,12 +55,12 @@ nat_cmp_at_zero ad bd ar br some_ad some_bd (inr e) =
     (λ h. ap (λ n. bd * n) (h ∙ e) ∙ omega arith ∙ sym none)
     (λ h. let some : 0 < bd * ar = mul-pos some_bd (omega arith) in omega arith)
 
--- a common factor changes no comparison
+-- If `k` is above 0, multiplying both numbers by `k` changes no comparison.
 pub nat_cmp-scale : (k a b : ℕ) → 0 < k → nat_cmp (k * a) (k * b) ≡ nat_cmp a b
 nat_cmp-scale k a b some =
     sym (nat_cmp-same a b (k * a) (k * b) (λ h. mul-lt-mul_of_pos_left h some) (λ h. ap (λ n. k * n) h) (λ h. mul-lt-mul_of_pos_left h some))
 
--- so a fraction may be widened: (k * an)/(k * ad) compares with bn/bd as an/ad does
+-- If `k` is above 0, (k * an)/(k * ad) compares with bn/bd as an/ad does: a fraction may be expanded.
 pub nat_cmp_products-scale : (k an ad bn bd : ℕ) → 0 < k → nat_cmp (k * an * bd) (bn * (k * ad)) ≡ nat_cmp (an * bd) (bn * ad)
 nat_cmp_products-scale k an ad bn bd some =
     let first : k * an * bd ≡ k * (an * bd) = omega arith in

@@ -34,7 +34,7 @@ both_tested d x y p q =
     let second : y % d ≡ 0 = mod-eq-zero_of_dvd d q in
     grind (arith, nat_tests)
 
--- the search from `most` down finds the greatest common divisor
+-- The search from `most` down finds the greatest common divisor, if this is at most `most`.
 common_divisor_up_to-found : (most x y g : ℕ) → IsGcd x y g → 0 < g → g ≤ most → common_divisor_up_to most x y ≡ g
 unfolding common_divisor_up_to
 common_divisor_up_to-found zero x y g h some small = omega arith
@@ -52,7 +52,7 @@ common_divisor_up_to-found (suc d) x y g h some small =
           common_divisor_up_to-found d x y g h some (omega arith)
     ]) refl
 
--- the greatest common divisor is the only one
+-- Each number that is a greatest common divisor of `x` and `y` equals `gcd_of x y`.
 pub gcd_of_is : (x y g : ℕ) → IsGcd x y g → gcd_of x y ≡ g
 unfolding gcd_of common_divisor_up_to
 gcd_of_is zero zero g h = sym (eq-zero_of_zero-dvd (h.2 0 (dvd_refl 0) (dvd_refl 0)))
@@ -71,11 +71,11 @@ IsGcd-gcd_of x y =
     let found : (g : ℕ) × IsGcd x y g = some_IsGcd (suc y) x y (omega arith) in
     subst (IsGcd x y) (sym (gcd_of_is x y found.0 found.1)) found.1
 
--- the same for `gcd_of x y` as a signed number
+-- If the signed number `z` is `gcd_of x y`, its absolute value is the greatest common divisor.
 pub IsGcd-from_value : (x y : ℕ) (z : ℤ) → z ≡ pos (gcd_of x y) → IsGcd x y (unsigned_abs z)
 IsGcd-from_value x y z e = subst (λ (v : ℤ). IsGcd x y (unsigned_abs v)) (sym e) (IsGcd-gcd_of x y)
 
--- no common divisor is greater than both
+-- The greatest common divisor is at most the greater of the two numbers.
 pub gcd_of-le : (x y : ℕ) → gcd_of x y ≤ max x y
 gcd_of-le zero zero = let e : gcd_of 0 0 ≡ 0 = gcd_of_is 0 0 0 (IsGcd-from_zero 0 0 refl) in omega arith
 gcd_of-le (suc x) y =
@@ -94,12 +94,12 @@ gcd_of-swap x y = gcd_of_is x y (gcd_of y x) (IsGcd-swap y x (gcd_of y x) (IsGcd
 pub gcd_of-from_zero : (y : ℕ) → gcd_of 0 y ≡ y
 gcd_of-from_zero y = gcd_of-swap 0 y ∙ gcd_of-zero y
 
--- the greatest common divisor is above 0 if one of the numbers is
+-- If one of the numbers is above 0, so is their greatest common divisor.
 pub gcd_of-positive : (x y : ℕ) → (0 < x) ⊎ (0 < y) → 0 < gcd_of x y
 gcd_of-positive x y (inl some) = pos_of_dvd_of_pos (IsGcd-gcd_of x y).0 some
 gcd_of-positive x y (inr some) = pos_of_dvd_of_pos (IsGcd-gcd_of x y).1 some
 
--- if both numbers are multiplied by `k`, so is their greatest common divisor
+-- If both numbers are multiplied by `k`, so is their greatest common divisor.
 IsGcd-scale : (k x y g : ℕ) → 0 < k → IsGcd x y g → IsGcd (k * x) (k * y) (k * g)
 IsGcd-scale k x y g some h =
     let whole = IsGcd-gcd_of (k * x) (k * y) in
@@ -121,7 +121,7 @@ gcd_of-scale k x y =
       | inr some ↦ gcd_of_is (k * x) (k * y) (k * gcd_of x y) (IsGcd-scale k x y (gcd_of x y) some (IsGcd-gcd_of x y))
     ]
 
--- if `g * n` is `g`, then `n` is 1
+-- If `g` is above 0 and `g * n` is `g`, then `n` is 1.
 one_times : (g n : ℕ) → 0 < g → g * n ≡ g → n ≡ 1
 one_times g n some e = sym (mul-div_right n some) ∙ ap (λ m. m / g) e ∙ div_self some
 
@@ -130,13 +130,13 @@ gcd_of_parts g x y a b some is x_is y_is =
     let whole : gcd_of (g * a) (g * b) ≡ g = ap (λ n. gcd_of n (g * b)) x_is ∙ ap (gcd_of x) y_is ∙ is in
     one_times g (gcd_of a b) some (sym (gcd_of-scale g a b) ∙ whole)
 
--- two numbers divided by their greatest common divisor have no common divisor but 1
+-- If two numbers are divided by their greatest common divisor, the quotients have no common divisor above 1.
 pub gcd_of-divided : (x y : ℕ) → 0 < gcd_of x y → gcd_of (x / gcd_of x y) (y / gcd_of x y) ≡ 1
 gcd_of-divided x y some =
     let both = IsGcd-gcd_of x y in
     gcd_of_parts (gcd_of x y) x y _ _ some refl (mul-div_cancel' (gcd_of x y) both.0) (mul-div_cancel' (gcd_of x y) both.1)
 
--- if `a` divides `n * b` and has no common divisor with `b`, it divides `n`
+-- If `a` divides `n * b`, and `a` and `b` have no common divisor above 1, then `a` divides `n`.
 pub dvd-from_coprime : (a b n : ℕ) → gcd_of a b ≡ 1 → a ∣ n * b → a ∣ n
 dvd-from_coprime a b n apart h =
     let all : gcd_of (n * a) (n * b) ≡ n = gcd_of-scale n a b ∙ ap (λ m. n * m) apart ∙ omega arith in
@@ -144,7 +144,7 @@ dvd-from_coprime a b n apart h =
 
 -- ---- the least common multiple
 
--- x = g * a and y = g * b, with no common divisor left in a and b: then a * y is the least
+-- If `a` and `b` have no common divisor above 1, the least common multiple of `g * a` and `g * b` is `a * (g * b)`.
 least_from_parts : (g a b : ℕ) → 0 < g → gcd_of a b ≡ 1 → IsLeastCommonMultiple (g * a) (g * b) (a * (g * b))
 unfolding IsLeastCommonMultiple
 least_from_parts g a b some apart =
@@ -161,7 +161,7 @@ least_from_parts g a b some apart =
           subst (λ m. a * (g * b) ∣ m) back (mul-dvd-mul_right _ a_divides_k (g * b)),
     )
 
--- `lcm_of` is the least common multiple
+-- If `x` is above 0, `lcm_of x y` is the least common multiple of `x` and `y`.
 pub IsLeastCommonMultiple-lcm_of : (x y : ℕ) → 0 < x → IsLeastCommonMultiple x y (lcm_of x y)
 unfolding lcm_of
 IsLeastCommonMultiple-lcm_of x y some_x =
@@ -174,7 +174,7 @@ IsLeastCommonMultiple-lcm_of x y some_x =
     let Goal : ℕ → ℕ → Type 0 = λ u v. IsLeastCommonMultiple u v (x / g * v) in
     subst (λ u. Goal u y) x_is (subst (Goal (g * (x / g))) y_is parts)
 
--- `x` divided by its greatest common divisor with `y` is at least 1
+-- If `x` is above 0, `x` divided by its greatest common divisor with `y` is at least 1.
 pub beyond-positive : (x y g : ℕ) → g ≡ gcd_of x y → 0 < x → 0 < x / g
 beyond-positive x y g is some_x =
     let x_is : g * (x / g) ≡ x = mul-div_cancel' g (subst (λ d. d ∣ x) (sym is) (IsGcd-gcd_of x y).0) in
@@ -198,11 +198,11 @@ fold_greatest d a [] h each = h
 fold_greatest d a (x ∷ xs) h each =
     fold_greatest d (gcd_of a x) xs ((IsGcd-gcd_of a x).2 d h (All-head (λ n. d ∣ n) x xs each)) (All-tail (λ n. d ∣ n) x xs each)
 
--- each number that divides all of the list divides the list's greatest common divisor
+-- If a number divides each number of a list, it divides the list's greatest common divisor.
 pub gcd_of_list-greatest : (d : ℕ) (xs : List ℕ) → All (λ x. d ∣ x) xs → d ∣ gcd_of_list xs
 gcd_of_list-greatest d xs each = fold_greatest d 0 xs (dvd-zero d) each
 
--- the greatest common divisor of a list is above 0 if some number of the list is
+-- If some number of a list is above 0, so is the list's greatest common divisor.
 pub gcd_of_list-positive : (xs : List ℕ) (x : ℕ) → Contains xs x → 0 < x → 0 < gcd_of_list xs
 gcd_of_list-positive xs x h some =
     pos_of_dvd_of_pos (All-contains (λ n. gcd_of_list xs ∣ n) xs x (gcd_of_list-divides xs) h) some
@@ -225,7 +225,7 @@ map_divided g (x ∷ xs) each =
     let rest : map (λ x. g * x) (map (λ x. x / g) xs) ≡ xs = map_divided g xs (All-tail (λ n. g ∣ n) x xs each) in
     cc
 
--- the numbers of a list divided by their greatest common divisor have no common divisor but 1
+-- If the numbers of a list are divided by their greatest common divisor, the quotients have no common divisor above 1.
 pub gcd_of_list-divided : (xs : List ℕ) → 0 < gcd_of_list xs → gcd_of_list (map (λ x. x / gcd_of_list xs) xs) ≡ 1
 gcd_of_list-divided xs some =
     let g : ℕ = gcd_of_list xs in
@@ -237,7 +237,7 @@ abs_of_negated : (n : ℕ) → unsigned_abs (neg_ℤ (pos n)) ≡ n
 abs_of_negated zero = refl
 abs_of_negated (suc n) = refl
 
--- the absolute value of a quotient is the quotient of the absolute value
+-- The absolute value of a quotient by `g` is the quotient of the absolute value.
 pub unsigned_abs-int_div : (z : ℤ) (g : ℕ) → unsigned_abs (int_div z (pos g)) ≡ unsigned_abs z / g
 unsigned_abs-int_div (pos n) g = refl
 unsigned_abs-int_div (negsuc n) g = abs_of_negated (suc n / g)
@@ -249,7 +249,7 @@ absolute_quotients g (z ∷ zs) =
     let rest : map unsigned_abs (map (λ y. int_div y (pos g)) zs) ≡ map (λ n. n / g) (map unsigned_abs zs) = absolute_quotients g zs in
     cc
 
--- signed numbers divided by the greatest common divisor of their absolute values have no common divisor but 1
+-- If signed numbers are divided by the greatest common divisor of their absolute values, the quotients have no common divisor above 1.
 pub gcd_of_list-int_divided : (zs : List ℤ) (g : ℕ) → g ≡ gcd_of_list (map unsigned_abs zs) → 0 < g → gcd_of_list (map unsigned_abs (map (λ z. int_div z (pos g)) zs)) ≡ 1
 gcd_of_list-int_divided zs g is some =
     let sizes : List ℕ = map unsigned_abs zs in

@@ -6,7 +6,7 @@ use Rattle.frac128.specs.Divisors.{gcd_of}
 use Rattle.frac128.specs.Fractions.{IsLowest}
 use Rattle.frac128.proofs.DivisorLaws.{IsGcd-gcd_of, gcd_of-swap, beyond-positive, gcd_of-positive, gcd_of-divided, gcd_of-scale}
 
--- a fraction divided by its greatest common divisor is in lowest terms
+-- If both numbers of a fraction are divided by their greatest common divisor, the fraction is in lowest terms.
 pub IsLowest-divided : (num den g : ℕ) → g ≡ gcd_of num den → 0 < den → IsLowest (num / g) (den / g)
 IsLowest-divided num den g is some_den =
     let some : 0 < gcd_of num den = gcd_of-positive num den (inr some_den) in
@@ -19,13 +19,13 @@ same_from_parts g x y a b x_is y_is =
     let second : a * (g * b) ≡ a * y = ap (λ n. a * n) y_is in
     omega arith
 
--- and it is the same fraction
+-- The fraction in lowest terms has the same value: num/den = (num/g)/(den/g), as products.
 pub products-divided : (num den g : ℕ) → g ≡ gcd_of num den → num * (den / g) ≡ num / g * den
 products-divided num den g is =
     let both = subst (IsGcd num den) (sym is) (IsGcd-gcd_of num den) in
     same_from_parts g num den (num / g) (den / g) (mul-div_cancel' g both.0) (mul-div_cancel' g both.1)
 
--- two fractions in lowest terms that are equal by their products are the same pair
+-- If two fractions in lowest terms have the same value, they have the same upper and the same lower number.
 pub IsLowest-unique : (an ad bn bd : ℕ) → IsLowest an ad → IsLowest bn bd → an * bd ≡ bn * ad → (an ≡ bn) × (ad ≡ bd)
 IsLowest-unique an ad bn bd a_lowest b_lowest same =
     let by_a : gcd_of (bd * an) (bd * ad) ≡ bd = gcd_of-scale bd an ad ∙ ap (λ n. bd * n) a_lowest.1 ∙ omega arith in

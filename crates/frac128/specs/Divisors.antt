@@ -1,10 +1,9 @@
--- Common divisors and common multiples of whole numbers of any size. Stands on nothing. `define_rows` and `define_spreads` cite
--- it.
+-- Common divisors and common multiples of whole numbers of any size. Stands on nothing. `define_rows` and `define_spreads` cite it.
 use Rattle.std.specs.Prelude.{ℕ, zero, suc, ◌*◌, ◌/◌, ◌%◌, max, ◌==◌, ◌&&◌, if◌then◌else◌, Bool, List}
 use Rattle.std.specs.Int.{IsGcd, ◌∣◌}
 use Rattle.std.specs.List.{fold}
 
--- d divides n, as a test
+-- d divides n: the remainder is 0
 abbrev pub divides : ℕ → ℕ → Bool
 divides d n = n % d == 0
 
@@ -30,6 +29,6 @@ gcd_of_list xs = fold gcd_of 0 xs
 unfoldable pub IsLeastCommonMultiple : ℕ → ℕ → ℕ → Type 0
 IsLeastCommonMultiple x y m = (x ∣ m) × (y ∣ m) × ((n : ℕ) → x ∣ n → y ∣ n → m ∣ n)
 
--- the least common multiple of x and y
+-- the least common multiple of x and y, if x is above 0
 unfoldable pub lcm_of : ℕ → ℕ → ℕ
 lcm_of x y = x / gcd_of x y * y

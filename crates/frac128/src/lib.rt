@@ -1,9 +1,9 @@
-//! Exact fractions in 128 bits: greatest common divisors, least common multiples, lowest terms and comparison. No call takes memory.
-//! Stands on nothing but std. Above: the exact table (`exact_table`), spreading (`alike`), summaries (`office_reports`), and the run
-//! that makes proofs; `define_rows` and `define_spreads` cite the definitions in `specs/`.
+//! Exact fractions in 128 bits: greatest common divisors, least common multiples, lowest terms and comparison. No call takes memory. Stands
+//! on nothing except std. Used by the exact table (`exact_table`), spreading (`alike`), summaries (`office_reports`), and the run that
+//! makes proofs; `define_rows` and `define_spreads` cite the definitions in `specs/`.
 //!
-//! Promises: `gcd`, `lcm`, `compare`, `lowest` and `Frac`, each by its meaning over whole numbers of any size. The functions without
-//! `pub` are helpers.
+//! Promises: `gcd`, `lcm`, `compare`, `lowest` and `Frac`, each by its meaning over whole numbers of any size. The functions without `pub`
+//! are helpers.
 #![tactic(auto)]
 
 ghost use Rattle.std.specs.Prelude.{◌≡◌, ◌≤ℤ◌, ◌<ℤ◌, pos, unsigned_abs, Some, SomeIff, max, ◌*◌, ◌^◌, ◌<◌, ◌≤◌};
@@ -25,7 +25,7 @@ pub fn gcd(x: i128, y: i128) -> i128
     common_divisor(x.unsigned_abs(), y.unsigned_abs()) as i128
 }
 
-// Returns the greatest common divisor, by Euclid's algorithm. After the first turn `larger` is the larger number, and a remainder is less
+// Returns the greatest common divisor, by Euclid's algorithm. After the first turn `larger` is the larger number. Each remainder is less
 // than half of it, so two turns at least halve it: numbers below 2^127 take at most 255 turns.
 fn common_divisor(x: u128, y: u128) -> u128
     ensures value { result ≡ gcd_of x y }
@@ -67,8 +67,8 @@ fn common_multiple(x: u128, y: u128, limit: u128) -> Option<u128>
     }
 }
 
-/// Compares the fraction `an / ad` with `bn / bd`, exactly. The upper numbers are at least 0 and the lower ones at least 1. No product
-/// is formed, so no such numbers are too large.
+/// Compares the fraction `an / ad` with `bn / bd`, exactly. `an` and `bn` are at least 0, `ad` and `bd` at least 1. No product is formed,
+/// so no such numbers are too large.
 pub fn compare(an: i128, ad: i128, bn: i128, bd: i128) -> Ordering
     requires an { pos 0 ≤ℤ an }
     requires ad { pos 0 <ℤ ad }
@@ -85,8 +85,8 @@ pub fn compare(an: i128, ad: i128, bn: i128, bd: i128) -> Ordering
     )
 }
 
-// Compares `an / ad` with `bn / bd` by Euclid's algorithm on both: the quotients decide, or else the divisors over the remainders, compared
-// the other way round. Two turns at least halve each divisor, so divisors below 2^127 take at most 255 turns.
+// Compares `an / ad` with `bn / bd` by Euclid's algorithm on both. If the quotients differ, they decide. Else the fractions of divisor over
+// remainder decide, compared the other way round. Two turns at least halve each divisor, so divisors below 2^127 take at most 255 turns.
 fn compare_quotients(mut an: u128, mut ad: u128, mut bn: u128, mut bd: u128) -> Ordering
     requires ad { 0 < ad }
     requires bd { 0 < bd }
@@ -105,8 +105,8 @@ fn compare_quotients(mut an: u128, mut ad: u128, mut bn: u128, mut bd: u128) -> 
     }
 }
 
-/// A fraction of whole numbers in lowest terms: the upper number is at least 0, the lower at least
-/// 1, and no number above 1 divides both. Prints as `num/den`.
+/// A fraction of whole numbers in lowest terms: the upper number is at least 0, the lower at least 1, and no number above 1 divides both.
+/// Prints as `num/den`.
 #[derive(Clone, Copy, Debug, PartialEq, Eq)]
 pub struct Frac {
     num: u128,

@@ -1,4 +1,4 @@
--- What holds of each element of a list, by recursion: elements that pass a test, lists that are mapped, filtered or joined, and ranges of
+-- Facts of each element of a list, by recursion: elements that pass a test, lists that are mapped, filtered or joined, and ranges of
 -- numbers.
 use Rattle.std.proofs.Common.{◌≡◌, ◌≢◌, ℕ, zero, suc, ◌+◌, ◌≤◌, ◌<◌, Bool, true, false, cond, List, [], ◌∷◌, ◌++◌, map, filter, length, get_or, slice_get, Some, ltb, refl, sym, ◌∙◌, subst, arith, le_of_eq, ⊎_elim}
 use Rattle.std.specs.List.{list_all, AllByRecursion, enumerate_from, flat_map, range_with_len}
@@ -18,7 +18,7 @@ pub each_everywhere : {X : Type 0} (P : X → Type 0) → ((x : X) → P x) → 
 each_everywhere P f [] = tt
 each_everywhere P f (x ∷ xs) = (f x, each_everywhere P f xs)
 
--- what holds of each element holds of the element at a place
+-- if P holds of each element, it holds of the element at place `k`
 pub each_at : {X : Type 0} (P : X → Type 0) (xs : List X) (k : ℕ) (x : X) → AllByRecursion P xs → k < length xs → x ≡ get_or xs k x → P x
 each_at P [] k x each l e = absurd (omega arith)
 each_at P (y ∷ xs) zero x each l e = subst P (sym e) each.0
@@ -54,7 +54,7 @@ list_all-push p [] x h k = and_from (p x) true k refl
 list_all-push p (y ∷ ys) x h k =
     let parts = and_parts (p y) (list_all p ys) h in and_from (p y) (list_all p (ys ++ x ∷ [])) parts.0 (list_all-push p ys x parts.1 k)
 
--- if all elements pass a test, the element at a place does
+-- if all elements pass a test, the element at place `k` does
 pub passes_at : {X : Type 0} (p : X → Bool) (xs : List X) (k : ℕ) (d : X) → list_all p xs ≡ true → k < length xs → p (get_or xs k d) ≡ true
 passes_at p xs k d h l = each_at (λ x. p x ≡ true) xs k (get_or xs k d) (each_from_list_all p xs h) l (get_or_default xs k d (get_or xs k d) l)
 

@@ -48,22 +48,24 @@ mul-zero a = omega (arith, ints)
 pub one-mul : (a : ℤ) → pos 1 *ℤ a ≡ a
 one-mul a = omega (arith, ints)
 
--- a positive factor on both sides can be left out or put in, of an equality or of an order
+-- a positive factor on both sides of an equality can be left out
 pub same-unscaled : (a b : ℤ) (k : ℕ) → 0 < k → pos k *ℤ a ≡ pos k *ℤ b → a ≡ b
 same-unscaled a b k p e =
     let l : (up a + down b) * k ≤ (up b + down a) * k = omega (arith, ints, e) in
     let m : (up b + down a) * k ≤ (up a + down b) * k = omega (arith, ints, e) in
     same_in a b (le_antisymm (le_of_mul-le-mul_right l p) (le_of_mul-le-mul_right m p))
 
+-- a positive factor on both sides of `≤` can be left out
 pub le-unscaled : (a b : ℤ) (k : ℕ) → 0 < k → (pos k *ℤ a) ≤ℤ (pos k *ℤ b) → a ≤ℤ b
 le-unscaled a b k p h =
     let l : (up a + down b) * k ≤ (up b + down a) * k = omega (arith, ints, le_out (pos k *ℤ a) (pos k *ℤ b) h) in
     at_most_in a b (le_of_mul-le-mul_right l p)
 
+-- both sides of `≤` can be multiplied by a natural number
 pub le-scaled : (a b : ℤ) (k : ℕ) → a ≤ℤ b → (pos k *ℤ a) ≤ℤ (pos k *ℤ b)
 le-scaled a b k h = let l = mul-le-mul_right k (le_out a b h) in omega (arith, ints, l)
 
--- the sign of a product, by the signs of its factors
+-- the product of two positive numbers is positive
 pub product-positive : (a b : ℤ) → pos 0 <ℤ a → pos 0 <ℤ b → pos 0 <ℤ (a *ℤ b)
 product-positive (pos zero) b h k = absurd (omega (arith, ints))
 product-positive (pos (suc a)) (pos zero) h k = absurd (omega (arith, ints))
@@ -71,24 +73,27 @@ product-positive (pos (suc a)) (pos (suc b)) h k = omega (arith, ints)
 product-positive (pos (suc a)) (negsuc b) h k = absurd (omega (arith, ints))
 product-positive (negsuc a) b h k = absurd (omega (arith, ints))
 
+-- the product of two numbers of at least 0 is at least 0
 pub product-not_negative : (a b : ℤ) → pos 0 ≤ℤ a → pos 0 ≤ℤ b → pos 0 ≤ℤ (a *ℤ b)
 product-not_negative (pos a) (pos b) h k = omega (arith, ints)
 product-not_negative (pos a) (negsuc b) h k = absurd (omega (arith, ints))
 product-not_negative (negsuc a) b h k = absurd (omega (arith, ints))
 
+-- the product of a number of at least 0 and one of at most 0 is at most 0
 pub product-not_positive : (a b : ℤ) → pos 0 ≤ℤ a → b ≤ℤ pos 0 → (a *ℤ b) ≤ℤ pos 0
 product-not_positive (pos a) (pos zero) h k = omega (arith, ints)
 product-not_positive (pos a) (pos (suc b)) h k = absurd (omega (arith, ints))
 product-not_positive (pos a) (negsuc b) h k = omega (arith, ints)
 product-not_positive (negsuc a) b h k = absurd (omega (arith, ints))
 
--- if the product with a positive factor is at least 0, so is the other factor; and likewise above 0
+-- if a product with a positive factor is at least 0, so is the other factor
 pub factor-not_negative : (a b : ℤ) → pos 0 <ℤ b → pos 0 ≤ℤ (a *ℤ b) → pos 0 ≤ℤ a
 factor-not_negative (pos a) b h k = omega (arith, ints)
 factor-not_negative (negsuc a) (pos zero) h k = absurd (omega (arith, ints))
 factor-not_negative (negsuc a) (pos (suc b)) h k = absurd (omega (arith, ints))
 factor-not_negative (negsuc a) (negsuc b) h k = absurd (omega (arith, ints))
 
+-- if a product with a positive factor is above 0, so is the other factor
 pub factor-positive : (a b : ℤ) → pos 0 <ℤ b → pos 0 <ℤ (a *ℤ b) → pos 0 <ℤ a
 factor-positive (pos zero) b h k = absurd (omega (arith, ints))
 factor-positive (pos (suc a)) b h k = omega (arith, ints)
@@ -128,13 +133,14 @@ same_pos m n e = omega (arith, ints)
 pub zero-mul : (z : ℤ) → pos 0 *ℤ z ≡ pos 0
 zero-mul z = omega (arith, ints)
 
--- the product of c and z, with the parts of integers above and below 0
+-- `up z - down z` is `z`: the product of `c` with `z` is `c` times `up z` less `c` times `down z`, written without differences
 pub product-parts : (c : ℕ) (z : ℤ) → up (pos c *ℤ z) + c * down z ≡ c * up z + down (pos c *ℤ z)
 product-parts c z = omega (arith, ints, product_is (pos c) z)
 
--- the absolute value of a sum or of a difference is at most the sum of the absolute values
+-- the absolute value of a sum is at most the sum of the absolute values
 pub abs-add : (a b : ℤ) → unsigned_abs (a +ℤ b) ≤ unsigned_abs a + unsigned_abs b
 abs-add a b = omega (arith, ints)
 
+-- the absolute value of a difference is at most the sum of the absolute values
 pub abs-sub : (a b : ℤ) → unsigned_abs (a -ℤ b) ≤ unsigned_abs a + unsigned_abs b
 abs-sub a b = omega (arith, ints)

@@ -19,7 +19,7 @@ pub map-map : {X Y Z : Type 0} (g : Y → Z) (f : X → Y) (xs : List X) → map
 map-map g f [] = refl
 map-map g f (x ∷ xs) = ap (λ ys. g (f x) ∷ ys) (map-map g f xs)
 
--- if x is the element at a place, reading the list at this place gives x
+-- if `x` is the element at place `k`, `slice_get` returns it there
 pub slice_get-at : {X : Type 0} (xs : List X) (k : ℕ) (d x : X) → k < length xs → x ≡ get_or xs k d → slice_get xs k ≡ Some x
 slice_get-at xs k d x l e = slice_get-get_or xs k d l ∙ ap Some (sym e)
 
@@ -34,7 +34,7 @@ get_or-enumerate_from {X} first (x ∷ xs) (suc t) d e l =
     get_or-enumerate_from (first + 1) xs t d e (omega arith)
     ∙ (let same : (first + 1) + t ≡ first + suc t = omega arith in ap (λ n. let pair : ℕ × X = (n, get_or xs t e) in pair) same)
 
--- a range that is one longer has one more number at its end
+-- a range of one number more has `first + count` at its end
 pub range-more : (first count : ℕ) → range_with_len first (suc count) ≡ range_with_len first count ++ (first + count) ∷ []
 range-more first zero = let e : first ≡ first + 0 = omega arith in ap (λ k. k ∷ []) e
 range-more first (suc count) =
@@ -46,21 +46,22 @@ numbers_more n =
     let next : n + 1 ≡ suc n = omega arith in let at : 0 + n ≡ n = omega arith in
     ap (range_with_len 0) next ∙ range-more 0 n ∙ ap (λ k. range_with_len 0 n ++ k ∷ []) at
 
--- a filtered range that is one longer: the new number is added if it passes, else nothing changes
+-- if `n` passes, the filtered numbers up to `n` are the filtered numbers below `n`, and then `n`
 pub filter_taken : (p : ℕ → Bool) (n : ℕ) → p n ≡ true → filter p (range_with_len 0 (n + 1)) ≡ filter p (range_with_len 0 n) ++ n ∷ []
 filter_taken p n t = ap (filter p) (numbers_more n) ∙ filter-append p (range_with_len 0 n) (n ∷ []) ∙ ap (λ b. filter p (range_with_len 0 n) ++ cond b (n ∷ []) []) t
 
+-- if `n` doesn't pass, the filtered numbers up to `n` are the filtered numbers below `n`
 pub filter_passed : (p : ℕ → Bool) (n : ℕ) → p n ≡ false → filter p (range_with_len 0 (n + 1)) ≡ filter p (range_with_len 0 n)
 filter_passed p n f =
     ap (filter p) (numbers_more n) ∙ filter-append p (range_with_len 0 n) (n ∷ []) ∙ ap (λ b. filter p (range_with_len 0 n) ++ cond b (n ∷ []) []) f
     ∙ append-nil (filter p (range_with_len 0 n))
 
--- two tests that agree on a range leave the same numbers of it
+-- if two tests agree on all numbers below the end of a range, filtering the range by either leaves the same numbers
 pub filter_range_same : (p q : ℕ → Bool) (first count : ℕ) → ((k : ℕ) → k < first + count → p k ≡ q k) → filter p (range_with_len first count) ≡ filter q (range_with_len first count)
 filter_range_same p q first zero e = refl
 filter_range_same p q first (suc count) e = rw (e first (omega arith), filter_range_same p q (first + 1) count (λ k l. e k (omega arith))) refl
 
--- if as many elements are true as the list has, each element is true
+-- if the number of true elements is the length of the list, each element is true
 pub all_pass : (xs : List Bool) (t : ℕ) → count_by (λ b. b) xs ≡ length xs → t < length xs → get_or xs t false ≡ true
 all_pass [] t e l = absurd (omega arith)
 all_pass (false ∷ xs) t e l = absurd (omega (arith, sum_by-cons (λ (b : Bool). cond b 1 0) false xs, count_by-le-length (λ (b : Bool). b) xs))

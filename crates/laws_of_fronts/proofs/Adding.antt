@@ -3,7 +3,7 @@ use Rattle.std.proofs.Common.{◌≡◌, ℕ, ◌+◌, ◌*◌, ◌≤◌, ◌<�
 use Rattle.std.specs.Prelude.{slice_index}
 use Rattle.laws_of_fronts.specs.Tallies.{cell, added_at}
 
--- the cells of the first `done` categories have got their share of `count` more members, and the others are as before
+-- In the first `done` categories, the cells of `values` have `count` members more than before; the other cells are unchanged.
 pub record SharesUpTo (done : ℕ) (values : List ℕ) (count : ℕ) (before after : List ℕ) : Type 0 where
   pub same : length after ≡ length before
   pub more : (c v : ℕ) → c < done → v < 50 → slice_index after (cell c v) ≡ slice_index before (cell c v) + added_at values count c v

@@ -26,7 +26,7 @@ pub each_passes : {X : Type 0} (p : X → Bool) (xs : List X) → ((i : ℕ) (x 
 each_passes p [] f = refl
 each_passes p (x ∷ xs) f = and_from (p x) (list_all p xs) (f 0 x refl) (each_passes p xs (λ i y e. f (suc i) y e))
 
--- if the first k elements pass, and so does the next one, the first k + 1 elements pass
+-- If the first k elements satisfy `p`, and so does the next one, the first k + 1 elements do.
 pub each_next : {X : Type 0} (p : X → Bool) (xs : List X) (k : ℕ) (x : X) → slice_get xs k ≡ Some x → p x ≡ true → ((i : ℕ) (y : X) → i < k → slice_get xs i ≡ Some y → p y ≡ true) →
     (i : ℕ) (y : X) → i < k + 1 → slice_get xs i ≡ Some y → p y ≡ true
 each_next p xs k x here passes earlier i y l e =
@@ -44,7 +44,7 @@ get_pushed (z ∷ zs) x y (suc i) e = elim (get_pushed zs x y i e) [
   | inr h ↦ inr (omega (arith, h.0), h.1)
 ]
 
--- one more element of `xs` has its element in `ys`
+-- If `ys` has elements for the first `done` of `xs`, and gets one for the next, it has elements for the first `done + 1`.
 pub first_more : {X Y : Type 0} {P : X → Y → Type 0} (xs : List X) (done : ℕ) (ys : List Y) (x : X) (y : Y) → FirstHave P xs done ys → slice_get xs done ≡ Some x → P x y → FirstHave P xs (done + 1) (ys ++ y ∷ [])
 first_more {P = P} xs done ys x y to here has = record {
   long = omega (arith, to.long, length-append ys (y ∷ []));

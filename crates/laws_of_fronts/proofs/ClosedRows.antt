@@ -11,14 +11,14 @@ use Rattle.laws_of_fronts.specs.Weights.{Weighs, WeighEach}
 use Rattle.laws_of_fronts.proofs.Beside.{get_set_other, get_set_same, same_at}
 use Rattle.laws_of_fronts.proofs.WeightLaws.{weighs_back, weighs_front}
 
--- the first `done` rows have the child's weights and are attained, the others have the front's weights
+-- The first `done` rows have the child's weights, and the child attains them. The other rows have the front's weights.
 pub record WeighedTo {W : Type 0} (read : W → List ℤ) (all : Classes) (rows : List Row) (front : List ℕ) (count done : ℕ) (weighings : List W) : Type 0 where
   pub same : length weighings ≡ length rows
   pub child : (i : ℕ) (row : Row) (weighing : W) → i < done → slice_get rows i ≡ Some row → slice_get weighings i ≡ Some weighing → Weighs all row (front ++ count ∷ []) (read weighing)
   pub attained : (i : ℕ) (row : Row) → i < done → slice_get rows i ≡ Some row → int_le row.b (optimistic all row (front ++ count ∷ [])) ≡ true
   pub rest : (i : ℕ) (row : Row) (weighing : W) → done ≤ i → slice_get rows i ≡ Some row → slice_get weighings i ≡ Some weighing → Weighs all row front (read weighing)
 
--- one more row has the child's weights and is attained
+-- If the next row gets the child's weights, and the child attains it, then `done + 1` rows have them.
 pub weighed_next : {W : Type 0} {read : W → List ℤ} (all : Classes) (rows : List Row) (front : List ℕ) (count done : ℕ) (weighings : List W) (row : Row) (weighing : W) → WeighedTo read all rows front count done weighings → slice_get rows done ≡ Some row →
     Weighs all row (front ++ count ∷ []) (read weighing) → int_le row.b (optimistic all row (front ++ count ∷ [])) ≡ true → WeighedTo read all rows front count (done + 1) (set weighings done weighing)
 weighed_next {W} {read} all rows front count done weighings row weighing to at weighs attains = record {
@@ -47,7 +47,7 @@ weighed_next {W} {read} all rows front count done weighings row weighing to at w
         let made : w ≡ weighing = get_set_same weighings done i weighing w same f in
         subst (λ q. Weighs all q (front ++ count ∷ []) (read w)) (sym is) (subst (λ v. Weighs all row (front ++ count ∷ []) (read v)) (sym made) weighs)
 
--- each row still has the front's weights, as the child's begin with them
+-- Each row still has the front's weights, since the child's weights begin with them.
 pub still_weighed : {W : Type 0} {read : W → List ℤ} (all : Classes) (rows : List Row) (front : List ℕ) (count done : ℕ) (weighings : List W) → WeighedTo read all rows front count done weighings → WeighEach read all rows front weighings
 still_weighed {W} {read} all rows front count done weighings to = record {
   one_each = to.same;
@@ -58,7 +58,7 @@ still_weighed {W} {read} all rows front count done weighings to = record {
       ]) refl;
 }
 
--- this holds also with one more row, which the child doesn't attain
+-- If row `done` gets the child's weights, whether or not the child attains it, each row still has the front's weights.
 pub weighed_at : {W : Type 0} {read : W → List ℤ} (all : Classes) (rows : List Row) (front : List ℕ) (count done : ℕ) (weighings : List W) (row : Row) (weighing : W) → WeighEach read all rows front weighings → slice_get rows done ≡ Some row →
     Weighs all row (front ++ count ∷ []) (read weighing) → WeighEach read all rows front (set weighings done weighing)
 weighed_at {W} {read} all rows front count done weighings row weighing each at weighs = record {
@@ -76,14 +76,14 @@ weighed_at {W} {read} all rows front count done weighings row weighing each at w
         let made : w ≡ weighing = get_set_same weighings done i weighing w same f in
         subst (λ q. Weighs all q front (read w)) (sym is) (subst (λ v. Weighs all row front (read v)) (sym made) (weighs_front all row front count (read weighing) weighs))
 
--- if all rows are done, each has the child's weights
+-- If all rows are done, each has the child's weights.
 pub all_weighed : {W : Type 0} {read : W → List ℤ} (all : Classes) (rows : List Row) (front : List ℕ) (count done : ℕ) (weighings : List W) → WeighedTo read all rows front count done weighings → length rows ≤ done → WeighEach read all rows (front ++ count ∷ []) weighings
 all_weighed {W} {read} all rows front count done weighings to l = record {
   one_each = to.same;
   each = λ i r w e f. let within = slice_get_within rows i r e in to.child i r w (omega arith) e f;
 }
 
--- the child's weights in each row are weights of the front that the child begins with
+-- If each row has the child's weights, each has the weights of the front that the child begins with.
 pub each_back : {W : Type 0} {read : W → List ℤ} (all : Classes) (rows : List Row) (front child back : List ℕ) (count : ℕ) (weighings : List W) → child ≡ front ++ count ∷ [] → back ≡ front →
     WeighEach read all rows child weighings → WeighEach read all rows back weighings
 each_back {read = read} all rows front child back count weighings e f weighs = record {

@@ -1,4 +1,4 @@
--- A front as the first counts of a longer list, a child in its place, and what the next class can give.
+-- A front as the first counts of a longer list, a child of it there, and how much the next class can give.
 use Rattle.std.proofs.Common.{◌≡◌, ℕ, zero, suc, ◌+◌, ◌≤◌, ◌<◌, true, false, ltb, List, [], ◌∷◌, ◌++◌, length, take, drop, set, map, get_or, Some, refl, sym, ap, ◌∙◌, arith, subst, length-append}
 use Rattle.std.specs.Prelude.{slice_get, slice_index}
 use Rattle.std.proofs.Math.Seq.{take-length}
@@ -13,7 +13,7 @@ use Rattle.define_searches.specs.Fronts.{sizes_of}
 use Rattle.laws_of_fronts.specs.Front.{AreWithin, CanTake, FrontTally, Tracks, Stands}
 use Rattle.laws_of_fronts.proofs.WeightLaws.{element_at}
 
--- the front of a search is the first `depth` counts
+-- if there are at least `depth` counts, the front made of the first `depth` of them has the length `depth`
 pub front_length : (depth : ℕ) (counts : List ℕ) (n : ℕ) → length counts ≡ n → depth ≤ n → length (take depth counts) ≡ depth
 front_length depth counts n e le = length-take-le depth counts (omega arith)
 

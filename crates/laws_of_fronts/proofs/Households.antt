@@ -1,4 +1,4 @@
--- Of each household at most one member is taken.
+-- Whether at most one member is taken of each household.
 use Rattle.std.proofs.Common.{◌≡◌, ℕ, ◌+◌, ◌≤◌, Bool, true, false, cond, eqb, leb, List, [], ◌∷◌, ◌++◌, length, Option, Some, None, refl, sym, ap, ◌∙◌, arith, subst}
 use Rattle.std.specs.Prelude.{slice_index}
 use Rattle.std.proofs.lemmas.Bool.{eqb-true, eq-eqb, false≢true, false_from_ne_true}
@@ -25,7 +25,7 @@ small_homes all front rest tally small tracks = λ h l.
 pub few_homes : (all : Classes) (front : List ℕ) (rest : List Class) (tally : FrontTally) → KeepsLimits all → is_reachable all front ≡ true → Tracks all front rest tally → AreFew tally.homes
 few_homes all front rest tally limits live tracks = small_homes all front rest tally (omega (arith, few_taken all front (λ class. true) limits live)) tracks
 
--- the counter of a class's household says whether the front takes at most one member of it
+-- `has_room` for 0 more members is true exactly if the front takes at most one member of the class's household.
 pub home_alive : (all : Classes) (front : List ℕ) (i : ℕ) (class : Class) (rest : List Class) (tally : FrontTally) → KeepsLimits all → Stands all i class → Tracks all front rest tally →
     (household : Option ℕ) → household ≡ class.household → has_room tally.homes household 0 ≡ takes_one_of all.classes front household
 home_alive all front i class rest tally limits stands tracks None same = refl
@@ -51,7 +51,7 @@ module _ (all : Classes) (front : List ℕ) (class : Class) (count : ℕ) (rest 
   abbrev of : ℕ → Class → Bool
   of h class = is_of_household h class.household
 
-  -- how many members of a household the child takes
+  -- the child takes `count` more members of household `h` than the front if the class is of household `h`, and else as many
   more_of : (h : ℕ) → taken_of (of h) all.classes (front ++ count ∷ []) ≡ taken_of (of h) all.classes front + cond (is_of_household h class.household) count 0
   more_of h = taken_more all front class count stands (of h)
 
@@ -69,7 +69,7 @@ module _ (all : Classes) (front : List ℕ) (class : Class) (count : ℕ) (rest 
       let sum : taken_of (of k) all.classes (front ++ count ∷ []) ≡ taken_of (of k) all.classes front = omega (arith, more) in
       ap (λ n. leb n 1) sum
 
-  -- if the class's household has room, the child takes at most one member of each household of which the front does
+  -- If the class's household has room, the child takes at most one member of each household of which the front takes at most one.
   still_one : (own : Option ℕ) → own ≡ class.household → has_room tally.homes own count ≡ true → (household : Option ℕ) →
       takes_one_of all.classes front household ≡ true → takes_one_of all.classes (front ++ count ∷ []) household ≡ true
   still_one own same room None e = refl

@@ -3,7 +3,8 @@ use Rattle.std.proofs.Common.{◌≡◌, ℕ, ◌+◌, ◌≤◌, true, false, c
 use Rattle.std.specs.Prelude.{is_some}
 use Rattle.define_searches.specs.Visits.{Search as Due}
 
--- what two searches in turn find, and their visits: those of the first, and of the second if the first finds nothing
+-- Two searches in turn find what the first finds, or else what the second finds. Their visits are those of the first, and also those of the
+-- second if the first finds nothing.
 abbrev pub then_next : Due → Due → Due
 then_next one rest = cond (is_some one.found) one (record { visits = one.visits + rest.visits; found = rest.found })
 

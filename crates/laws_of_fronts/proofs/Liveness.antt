@@ -1,4 +1,4 @@
--- What a tally says of whether fronts are live.
+-- How a tally shows whether fronts are reachable.
 use Rattle.std.proofs.Common.{◌≡◌, ℕ, zero, suc, ◌+◌, ◌<◌, Bool, true, false, cond, ◌&&◌, leb, List, [], ◌∷◌, ◌++◌, length, drop, Some, refl, sym, ap, ◌∙◌, arith, subst, length-append}
 use Rattle.std.specs.Prelude.{slice_get, slice_index, slice_index_or}
 use Rattle.std.specs.List.{list_all, enumerate_from}
@@ -55,7 +55,7 @@ later_of_child all front count = ap (λ n. drop n all.classes) (length-append fr
 reach_equal : (lower upper a a' m m' : ℕ) → a ≡ a' → m ≡ m' → (leb a upper && leb lower (a + m)) ≡ (leb a' upper && leb lower (a' + m'))
 reach_equal lower upper a a' m m' e f = rw (e, f) refl
 
--- for a value of the class, the tally with `count` more says whether the child can meet the bounds
+-- For a value of the class, the tally with `count` more members shows whether the child can meet the bounds.
 own_reach : (all : Classes) (front : List ℕ) (class : Class) (count : ℕ) (tally : FrontTally) → Stands all (length front) class → Tracks all front (drop (length front + 1) all.classes) tally →
     (c v : ℕ) (bound : Bounds) → c < length all.bounds → v < 50 → has_value c v class ≡ true →
     value_reachable all (front ++ count ∷ []) c (v, bound) ≡ reaches bound tally.held tally.later count c v

@@ -1,4 +1,4 @@
--- Classes that are made of the right parts are the classes of the pool.
+-- Classes that code makes of the right size, bounds and list are the classes of the pool.
 use Rattle.std.proofs.Common.{◌≡◌, ℕ, Bool, List, map, length, sym, ap, ◌∙◌, subst}
 use Rattle.define_pools.specs.Pool.{Pool, IsPool}
 use Rattle.define_searches.specs.declared.Bounds.{Bounds}

@@ -5,7 +5,7 @@ use Rattle.define_pools.specs.Lists.{includes}
 use Rattle.define_searches.specs.Classes.{Class, Classes, volunteer_count}
 use Rattle.define_searches.specs.Compositions.{is_taken, first_panel}
 
--- the volunteer is among the first members of the class, as many as the count beside it
+-- `volunteer` is among the members that are taken of a class: of a pair (class, count), the first `count` members of the class
 abbrev pub gives : ℕ → Class × ℕ → Bool
 gives volunteer pair = includes (take pair.1 pair.0.members) volunteer
 

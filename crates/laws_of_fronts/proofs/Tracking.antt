@@ -73,7 +73,7 @@ taken_within_all p (class ∷ classes) (c ∷ counts) =
       | false ↦ omega arith
     ]
 
--- a live front takes at most 200 members who pass a test
+-- If a front is reachable, it takes at most 200 members of classes that satisfy `p`.
 pub few_taken : (all : Classes) (front : List ℕ) (p : Class → Bool) → KeepsLimits all → is_reachable all front ≡ true → taken_of p all.classes front ≤ 200
 few_taken all front p limits live =
     let both = and_parts (size_reachable all front && values_reachable all front) (takes_one_a_household all.classes front) live in
@@ -86,7 +86,8 @@ few_taken all front p limits live =
 pub split_at : (all : Classes) (front : List ℕ) → length front ≤ length all.classes → Split all (take (length front) all.classes) (drop (length front) all.classes) front
 split_at all front few = record { whole = sym (take-append-drop (length front) all.classes); fits = sym (length-take-le (length front) all.classes few) }
 
--- how many members a front takes with `count` more of the next class
+-- If a front takes `count` of the next class, it takes `count` more members of classes that satisfy `p` if the next class does, and else no
+-- more.
 pub taken_more : (all : Classes) (front : List ℕ) (class : Class) (count : ℕ) → Stands all (length front) class → (p : Class → Bool) →
     taken_of p all.classes (front ++ count ∷ []) ≡ taken_of p all.classes front + cond (p class) count 0
 taken_more all front class count stands p =
@@ -98,7 +99,7 @@ taken_more all front class count stands p =
 
 -- ---- steps of a tally
 
--- a class begins: its most is subtracted from what the later classes give
+-- If a class begins, its most is subtracted from what the later classes give, and the tally is right for the classes after it.
 pub begun : (all : Classes) (front : List ℕ) (class : Class) (rest : List Class) (before after : FrontTally) → HasPlaces all.bounds class → Tracks all front (class ∷ rest) before →
     after.taken ≡ before.taken → after.held ≡ before.held → after.later_taken + class.most ≡ before.later_taken → HasMore class.values class.most after.later before.later →
     after.homes ≡ before.homes → Tracks all front rest after
@@ -113,7 +114,7 @@ begun all front class rest before after places tracks e f g more homes = record 
   later = λ c v a b. omega (arith, more.cells c v (omega (arith, places.one_each)) b, tracks.later c v a b, most_more (has_value c v) class rest);
 }
 
--- a class ends: its most is added to what the later classes give
+-- If a class ends, its most is added to what the later classes give, and the tally is right with the class to come.
 pub ended : (all : Classes) (front : List ℕ) (class : Class) (rest : List Class) (before after : FrontTally) → HasPlaces all.bounds class → Tracks all front rest before →
     after.taken ≡ before.taken → after.held ≡ before.held → after.later_taken ≡ before.later_taken + class.most → HasMore class.values class.most before.later after.later →
     after.homes ≡ before.homes → Tracks all front (class ∷ rest) after
@@ -128,7 +129,7 @@ ended all front class rest before after places tracks e f g more homes = record 
   later = λ c v a b. omega (arith, more.cells c v (omega (arith, places.one_each)) b, tracks.later c v a b, most_more (has_value c v) class rest);
 }
 
--- `count` members of the class are taken
+-- If `count` members of the class are taken, the tally is right for the child.
 pub taken_on : (all : Classes) (front : List ℕ) (class : Class) (count : ℕ) (rest : List Class) (before after : FrontTally) → HasPlaces all.bounds class → Stands all (length front) class → Tracks all front rest before →
     after.taken ≡ before.taken + count → after.later ≡ before.later → after.later_taken ≡ before.later_taken → HasMore class.values count before.held after.held →
     HasMoreAt class.household count before.homes after.homes → Tracks all (front ++ count ∷ []) rest after
@@ -143,7 +144,7 @@ taken_on all front class count rest before after places stands tracks e f g more
   later = λ c v a b. ap (λ cells. slice_index cells (cell c v)) f ∙ tracks.later c v a b;
 }
 
--- `count` members of the class are given back
+-- If `count` members of the class are given back, the tally is right for the front again.
 pub given_back : (all : Classes) (front : List ℕ) (class : Class) (count : ℕ) (rest : List Class) (before after : FrontTally) → HasPlaces all.bounds class → Stands all (length front) class → Tracks all (front ++ count ∷ []) rest before →
     after.taken + count ≡ before.taken → after.later ≡ before.later → after.later_taken ≡ before.later_taken → HasMore class.values count after.held before.held →
     HasMoreAt class.household count after.homes before.homes → Tracks all front rest after
@@ -166,7 +167,7 @@ most_small all i p limits =
     let whole = most_of_members p all.classes (recursion_from_All (λ (class : Class). class.most ≤ length class.members) all.classes limits.most) in
     omega (arith, limits.few_members)
 
--- the first classes together give at most 400 members
+-- The first `i` classes together give at most 400 members.
 pub first_small : (all : Classes) (i : ℕ) (p : Class → Bool) → KeepsLimits all → most_given p (take i all.classes) ≤ 400
 first_small all i p limits =
     let part = sum_by-take-le (λ class. cond (p class) class.most 0) all.classes i in
@@ -176,7 +177,7 @@ first_small all i p limits =
 pub few_given : (all : Classes) (i n total : ℕ) (cells : List ℕ) → KeepsLimits all → n ≡ length all.bounds → Gives all (take i all.classes) total cells → AreAtMost 1000000 n cells
 few_given all i n total cells limits e gives = λ c v a b. omega (arith, gives.each c v (omega arith) b, first_small all i (has_value c v) limits)
 
--- a list of zeros is a list of cells that are all at most 0
+-- In a list of zeros each cell is at most 0.
 pub zero_cells : (n categories : ℕ) (cells : List ℕ) → cells ≡ replicate n 0 → length cells ≡ 50 * categories → AreAtMost 0 categories cells
 zero_cells n categories cells e room = λ c v a b.
     let size : length cells ≡ n = ap length e ∙ length-replicate n 0 in
@@ -184,7 +185,7 @@ zero_cells n categories cells e room = λ c v a b.
     let is : slice_index cells (cell c v) ≡ 0 = ap (λ cells. slice_index cells (cell c v)) e ∙ get_or-replicate n (cell c v) 0 0 below in
     omega arith
 
--- the tally of the empty front: nothing is taken, and all classes come later
+-- A tally in which nothing is taken and all classes come later is right for the empty front.
 pub starts : (all : Classes) (cells : List ℕ) (tally : FrontTally) → tally.taken ≡ 0 → AreAtMost 0 (length all.bounds) tally.held → length tally.held ≡ 50 * length all.bounds →
     tally.later ≡ cells → Gives all all.classes tally.later_taken cells → (n : ℕ) → n ≡ volunteer_count all → tally.homes ≡ replicate n 0 → Tracks all [] all.classes tally
 starts all cells tally e none room f gives n count homes = record {
@@ -210,7 +211,7 @@ few_held all front rest n tally limits e live tracks = small_held all front rest
 pub own_value : (class : Class) (c : ℕ) → has_value c (slice_index class.values c) class ≡ true
 own_value class c = eq-eqb (slice_index class.values c) (slice_index class.values c) refl
 
--- a class that is still to come has its most counted in the cells of its values, so it can be subtracted
+-- If a class is still to come, its most is counted in the cells of its values, so it can be subtracted.
 pub can_leave : (all : Classes) (front : List ℕ) (class : Class) (rest : List Class) (tally : FrontTally) → KeepsLimits all → HasPlaces all.bounds class → Tracks all front (class ∷ rest) tally → CanGive class.values tally.later class.most
 can_leave all front class rest tally limits places tracks c below =
     let v = slice_index class.values c in
@@ -220,7 +221,7 @@ can_leave all front class rest tally limits places tracks c below =
     let more : most_given (has_value c v) (class ∷ rest) ≡ cond true class.most 0 + most_given (has_value c v) rest = most_more (has_value c v) class rest ∙ ap (λ b. cond b class.most 0 + most_given (has_value c v) rest) own in
     omega (arith, tracks.later c v (omega (arith, places.one_each)) (omega arith))
 
--- the members that a child takes of a class are counted in the cells of its values, so they can be given back
+-- If a child takes `count` members of a class, they are counted in the cells of its values, so they can be given back.
 pub can_give_back : (all : Classes) (front : List ℕ) (class : Class) (count : ℕ) (rest : List Class) (tally : FrontTally) → KeepsLimits all → HasPlaces all.bounds class → Stands all (length front) class →
     Tracks all (front ++ count ∷ []) rest tally → CanGive class.values tally.held count
 can_give_back all front class count rest tally limits places stands tracks c below =
@@ -273,7 +274,7 @@ fit_same bounds bounds' cells cells' e f fit = subst (λ x. FitCells x cells) (s
 pub fit_cells : (all : Classes) (cells : List ℕ) → KeepsLimits all → length cells ≡ 50 * length all.bounds → FitCells all.bounds cells
 fit_cells all cells limits e = record { few = λ c below. few_places all limits c below; room = omega arith }
 
--- the classes after a front are the next class and those after it
+-- If a tally is right for a front and all classes after it, it is right for the front, the next class and the classes after this class.
 pub with_next : (all : Classes) (front : List ℕ) (class : Class) (tally : FrontTally) → Stands all (length front) class → Tracks all front (drop (length front) all.classes) tally → Tracks all front (class ∷ drop (length front + 1) all.classes) tally
 with_next all front class tally stands tracks = subst (λ rest. Tracks all front rest tally) (comes_next all (length front) class stands) tracks
 

@@ -1,4 +1,4 @@
--- The greatest sums of units: with one more unit, with the units of one more class, and how wide they are.
+-- The greatest sums of units: with one more unit, with the units of one more class, and bounds on their absolute values.
 use Rattle.std.proofs.Common.{◌≡◌, ℕ, zero, suc, ◌+◌, ◌*◌, ◌^◌, ◌≤◌, ◌<◌, true, false, cond, eqb, ltb, List, [], ◌∷◌, ◌++◌, length, take, drop, set, map, fold, replicate, ℤ, pos, ◌+ℤ◌, refl, sym, ap, ◌∙◌, arith, mul-le-mul_right, subst, length-append}
 use Rattle.std.specs.Prelude.{int_le, unsigned_abs}
 use Rattle.std.specs.Int.{int_max}
@@ -84,7 +84,7 @@ greater_is some many count p q r p' q' r' d e f h k =
       | false ↦ λ t. let l = ltb-false some count t in h.some_left l ∙ ap (λ x. int_max x q) e ∙ ap (int_max p') f ∙ sym (k.some_left (omega arith))
     ]) refl
 
--- if `before` has the greatest sums of some units, `after` has those with one more unit
+-- If `before` has the greatest sums of the units `us`, `after` has those of `us` and one more unit of weight `weight`.
 pub greatest_more : (us : List ℤ) (weight : ℤ) (many : ℕ) (before after : List ℤ) → many ≡ length us → AreGreatest us before → HasUnit many weight before after → AreGreatest (weight ∷ us) after
 greatest_more us weight many before after e greatest has zero l = has.none ∙ greatest 0 (omega (arith, has.same))
 greatest_more us weight many before after e greatest has (suc n) l =
@@ -93,7 +93,7 @@ greatest_more us weight many before after e greatest has (suc n) l =
     greater_is many (length (falling us)) (suc n) _ _ _ _ _ _ (omega (arith, length-falling us)) (greatest (suc n) (omega (arith, has.same))) (ap (λ z. z +ℤ weight) (greatest n (omega (arith, has.same)))) has_next
     (put_sum weight (falling us) n (falling_falls us))
 
--- the sums while they are replaced in place, from the greatest count down: those of the greatest counts have the new unit already
+-- The sums while they are replaced in place, from the greatest count down: the last `done` sums have the new unit already.
 pub record PutFrom (many : ℕ) (weight : ℤ) (before : List ℤ) (done : ℕ) (sums : List ℤ) : Type 0 where
   pub same : length sums ≡ length before
   pub low : (n : ℕ) → n + done ≤ length before → at sums n ≡ at before n
@@ -134,7 +134,7 @@ pub put_all : (many : ℕ) (weight : ℤ) (before : List ℤ) (done : ℕ) (sums
 put_all many weight [] done sums from l m = record { same = from.same; none = nothing_at sums from.same; some = λ n k. absurd (omega arith) }
 put_all many weight (x ∷ before) done sums from l m = record { same = from.same; none = from.low 0 (omega (arith, m (omega arith))); some = λ n k. from.high n (omega arith) k }
 
--- ---- how wide they are
+-- ---- bounds on absolute values
 
 -- the sum of the absolute values of a list
 abbrev pub width : List ℤ → ℕ
@@ -170,7 +170,7 @@ pub same_units_width : (m : ℕ) (x : ℤ) (us : List ℤ) → width (replicate 
 same_units_width zero x us = omega arith
 same_units_width (suc m) x us = omega (arith, same_units_width m x us)
 
--- if no class gives more than its members, the absolute values of its units sum to at most size times absolute entry
+-- if no class gives more than its members, the absolute values of all units sum to at most the sum of sizes times absolute entries
 pub units_width : (classes : List Class) (entries : List ℤ) → AllByRecursion (λ class. class.most ≤ length class.members) classes → width (units classes entries) ≤ sum_of_sizes (map (λ class. length class.members) classes) entries
 units_width [] entries h = omega arith
 units_width (class ∷ classes) [] h = omega arith
@@ -180,7 +180,7 @@ units_width (class ∷ classes) (x ∷ entries) h =
 
 -- ---- the units of the classes from a place on
 
--- the units from a place on are those of the class in this place and those of the classes after it
+-- The units from a place on are the units of the class in this place, and then those of the classes after it.
 pub units_next : (all : Classes) (entries : List ℤ) (place : ℕ) (class : Class) → Stands all place class → length entries ≡ length all.classes →
     units_from all entries place ≡ replicate class.most (at entries place) ++ units_from all entries (place + 1)
 units_next all entries place class stands e =
@@ -204,7 +204,8 @@ pub units_narrow : (all : Classes) (entries : List ℤ) (place : ℕ) → KeepsL
 units_narrow all entries place limits narrow =
     omega (arith, drop_units place all.classes entries, units_width all.classes entries (recursion_from_All (λ (class : Class). class.most ≤ length class.members) all.classes limits.most), narrow.narrow)
 
--- one more unit of a class can be added, within 128 bits, to a greatest sum of its units so far and those of the classes after it
+-- One more unit of a class can be added within 128 bits to a greatest sum of the `done` units of the class so far and all units of the
+-- later classes.
 pub unit_fits : (all : Classes) (entries : List ℤ) (place : ℕ) (class : Class) (done n : ℕ) → KeepsLimits all → AreNarrow all entries → Stands all place class → done < class.most →
     unsigned_abs (sum_of (take n (falling (replicate done (at entries place) ++ units_from all entries (place + 1))))) + unsigned_abs (at entries place) < 2 ^ 127
 unit_fits all entries place class done n limits narrow stands below =
@@ -232,7 +233,7 @@ pub greatest_same : (all : Classes) (entries : List ℤ) (p q : ℕ) (before aft
 greatest_same all entries p q before after e f greatest =
     subst (λ q. AreGreatest (units_from all entries q) after) e (subst (AreGreatest (units_from all entries p)) (sym f) greatest)
 
--- the table with one more line, for one more class
+-- A table with the sums of one more class appended has one line more.
 pub table_more : (all : Classes) (entries : List ℤ) (lines place : ℕ) (table sums : List ℤ) → lines + place ≡ length all.classes → HoldsSums all entries lines table → length sums ≡ all.size + 1 →
     AreGreatest (units_from all entries place) sums → HoldsSums all entries (lines + 1) (table ++ sums)
 table_more all entries lines place table sums e holds long greatest = record {

@@ -1,4 +1,4 @@
--- The weights of fronts, and how wide they are.
+-- The weights of fronts, and bounds on their absolute values.
 use Rattle.std.proofs.Common.{◌≡◌, ℕ, zero, suc, ◌+◌, ◌-◌, ◌*◌, ◌^◌, ◌≤◌, ◌<◌, true, false, ◌&&◌, eqb, leb, List, [], ◌∷◌, ◌++◌, length, sum_by, take, drop, set, map, get_or, ℤ, pos, ◌+ℤ◌, ◌*ℤ◌, refl, sym, ap, ◌∙◌, arith, mul-le-mul_right, subst, length-append}
 use Rattle.std.specs.Prelude.{unsigned_abs, slice_index}
 use Rattle.std.specs.List.{AllByRecursion}
@@ -20,7 +20,7 @@ use Rattle.laws_of_fronts.specs.Weights.{at, cell_of, AreNarrow, HoldsSums, Weig
 use Rattle.laws_of_fronts.proofs.UnitSums.{width, greatest_width, units_width}
 use Rattle.laws_of_fronts.proofs.Tracking.{taken_more}
 
--- the weight of a front with `count` members of the next class
+-- If a front takes `count` of the next class, its weight grows by `count` times the class's entry.
 pub weight_more : (entries : List ℤ) (front : List ℕ) (count : ℕ) → length front < length entries → weight_in entries (front ++ count ∷ []) ≡ weight_in entries front +ℤ pos count *ℤ at entries (length front)
 weight_more [] front count l = absurd (omega arith)
 weight_more (x ∷ []) [] count l = omega (arith, ints)
@@ -47,7 +47,8 @@ front_width (class ∷ classes) (x ∷ entries) (c ∷ front) count most e l wit
     let sum = abs_sum_le (pos c *ℤ x) (weight_in entries front) (c * unsigned_abs x) (unsigned_abs (weight_in entries front)) (omega (arith, unsigned_abs-mul (pos c) x)) (omega arith) in
     omega (arith, here, rest, sum)
 
--- the weight of a child fits 128 bits
+-- the absolute values of the front's weight, of what `count` members of the next class add, and of a greatest sum of later units sum to
+-- below 2 ^ 127
 pub child_narrow : (all : Classes) (entries : List ℤ) (front : List ℕ) (count n : ℕ) → KeepsLimits all → AreNarrow all entries → length front < length all.classes → AreWithin all (front ++ count ∷ []) →
     unsigned_abs (weight_in entries front) + count * unsigned_abs (at entries (length front)) + unsigned_abs (greatest_sum n (drop (length front + 1) all.classes) (drop (length front + 1) entries)) < 2 ^ 127
 child_narrow all entries front count n limits narrow below within =
@@ -70,7 +71,7 @@ front_width_whole (class ∷ classes) (x ∷ entries) (c ∷ front) most e l wit
     let sum = abs_sum_le (pos c *ℤ x) (weight_in entries front) (c * unsigned_abs x) (unsigned_abs (weight_in entries front)) (omega (arith, unsigned_abs-mul (pos c) x)) (omega arith) in
     omega (arith, here, rest, sum)
 
--- the optimistic weight of a front fits 128 bits
+-- a front's weight plus any greatest sum of units of the later classes has an absolute value below 2 ^ 127
 pub front_narrow : (all : Classes) (entries : List ℤ) (front : List ℕ) (n : ℕ) → KeepsLimits all → AreNarrow all entries → length front ≤ length all.classes → AreWithin all front →
     unsigned_abs (weight_in entries front +ℤ greatest_sum n (drop (length front) all.classes) (drop (length front) entries)) < 2 ^ 127
 front_narrow all entries front n limits narrow few within =
@@ -84,7 +85,7 @@ front_narrow all entries front n limits narrow few within =
       abs_sum_le (weight_in entries front) greatest (unsigned_abs (weight_in entries front)) (unsigned_abs greatest) (omega arith) (omega arith),
     )
 
--- the place in the table for the units that a child lacks is in the table
+-- If `later` is at most the number of classes and `count` at most the size, their cell is in the table.
 pub cell_within : (all : Classes) (later count : ℕ) (entries table : List ℤ) → HoldsSums all entries (length all.classes + 1) table → later ≤ length all.classes → count ≤ all.size → cell_of all later count < length table
 cell_within all later count entries table holds l m = omega (arith, holds.room, mul-add-lt later (all.size + 1) count (length all.classes + 1) (omega arith) (omega arith))
 
@@ -100,7 +101,8 @@ optimistic_child all row front count lack narrow below f =
 pub weight_fits : (x : ℤ) (count : ℕ) (a : ℤ) → unsigned_abs (x +ℤ pos count *ℤ a) ≤ unsigned_abs x + count * unsigned_abs a
 weight_fits x count a = abs_sum_le x (pos count *ℤ a) (unsigned_abs x) (count * unsigned_abs a) (omega arith) (omega (arith, unsigned_abs-mul (pos count) a))
 
--- a child's weight and optimistic weight, as they are computed from the front's weight, an entry and the table
+-- `made` is a child's weight and `greatest` the greatest sum of the units that it lacks, so that both sum to its optimistic weight, within
+-- 128 bits.
 pub record IsChild (all : Classes) (row : Row) (front : List ℕ) (count : ℕ) (made greatest : ℤ) : Type 0 where
   pub weight : made ≡ weight_in row.a front +ℤ pos count *ℤ at row.a (length front)
   pub narrow : unsigned_abs (made +ℤ greatest) < 2 ^ 127
@@ -151,26 +153,26 @@ weighs_child all row front count before after narrow below weighs e = record {
         ∙ sym (weight_more row.a front count (omega (arith, narrow.one_each)))
         ∙ ap (weight_in row.a) (sym (ap (λ n. take n (front ++ count ∷ [])) size ∙ take-length (front ++ count ∷ [])))
 
--- the child's weights in a row are weights of the front that the child begins with
+-- If a list has the child's weights in a row, it has the weights of the front that the child begins with.
 pub weighs_front : (all : Classes) (row : Row) (front : List ℕ) (count : ℕ) (weighing : List ℤ) → Weighs all row (front ++ count ∷ []) weighing → Weighs all row front weighing
 weighs_front all row front count weighing weighs = record {
   room = weighs.room;
   each = λ depth l. weighs.each depth (omega (arith, length-append front (count ∷ []))) ∙ ap (weight_in row.a) (take-append-le depth front (count ∷ []) l);
 }
 
--- the same if the front and the child are only equal to those of the search
+-- If a list has the weights of `child`, which is the front and one more count, it has those of `back`, which equals the front.
 pub weighs_back : (all : Classes) (row : Row) (front child back : List ℕ) (count : ℕ) (weighing : List ℤ) → child ≡ front ++ count ∷ [] → back ≡ front → Weighs all row child weighing → Weighs all row back weighing
 weighs_back all row front child back count weighing e f weighs =
     subst (λ x. Weighs all row x weighing) (sym f) (weighs_front all row front count weighing (subst (λ x. Weighs all row x weighing) e weighs))
 
--- the weights of the empty front
+-- If the list begins with 0, it has the weights of the empty front.
 pub weighs_none : (all : Classes) (row : Row) (weighing : List ℤ) → length weighing ≡ length all.classes + 1 → at weighing 0 ≡ pos 0 → Weighs all row [] weighing
 weighs_none all row weighing room none = record {
   room = room;
   each = λ depth l. let e : depth ≡ 0 = omega arith in ap (at weighing) e ∙ none ∙ sym (no_weight row.a) ∙ ap (λ n. weight_in row.a (take n [])) (sym e);
 }
 
--- the first counts of a front are within the classes' sizes too
+-- If a front's counts are within the classes' sizes, so are its first `depth` counts.
 pub within_first : (all : Classes) (front : List ℕ) (depth : ℕ) → AreWithin all front → depth ≤ length front → AreWithin all (take depth front)
 within_first all front depth within few t l =
     let long = length-take-le depth front few in
@@ -185,7 +187,7 @@ within_first all front depth within few t l =
     same_at (x ∷ xs) (suc n) zero m = refl
     same_at (x ∷ xs) (suc n) (suc t) m = same_at xs n t (omega arith)
 
--- counts within the classes' sizes take at most all members
+-- If counts are within the classes' sizes, they take at most all members.
 within_members : (classes : List Class) (counts : List ℕ) → ((t : ℕ) → t < length counts → slice_index counts t ≤ slice_index (map (λ class. length class.members) classes) t) →
     taken_of (λ class. true) classes counts ≤ sum_by (λ class. length class.members) classes
 within_members [] counts within = omega arith
@@ -223,7 +225,7 @@ element_at [] i l = absurd (omega arith)
 element_at (x ∷ xs) zero l = (x, refl)
 element_at (x ∷ xs) (suc i) l = element_at xs i (omega arith)
 
--- how many members a front takes with `count` members of the next class
+-- If a front takes `count` of the next class, it takes `count` members more.
 pub taken_next : (all : Classes) (front : List ℕ) (count : ℕ) → length front < length all.classes → taken_by all (front ++ count ∷ []) ≡ taken_by all front + count
 taken_next all front count below =
     let class = element_at all.classes (length front) below in

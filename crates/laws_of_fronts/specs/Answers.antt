@@ -1,4 +1,5 @@
--- What a search answers that has all its memory. Over Visits. Both searches' own answers, with want of memory, are over it.
+-- The answer of a search that doesn't run out of memory. Over Visits. Both searches have answers of their own, with want of memory, over
+-- it.
 use Rattle.std.specs.Prelude.{◌≡◌, ◌≤◌, ◌<◌, ℕ, List, Option, Result, Ok, Err}
 use Rattle.define_searches.specs.Visits.{Search}
 

@@ -14,8 +14,8 @@ pub record FrontTally : Type 0 where
   pub later : List ℕ
   pub homes : List ℕ
 
--- the tally is right for a front and the classes to come: how many the front takes in all, of each value and of each household, and how
--- many these classes give at most, in all and of each value
+-- the tally is right for `front` and the classes `to_come`: how many the front takes in all, of each value and of each household, and how
+-- many the classes to come give at most, in all and of each value
 pub record Tracks (all : Classes) (front : List ℕ) (to_come : List Class) (tally : FrontTally) : Type 0 where
   pub taken : tally.taken ≡ taken_by all front
   pub later_taken : tally.later_taken ≡ most_given (λ class. true) to_come
@@ -26,7 +26,7 @@ pub record Tracks (all : Classes) (front : List ℕ) (to_come : List Class) (tal
   pub homes_cells : length tally.homes ≡ volunteer_count all
   pub homes : (h : ℕ) → h < volunteer_count all → slice_index tally.homes h ≡ taken_of (λ class. is_of_household h class.household) all.classes front
 
--- the most that these classes give, in all (`total`) and of each value (`cells`)
+-- the most that the classes in `classes` give, in all (`total`) and of each value (`cells`)
 pub record Gives (all : Classes) (classes : List Class) (total : ℕ) (cells : List ℕ) : Type 0 where
   pub in_all : total ≡ most_given (λ class. true) classes
   pub room : length cells ≡ 50 * length all.bounds
@@ -40,7 +40,7 @@ AreWithin all counts = (t : ℕ) → t < length counts → slice_index counts t 
 abbrev pub CanTake : Classes → ℕ → ℕ → Type 0
 CanTake all depth count = (class : Class) → slice_get all.classes depth ≡ Some class → count ≤ length class.members
 
--- this is the class in place i
+-- `class` is the class in place `i`
 pub record Stands (all : Classes) (i : ℕ) (class : Class) : Type 0 where
   pub below : i < length all.classes
   pub is : class ≡ get_or all.classes i class

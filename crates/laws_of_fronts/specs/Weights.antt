@@ -7,7 +7,7 @@ use Rattle.define_searches.specs.Classes.{Classes}
 use Rattle.define_searches.specs.Compositions.{weight_in}
 use Rattle.define_searches.specs.Fronts.{sizes_of, units, falling, sum_of, greatest_sum}
 
--- the number in a place
+-- the number in place `i`, or 0 if there is none
 abbrev pub at : List ℤ → ℕ → ℤ
 at xs i = slice_index_or xs i (pos 0)
 
@@ -26,17 +26,17 @@ pub record IsGreater (units count : ℕ) (without with_it result : ℤ) : Type 0
   pub all_taken : units < count → result ≡ with_it
   pub some_left : count ≤ units → result ≡ int_max without with_it
 
--- `before` has the greatest sums of 0, 1, 2 and more of `units` units, and `after` those with one more unit of this weight
+-- `before` has the greatest sums of 0, 1, 2 and more of `units` units, and `after` those with one more unit of weight `weight`
 pub record HasUnit (units : ℕ) (weight : ℤ) (before after : List ℤ) : Type 0 where
   pub same : length after ≡ length before
   pub none : at after 0 ≡ at before 0
   pub some : (n : ℕ) → n + 1 < length before → IsGreater units (n + 1) (at before (n + 1)) (at before n +ℤ weight) (at after (n + 1))
 
--- `sums` has the greatest sums of 0, 1, 2 and more of these units
+-- `sums` has the greatest sums of 0, 1, 2 and more of the units in `units`
 abbrev pub AreGreatest : List ℤ → List ℤ → Type 0
 AreGreatest units sums = (n : ℕ) → n < length sums → at sums n ≡ sum_of (take n (falling units))
 
--- the units of the classes from a place on
+-- the units of the classes from `place` on
 abbrev pub units_from : Classes → List ℤ → ℕ → List ℤ
 units_from all entries place = units (drop place all.classes) (drop place entries)
 
@@ -54,7 +54,7 @@ pub record HoldsSums (all : Classes) (entries : List ℤ) (lines : ℕ) (table :
 abbrev pub IsSummed : Classes → Row → List ℤ → Type 0
 IsSummed all row sums = HoldsSums all row.a (length all.classes + 1) sums
 
--- there is such a table for each of the rows; `read` reads it out of an `S`
+-- each row has an element of `sums`, in order, whose table (by `read`) has all the greatest sums in that row
 abbrev pub SumEach : {S : Type 0} → (S → List ℤ) → Classes → List Row → List S → Type 0
 SumEach read all rows sums = EachHas (λ row here. IsSummed all row (read here)) rows sums
 
@@ -63,7 +63,7 @@ pub record Weighs (all : Classes) (row : Row) (front : List ℕ) (weights : List
   pub room : length weights ≡ length all.classes + 1
   pub each : (depth : ℕ) → depth ≤ length front → at weights depth ≡ weight_in row.a (take depth front)
 
--- there are such weights for each of the rows; `read` reads them out of a `W`
+-- each row has an element of `weights`, in order, whose list (by `read`) has the weights in that row, as `Weighs` says
 abbrev pub WeighEach : {W : Type 0} → (W → List ℤ) → Classes → List Row → List ℕ → List W → Type 0
 WeighEach read all rows front weights = EachHas (λ row here. Weighs all row front (read here)) rows weights
 

@@ -1,5 +1,5 @@
-//! What a search keeps of the front where it is: how many the front takes of each value and each household, and what it weighs in rows.
-//! The definitions are in `specs/`, over plain numbers and lists, and the laws in `proofs/`. Stands on `define_searches`. Above: the
-//! solver's searches (`panel_search`) and the check's own (`check_search`), which share no code; `alike` cites the households. There is
-//! no function: the contracts of both searches cite the definitions, and their proofs the laws.
+//! What a search counts at the front that it has entered: how many members the front takes of each value and each household, and what it
+//! weighs in rows. The definitions are in `specs/`, over plain numbers and lists, and the laws in `proofs/`. Stands on `define_searches`.
+//! Used by the solver's searches (`panel_search`) and the check's own (`check_search`), which share no code, and by `alike` for the
+//! households. There is no function: the contracts of both searches cite the definitions, and their proofs the laws.
 #![tactic(auto)]

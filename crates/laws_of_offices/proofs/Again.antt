@@ -1,4 +1,4 @@
--- Commands given again: each in its case.
+-- The laws of commands that are given again, by command.
 use Rattle.std.proofs.Common.{◌≡◌, ℕ, Bool, true, false, cond, eqb, not, List, [], ◌∷◌, Option, Some, None, refl, sym, ap, subst}
 use Rattle.std.specs.List.{AllByRecursion}
 use Rattle.std.specs.Prelude.{codes}
@@ -39,7 +39,7 @@ pub same_rules_itself : (rules : List Category) → same_rules rules rules ≡ t
 same_rules_itself [] = refl
 same_rules_itself (category ∷ rules) = rw (same_bytes category.name, same_values_itself category.values, same_rules_itself rules) refl
 
--- what a reply to a charter or to rules leaves
+-- a reply to a charter makes no change if the charter is kept already, else `change`
 pub set_or_same : (kept enrolling : Bool) (change : Change) (same set : Reply) (late : Refusal) (answer : Option Change) (reply : Reply) →
     cond kept (Replies None same) (cond enrolling (Replies (Some change) set) (Refuses late)) ≡ Replies answer reply → (kept ≡ true → answer ≡ None) × (kept ≡ false → answer ≡ Some change)
 set_or_same true enrolling change same set late answer reply h = (λ _. cc, λ e. absurd (false≢true (sym e)))
@@ -61,7 +61,7 @@ charter_again tables charter change reply (AtOnce h) =
     let kept = charter_kept tables charter change reply (is_charter_kept tables.charter charter) refl (cc) in rw kept refl
 charter_again tables charter change reply (ByRun number limits pool ending same needs ends is) = absurd (cc)
 
--- rules have a third refusal
+-- a reply to rules makes no change if they are kept already, else `change`
 pub rules_set_or_same : (kept enrolling fit : Bool) (change : Change) (same set : Reply) (late other : Refusal) (answer : Option Change) (reply : Reply) →
     cond kept (Replies None same) (cond (not enrolling) (Refuses late) (cond fit (Replies (Some change) set) (Refuses other))) ≡ Replies answer reply → (kept ≡ true → answer ≡ None) × (kept ≡ false → answer ≡ Some change)
 rules_set_or_same true enrolling fit change same set late other answer reply h = (λ _. cc, λ e. absurd (false≢true (sym e)))

@@ -1,4 +1,4 @@
--- Each bundle that is kept was answered: no other change brings a bundle. So in whatever commands leave each bundle is certified.
+-- Only an answer brings a bundle into the tables, and each answer is certified. So each bundle that commands leave is certified.
 use Rattle.std.proofs.Common.{◌≡◌, ℕ, zero, suc, Bool, true, false, cond, eqb, not, ◌&&◌, List, [], ◌∷◌, ◌++◌, length, Option, Some, None, Result, Ok, Err, refl, sym, ◌∙◌, subst, ⊎_elim}
 use Rattle.std.specs.List.{AllByRecursion, list_all}
 use Rattle.std.specs.Str.{bytes_eq}
@@ -120,7 +120,7 @@ stays_solves (Refuses refusal) stays = refl
 stays_solves (Stops ending) stays = refl
 stays_solves (Unproved refusal) stays = refl
 
--- a proof may bring a bundle at once
+-- true of each command except `Keep`. A proof alone may bring a bundle without a run
 abbrev BringsNone : Command → Type 0
 BringsNone (SetCharter charter) = Unit {0}
 BringsNone (SetRules rules) = Unit {0}

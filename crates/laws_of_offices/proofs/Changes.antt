@@ -1,4 +1,4 @@
--- Tables of which a part is changed keep what tables keep.
+-- The facts of `IsTables` still hold after a part of the tables is changed.
 use Rattle.std.proofs.Common.{◌≡◌, ℕ, zero, suc, Bool, true, List, [], ◌∷◌, ◌++◌, map, length, Option, Some, None, is_some, refl, sym, ap, ◌∙◌, subst, ⊎_elim}
 use Rattle.std.specs.List.{list_all}
 use Rattle.std.proofs.lemmas.Bool.{false≢true}
@@ -8,12 +8,13 @@ use Rattle.define_offices.specs.Facts.{IsTables, KeepsRound, closed_but_last, en
 use Rattle.define_offices.specs.Steps.{withdrawn_at}
 use Rattle.laws_of_offices.proofs.Rounds.{IsChanged, closed-changed, closed-push, round_at-changed, round_at-push}
 
--- what rounds keep of tables, in other tables that have charter and rules where these have, and the same ids
+-- the tables `new` have a charter if `old` have one, have rules if `old` have them, and have the same ids
 pub record HasSame (old new : Tables) : Type 0 where
   pub charter : is_some old.charter ≡ true → is_some new.charter ≡ true
   pub rules : is_some old.rules ≡ true → is_some new.rules ≡ true
   pub ids : entry_ids old.register ≡ entry_ids new.register
 
+-- if `new` has the same as `old`, `KeepsRound` holds over `new` of each round of which it holds over `old`
 pub KeepsRound-in : (old new : Tables) → HasSame old new → (round : Round) → KeepsRound old round → KeepsRound new round
 KeepsRound-in old new same Open kept = tt
 KeepsRound-in old new same (Solved bundle) kept =
@@ -38,7 +39,7 @@ one_open : (tables : Tables) (place : ℕ) (round : Round) → round_at (Open �
 one_open tables zero round h = let same : Open ≡ round = cc in subst (KeepsRound tables) same tt
 one_open tables (suc place) round h = absurd (cc)
 
--- whatever charter, rules and rows there are
+-- while volunteers are enrolled, each round is open, so `KeepsRound` holds of it
 pub open_rounds : (tables : Tables) → is_enrolling tables.rounds ≡ true → (place : ℕ) (round : Round) → round_at tables.rounds place ≡ Some round → KeepsRound tables round
 open_rounds tables enrolling place round h = one_open tables place round (subst (λ rounds. round_at rounds place ≡ Some round) (enrolling_rounds tables.rounds enrolling) h)
 
@@ -58,7 +59,7 @@ with_rounds tables rounds keeps closed each = record {
   rounds = λ place round at. KeepsRound-in tables (record tables { rounds = rounds }) (record { charter = λ h. h; rules = λ h. h; ids = refl }) round (each place round at);
 }
 
--- one round is changed, and takes no drop away
+-- if a change keeps drops, and `KeepsRound` holds of the changed round, the facts hold of the tables with this round changed
 module _ (tables : Tables) (keeps : IsTables tables) (change : Round → Round) (drops : (round : Round) → has_drop round ≡ true → has_drop (change round) ≡ true) where
   changed_place : (place : ℕ) → ((old : Round) → round_at tables.rounds place ≡ Some old → KeepsRound tables (change old)) →
       IsTables (record tables { rounds = changed_at change tables.rounds place })
@@ -73,7 +74,7 @@ module _ (tables : Tables) (keeps : IsTables tables) (change : Round → Round) 
   changed_keeps zero right = with_rounds tables tables.rounds keeps keeps.closed keeps.rounds
   changed_keeps (suc place) right = changed_place place right
 
--- one more round
+-- if the last round has a drop, the facts still hold after an open round is added at the end
 pub pushed_keeps : (tables : Tables) → IsTables tables → (place : ℕ) (round : Round) → round_at tables.rounds place ≡ Some round → suc place ≡ length tables.rounds → has_drop round ≡ true →
     IsTables (record tables { rounds = tables.rounds ++ Open ∷ [] })
 pushed_keeps tables keeps place round at end drop =

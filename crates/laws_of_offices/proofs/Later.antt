@@ -1,4 +1,4 @@
--- What later tables keep of earlier ones, whatever commands came between.
+-- What later tables keep of earlier ones, after any commands.
 use Rattle.std.proofs.Common.{◌≡◌, ℕ, zero, suc, true, List, [], ◌∷◌, ◌++◌, Some, None, refl, sym, ap, ◌∙◌, subst}
 use Rattle.std.proofs.lemmas.List.{append_assoc, append-nil}
 use Rattle.define_bundles.specs.BundleText.{Bundle}
@@ -8,7 +8,7 @@ use Rattle.define_offices.specs.Steps.{LeadThrough, apply, drawn_by, dropped_out
 
 -- ---- rounds
 
--- how a round may have gone on
+-- `Grows round later`: later tables may have `later` in the place of `round`
 pub data Grows : Round → Round → Type 0 where
   FromOpen : (next : Round) → Grows Open next
   StaysSolved : (bundle : Bundle) → Grows (Solved bundle) (Solved bundle)
@@ -59,7 +59,7 @@ dropping_grows id (Solved other) = StaysSolved other
 dropping_grows id (Sealed other) = StaysSealed other
 dropping_grows id (Drawn other digits dropped) = MoreDrops other digits dropped (id ∷ []) (dropped ++ id ∷ []) refl
 
--- the round of a place, later
+-- the round at `place` in later tables, which has grown from `round`
 pub record HasGrown (rounds : List Round) (place : ℕ) (round : Round) : Type 0 where
   pub next : Round
   pub there : round_at rounds place ≡ Some next
@@ -92,7 +92,7 @@ pushed_grow (first ∷ rounds) last (suc place) round at =
 
 -- ---- rows
 
--- a row, later: only that somebody withdraws is new
+-- the later row `other` is the row `one`, except that its volunteer may have withdrawn since
 pub record IsSameRow (one other : Entry) : Type 0 where
   pub id : one.id ≡ other.id
   pub hash : one.hash ≡ other.hash
@@ -166,7 +166,7 @@ after_extends tables (Refuses refusal) = extends_itself tables
 after_extends tables (Stops ending) = extends_itself tables
 after_extends tables (Unproved refusal) = extends_itself tables
 
--- whatever commands come between
+-- tables after any commands extend those before
 pub through_extends : (before : Tables) (commands : List Command) (after : Tables) → LeadThrough before commands after → Extends before after
 through_extends before [] after leads = subst (Extends before) (sym leads) (extends_itself before)
 through_extends before (command ∷ later) after (next, (leads, rest)) =

@@ -1,4 +1,4 @@
--- A change always changes something.
+-- If a reply comes with a change, the tables differ after it.
 use Rattle.std.proofs.Common.{◌≡◌, ◌≢◌, ℕ, zero, suc, ◌+◌, Bool, true, false, cond, eqb, not, ◌&&◌, List, [], ◌∷◌, ◌++◌, length, Option, Some, None, Result, Ok, Err, refl, sym, ap, ◌∙◌, arith, subst, length-append}
 use Rattle.std.specs.List.{list_all}
 use Rattle.std.specs.Str.{bytes_eq}
@@ -21,14 +21,14 @@ use Rattle.laws_of_offices.proofs.Repeats.{begun, dropped_so, named_there, same_
 use Rattle.laws_of_offices.proofs.RowsAgain.{place_from, withdrawal}
 use Rattle.laws_of_offices.proofs.Steps.{Answers, Leaves, Settles, proof_settles, solve_settles}
 
--- ---- a list that got longer is another one
+-- ---- a list that got longer is a different list
 
 longer : {A : Type 0} (xs : List A) (x : A) (more : List A) → xs ++ x ∷ more ≡ xs → ⊥
 longer xs x more same = let n = length-append xs (x ∷ more) in let e = ap length same in omega arith
 
 -- ---- rounds
 
--- the round of a number is another one after the change, so the rounds are
+-- if `change` alters the round with `number`, it alters the list of rounds
 round_changes : (change : Round → Round) (rounds : List Round) (number : ℕ) (round : Round) → named_round rounds number ≡ Some round → (change round ≡ round → ⊥) → changed_named change rounds number ≡ rounds → ⊥
 round_changes change rounds number round at differs same =
     let there = named_there change rounds number round at in
@@ -112,7 +112,7 @@ module _ (tables : Tables) (change : Change) (reply : Reply) where
       let is = begun tables tables number round change reply (eqb number (length tables.rounds)) refl h in
       longer tables.rounds Open [] (of_rounds Begun is.same same)
 
-  -- somebody who had not withdrawn has now
+  -- marking a row as withdrawn alters the register, if its volunteer had not withdrawn
   withdrawal_changes : (register : List Entry) (hash : List ℕ) (i q place : ℕ) (entry : Entry) → place_of_hash register hash i ≡ Some (place, entry) → place ≡ i + q → entry.withdrawn ≡ false → withdrawn_at register q ≡ register → ⊥
   withdrawal_changes [] hash i q place entry h at not same = cc
   withdrawal_changes (e ∷ register) hash i zero place entry h at not same = by (bytes_eq hash e.hash) h

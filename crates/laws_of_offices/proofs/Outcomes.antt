@@ -1,4 +1,4 @@
--- What each command comes to leaves tables that keep what tables keep.
+-- The facts of `IsTables` hold of the tables after each outcome of a command.
 use Rattle.std.proofs.Common.{◌≡◌, ℕ, zero, suc, Bool, true, false, cond, eqb, not, ◌&&◌, List, [], ◌∷◌, ◌++◌, length, Option, Some, None, is_ok, Result, Ok, Err, refl, ap, subst}
 use Rattle.std.specs.List.{list_all}
 use Rattle.std.specs.Str.{bytes_eq}
@@ -26,7 +26,7 @@ use Rattle.laws_of_offices.proofs.Changes.{changed_keeps, open_rounds, pushed_ke
 use Rattle.laws_of_offices.proofs.Register.{RowsKeep, late_adds_nothing, sorted_keep}
 
 module _ (tables : Tables) (keeps : IsTables tables) where
-  -- what comes of a command leaves tables
+  -- the facts hold of the tables after `outcome`
   abbrev pub IsKept : Outcome → Type 0
   IsKept outcome = IsTables (tables_after tables outcome)
 
@@ -58,7 +58,7 @@ module _ (tables : Tables) (keeps : IsTables tables) where
       if_else (is_charter_kept tables.charter charter) _ _ (λ _. keeps)
       (λ _. if_else (is_enrolling tables.rounds) _ _ (λ enrolling. charter_set charter is enrolling) (λ _. keeps))
 
-  -- the same names of values fit the same rows
+  -- if `same_names` holds of the names of two lists of values, the lists have equal names
   same_value : (one other : List BoundedValue) → same_names (value_names one) (value_names other) ≡ true → value_names one ≡ value_names other
   same_value [] [] h = refl
   same_value [] (v ∷ other) h = absurd (false≢true h)
@@ -82,6 +82,7 @@ module _ (tables : Tables) (keeps : IsTables tables) where
       let rest = same_known kept rules parts.1 names in
       (rw (values, rest.0) refl, ap suc rest.1)
 
+  -- categories with the same names of values fit the same rows
   fits_as : (kept rules : List Category) → same_shape kept rules ≡ true → (register : List Entry) → list_all (λ (e : Entry). fits_rules kept e.values) register ≡ true →
       list_all (λ (e : Entry). fits_rules rules e.values) register ≡ true
   fits_as kept rules shape [] h = refl
@@ -162,7 +163,7 @@ module _ (tables : Tables) (keeps : IsTables tables) where
   keep_drops_sealing (Sealed bundle) h = h
   keep_drops_sealing (Drawn bundle digits dropped) h = h
 
-  -- the round of a number keeps what a round keeps
+  -- `KeepsRound` holds of the round with `number`, if there is one
   named_keeps : (number : ℕ) (round : Round) → named_round tables.rounds number ≡ Some round → KeepsRound tables round
   named_keeps zero round h = absurd (cc)
   named_keeps (suc place) round h = keeps.rounds place round h
@@ -184,7 +185,7 @@ module _ (tables : Tables) (keeps : IsTables tables) where
   keep_drops_drawing digits (Sealed bundle) h = absurd (false≢true h)
   keep_drops_drawing digits (Drawn bundle other dropped) h = h
 
-  -- what is drawn is drawn by digits that name a ticket
+  -- if a draw returns a panel, its digits name a ticket
   drawn_named : (bundle : Bundle) (given digits : List ℕ) (drawn : draws.Drawn) → draw bundle.answer.lottery (bundle_seal bundle) given digits ≡ Ok drawn → is_ok (name_ticket bundle.answer.lottery.total digits) ≡ true
   drawn_named bundle given digits drawn h = by (is_seal (bundle_seal bundle) given) (name_ticket bundle.answer.lottery.total digits) h
     where

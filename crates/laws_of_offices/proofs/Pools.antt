@@ -1,4 +1,4 @@
--- The pool of a round keeps what each pool keeps, and has the register's ids.
+-- The pool of a round satisfies `IsPool`, and has the register's ids.
 use Rattle.std.proofs.Common.{◌≡◌, ℕ, zero, suc, ◌+◌, Bool, true, ltb, eqb, List, [], ◌∷◌, map, length, Option, Some, None, Ok, unwrap_or, refl, sym, ap, ◌∙◌, arith, subst}
 use Rattle.std.specs.List.{list_all}
 use Rattle.std.proofs.lemmas.Bool.{and_from, and_parts, eqb-true, lt-ltb}
@@ -47,7 +47,7 @@ IsPool-restood other pool p = record {
 
 -- ---- the register's rows as volunteers
 
--- known names give a place in each category
+-- if there is one name for each category, and it is known there, the names' places are values of the categories
 has_values_places : (categories : List Category) (names : List (List ℕ)) → are_known categories names ≡ true → length names ≡ length categories → has_values categories (places_of categories names) ≡ true
 has_values_places [] names h k = refl
 has_values_places (category ∷ categories) [] h k = absurd (omega arith)
@@ -134,7 +134,7 @@ module _ (tables : Tables) (keeps : IsTables tables) (charter : Charter) (catego
   round_is_pool place (Drawn bundle digits dropped) at =
       let kept = (keeps.rounds place (Drawn bundle digits dropped) at).0 in record { is_pool = kept.is_bundle.is_pool; same_ids = kept.same_ids }
 
--- a round has a pool only where charter and rules are there
+-- the pool satisfies `IsPool` and has the register's ids, and there are a charter and rules
 pub record HasPool (tables : Tables) (pool : Pool) : Type 0 where
   pub is : IsRoundPool tables pool
   pub charter : Charter

@@ -1,4 +1,4 @@
--- Rows that are sorted into a register keep what its rows keep, and none is added once enrolling is over.
+-- Rows added by an import keep the facts of a register, and none is added once enrolling is over.
 use Rattle.std.proofs.Common.{◌≡◌, ℕ, ◌<◌, Bool, true, false, cond, leb, not, ◌&&◌, ◌||◌, List, [], ◌∷◌, ◌++◌, length, Option, Some, None, Result, Ok, Err, refl, sym, ap, ◌∙◌, arith, subst}
 use Rattle.std.specs.List.{list_all}
 use Rattle.std.specs.Str.{bytes_eq}
@@ -56,7 +56,7 @@ unknown_hash : (register : List Entry) (hash : List ℕ) → with_hash register 
 unknown_hash [] hash h = refl
 unknown_hash (entry ∷ register) hash h = unknown_by (bytes_eq hash entry.hash) entry (with_hash register hash) (includes_list (entry_hashes register) hash) (unknown_hash register hash) h
 
--- ---- what rows keep
+-- ---- the facts of the register's rows
 
 pub record RowsKeep (categories : List Category) (register : List Entry) : Type 0 where
   pub few : leb (length register) 400 ≡ true
@@ -80,7 +80,7 @@ RowsKeep-push rounds categories register given keeps is fits new =
 
 -- ---- rows one by one
 
--- what comes of a row and the later rows
+-- `sorted` is the result for a row, taken as `this`, and for the `rows` after it, whose own result is `later`
 pub record IsSortedAs (rounds : List Round) (register : List Entry) (given : Given) (rows : List Given) (sorted : Sorted) (this : RowCase) : Type 0 where
   pub later : Sorted
   pub there : sorted_rows rounds (register_after this register given) rows ≡ Ok later
@@ -128,7 +128,7 @@ module _ (rounds : List Round) (categories : List Category) where
           subst (λ added. RowsKeep categories (register ++ added)) added (again register s.later keeps s.there)
       by (IsRefused refusal) e s i f again = absurd (let is = s.is in cc)
 
--- once enrolling is over nothing is added
+-- once enrolling is over, an import adds no row
 pub late_adds_nothing : (rounds : List Round) → is_enrolling rounds ≡ false → (register : List Entry) (rows : List Given) (sorted : Sorted) → sorted_rows rounds register rows ≡ Ok sorted → sorted.added ≡ []
 late_adds_nothing rounds over register [] sorted h = cc
 late_adds_nothing rounds over register (given ∷ rows) sorted h =

@@ -1,4 +1,4 @@
--- A command that made a change changes nothing when it is given again, whatever came between.
+-- If a command made a change, it changes nothing when it is given again after any other commands.
 use Rattle.std.proofs.Common.{◌≡◌, ℕ, zero, suc, ◌+◌, ◌<◌, Bool, true, false, cond, eqb, not, List, [], ◌∷◌, ◌++◌, length, Option, Some, None, Result, Ok, Err, refl, sym, ap, ◌∙◌, arith, subst}
 use Rattle.std.specs.Str.{bytes_eq}
 use Rattle.std.proofs.lemmas.Bool.{eqb-true}
@@ -28,7 +28,7 @@ same_bytes xs = (bytes_eq-Decides xs xs).1 refl
 
 -- ---- the round of a number, later
 
--- the round of a number has gone on from this one
+-- the round with `number` has grown from `round`
 record GoesOn (rounds : List Round) (number : ℕ) (round : Round) : Type 0 where
   next : Round
   there : named_round rounds number ≡ Some next
@@ -47,7 +47,7 @@ pub named_there : (change : Round → Round) (rounds : List Round) (number : ℕ
 named_there change rounds zero round at = absurd (cc)
 named_there change rounds (suc place) round at = changed_there change rounds place round at
 
--- the round that was changed, later
+-- in later tables, the round that was changed has grown from the changed round
 goes_on : (change : Round → Round) (rounds new : List Round) (number : ℕ) (round : Round) → named_round rounds number ≡ Some round → RoundsGrow (changed_named change rounds number) new → GoesOn new number (change round)
 goes_on change rounds new number round at grow = named_goes_on (changed_named change rounds number) new grow number (change round) (named_there change rounds number round at)
 
@@ -82,7 +82,7 @@ module _ (before later : Tables) where
   kept_tells (IsSealed bundle) number proof = refl
   kept_tells (IsDrawn bundle digits dropped) number proof = refl
 
-  -- a solve or a proof by which the round got its answer, given again
+  -- a solve or a proof that is given again for an answered round has the reply `reply`, and changes nothing
   pub record IsAnsweredAgain (number : ℕ) (reply : Reply) : Type 0 where
     pub by_solve : solve_in later number (named_round later.rounds number) ≡ IsDecided (Replies None reply)
     pub by_proof : (proof : Proof) → keep_in later number proof (named_round later.rounds number) ≡ Replies None reply

@@ -1,11 +1,11 @@
--- Rounds of which one is changed, and one more round.
+-- Lists of rounds after one round is changed, or one is added.
 use Rattle.std.proofs.Common.{◌≡◌, ℕ, zero, suc, true, List, [], ◌∷◌, ◌++◌, length, Some, ◌⊎◌, inl, inr, refl, ap, ◌∙◌, arith}
 use Rattle.std.proofs.lemmas.Bool.{and_from, and_parts, false≢true}
 use Rattle.define_bundles.specs.BundleText.{Bundle}
 use Rattle.define_offices.specs.Tables.{Round, Open, Solved, Sealed, Drawn, changed_at, round_at}
 use Rattle.define_offices.specs.Facts.{closed_but_last, has_drop}
 
--- a round of changed rounds is as it was, or is the changed one
+-- `round` is what `change` makes of the round at `place`
 pub record IsChanged (change : Round → Round) (rounds : List Round) (place : ℕ) (round : Round) : Type 0 where
   pub old : Round
   pub there : round_at rounds place ≡ Some old
@@ -20,7 +20,7 @@ round_at-changed change (first ∷ rounds) (suc p) zero round h = inl h
 round_at-changed change (first ∷ rounds) (suc p) (suc q) round h =
     elim (round_at-changed change rounds p q round h) [ inl same ↦ inl same | inr changed ↦ inr (record { old = changed.old; there = changed.there; is = changed.is }) ]
 
--- the rounds but the last stay closed by a change that takes no drop away
+-- if a change keeps drops, the rounds before the last stay closed
 pub closed-changed : (change : Round → Round) → ((round : Round) → has_drop round ≡ true → has_drop (change round) ≡ true) → (rounds : List Round) (p : ℕ) →
     closed_but_last rounds ≡ true → closed_but_last (changed_at change rounds p) ≡ true
 closed-changed change keeps [] p h = h
@@ -36,7 +36,7 @@ closed-changed change keeps (round ∷ next ∷ later) (suc (suc p)) h =
     let parts = and_parts (has_drop round) (closed_but_last (next ∷ later)) h in
     and_from (has_drop round) (closed_but_last (next ∷ changed_at change later p)) parts.0 (closed-changed change keeps (next ∷ later) (suc p) parts.1)
 
--- a round is as it was, or is the one that was pushed
+-- after one round is added, a round is an earlier one or the added one
 pub round_at-push : (rounds : List Round) (last : Round) (q : ℕ) (round : Round) → round_at (rounds ++ last ∷ []) q ≡ Some round →
     (round_at rounds q ≡ Some round) ⊎ (round ≡ last)
 round_at-push [] last zero round h = inr (cc)
@@ -44,7 +44,7 @@ round_at-push [] last (suc q) round h = inl h
 round_at-push (first ∷ rounds) last zero round h = inl h
 round_at-push (first ∷ rounds) last (suc q) round h = round_at-push rounds last q round h
 
--- behind a last round with a drop another one may begin
+-- if the last round has a drop, `closed_but_last` still holds after a round is added at the end
 pub closed-push : (rounds : List Round) (place : ℕ) (round last : Round) → closed_but_last rounds ≡ true → round_at rounds place ≡ Some round → suc place ≡ length rounds → has_drop round ≡ true →
     closed_but_last (rounds ++ last ∷ []) ≡ true
 closed-push [] place round last h at end drop = absurd (cc)
@@ -55,7 +55,7 @@ closed-push (first ∷ next ∷ later) (suc place) round last h at end drop =
     let parts = and_parts (has_drop first) (closed_but_last (next ∷ later)) h in
     and_from (has_drop first) (closed_but_last ((next ∷ later) ++ last ∷ [])) parts.0 (closed-push (next ∷ later) place round last parts.1 at (omega arith) drop)
 
--- a round before another one was drawn
+-- `round` is drawn
 pub record IsDrawn (round : Round) : Type 0 where
   pub bundle : Bundle
   pub digits : List ℕ

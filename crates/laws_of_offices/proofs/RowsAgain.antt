@@ -1,4 +1,4 @@
--- Rows that were registered are counted as repeated later, and who withdrew has withdrawn.
+-- If rows were registered, a later import counts them as repeated. If a volunteer withdrew, a later register has the withdrawal.
 use Rattle.std.proofs.Common.{◌≡◌, ℕ, zero, suc, ◌+◌, ◌≤◌, Bool, true, false, cond, leb, not, ◌&&◌, List, [], ◌∷◌, ◌++◌, length, Option, Some, None, Result, Ok, Err, refl, sym, ap, ◌∙◌, arith, subst, add-one, add-zero}
 use Rattle.std.specs.List.{AllByRecursion, list_all}
 use Rattle.std.specs.Str.{bytes_eq}
@@ -87,7 +87,7 @@ kept_repeated : (rounds : List Round) (register : List Entry) (given : Given) (f
 kept_repeated rounds register given (Some entry) at h = record { entry = entry; there = at; so = is_repeated_by (is_kept_so entry given) _ h }
 kept_repeated rounds register given None at h = absurd (new_is_not_repeated rounds register (with_hash register (seal_of given.key)) h)
 
--- each row that was sorted is kept
+-- if an import takes rows, the register after it has each of them
 pub all_kept : (rounds : List Round) (register : List Entry) (rows : List Given) (sorted : Sorted) → sorted_rows rounds register rows ≡ Ok sorted → AllByRecursion (KeptRow (register ++ sorted.added)) rows
 all_kept rounds register [] sorted h = tt
 all_kept rounds register (given ∷ rows) sorted h =
@@ -108,7 +108,7 @@ all_kept rounds register (given ∷ rows) sorted h =
         (kept_append register s.later.added given (kept_repeated rounds register given (with_id register given.id) refl e), again register s.later s.there)
     by (IsRefused refusal) e s again = absurd (let is = s.is in cc)
 
--- ---- the same, later
+-- ---- kept rows in later tables
 
 pub record FoundLater (register : List Entry) (id : List ℕ) (entry : Entry) : Type 0 where
   pub later : Entry
@@ -137,7 +137,7 @@ kept_later old new given stay kept =
     let so : is_kept_so found.later given ≡ true = rw (← same.hash, ← same.values, ← same.household) kept.so in
     record { entry = found.later; there = found.there; so = so }
 
--- rows that are kept are all repeated
+-- if the register has all rows of an import, all are counted as repeated
 all_repeated : (rounds : List Round) (register : List Entry) (rows : List Given) → AllByRecursion (KeptRow register) rows → sorted_rows rounds register rows ≡ Ok (record { added = []; repeated = length rows })
 all_repeated rounds register [] kept = refl
 all_repeated rounds register (given ∷ rows) kept =
@@ -156,7 +156,7 @@ kept_fits categories register given fit kept =
 
 -- ---- the import again
 
--- rows are there, so rules are
+-- if rows were added, there are rules
 rules_with_rows : (rules : Option (List Category)) (register : List Entry) (old added : List Entry) (change : Change) → addition added ≡ Some change → RowsStay (old ++ added) register → rows_fit rules register ≡ true →
     (categories : List Category) × (rules ≡ Some categories)
 rules_with_rows (Some categories) register old added change some stay fit = (categories, refl)

@@ -1,4 +1,4 @@
--- Each step leaves tables that keep the facts, and so does each list of commands. A command comes to one outcome.
+-- Each step and each list of commands leaves tables of which the facts hold. A command has one outcome.
 use Rattle.std.proofs.Common.{◌≡◌, ℕ, zero, suc, Bool, true, false, cond, List, [], ◌∷◌, ◌++◌, Option, Some, None, is_some, Result, Ok, Err, refl, sym, ap, ◌∙◌, subst}
 use Rattle.std.specs.List.{AllByRecursion}
 use Rattle.std.proofs.lemmas.Bool.{false≢true}
@@ -21,12 +21,13 @@ use Rattle.define_runs.specs.Keeps.{AreLimits}
 use Rattle.define_runs.specs.Run as run
 use Rattle.define_runs.specs.Run.{Ending, Limits, RunEnds, run_limits}
 use Rattle.define_runs.proofs.OtherLimits.{one_ending}
+use Rattle.define_runs.proofs.Work.{every_run_end}
 use Rattle.laws_of_runs.proofs.Certified.{found_certified}
 use Rattle.laws_of_runs.proofs.NoPanels.{none_where_no_panel}
 use Rattle.laws_of_runs.proofs.Ranges.{found_in_ranges}
 use Rattle.define_offices.specs.Tables.{Round, Open, Solved, Sealed, Drawn, Tables, first_tables, named_round, round_at}
 use Rattle.define_offices.specs.Commands.{Command, SetCharter, SetRules, Register, Solve, Keep, Seal, Draw, Drop, NextRound, Show, Withdraw, Outcome, Replies, Refuses, Refusal, Stops, Unproved}
-use Rattle.define_offices.specs.Deciding.{Answered, Finds, FindsNone, IsDecided, NeedsRun, answered, asked, asked_over, is_same_pool, keep_in, kept_by, kept_over, no_round, proof_pool, shown, solve_in, solved, place_of_hash, tells}
+use Rattle.define_offices.specs.Deciding.{Answered, Asked, Finds, FindsNone, IsDecided, NeedsRun, answered, asked, asked_over, is_same_pool, keep_in, kept_by, kept_over, no_round, proof_pool, shown, solve_in, solved, place_of_hash, tells}
 use Rattle.define_offices.specs.Facts.{IsCommand, IsTables, KeepsBundle, KeepsRound, has_drop}
 use Rattle.define_offices.specs.Lines.{solved_line}
 use Rattle.define_offices.specs.Pools.{pool_of}
@@ -37,7 +38,7 @@ use Rattle.laws_of_offices.proofs.Pools.{pool_of_has}
 
 -- ---- answers that are right
 
--- certified, and in the ranges of a bundle
+-- the answer is certified, and in the ranges of a bundle
 pub record IsProved (pool : Pool) (answer : Answer) : Type 0 where
   pub in_ranges : IsInRanges pool answer
   pub certified : Certifies pool answer.lottery answer.stages
@@ -46,7 +47,7 @@ abbrev pub IsRight : Pool → Answered → Type 0
 IsRight pool (Finds answer) = IsProved pool answer
 IsRight pool FindsNone = panels pool ≡ []
 
--- an outcome that leaves the tables
+-- an outcome at which the tables stay as they are
 abbrev pub Stays : Outcome → Type 0
 Stays (Replies None reply) = Unit {0}
 Stays (Replies (Some change) reply) = ⊥
@@ -64,12 +65,12 @@ stays_after tables (Unproved refusal) stays = refl
 stays_so : (told outcome : Outcome) → Stays told → IsDecided told ≡ IsDecided outcome → Stays outcome
 stays_so told outcome stays h = let e : told ≡ outcome = cc in subst Stays e stays
 
--- the round is open, and has a pool
+-- the round with `number` is open, and has the pool `pool`
 pub record IsOpenRound (tables : Tables) (number : ℕ) (pool : Pool) : Type 0 where
   pub open_now : named_round tables.rounds number ≡ Some Open
   pub pool_is : pool_of tables number ≡ Ok pool
 
--- what a solve or a proof comes to: the tables stay, or an open round has an answer that is right
+-- the outcome of a solve or a proof: the tables stay, or an open round gets an answer that is right
 pub data Settles (tables : Tables) (number : ℕ) (outcome : Outcome) : Type 0 where
   Leaves : Stays outcome → Settles tables number outcome
   Answers : (pool : Pool) (found : Answered) → IsOpenRound tables number pool → IsRight pool found → outcome ≡ answered number pool found → Settles tables number outcome
@@ -91,7 +92,7 @@ over_decided : (result : Result Pool Refusal) (outcome : Outcome) → asked_over
 over_decided (Ok pool) outcome h = absurd (cc)
 over_decided (Err refusal) outcome h = stays_so (Refuses refusal) outcome tt h
 
--- a solve that needs no run changes nothing
+-- if a solve needs no run, the tables stay
 pub solve_stays : (tables : Tables) (number : ℕ) (found : Option Round) (outcome : Outcome) → solve_in tables number found ≡ IsDecided outcome → Stays outcome
 solve_stays tables number None outcome h = stays_so (no_round tables) outcome tt h
 solve_stays tables number (Some Open) outcome h = over_decided (pool_of tables number) outcome h
@@ -116,7 +117,7 @@ run_settles tables number limits pool (run.NodesSpent stood) is ranges open_roun
 
 -- ---- a proof
 
--- pools of one text are the same
+-- two pools of the same text are the same
 pub same_pools : (one other : Pool) → IsPool one → IsPool other → is_same_pool one other ≡ true → one ≡ other
 same_pools one other is also same =
     let texts = (bytes_eq-Decides (spelling one) (spelling other)).0 same in
@@ -164,7 +165,7 @@ module _ (tables : Tables) (keeps : IsTables tables) where
   decided_settles : (number : ℕ) (told outcome : Outcome) → Settles tables number told → IsDecided told ≡ IsDecided outcome → Settles tables number outcome
   decided_settles number told outcome settles h = let e : told ≡ outcome = cc in subst (Settles tables number) e settles
 
-  -- ---- a solve or a proof, however it comes to its outcome
+  -- ---- a solve or a proof, decided at once or by a run
 
   pub solve_settles : (number : ℕ) (limits : Limits) (outcome : Outcome) → AreLimits limits → Comes tables (Solve number limits) outcome → Settles tables number outcome
   solve_settles number limits outcome ranges (AtOnce h) = Leaves (solve_stays tables number (named_round tables.rounds number) outcome h)
@@ -269,6 +270,30 @@ through_more first (one ∷ later) command before after (next, (leads, rest)) la
 
 pub folds_grow : (commands : List Command) (command : Command) (before after : Tables) → Folds commands before → Leads before command after → Folds (commands ++ command ∷ []) after
 folds_grow commands command before after folds leads = through_more first_tables commands command before after folds leads
+
+-- ---- an outcome
+
+-- an open round's solve has the outcome of its run's end
+solve_over : (tables : Tables) (number : ℕ) (limits : Limits) → IsTables tables → AreLimits limits → (found : Asked) → asked tables (Solve number limits) ≡ found →
+    (outcome : Outcome) × Comes tables (Solve number limits) outcome
+solve_over tables number limits keeps ranges (IsDecided outcome) h = (outcome, AtOnce h)
+solve_over tables number limits keeps ranges (NeedsRun pool) h =
+    let open_round = needs_run tables number (named_round tables.rounds number) pool refl h in
+    let (ending, ends) = every_run_end pool limits (pool_of_has tables keeps number pool open_round.pool_is).is.is_pool ranges in
+    (solved number pool ending, ByRun number limits pool ending refl h ends refl)
+
+pub some_outcome : (tables : Tables) (command : Command) → IsTables tables → IsCommand command → (outcome : Outcome) × Comes tables command outcome
+some_outcome tables (SetCharter charter) keeps is = (_, AtOnce refl)
+some_outcome tables (SetRules categories) keeps is = (_, AtOnce refl)
+some_outcome tables (Register rows) keeps is = (_, AtOnce refl)
+some_outcome tables (Solve number limits) keeps is = solve_over tables number limits keeps is (asked tables (Solve number limits)) refl
+some_outcome tables (Keep number proof) keeps is = (_, AtOnce refl)
+some_outcome tables (Seal number) keeps is = (_, AtOnce refl)
+some_outcome tables (Draw number given digits) keeps is = (_, AtOnce refl)
+some_outcome tables (Drop number id) keeps is = (_, AtOnce refl)
+some_outcome tables (NextRound after) keeps is = (_, AtOnce refl)
+some_outcome tables (Show number) keeps is = (_, AtOnce refl)
+some_outcome tables (Withdraw key) keeps is = (_, AtOnce refl)
 
 -- ---- one outcome
 

@@ -50,14 +50,15 @@ module _ (pool : Pool) (alike : ℕ → ℕ → Bool) (makes : MakesClasses pool
 
   -- ---- one stage
 
-  -- the first member of a class that a stage settles
   module _ (k : ℕ) (l : k < closed_count) where
+    -- a class that stage k settles
     abbrev settling : ℕ
     settling = (stages.some_above k l).0
 
     inside : settling < length (leaders alike (length pool.volunteers))
     inside = omega (arith, within pool alike makes limits last kept stages shut k settling l (stages.some_above k l).1.unsettled, class_count pool alike makes)
 
+    -- the first member of class `settling`
     abbrev one : ℕ
     one = leader_at pool alike makes settling
 

@@ -1,4 +1,4 @@
--- The stages of a table's closed rows, and that pricing found nothing above their caps.
+-- The stages of a table's closed rows. Their caps hold, as pricing found nothing above them.
 use Rattle.std.proofs.Common.{◌≡◌, ℕ, zero, suc, ◌+◌, ◌<◌, ◌≤◌, Bool, true, false, ◌&&◌, List, [], ◌∷◌, map, length, take, refl, sym, ap, ap₂, ◌∙◌, arith}
 use Rattle.std.specs.Prelude.{int_le, slice_index}
 use Rattle.std.specs.List.{range_with_len}
@@ -18,18 +18,20 @@ use Rattle.define_runs.specs.Keeps.{KeepsRun}
 use Rattle.define_runs.specs.Run.{RunLimits, closed_rows, stage_of}
 use Rattle.laws_of_runs.proofs.StageRows.{from_places, row_back, weighs_alike}
 
--- the row of the closed stage k, and the stage that is made of it
+-- the row of closed stage k
 abbrev pub closed_row : Table → ℕ → Row
 closed_row table k = row_at table (slice_index table.closed k)
 
+-- the stage that is made of the row of closed stage k
 abbrev pub stage_at : Classes → Table → ℕ → Stage
 stage_at all table k = stage_of all (closed_row table k)
 
--- the stages before stage k and their rows, the last one first
+-- the stages before stage k, the last one first
 abbrev pub earlier : Classes → Table → ℕ → List Stage
 earlier all table zero = []
 earlier all table (suc k) = stage_at all table k ∷ earlier all table k
 
+-- the rows of the stages before stage k, the last one first
 abbrev rows_before : Table → ℕ → List Row
 rows_before table zero = []
 rows_before table (suc k) = closed_row table k ∷ rows_before table k
@@ -45,7 +47,7 @@ closed_rows_are table =
 first_rows_are : (table : Table) (k : ℕ) → k ≤ length table.closed → take k (closed_rows table) ≡ map (closed_row table) (range_with_len 0 k)
 first_rows_are table k l = ap (take k) (sym (closed_rows_are table)) ∙ take-map-range_with_len (closed_row table) 0 (length table.closed) k l
 
--- ---- in either order
+-- ---- `attains` and `price` don't depend on the order of rows
 
 and_turned : (a b : Bool) → (a && b) ≡ (b && (a && true))
 and_turned true true = refl

@@ -1,4 +1,4 @@
--- The step with which a run ends, and what it says of the ending.
+-- The step with which a run ends, and what it shows of the ending.
 use Rattle.std.proofs.Common.{◌≡◌, ℕ, zero, suc, ◌≤◌, Bool, true, false, length, None, Some, refl, sym, ap, inl, inr, ◌⊎◌}
 use Rattle.define_rows.specs.InOrder.{settled_count}
 use Rattle.define_rows.specs.Table.{Table}
@@ -10,7 +10,7 @@ use Rattle.define_searches.specs.Visits.{first_search}
 use Rattle.define_spreads.specs.Spreading.{spread}
 use Rattle.define_runs.proofs.StepCases.{StepIs, Enters, Answers, NoPivot, Pivots, Passes, NoVisits, Widens, Closes, step_is, OpeningIs, Spends, FindsNoPanel, IsWide, Begins, opening_is}
 
--- the run ended because the width, the budget of pivots or that of visits refused a step
+-- the run ended because an operation passed the width, or a step exceeded the budget of pivots or of visits
 abbrev pub is_refused : Ending → Bool
 is_refused NoPanel = false
 is_refused (Found last answer) = false
@@ -51,9 +51,9 @@ module _ (all : Classes) (limits : RunLimits) where
       by (inl now) = inl now
       by (inr last) = inr (record { last = last.table; reached = record { steps = last.steps; there = last.there }; step_is = last.step_is })
 
-  -- ---- what an opening that ends the run says
+  -- ---- if the opening ends the run
 
-  -- the opening finds no composition
+  -- the opening search, within its budget, finds no composition
   pub record FindsNone (ending : Ending) : Type 0 where
     pub none : first_composition all ≡ None
     pub within : (first_search all).visits ≤ limits.opening
@@ -68,9 +68,9 @@ module _ (all : Classes) (limits : RunLimits) where
       by next f (IsWide first pass found p is) = let same : TooWide None pass ≡ ending = cc in inr (ap is_refused (sym same))
       by next f (Begins first table found p is) = absurd cc
 
-  -- ---- what a step that ends the run says
+  -- ---- if a step ends the run
 
-  -- no stage is open and everybody is settled, so the columns are spread
+  -- no stage is open and all classes are settled, so the columns are spread
   pub record IsAnswered (table : Table) (ending : Ending) : Type 0 where
     pub shut : table.in_stage ≡ false
     pub settled : length table.sizes ≤ settled_count table

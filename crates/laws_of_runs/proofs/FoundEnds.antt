@@ -1,4 +1,4 @@
--- A run that finds an answer reaches a table with no stage open and everybody settled, and spreads its columns.
+-- A run that finds an answer reaches a table with no stage open and all classes settled. The answer spreads this table's columns.
 use Rattle.std.proofs.Common.{◌≡◌, ℕ, ◌≤◌, Bool, true, false, length, map, Result, Ok, Err, refl, sym, ap, ◌∙◌, subst, inl, inr, ◌⊎◌}
 use Rattle.std.proofs.lemmas.Bool.{false≢true}
 use Rattle.define_pools.specs.Certificate.{Answer}
@@ -16,7 +16,7 @@ use Rattle.define_runs.proofs.Kept.{reached_kept}
 use Rattle.define_runs.proofs.Parts.{parts_are}
 use Rattle.laws_of_runs.proofs.Endings.{EndsAt, FindsNone, IsAnswered, ends_at, is_refused, opening_tells, step_tells}
 
--- the last table of a run that finds an answer
+-- `last` is the last table of a run that finds `answer`
 pub record EndsFound (all : Classes) (limits : RunLimits) (last : Table) (answer : Answer) : Type 0 where
   pub reached : IsReached all limits last
   pub shut : last.in_stage ≡ false

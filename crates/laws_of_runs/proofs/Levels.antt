@@ -1,4 +1,4 @@
--- Closed stages hold if each volunteer's chance is the sum of the levels of the stages at which this volunteer was unsettled.
+-- Closed stages hold if each volunteer's chance is the sum of the levels of the stages at which the volunteer was unsettled.
 use Rattle.std.proofs.Common.{◌≡◌, ℕ, ◌+◌, ◌*◌, ◌≤◌, ◌<◌, Bool, true, false, ◌||◌, List, [], ◌∷◌, length, map, refl, sym, ◌∙◌, subst, arith, mul-le-mul_left, le_of_mul-le-mul_right}
 use Rattle.std.proofs.lemmas.Bool.{false≢true}
 use Rattle.define_pools.specs.Pool.{Pool}
@@ -8,7 +8,7 @@ use Rattle.define_pools.proofs.OneStage.{cancel}
 use Rattle.laws_of_runs.specs.Levels.{Closed, CountsAreLevels, StageStands, StagesStand, levels_to_come}
 use Rattle.laws_of_runs.proofs.StageFacts.{holds_from_facts}
 
--- a volunteer who is settled gets no level of the stages to come
+-- if a volunteer is settled, the levels of later stages add nothing for this volunteer
 no_more_levels : (earlier : List Stage) (later : List Closed) (i : ℕ) → is_settled earlier i ≡ true → levels_to_come earlier later i ≡ 0
 no_more_levels earlier [] i s = refl
 no_more_levels earlier (closed ∷ later) i s =
@@ -24,7 +24,7 @@ before true b h = absurd (false≢true (sym h))
 before false b h = h
 
 module _ (pool : Pool) (lottery : Lottery) (scale : ℕ) (some : 0 < scale) where
-  -- the chance of each unsettled volunteer is the sum of the levels so far, Z, and the levels to come
+  -- each unsettled volunteer's count, times the scale, is the total times the levels so far, Z, plus the levels of later stages
   Rest : List Stage → List Closed → ℕ → Type 0
   Rest earlier later Z = (i : ℕ) → i < length pool.volunteers → is_settled earlier i ≡ false → count lottery i * scale ≡ lottery.total * (Z + levels_to_come earlier later i)
 
@@ -68,7 +68,7 @@ module _ (pool : Pool) (lottery : Lottery) (scale : ℕ) (some : 0 < scale) wher
   stages_hold earlier (closed ∷ later) Z hold rest =
       (stage_holds earlier closed later Z hold.0 rest, stages_hold (closed.stage ∷ earlier) later (Z + closed.level) hold.1 (next earlier closed later Z rest))
 
-  -- closed stages hold if they meet their conditions and the counts are the sums of levels
+  -- closed stages hold if they satisfy their conditions and the counts are sums of levels
   pub holds_from_levels : (closed : List Closed) → StagesStand pool lottery [] closed → CountsAreLevels pool lottery scale closed → StagesHold pool lottery [] (map (λ closed. closed.stage) closed)
   unfolding Rest
   holds_from_levels closed hold levels = stages_hold [] closed 0 hold (λ i l u. let e = levels i l in omega (arith, e))

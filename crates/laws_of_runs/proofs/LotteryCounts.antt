@@ -1,4 +1,4 @@
--- What the panels of the spread lottery weigh in the closed stages, and each volunteer's count as a sum of levels.
+-- Each panel of the spread lottery weighs the cap in each closed stage, and each volunteer's count is a sum of levels.
 use Rattle.std.proofs.Common.{◌≡◌, ℕ, zero, suc, ◌+◌, ◌*◌, ◌/◌, ◌<◌, Bool, true, false, cond, not, ◌||◌, List, [], ◌∷◌, map, length, get_or, Ok, refl, sym, ap, ap₂, ◌∙◌, arith}
 use Rattle.std.specs.Int.{◌∣◌}
 use Rattle.std.specs.List.{All, AllByRecursion, range_with_len}
@@ -34,7 +34,7 @@ use Rattle.laws_of_runs.proofs.ClosedStages.{closed_row, earlier, entry_each, si
 use Rattle.laws_of_runs.proofs.Marks.{marked}
 use Rattle.laws_of_runs.proofs.PanelWeights.{panel_weighs}
 
--- what holds of each column of the solution, with its fraction, holds of each part
+-- if P holds of each column of the solution with its fraction, P holds of each part
 each_part : (table : Table) (P : List ℕ × Fraction → Type 0) (theres : List ColumnValue) →
     AllByRecursion (λ there. P (get_or table.columns there.column [], lowest_of there.side there.coefficient)) theres →
     AllByRecursion P (map (λ (c, value). (get_or table.columns c [], value)) (map fraction_of theres))
@@ -47,7 +47,7 @@ each_column : (table : Table) (P : List ℕ × Fraction → Type 0) (theres : Li
 each_column table P [] h = tt
 each_column table P (there ∷ theres) h = (h.0, each_column table P theres h.1)
 
--- the number expected of a class, times the total, is its count with the total as the common multiple
+-- the count that the parts give class t over `common` is the class's count over `common` in the solution
 expected_is : (table : Table) (common t : ℕ) (theres : List ColumnValue) →
     total (λ (part : List ℕ × Fraction). get_or part.0 t 0 * (part.1.num * (common / part.1.den))) (map (λ (c, value). (get_or table.columns c [], value)) (map fraction_of theres))
     ≡ total (λ there. numerator_over common there * count_in table.columns there.column t) theres

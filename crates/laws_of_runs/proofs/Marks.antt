@@ -1,4 +1,4 @@
--- The volunteers who are settled by the stages before a stage are exactly those who were settled when it was entered.
+-- The volunteers who are settled by the stages before stage k are exactly those who were settled when stage k was entered.
 use Rattle.std.proofs.Common.{◌≡◌, ℕ, zero, suc, ◌+◌, ◌<◌, ◌≤◌, Bool, true, false, cond, not, ◌||◌, [], length, get_or, ℤ, pos, ◌<ℤ◌, ◌≤ℤ◌, refl, sym, ap, ap₂, ◌∙◌, subst, arith, inl, inr, ◌⊎◌}
 use Rattle.std.specs.Prelude.{count_by, int_lt}
 use Rattle.std.specs.List.{list_all}
@@ -74,7 +74,7 @@ module _ (pool : Pool) (alike : ℕ → ℕ → Bool) (makes : MakesClasses pool
   settled_by_none zero i l low = refl
   settled_by_none (suc k) i l low = ap₂ (λ a b. a || b) (not_positive_at k i l (low k (omega arith))) (settled_by_none k i l (λ j m. low j (omega arith)))
 
-  -- the stages before a stage settle exactly those volunteers whose class was not unsettled when the stage was entered
+  -- the stages before stage k settle exactly the volunteers whose class was settled when stage k was entered
   pub marked : (k i : ℕ) → k < length table.closed → i < count → settled_before k i ≡ not (was_unsettled table k (class_at i))
   marked k i l m = by (was_unsettled table k (class_at i)) refl
     where
@@ -91,7 +91,7 @@ module _ (pool : Pool) (alike : ℕ → ℕ → Bool) (makes : MakesClasses pool
       by true e = refl
       by false e = absurd (false≢true (sym e))
 
-  -- a class that is marked as unsettled is one of the pool's classes
+  -- each class that is marked as unsettled is one of the pool's classes
   pub within : (k t : ℕ) → k < length table.closed → was_unsettled table k t ≡ true → t < length (classes_by alike pool).classes
   within k t l u = by (cases_lt t (length (classes_by alike pool).classes))
     where

@@ -1,4 +1,4 @@
--- A run ends with no panel if the pool has no quota panel.
+-- A run ends with no panel exactly if the pool has no quota panel and the opening search is within its budget.
 use Rattle.std.proofs.Common.{◌≡◌, ℕ, ◌≤◌, Bool, true, cond, List, [], ◌∷◌, None, Result, Ok, Err, refl, sym, ap, ◌∙◌, inl, inr, ◌⊎◌}
 use Rattle.std.proofs.lemmas.Bool.{false≢true, le-ltb}
 use Rattle.std.specs.Prelude.{slice_get}
@@ -19,7 +19,7 @@ nothing_first : (xs : List (List ℕ)) → slice_get xs 0 ≡ None → xs ≡ []
 nothing_first [] e = refl
 nothing_first (x ∷ xs) e = absurd cc
 
--- spreading ends with a lottery or a pass, never with no panel
+-- spreading ends with a lottery or with a total that passes its limit, never with no panel
 some_answer : (all : Classes) (table : Table) → NoPanel ≡ answered all table (spread all (parts_of table)) → ⊥
 some_answer all table e = by (spread all (parts_of table)) e
   where

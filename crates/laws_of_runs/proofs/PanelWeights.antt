@@ -1,4 +1,4 @@
--- A panel weighs in the stage of a row what its composition weighs in the row.
+-- A panel's weight in a row's stage is its composition's weight in the row.
 use Rattle.std.proofs.Common.{◌≡◌, ℕ, ◌<◌, Bool, true, ltb, List, length, sym, ap, ◌∙◌}
 use Rattle.std.specs.List.{list_all}
 use Rattle.std.proofs.lemmas.Bool.{ltb-true}

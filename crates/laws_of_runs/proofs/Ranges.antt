@@ -69,7 +69,7 @@ some_total pool lottery is = by lottery.rows is.some is.total_agrees.weights (is
 
 -- ---- stages
 
--- if there is a volunteer, stages that hold are not an empty list
+-- if there is a volunteer and the stages hold, there is at least one stage
 some_stage_holds : (pool : Pool) (lottery : Lottery) (stages : List Stage) → 0 < length pool.volunteers → StagesHold pool lottery [] stages → ltb 0 (length stages) ≡ true
 some_stage_holds pool lottery (stage ∷ stages) some hold = lt-ltb 0 (length (stage ∷ stages)) (omega arith)
 some_stage_holds pool lottery [] some hold = absurd (by (length pool.volunteers) some hold)
@@ -78,7 +78,7 @@ some_stage_holds pool lottery [] some hold = absurd (by (length pool.volunteers)
     by zero l h = omega arith
     by (suc n) l h = false≢true h
 
--- the sum over the classes of size times absolute weight, as a sum over the leaders
+-- `sum_of_sizes` of the sizes and weights of leaders `xs` is the sum of size times absolute weight over `xs`
 sum_by_leaders : (f : ℕ → ℤ) (size : ℕ → ℕ) (xs : List ℕ) → sum_of_sizes (map size xs) (map f xs) ≡ total (λ l. size l * unsigned_abs (f l)) xs
 sum_by_leaders f size [] = refl
 sum_by_leaders f size (l ∷ xs) = ap (λ n. size l * unsigned_abs (f l) + n) (sum_by_leaders f size xs)
@@ -96,7 +96,7 @@ module _ (pool : Pool) (alike : ℕ → ℕ → Bool) (makes : MakesClasses pool
   abbrev size_of : ℕ → ℕ
   size_of l = length (class_of alike count l)
 
-  -- the weights of a row's stage, one for each volunteer
+  -- a row's stage lists the weights of all volunteers, in the order of their numbers
   weights_by_place : (row : rows.Row) → (stage_of all row).weights ≡ map (weight_of (stage_of all row)) (range_with_len 0 count)
   weights_by_place row =
       let stage = stage_of all row in
@@ -154,7 +154,7 @@ module _ (pool : Pool) (alike : ℕ → ℕ → Bool) (makes : MakesClasses pool
   is : IsLottery pool answer.lottery
   is = lottery pool alike makes limits last answer is_pool ranges ends
 
-  -- there is a volunteer, as there is a class and it has a leader
+  -- there is a volunteer, since there is a class and each class has a leader
   some_volunteer : 0 < length pool.volunteers
   some_volunteer =
       let some : 0 < length (leaders alike (length pool.volunteers)) = omega (arith, kept.in_order.some_class, size_count pool alike makes limits last kept, class_count pool alike makes) in

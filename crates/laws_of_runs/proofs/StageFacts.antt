@@ -1,4 +1,4 @@
--- A stage holds if these facts hold of each volunteer, each quota panel and each row of the lottery.
+-- A stage holds if the facts below hold of each volunteer, each quota panel and each row of the lottery.
 use Rattle.std.proofs.Common.{◌≡◌, ℕ, zero, suc, ◌+◌, ◌≤◌, ◌<◌, Bool, true, false, cond, not, eqb, leb, List, ◌∷◌, length, filter, pos, subst, arith, ⊎_elim}
 use Rattle.std.specs.Prelude.{int_le}
 use Rattle.std.specs.Ordering.{int_eq}
@@ -10,7 +10,7 @@ use Rattle.define_pools.specs.Pool.{Pool, everybody}
 use Rattle.define_pools.specs.Lottery.{Lottery, count}
 use Rattle.define_pools.specs.Certificate.{Stage, StageHolds, is_capped, is_positive, is_settled, panel_weight, settling, unsettled, weight_of}
 
--- if a number of a range passes two filters, something is left after both
+-- if a number in a range satisfies two tests, the range filtered by both is not empty
 some_left : (p q : ℕ → Bool) (i first many : ℕ) → first ≤ i → i < first + many → p i ≡ true → q i ≡ true → 0 < length (filter q (filter p (range_with_len first many)))
 some_left p q i first zero l m e f = absurd (omega arith)
 some_left p q i first (suc many) l m e f =
@@ -28,7 +28,8 @@ some_left p q i first (suc many) l m e f =
     rw (e', f') (omega arith))
     (cases_lt first i)
 
--- the facts that make a stage hold; T is the count of those whom it settles
+-- conditions from which it follows that a stage holds: T is the count of each volunteer whom the stage settles, and nobody who is unsettled
+-- has a smaller count; the others are those of `StageStands`
 pub record StageFacts (pool : Pool) (lottery : Lottery) (earlier : List Stage) (stage : Stage) (T : ℕ) : Type 0 where
   pub one_each : length stage.weights ≡ length pool.volunteers
   pub none_negative : (i : ℕ) → i < length pool.volunteers → is_settled earlier i ≡ false → int_le (pos 0) (weight_of stage i) ≡ true

@@ -1,4 +1,4 @@
--- The stage of a row gives each volunteer the entry of the volunteer's class, and the row of that stage is the row again.
+-- In the stage of a row, each volunteer's weight is the entry of the volunteer's class; and the row can be read back from the stage.
 use Rattle.std.proofs.Common.{◌≡◌, ℕ, suc, ◌+◌, ◌<◌, Bool, true, List, [], ◌∷◌, map, length, get_or, pos, refl, sym, ap, ap₂, ◌∙◌, arith}
 use Rattle.std.specs.List.{range_with_len}
 use Rattle.std.proofs.lemmas.List.{get_or-map, length-map}
@@ -12,7 +12,7 @@ use Rattle.define_searches.proofs.ClassNumbers.{class_count, leader_below, leade
 use Rattle.define_searches.proofs.Parting.{all_counted}
 use Rattle.define_runs.specs.Run.{stage_of}
 
--- if f gives each element of a list at its place, mapping f over the places gives the list
+-- if f (a + i) is element i of a list, mapping f over the range from a gives the list
 pub from_places : {X : Type 0} (f : ℕ → X) (a : ℕ) (xs : List X) (d : X) → ((i : ℕ) → i < length xs → f (a + i) ≡ get_or xs i d) → map f (range_with_len a (length xs)) ≡ xs
 from_places f a [] d h = refl
 from_places f a (x ∷ xs) d h =
@@ -45,7 +45,7 @@ module _ (pool : Pool) (alike : ℕ → ℕ → Bool) (makes : MakesClasses pool
       ap (λ ws. get_or ws i (pos 0)) (weights_are row)
       ∙ get_or-map-range_with_len (λ i. entry row (class_of_volunteer i)) 0 count i i (pos 0) l (omega arith)
 
-  -- the weights of the leaders are the entries of the row
+  -- the weights of the classes' leaders in a row's stage are the row's entries
   pub entries_back : (row : Row) → length row.a ≡ length all.classes → map (weight_of (stage_of all row)) firsts ≡ row.a
   entries_back row e =
       let weigh : ℕ → ℕ = λ t. get_or firsts t 0 in
@@ -64,6 +64,6 @@ module _ (pool : Pool) (alike : ℕ → ℕ → Bool) (makes : MakesClasses pool
   pub row_back : (row : Row) → length row.a ≡ length all.classes → row_of alike pool (stage_of all row) ≡ row
   row_back row e = ap (λ a. let made : Row = record { b = row.b; a = a } in made) (entries_back row e)
 
-  -- alike volunteers have the same weight in a row's stage
+  -- two volunteers who are alike have the same weight in a row's stage
   pub weighs_alike : (row : Row) (i j : ℕ) → i < count → j < count → alike i j ≡ true → weight_of (stage_of all row) i ≡ weight_of (stage_of all row) j
   weighs_alike row i j a b t = weight_is_entry row i a ∙ ap (entry row) (number_same pool alike makes i j a b t) ∙ sym (weight_is_entry row j b)

@@ -12,7 +12,7 @@ use Rattle.define_runs.proofs.StepCases.{StepIs, Enters, Answers, NoPivot, Pivot
 use Rattle.define_runs.proofs.Kept.{step_kept, reached_kept}
 
 module _ (all : Classes) (limits : RunLimits) (table : Table) (keeps : KeepsRun all limits table) (stages : KeepsStages table) where
-  -- if the run goes on after a step, the table that was made keeps the record
+  -- if the run goes on after a step, the table that the step made keeps the record
   pub step_stages : (made : Table) → step all limits table ≡ GoOn made → KeepsStages made
   step_stages made e = by (step all limits table) e (step_is all limits table)
     where

@@ -1,4 +1,4 @@
--- What the endings of a run say of the pool, for each test of who is alike that makes its classes. Over Run and Levels.
+-- What each ending of a run shows about the pool, for any test of who is alike that makes classes. Over Run and Levels.
 use Rattle.std.specs.Prelude.{◌≡◌, ℕ, ◌≤◌, Bool, []}
 use Rattle.define_bundles.specs.Ranges.{IsInRanges}
 use Rattle.define_pools.specs.Certificate.{Answer, Certifies}
@@ -20,20 +20,21 @@ abbrev pub NoPanelIsWithin : Type 0
 NoPanelIsWithin = (pool : Pool) (alike : ℕ → ℕ → Bool) → MakesClasses pool alike → (limits : RunLimits) → Ends (classes_by alike pool) limits NoPanel →
     (first_search (classes_by alike pool)).visits ≤ limits.opening
 
--- if a pool has no quota panel, and the opening search is within its budget, the run ends with no panel
+-- if a pool has no quota panel, and the opening search stays within its budget, the run ends with no panel
 abbrev pub NoneEndsSo : Type 0
 NoneEndsSo = (pool : Pool) (alike : ℕ → ℕ → Bool) → MakesClasses pool alike → (limits : RunLimits) → panels pool ≡ [] →
     (first_search (classes_by alike pool)).visits ≤ limits.opening → Ends (classes_by alike pool) limits NoPanel
 
--- what holds of each answer that a run finds, for limits in their ranges
+-- P holds of each pool and each answer that a run over its classes finds, for any limits in their ranges
 abbrev OfFound : (Pool → Answer → Type 0) → Type 0
 OfFound P = (pool : Pool) (alike : ℕ → ℕ → Bool) → MakesClasses pool alike → (limits : RunLimits) (last : Table) (answer : Answer) → IsPool pool → AreRunLimits limits →
     Ends (classes_by alike pool) limits (Found last answer) → P pool answer
 
--- the lottery that a run finds is one over the pool's quota panels, of a total of at most 10 ^ 38
+-- the lottery that a run finds is one over the pool's quota panels
 abbrev pub FoundIsLottery : Type 0
 FoundIsLottery = OfFound (λ pool answer. IsLottery pool answer.lottery)
 
+-- the total of the lottery that a run finds is at most 10 ^ 38
 abbrev pub FoundIsWithin : Type 0
 FoundIsWithin = OfFound (λ pool answer. answer.lottery.total ≤ greatest_total)
 

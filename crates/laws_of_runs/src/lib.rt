@@ -1,7 +1,8 @@
-//! Laws of the run: what its endings say of the pool. Over definitions alone: those of `define_runs` and below it, and the ranges
-//! of a bundle (`define_bundles`). Above: `leximin_run`, whose promises they carry over, and the commands `lottery` and `make`.
+//! Laws of the run: what its endings show about the pool. Stands on definitions alone: `define_runs` and those below it, and the ranges
+//! of a bundle (`define_bundles`). Used by `leximin_run`, whose promises rest on these laws, by the commands `lottery` and `make`, and by
+//! the laws of the office.
 //!
-//! The functions have no body: their contracts are the laws.
+//! The functions have no body. Their contracts are the laws, and the promises of this crate.
 #![tactic(auto)]
 
 ghost use Rattle.define_pools.specs.Certificate.{Certifies};
@@ -25,8 +26,8 @@ pub fn found_is_lottery()
     ensures within { FoundIsWithin }
 {}
 
-/// Stages hold if each of them meets the conditions that don't speak of counts, and each volunteer's chance is the sum of the levels of the
-/// stages at which the volunteer was unsettled.
+/// Stages hold of a lottery if each satisfies the conditions that aren't on counts, and each volunteer's chance is the sum of the levels
+/// of the stages at which the volunteer was unsettled.
 pub fn levels_make_stages()
     ensures { LevelsMakeStages }
 {}

@@ -30,7 +30,7 @@ printed_text =
     codes "bundle\t1\n" ++ four_text ++ codes "total\t2\n" ++ codes "panel\t1\t1\t2\n" ++ codes "panel\t1\t0\t3\n"
     ++ codes "stage\t1\t1\t1\t0\t0\n" ++ codes "stage\t0\t-1\t-1\t1\t1\n" ++ codes "done\n"
 
--- an answer for these four with a household: a with d, or b with c
+-- an answer for the four volunteers of whom a and c share a household: a with d, or b with c
 abbrev pub housed_answer : Answer
 housed_answer = record {
   lottery = drawn 2 (row (0 ∷ 3 ∷ []) 1 ∷ row (1 ∷ 2 ∷ []) 1 ∷ []);
@@ -49,13 +49,14 @@ housed_bundle_text =
 abbrev pub single : List ℕ
 single = codes "bundle\t1\npool\t1\nsize\t1\nvolunteer\ta\nend\n"
 
--- an answer of one panel and one stage
+-- the answer with this total, these rows and these stages
 abbrev pub answer_of : ℕ → List LotteryRow → List Stage → Answer
 answer_of total rows stages = record { lottery = drawn total rows; stages = stages }
 
--- lines that begin a text: the version and the size. And below, a category of one value after them
+-- the first two lines of a pool's text: version 1 and size 1
 abbrev pub head : List ℕ
 head = codes "pool\t1\nsize\t1\n"
 
+-- the first four lines of a pool's text: version 1, size 1, and a category of one value
 abbrev pub head_with_value : List ℕ
 head_with_value = head ++ codes "category\tg\nvalue\tx\t0\t1\n"

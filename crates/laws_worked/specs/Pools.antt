@@ -89,7 +89,7 @@ three_and_two_stages =
     stage (pos 1) (pos 1 ∷ pos 1 ∷ pos 1 ∷ pos 0 ∷ pos 0 ∷ []) ∷
     stage (pos 1) (negsuc 1 ∷ negsuc 1 ∷ negsuc 1 ∷ pos 3 ∷ pos 3 ∷ []) ∷ []
 
--- a lottery in which a, b and c have the chance 1/3, the least, and d has 2/3
+-- a lottery in which a, b, c and e have the chance 1/3, and d has 2/3
 abbrev pub uneven_lottery : Lottery
 uneven_lottery = drawn 3 (row (0 ∷ 3 ∷ []) 1 ∷ row (1 ∷ 3 ∷ []) 1 ∷ row (2 ∷ 4 ∷ []) 1 ∷ [])
 

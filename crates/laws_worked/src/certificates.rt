@@ -19,7 +19,7 @@ pub fn counts_that_refuse()
     ensures not_the_least { ¬ Certifies one_woman one_woman_lottery (stage (pos 1) (pos 1 ∷ pos 0 ∷ pos 0 ∷ pos 0 ∷ []) ∷ stage (pos 1) (pos 0 ∷ pos 1 ∷ pos 1 ∷ pos 1 ∷ []) ∷ []) }
 {}
 
-/// Refused for a cap: a quota panel that isn't listed weighs more than it; a listed panel weighs less.
+/// Refused for a cap: a quota panel that isn't listed weighs more than the cap; a listed panel weighs less than the cap.
 pub fn caps_that_refuse()
     ensures passed { ¬ Certifies four four_lottery (stage (pos 1) (pos 1 ∷ pos 0 ∷ pos 0 ∷ pos 1 ∷ []) ∷ stage (pos 0) (negsuc 0 ∷ pos 1 ∷ pos 1 ∷ negsuc 0 ∷ []) ∷ []) }
     ensures not_reached { ¬ Certifies four four_lottery (stage (pos 2) (pos 1 ∷ pos 0 ∷ pos 1 ∷ pos 0 ∷ []) ∷ stage (pos 2) (pos 1 ∷ pos 1 ∷ pos 1 ∷ pos 1 ∷ []) ∷ []) }

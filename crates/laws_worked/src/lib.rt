@@ -1,6 +1,6 @@
-//! Worked examples: small pools, lotteries, certificates, texts and spread lotteries on which the definitions compute, those that hold
-//! and those that don't. Stands on the definitions of pools, texts, bundles and spreading. Nothing stands on this crate, so a further
-//! example proves nothing else again.
+//! Worked examples on which the definitions compute: small pools, lotteries, certificates, texts and spread lotteries, right ones and wrong
+//! ones. Stands on the definitions of pools, texts, bundles and spreading. No crate stands on this one, so with a new example no other
+//! proof has to be run again.
 //!
 //! The functions have no body: their contracts are the examples.
 #![tactic(auto)]

@@ -1,4 +1,4 @@
-//! Lotteries of which one is above the other, and lists that are no lottery.
+//! Pairs of lotteries, one above the other, and lists that are no lottery.
 
 ghost use Rattle.std.specs.Prelude.{◌≡◌, [], ◌∷◌, IsTrue, IsFalse, true, false};
 ghost use Rattle.define_pools.specs.Lottery.{IsLottery, LeximinGreatest, counts, is_above};

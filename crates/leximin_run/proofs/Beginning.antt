@@ -1,4 +1,4 @@
--- What the first table needs, and where the run begins.
+-- What the first table requires, and how the run begins.
 use Rattle.std.proofs.Common.{◌≡◌, ℕ, ◌<◌, ◌≤◌, cond, List, [], Some, None, Ok, Err, ap, ◌∙◌}
 use Rattle.std.proofs.lemmas.Bool.{le-ltb, lt-ltb}
 use Rattle.define_rows.specs.declared.Pass.{Pass}
@@ -15,7 +15,7 @@ use Rattle.define_searches.proofs.Contained.{first_there}
 use Rattle.define_runs.proofs.Kept.{MayBegin, first_table_is, may_begin, reached_kept}
 use Rattle.leximin_run.specs.Advancing.{Reaches}
 
--- the opening, if its search stays within the budget
+-- If the opening search stays within its budget, the opening goes on with the composition that the search finds.
 opens : (all : Classes) (limits : RunLimits) → (first_search all).visits ≤ limits.opening → opening all limits ≡ opened all limits (first_composition all)
 unfolding opening
 opens all limits l = ap (λ b. cond b (Ended (NodesSpent None)) (opened all limits (first_composition all))) (le-ltb limits.opening (first_search all).visits l)

@@ -1,4 +1,4 @@
--- What the run answers is certified, and keeps the ranges of a bundle.
+-- The run's answer is certified, and is in the ranges of a bundle.
 use Rattle.std.specs.Prelude.{Result, Ok, Err}
 use Rattle.define_pools.specs.Pool.{IsPool, Pool}
 use Rattle.define_pools.proofs.Greatest.{greatest_from_Certifies}
@@ -29,7 +29,7 @@ keeps_ranges pool limits is_pool ranges (Ok (Found answer)) told = found_in_rang
 keeps_ranges pool limits is_pool ranges (Ok NoPanel) told = tt
 keeps_ranges pool limits is_pool ranges (Err stop) told = tt
 
--- an answer that is right with sizes is right without them
+-- If an answer with sizes is how the run ends, so is the answer without them.
 pub tells_unsized : (all : Classes) (limits : RunLimits) (answer : Result SolvedSized Stop) → TellsSized all limits answer → TellsEnding all limits (unsized answer)
 tells_unsized all limits (Ok (sized.Found answer sizes)) told = (told.0, told.2)
 tells_unsized all limits (Ok sized.NoPanel) told = told

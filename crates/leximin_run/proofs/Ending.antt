@@ -1,4 +1,4 @@
--- Where the run ends.
+-- How the run ends.
 use Rattle.std.proofs.Common.{◌≡◌, ◌<◌, ◌≤◌, false, cond, ltb, List, length, map, Some, Ok, Err, refl, sym, ap, ◌∙◌, subst}
 use Rattle.std.specs.List.{All}
 use Rattle.std.proofs.lemmas.Bool.{le-ltb}
@@ -20,7 +20,7 @@ use Rattle.leximin_run.specs.declared.running.Refusal.TheVariants.{Wide, NoPivot
 use Rattle.leximin_run.specs.Advancing.{Reaches, Refuses, Stands}
 use Rattle.leximin_run.specs.Answers.{TellsEnding, stop_of}
 
--- the columns of the solution are the table's
+-- Each column of the solution is a column of the table.
 pub known_columns : (table : Table) → IsInOrder table → All (λ part. part.0 < length table.columns) (map fraction_of (solution table))
 known_columns table h =
     let stands = solution-stands table h in
@@ -43,7 +43,7 @@ module _ (all : Classes) (limits : RunLimits) (table : Table) (closed : List Row
   pub passed_at_end : table.in_stage ≡ false → length table.sizes ≤ settled_count table → (pass : TotalPass) → spread all (parts_of table) ≡ Err pass → Ends all limits (TotalPasses table pass)
   passed_at_end shut settled pass e = comes_to_end all limits table (answered all table (Err pass)) reaches.reached (answer_due shut settled ∙ ap (λ s. Ended (answered all table s)) e)
 
-  -- if a step is refused, the run stops for this reason
+  -- If a step is refused, the run ends with the stop that `stop_of` returns.
   pub refused_at : (refusal : Refusal) (after : Table) → Refuses all limits table refusal after → TellsEnding all limits (Err (stop_of after refusal))
   refused_at (Wide pass) after told = subst (λ t. Ends all limits (TooWide (Some t) pass)) (sym told.1) (comes_to_end all limits table (TooWide (Some table) pass) reaches.reached told.0)
   refused_at NoPivot after told = (after, refl, subst (λ t. Ends all limits (PivotsSpent t)) (sym told.1) (comes_to_end all limits table (PivotsSpent table) reaches.reached told.0))

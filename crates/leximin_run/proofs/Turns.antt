@@ -1,4 +1,4 @@
--- What a step of the run needs, and what it makes.
+-- What a step of the run requires, and the table after it.
 use Rattle.std.proofs.Common.{◌≡◌, ℕ, ◌^◌, ◌<◌, ◌≤◌, Bool, true, false, cond, leb, ltb, List, [], ◌∷◌, ◌++◌, length, Option, Some, None, Err, pos, refl, sym, ap, ap₂, ◌∙◌, subst, arith}
 use Rattle.std.specs.List.{AllByRecursion}
 use Rattle.std.proofs.Math.Nat.{pow-le-pow_right}
@@ -56,7 +56,7 @@ module _ (all : Classes) (limits : RunLimits) (table : Table) (keeps : KeepsRun 
     subst (AllByRecursion (λ row. reach (sizes_of all) row < 2 ^ 127)) (sym are) (each_row (λ row. reach (sizes_of all) row < 2 ^ 127) reach_fits),
   )
 
--- ---- which step is due
+-- ---- which step is next
 
 abbrev between : Classes → RunLimits → Table → Next
 between all limits table = cond (ltb (settled_count table) (length table.sizes)) (GoOn (enter_stage table)) (Ended (answered all table (spread all (parts_of table))))
@@ -84,7 +84,7 @@ enter_due all limits table shut some =
 
 -- ---- the table after a step
 
--- a step that goes on gives a table that is like each table of the run
+-- If a step goes on, the table after it satisfies what holds of each table of the run.
 pub stands_on : (all : Classes) (limits : RunLimits) (table : Table) (closed : List Row) → Stands all limits table closed → (after : Table) → step all limits table ≡ GoOn after →
     (rows : List Row) → rows ≡ closed_rows after → Stands all limits after rows
 stands_on all limits table closed stands after e rows are =
@@ -92,7 +92,7 @@ stands_on all limits table closed stands after e rows are =
 
 -- ---- pricing
 
--- a pricing is due: what holds of the table, and of the row that is priced
+-- what holds before a pricing: the stage is open, no pivot is chosen, and `row` is the table's open row
 pub record IsAsked (all : Classes) (limits : RunLimits) (table : Table) (closed : List Row) (row : Row) : Type 0 where
   pub stands : Stands all limits table closed
   pub open_now : table.in_stage ≡ true
@@ -104,7 +104,7 @@ pub asked_so : {all : Classes} {limits : RunLimits} {table : Table} {kept closed
 asked_so {all = all} {limits = limits} {table = table} stands open_now done same row_is place_is =
     record { stands = subst (Stands all limits table) (sym same) stands; open_now = open_now; done = done; row_is = row_is ∙ ap (row_at table) place_is }
 
--- a pricing makes the visits of the search for the best composition in waves
+-- A pricing makes as many visits as the search for the best composition in waves.
 pub visits_are : (all : Classes) (closed : List Row) (row : Row) → pricing_visits all closed row ≡ (best_in_waves all closed row).visits
 unfolding pricing_visits
 visits_are all closed row = refl

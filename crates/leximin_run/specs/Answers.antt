@@ -1,4 +1,4 @@
--- What the run answers. Over Run of `define_runs`. The promises of `solve` cite it.
+-- The answers of a run. Over Run of `define_runs`. The promises of `solve` cite them.
 use Rattle.std.specs.Prelude.{◌≡◌, [], ℕ, ℤ, pos, length, Option, Some, None, Result, Ok, Err}
 use Rattle.define_bundles.specs.Ranges.{IsInRanges}
 use Rattle.define_pools.specs.Certificate.{Certifies}
@@ -25,7 +25,7 @@ abbrev pub stood : At → Option Table
 stood Opening = None
 stood (At.Table table) = Some table
 
--- `place`, `total` and `den` say at which composition the total passes, as `pass` has them
+-- `place`, `total` and `den` equal the numbers of `pass`, which names the composition at which the total passes 10^38
 pub record IsTotalPass (pass : TotalPass) (place : ℕ) (total den : ℤ) : Type 0 where
   pub place_is : place ≡ pass.place
   pub total_is : total ≡ pos pass.total
@@ -48,7 +48,7 @@ IsCertified pool (Ok (Found answer)) = Certifies pool answer.lottery answer.stag
 IsCertified pool (Ok NoPanel) = panels pool ≡ []
 IsCertified pool (Err stop) = Unit {0}
 
--- if a lottery is found, its numbers are in the ranges that they have in the text of a bundle
+-- if a lottery is found, its numbers are in the ranges of a bundle
 abbrev pub KeepsRanges : Pool → Result Solved Stop → Type 0
 KeepsRanges pool (Ok (Found answer)) = IsInRanges pool answer
 KeepsRanges pool (Ok NoPanel) = Unit {0}

@@ -1,7 +1,7 @@
-//! The run that finds the lottery: the opening search, then stage by stage pivots of the exact table, pricing of compositions, and
-//! closing, until everybody is settled and the columns of positive value are spread over panels. Stands on `exact_table`,
-//! `pricing_pool`, `panel_search` and `alike`, which make its steps, on `define_runs`, which says what the run does, and on
-//! `laws_of_runs`, by which its answers are leximin greatest. Above: the commands `lottery` and `make`.
+//! The run that finds the lottery. It begins with the opening search. Then, stage by stage, it makes pivots of the exact table, prices
+//! compositions and closes the stage, until everybody is settled. At the end the columns of positive value are spread over panels. Stands
+//! on `exact_table`, `pricing_pool`, `panel_search` and `alike`, which make its steps; on `define_runs`, which defines the run; and on
+//! `laws_of_runs`, by which its answers are leximin greatest. Used by the commands `lottery` and `make`, and by the office.
 //!
 //! Promises: `solve` and `solve_sized`. All else is a helper.
 #![tactic(auto)]

@@ -15,14 +15,14 @@ use pricing_pool::price_by;
 use std::alloc::{AllocError, Global};
 use std::thread::Threads;
 
-// Why a step that is due is not made.
+// Why the next step was not made.
 #[derive(Debug, Clone, Copy)]
 pub(crate) enum Refusal {
-    // An operation passes the width.
+    // An operation of the step passes the width.
     Wide(Pass),
-    // A pivot is due, and no more may be made.
+    // The next step is a pivot, and the budget of pivots is spent.
     NoPivot,
-    // Pricing needs more visits than its budget.
+    // The next step is a pricing, which needs more visits than its budget.
     NoVisit,
     NoMemory,
 }
@@ -49,7 +49,7 @@ impl From<Pass> for Refusal {
     }
 }
 
-// Why the pricing of a step stopped, as a refusal of the step.
+// Turns the stop of a pricing into the refusal of its step.
 impl From<SearchStop> for Refusal {
     ghost use Rattle.std.specs.Prelude.{◌≡◌};
     ghost use Rattle.leximin_run.specs.Advancing.{refusal_of};
@@ -64,7 +64,7 @@ impl From<SearchStop> for Refusal {
     }
 }
 
-// A run between two steps. Its pricer has the classes and the rows of the closed stages.
+// A run between two steps. The pricer has the classes and the rows of the closed stages.
 #[derive(Drop)]
 pub(crate) struct Run<'c> {
     pub(crate) limits: Limits,
@@ -73,7 +73,7 @@ pub(crate) struct Run<'c> {
 }
 
 impl<'c> Run<'c> {
-    // Makes the next step and returns true. Returns false if everybody is settled, so that no step is due.
+    // Makes the next step and returns true. Returns false if everybody is settled, so that there is no next step.
     pub(crate) fn advance<R: Threads + Sync, W: Watch + Sync>(
         &mut self,
         rt: &R,
@@ -119,7 +119,7 @@ impl<'c> Run<'c> {
         Ok(self.table.pivot(row, variable)?)
     }
 
-    // Prices the open row with `workers` workers, once no pivot is chosen. Adds the column that is found, or closes the stage if there is
+    // Prices the open row with `workers` workers, if no pivot is chosen. Adds the column that is found, or closes the stage if there is
     // none.
     fn price<R: Threads + Sync, W: Watch + Sync>(
         &mut self,

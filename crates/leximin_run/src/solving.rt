@@ -23,9 +23,9 @@ use pool_model::{Answer, Pool};
 use std::alloc::{AllocError, Global};
 use std::thread::Threads;
 
-/// Runs over a pool under limits. Returns the lottery with its certificate, or that the pool has no quota panel. A lottery that is found is
-/// leximin greatest, and its stages certify it. Fails with the first step that is refused, and the table before that step. From 1 to 64
-/// workers price, and the watch is told when pieces of work start; the answer depends on neither.
+/// Runs over a pool under limits. Returns the lottery with its certificate, or that the pool has no quota panel. If a lottery is found, it
+/// is leximin greatest, and its stages certify it. Fails with the first step that is refused, and the table before that step, if there was
+/// one. From 1 to 64 workers price, and the watch is told when a piece of work starts; the answer depends on neither.
 pub fn solve<R: Threads + Sync, W: Watch + Sync>(
     rt: &R,
     alloc: Global,
@@ -38,7 +38,7 @@ pub fn solve<R: Threads + Sync, W: Watch + Sync>(
     requires few_workers { workers ≤ 64 }
     ensures run { TellsEnding (classes_of pool.now) (run_limits limits) result }
     ensures certified { IsCertified pool.now result }
-    // So a bundle can be made of a lottery that is found.
+    // So the lottery can be put into a bundle.
     ensures ranges { KeepsRanges pool.now result }
 {
     match solve_sized(rt, alloc, pool, limits, workers, watch) {
@@ -90,7 +90,7 @@ fn run<R: Threads + Sync, W: Watch + Sync>(
     }
 }
 
-// Makes the run from the composition on that the opening search found.
+// Makes the rest of the run, after the opening search found `composition`.
 fn begin<R: Threads + Sync, W: Watch + Sync>(
     rt: &R,
     alloc: Global,
@@ -136,7 +136,7 @@ fn sizes(alloc: Global, classes: &Classes) -> Result<Vec<usize>, AllocError>
         .collect(alloc)
 }
 
-// Makes the run from its table on.
+// Makes steps until everybody is settled or a step is refused, and returns the answer or the stop.
 fn finish<R: Threads + Sync, W: Watch + Sync>(
     rt: &R,
     alloc: Global,
@@ -193,7 +193,7 @@ fn answer(alloc: Global, run: Run<'_>) -> Result<SolvedSized, Stop>
     }
 }
 
-// Returns how many classes, columns and pivots a table has.
+// Returns how many classes and columns a table has, and how many pivots were made.
 fn sizes_of(table: &Table) -> RunSizes
     ensures { result ≡ sizes_in table.now }
 {
@@ -217,7 +217,7 @@ fn parts(alloc: Global, table: &Table) -> Result<Vec<(Composition, Frac)>, Alloc
     Ok(parts)
 }
 
-// Returns a copy of the column of this number.
+// Returns a copy of column number `column`, counted from 0.
 fn copied_column(table: &Table, column: usize) -> Result<Composition, AllocError>
     requires { column < length table.now.columns }
     ensures { IfOk result (λ copied. copied ≡ slice_index_or table.now.columns column []) }

@@ -1,4 +1,4 @@
-//! What a run answers, and why it stops.
+//! The answers of a run, and why it stops.
 
 use define_runs::RunSizes;
 use exact_table::{Pass, Table};
@@ -10,11 +10,11 @@ use std::alloc::AllocError;
 pub enum At {
     /// There was no table yet.
     Opening,
-    /// The table as it was when the refused step was due.
+    /// The table before the refused step.
     Table(Table),
 }
 
-/// What a run finds.
+/// The result of a run.
 #[derive(Debug, Drop)]
 pub enum Solved {
     /// A lottery, with its certificate.
@@ -23,7 +23,7 @@ pub enum Solved {
     NoPanel,
 }
 
-/// What a run finds, with the sizes of its last table.
+/// The result of a run, with the sizes of its last table.
 #[derive(Debug, Drop)]
 pub enum SolvedSized {
     /// A lottery, with its certificate; and the classes, columns and pivots of the run.
@@ -37,10 +37,10 @@ pub enum SolvedSized {
 pub enum Stop {
     /// An operation passes the width.
     TooWide(At, Pass),
-    /// The lottery's total passes 10^38: the number of the composition at which it does, counted from 0; the total of those before
-    /// it; and the denominator of its fraction.
+    /// The lottery's total passes 10^38. Holds where the run was; the number, counted from 0, of the composition whose fraction makes the
+    /// total pass; the total before this composition; and the denominator of its fraction.
     TotalPasses(At, usize, i128, i128),
-    /// A pivot is due, and the budget of pivots is spent.
+    /// The next step is a pivot, and the budget of pivots is spent.
     PivotsSpent(At),
     /// A search needs more visits than its budget.
     NodesSpent(At),

@@ -1,15 +1,15 @@
--- A command over a keeper, by what the keeper tells before and after.
-use Rattle.std.proofs.Common.{◌≡◌, ℕ, List, [], ◌∷◌, ◌++◌, Option, Some, None, Result, Ok, Err, refl, subst}
-use Rattle.std.specs.Prelude.{IfSome}
+-- What a command over a keeper does to the tables and the faults that the keeper tells.
+use Rattle.std.proofs.Common.{◌≡◌, ℕ, List, [], ◌∷◌, ◌++◌, Option, Some, None, Result, Ok, Err, refl, subst, sym, ap, ◌∙◌}
+use Rattle.std.specs.Prelude.{IfSome, option_map}
 use Rattle.define_offices.specs.Commands as office
-use Rattle.define_offices.specs.Commands.{Command, Refuses, Replies, Stops}
+use Rattle.define_offices.specs.Commands.{Command, Outcome, Refuses, Replies, Stops}
 use Rattle.define_offices.specs.Facts.{IsCommand, IsTables}
-use Rattle.define_offices.specs.Steps.{Comes, Folds, applied}
+use Rattle.define_offices.specs.Steps.{Comes, Folds, applied, tables_after}
 use Rattle.define_offices.specs.Tables.{Tables}
 use Rattle.laws_of_offices.proofs.Steps.{comes_keeps, folds_grow}
 use Rattle.office_steps.specs.Replies.{seen_refusal, seen_reply}
 use Rattle.office_steps.specs.declared.replies.Reply.{Reply}
-use Rattle.office_core.specs.Acting.{Acts, ActsOn, GoesOn, HasFault, IsDone, stop_of_decision, stop_of_keeper}
+use Rattle.office_core.specs.Acting.{ActsOn, GoesOn, HasFault, HasOutcome, IsDone, stop_of_decision, stop_of_keeper}
 use Rattle.office_core.specs.Deciding.{Decides}
 use Rattle.office_core.specs.Keeping.{HasCause, changed}
 use Rattle.office_core.specs.declared.keeper.KeeperStop.{KeeperStop}
@@ -19,33 +19,41 @@ use Rattle.office_core.specs.declared.stops.ActStop.TheVariants as act
 use Rattle.office_core.specs.declared.stops.DecideStop.{DecideStop}
 use Rattle.office_core.specs.declared.stops.DecideStop.TheVariants as decide
 
--- ---- the tables after it
+-- ---- the tables after a call
 
-pub acts_done : (told : Option Tables) (loaded : Tables) (command : Command) (change : Option office.Change) (reply : Reply) (after : Option Tables) → IfSome told (λ kept. loaded ≡ kept) →
-    Comes loaded command (Replies change (seen_reply reply)) → after ≡ changed told change → ActsOn told command (Ok reply) after
-acts_done None loaded command change reply after same comes is = is
-acts_done (Some kept) loaded command change reply after same comes is =
-    (applied kept change, is, record { change = change; comes = subst (λ t. Comes t command (Replies change (seen_reply reply))) same comes; leaves = refl })
+module _ (told : Option Tables) (loaded : Tables) (command : Command) (is : IsTables loaded) (same : IfSome told (λ kept. loaded ≡ kept)) (after : Option Tables) where
+  -- an outcome that leaves the tables
+  stays_so : (outcome : Outcome) → ((tables : Tables) → tables_after tables outcome ≡ tables) → Comes loaded command outcome → after ≡ told → HasOutcome told command outcome after
+  stays_so outcome stays comes unchanged = record {
+    tables = loaded;
+    loaded = record { is = is; same = same };
+    comes = comes;
+    leaves = unchanged ∙ kept told;
+  }
+    where
+      kept : (tables : Option Tables) → tables ≡ option_map (λ t. tables_after t outcome) tables
+      kept None = refl
+      kept (Some t) = ap Some (sym (stays t))
 
-stops_so : (kept : Tables) (command : Command) (stop : DecideStop) → Decides kept command (Err stop) → Acts kept command (Err (stop_of_decision stop)) kept
-stops_so kept command (decide.Refused refusal) decides = (subst (Comes kept command) decides.says decides.comes, refl)
-stops_so kept command (decide.Solve stopped) decides =
-    let (ending, is, same) = decides.says in ((ending, is, subst (Comes kept command) same decides.comes), refl)
-stops_so kept command (decide.Unproved verdict) decides =
-    let (refusal, is, same) = decides.says in ((refusal, is, subst (Comes kept command) same decides.comes), refl)
-stops_so kept command decide.OutOfMemory decides = refl
+  pub acts_done : (change : Option office.Change) (reply : Reply) → Comes loaded command (Replies change (seen_reply reply)) → after ≡ changed told change → ActsOn told command (Ok reply) after
+  acts_done change reply comes leaves = (change, record { tables = loaded; loaded = record { is = is; same = same }; comes = comes; leaves = leaves })
 
-pub acts_stopped : (told : Option Tables) (loaded : Tables) (command : Command) (stop : DecideStop) (after : Option Tables) → IfSome told (λ kept. loaded ≡ kept) →
-    Decides loaded command (Err stop) → after ≡ told → ActsOn told command (Err (stop_of_decision stop)) after
-acts_stopped None loaded command stop after same decides is = is
-acts_stopped (Some kept) loaded command stop after same decides is = (kept, is, stops_so kept command stop (subst (λ t. Decides t command (Err stop)) same decides))
+  pub acts_stopped : (stop : DecideStop) → Decides loaded command (Err stop) → after ≡ told → ActsOn told command (Err (stop_of_decision stop)) after
+  acts_stopped (decide.Refused refusal) decides unchanged =
+      stays_so (Refuses (seen_refusal refusal)) (λ t. refl) (subst (Comes loaded command) decides.says decides.comes) unchanged
+  acts_stopped (decide.Solve stopped) decides unchanged =
+      let (ending, is_it, equal) = decides.says in
+      (ending, is_it, stays_so (Stops ending) (λ t. refl) (subst (Comes loaded command) equal decides.comes) unchanged)
+  acts_stopped (decide.Unproved verdict) decides unchanged =
+      let (refusal, is_it, equal) = decides.says in
+      (refusal, is_it, stays_so (office.Unproved refusal) (λ t. refl) (subst (Comes loaded command) equal decides.comes) unchanged)
+  acts_stopped decide.OutOfMemory decides unchanged = unchanged
 
 pub acts_failed : (told : Option Tables) (command : Command) (stop : KeeperStop) (after : Option Tables) → after ≡ told → ActsOn told command (Err (stop_of_keeper stop)) after
-acts_failed None command stop after is = is
-acts_failed (Some kept) command keeper.Failed after is = (kept, is, refl)
-acts_failed (Some kept) command keeper.OutOfMemory after is = (kept, is, refl)
+acts_failed told command keeper.Failed after is = is
+acts_failed told command keeper.OutOfMemory after is = is
 
--- ---- what a change leaves
+-- ---- a change leaves tables
 
 pub change_keeps : (told : Option Tables) (loaded : Tables) (command : Command) (change : Option office.Change) (reply : office.Reply) → IsTables loaded → IsCommand command → IfSome told (λ kept. loaded ≡ kept) →
     Comes loaded command (Replies change reply) → IfSome told (λ kept. IsTables (applied kept change))
@@ -67,20 +75,25 @@ stopped_fault before now decide.OutOfMemory same = same
 
 -- ---- lists of commands
 
-grown : (commands : List Command) (command : Command) (kept left : Tables) (result : Result Reply ActStop) → Folds commands kept → Acts kept command result left → IsDone result → Folds (commands ++ command ∷ []) left
-grown commands command kept left (Ok reply) folds acts done =
-    folds_grow commands command kept left folds (record { outcome = Replies acts.change (seen_reply reply); comes = acts.comes; leaves = acts.leaves })
-grown commands command kept left (Err (act.Refused refusal)) folds (comes, same) done =
-    folds_grow commands command kept left folds (record { outcome = Refuses (seen_refusal refusal); comes = comes; leaves = same })
-grown commands command kept left (Err (act.Solve stopped)) folds ((ending, is, comes), same) done =
-    folds_grow commands command kept left folds (record { outcome = Stops ending; comes = comes; leaves = same })
-grown commands command kept left (Err (act.Unproved verdict)) folds ((refusal, is, comes), same) done =
-    folds_grow commands command kept left folds (record { outcome = office.Unproved refusal; comes = comes; leaves = same })
-grown commands command kept left (Err act.KeeperFault) folds acts done = absurd done
-grown commands command kept left (Err act.OutOfMemory) folds acts done = absurd done
+-- If some commands leave the tables that a keeper tells, these commands and one more leave the tables after its outcome.
+grown : (commands : List Command) (command : Command) (kept : Tables) (outcome : Outcome) (after : Option Tables) → Folds commands kept → HasOutcome (Some kept) command outcome after →
+    (left : Tables) × (after ≡ Some left) × Folds (commands ++ command ∷ []) left
+grown commands command kept outcome after folds has = (
+  tables_after kept outcome,
+  has.leaves,
+  folds_grow commands command kept (tables_after kept outcome) folds
+      (record { outcome = outcome; comes = subst (λ t. Comes t command outcome) has.loaded.same has.comes; leaves = refl }),
+)
+
+goes : (kept : Tables) (command : Command) (result : Result Reply ActStop) (after : Option Tables) → ActsOn (Some kept) command result after → (commands : List Command) → Folds commands kept → IsDone result →
+    (left : Tables) × (after ≡ Some left) × Folds (commands ++ command ∷ []) left
+goes kept command (Ok reply) after (change, has) commands folds done = grown commands command kept (Replies change (seen_reply reply)) after folds has
+goes kept command (Err (act.Refused refusal)) after has commands folds done = grown commands command kept (Refuses (seen_refusal refusal)) after folds has
+goes kept command (Err (act.Solve stopped)) after (ending, is, has) commands folds done = grown commands command kept (Stops ending) after folds has
+goes kept command (Err (act.Unproved verdict)) after (refusal, is, has) commands folds done = grown commands command kept (office.Unproved refusal) after folds has
+goes kept command (Err act.KeeperFault) after acts commands folds done = absurd done
+goes kept command (Err act.OutOfMemory) after acts commands folds done = absurd done
 
 pub goes_on : (before : Option Tables) (command : Command) (result : Result Reply ActStop) (after : Option Tables) → ActsOn before command result after → GoesOn before command result after
-goes_on None command result after acts commands kept is folds done = absurd (cc)
-goes_on (Some old) command result after (left, after_is, acts) commands kept is folds done =
-    let same : old ≡ kept = cc in
-    (left, after_is, grown commands command kept left result folds (subst (λ t. Acts t command result left) same acts) done)
+goes_on before command result after acts commands kept is folds done =
+    goes kept command result after (subst (λ b. ActsOn b command result after) is acts) commands folds done

@@ -1,4 +1,4 @@
--- A solve of an open round, by the end of the run over its pool.
+-- What a solve of an open round decides, by the ending of the run over its pool.
 use Rattle.std.proofs.Common.{◌≡◌, ℕ, Option, Some, None, Result, Ok, Err, refl}
 use Rattle.define_pools.specs.Pool.{Pool}
 use Rattle.define_runs.specs.Run as run
@@ -18,7 +18,7 @@ use Rattle.office_core.specs.Deciding.{Decides, Says, stop_of_run}
 use Rattle.office_core.specs.declared.stops.DecideStop.{DecideStop}
 use Rattle.office_core.specs.declared.stops.DecideStop.TheVariants as decide
 
--- a round without a bundle asks for the run
+-- a solve of a round without a bundle needs the run over its pool
 pub needs_run : (tables : Tables) (number : ℕ) (limits : Limits) (pool : Pool) (round : Round) → named_round tables.rounds number ≡ Some round → bundle_of round ≡ None → pool_of tables number ≡ Ok pool →
     asked tables (Solve number limits) ≡ NeedsRun pool
 needs_run tables number limits pool Open at none is = rw (at, is) refl
@@ -26,7 +26,7 @@ needs_run tables number limits pool (Solved bundle) at none is = absurd (cc)
 needs_run tables number limits pool (Sealed bundle) at none is = absurd (cc)
 needs_run tables number limits pool (Drawn bundle digits dropped) at none is = absurd (cc)
 
--- what says an outcome to which the command comes decides it
+-- if `outcome` is an outcome of the command, and the result is this outcome, the result decides the command
 pub decides_so : (tables : Tables) (command : Command) (outcome : Outcome) (result : Result (Option Change × Reply) DecideStop) → Comes tables command outcome → Says outcome result → Decides tables command result
 decides_so tables command outcome (Ok decided) comes says = record { outcome = outcome; comes = comes; says = says }
 decides_so tables command outcome (Err (decide.Refused refusal)) comes says = record { outcome = outcome; comes = comes; says = says }
@@ -41,7 +41,7 @@ pub run_comes : (tables : Tables) (number : ℕ) (limits : Limits) (pool : Pool)
     Comes tables (Solve number limits) (solved number pool ending)
 run_comes tables number limits pool ending needs ends = ByRun number limits pool ending refl needs ends refl
 
--- a run that stops
+-- if the run stops, its stop decides the solve
 pub stop_decides : (tables : Tables) (number : ℕ) (limits : Limits) (pool : Pool) (stopped : Stop) → asked tables (Solve number limits) ≡ NeedsRun pool → TellsEnding (classes_of pool) (run_limits limits) (Err stopped) →
     Decides tables (Solve number limits) (Err (stop_of_run stopped))
 stop_decides tables number limits pool (stop.TooWide place pass) needs ends = record {

@@ -1,10 +1,11 @@
 -- What a command over a keeper says, by the tables that the keeper tells before and after. The promise of `act` cites it.
-use Rattle.std.specs.Prelude.{◌≡◌, ◌≤◌, ℕ, List, [], ◌∷◌, ◌++◌, Option, Some, None, Result, Ok, Err, ⊤}
+use Rattle.std.specs.Prelude.{◌≡◌, ◌≤◌, ℕ, List, [], ◌∷◌, ◌++◌, IfSome, Option, Some, None, Result, Ok, Err, option_map, ⊤}
 use Rattle.define_checks.specs.Reasons as reasons
 use Rattle.define_runs.specs.Run.{Ending}
 use Rattle.define_offices.specs.Commands as office
-use Rattle.define_offices.specs.Commands.{Refuses, Replies, Stops}
-use Rattle.define_offices.specs.Steps.{Comes, Folds, applied}
+use Rattle.define_offices.specs.Commands.{Outcome, Refuses, Replies, Stops}
+use Rattle.define_offices.specs.Facts.{IsTables}
+use Rattle.define_offices.specs.Steps.{Comes, Folds, tables_after}
 use Rattle.define_offices.specs.Tables.{Tables}
 use Rattle.office_steps.specs.Replies.{seen_refusal, seen_reply}
 use Rattle.office_core.specs.Deciding.{IsEnding}
@@ -21,29 +22,30 @@ abbrev pub stop_of_keeper : KeeperStop → ActStop
 stop_of_keeper keeper.Failed = KeeperFault
 stop_of_keeper keeper.OutOfMemory = OutOfMemory
 
--- the command came to a reply, and the tables are those of the step
-pub record IsStep (before : Tables) (command : office.Command) (reply : office.Reply) (after : Tables) : Type 0 where
-  pub change : Option office.Change
-  pub comes : Comes before command (Replies change reply)
-  pub leaves : after ≡ applied before change
+-- tables that a keeper with these tables loads: they keep their facts, and are the ones that the keeper tells, if it tells its tables
+pub record IsLoaded (kept : Option Tables) (tables : Tables) : Type 0 where
+  pub is : IsTables tables
+  pub same : IfSome kept (λ told. tables ≡ told)
 
--- over tables that are told before and after: a reply is that of the step, and the tables are the step's; a refusal is that of the step, and the
--- tables are as before; so they are after a fault of the keeper, and for want of memory
-abbrev pub Acts : Tables → office.Command → Result Reply ActStop → Tables → Type 0
-Acts before command (Ok reply) after = IsStep before command (seen_reply reply) after
-Acts before command (Err (Refused refusal)) after = Comes before command (Refuses (seen_refusal refusal)) × (after ≡ before)
-Acts before command (Err (Solve stopped)) after = ((ending : Ending) × IsEnding stopped ending × Comes before command (Stops ending)) × (after ≡ before)
-Acts before command (Err (Unproved verdict)) after =
-    ((refusal : reasons.Refusal) × (verdict ≡ reasons.Refused refusal) × Comes before command (office.Unproved refusal)) × (after ≡ before)
-Acts before command (Err KeeperFault) after = after ≡ before
-Acts before command (Err OutOfMemory) after = after ≡ before
+-- the outcome of the command over the tables that were loaded. If the keeper tells its tables, they are changed as the outcome says
+pub record HasOutcome (before : Option Tables) (command : office.Command) (outcome : Outcome) (after : Option Tables) : Type 0 where
+  pub tables : Tables
+  pub loaded : IsLoaded before tables
+  pub comes : Comes tables command outcome
+  pub leaves : after ≡ option_map (λ told. tables_after told outcome) before
 
--- the same over what a keeper tells
+-- a reply or a refusal is that of the command's outcome over the tables that were loaded. After a fault of the keeper, and if memory runs out,
+-- the tables are as before
 abbrev pub ActsOn : Option Tables → office.Command → Result Reply ActStop → Option Tables → Type 0
-ActsOn None command result after = after ≡ None
-ActsOn (Some before) command result after = (left : Tables) × (after ≡ Some left) × Acts before command result left
+ActsOn before command (Ok reply) after = (change : Option office.Change) × HasOutcome before command (Replies change (seen_reply reply)) after
+ActsOn before command (Err (Refused refusal)) after = HasOutcome before command (Refuses (seen_refusal refusal)) after
+ActsOn before command (Err (Solve stopped)) after = (ending : Ending) × IsEnding stopped ending × HasOutcome before command (Stops ending) after
+ActsOn before command (Err (Unproved verdict)) after =
+    (refusal : reasons.Refusal) × (verdict ≡ reasons.Refused refusal) × HasOutcome before command (office.Unproved refusal) after
+ActsOn before command (Err KeeperFault) after = after ≡ before
+ActsOn before command (Err OutOfMemory) after = after ≡ before
 
--- the call ended with a reply or a refusal, so it counts among the commands of the office
+-- the call ended with an outcome of the command, not with a fault of the keeper or for want of memory; so the command counts in the fold
 abbrev pub IsDone : Result Reply ActStop → Type 0
 IsDone (Ok reply) = ⊤
 IsDone (Err (Refused refusal)) = ⊤
@@ -52,7 +54,7 @@ IsDone (Err (Unproved verdict)) = ⊤
 IsDone (Err KeeperFault) = ⊥
 IsDone (Err OutOfMemory) = ⊥
 
--- where the tables told are what a list of commands leaves, they are then what the list with this command leaves
+-- if the keeper tells the fold of a list of commands, and the call is done, it then tells the fold of the list with this command at its end
 abbrev pub GoesOn : Option Tables → office.Command → Result Reply ActStop → Option Tables → Type 0
 GoesOn before command result after = (commands : List office.Command) (kept : Tables) → before ≡ Some kept → Folds commands kept → IsDone result →
     (left : Tables) × (after ≡ Some left) × Folds (commands ++ command ∷ []) left
@@ -66,7 +68,7 @@ HasFault before now (Err (Unproved verdict)) = now ≡ before
 HasFault before now (Err KeeperFault) = (before ≤ now) × Rose before now
 HasFault before now (Err OutOfMemory) = now ≡ before
 
--- a decision's stop as one of the call
+-- the stop of `act` for a stop of `decide`
 abbrev pub stop_of_decision : DecideStop → ActStop
 stop_of_decision (decide.Refused refusal) = Refused refusal
 stop_of_decision (decide.Solve stopped) = Solve stopped

@@ -1,10 +1,10 @@
--- Commands as values of the program, and those of the definitions that they are.
+-- Commands of the program as commands of the definitions.
 use Rattle.std.specs.Prelude.{◌≤◌, ⊤}
 use Rattle.define_offices.specs.Commands as office
 use Rattle.office_core.specs.declared.commands.Command.{Command}
 use Rattle.office_core.specs.declared.commands.Command.TheVariants.{Charter, Rules, Register, Solve, Keep, Seal, Draw, Drop, NextRound, Show, Withdraw}
 
--- the number of workers is no part of a command's meaning
+-- the command of the definitions; the number of workers is no part of it
 abbrev pub seen_command : Command → office.Command
 seen_command (Charter charter) = office.SetCharter charter
 seen_command (Rules rules) = office.SetRules rules
@@ -18,7 +18,7 @@ seen_command (NextRound after) = office.NextRound after
 seen_command (Show round) = office.Show round
 seen_command (Withdraw key) = office.Withdraw key
 
--- from 1 to 64 workers are asked to price
+-- if the command is a solve, it asks for 1 to 64 workers to price
 abbrev pub HasWorkers : Command → Type 0
 HasWorkers (Solve round limits workers) = (1 ≤ workers) × (workers ≤ 64)
 HasWorkers (Charter charter) = ⊤

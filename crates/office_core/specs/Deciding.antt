@@ -1,4 +1,4 @@
--- What a decision of the program says: which outcome of the definitions it is. The promise of `decide` cites it.
+-- Which outcome of the definitions a result of `decide` is. The promise of `decide` cites it.
 use Rattle.std.specs.Prelude.{◌≡◌, Option, Some, Result, Ok, Err, option_map, ⊤}
 use Rattle.define_checks.specs.Reasons as reasons
 use Rattle.define_pools.specs.Pool.{Pool}
@@ -22,7 +22,7 @@ use Rattle.office_steps.specs.declared.stops.OfficeStop.TheVariants as office_st
 use Rattle.office_core.specs.declared.stops.DecideStop.{DecideStop}
 use Rattle.office_core.specs.declared.stops.DecideStop.TheVariants.{Refused, Solve, Unproved, OutOfMemory}
 
--- why a run stops, by its ending
+-- the stop of the program's run is this ending of the stated run
 abbrev pub IsEnding : Stop → Ending → Type 0
 IsEnding (stop.TooWide place pass) ending = ending ≡ run.TooWide (stood place) pass
 IsEnding (stop.TotalPasses place at total den) ending = (table : Table) × (pass : TotalPass) × (stood place ≡ Some table) × IsTotalPass pass at total den × (ending ≡ run.TotalPasses table pass)
@@ -30,7 +30,7 @@ IsEnding (stop.PivotsSpent place) ending = (table : Table) × (stood place ≡ S
 IsEnding (stop.NodesSpent place) ending = ending ≡ run.NodesSpent (stood place)
 IsEnding stop.OutOfMemory ending = ⊥
 
--- the result says this outcome; running out of memory is allowed at any time
+-- the result is this outcome, or out of memory, which is allowed at any time
 abbrev pub Says : Outcome → Result (Option Change × Reply) DecideStop → Type 0
 Says outcome (Ok (change, reply)) = outcome ≡ Replies (option_map seen_change change) (seen_reply reply)
 Says outcome (Err (Refused refusal)) = outcome ≡ Refuses (seen_refusal refusal)
@@ -38,7 +38,7 @@ Says outcome (Err (Solve stopped)) = (ending : Ending) × IsEnding stopped endin
 Says outcome (Err (Unproved verdict)) = (refusal : reasons.Refusal) × (verdict ≡ reasons.Refused refusal) × (outcome ≡ office.Unproved refusal)
 Says outcome (Err OutOfMemory) = ⊤
 
--- the result says what the command comes to; running out of memory is allowed at any time
+-- the result is an outcome of the command over `tables`, or out of memory, which is allowed at any time
 pub record IsDecision (tables : Tables) (command : office.Command) (result : Result (Option Change × Reply) DecideStop) : Type 0 where
   pub outcome : Outcome
   pub comes : Comes tables command outcome
@@ -53,7 +53,7 @@ abbrev pub stop_of_office : OfficeStop → DecideStop
 stop_of_office (office_stop.Refused refusal) = Refused refusal
 stop_of_office office_stop.OutOfMemory = OutOfMemory
 
--- the pool of a round, or the refusal without one; running out of memory is allowed at any time
+-- the result is the pool of a round, or the refusal if there is none, or out of memory, which is allowed at any time
 abbrev pub TellsPool : Result Pool office.Refusal → Result Pool DecideStop → Type 0
 TellsPool is (Ok pool) = is ≡ Ok pool
 TellsPool is (Err (Refused refusal)) = is ≡ Err (seen_refusal refusal)
@@ -61,7 +61,7 @@ TellsPool is (Err (Solve stopped)) = ⊥
 TellsPool is (Err (Unproved verdict)) = ⊥
 TellsPool is (Err OutOfMemory) = ⊤
 
--- why a solve has no reply if the run stops so
+-- the stop of `decide` for a stop of the run
 abbrev pub stop_of_run : Stop → DecideStop
 stop_of_run stop.OutOfMemory = OutOfMemory
 stop_of_run (stop.TooWide place pass) = Solve (stop.TooWide place pass)

@@ -1,4 +1,4 @@
--- What a call of a keeper says. The trait `Keeper` cites it.
+-- How a call of a keeper counts faults, and what it does to the place and the tables that the keeper tells. The trait `Keeper` cites it.
 use Rattle.std.specs.Prelude.{◌≡◌, ◌≤◌, ℕ, List, Option, Result, Ok, Err, option_map}
 use Rattle.outside.specs.Faults.{Rose}
 use Rattle.define_offices.specs.Commands.{Change}
@@ -13,22 +13,22 @@ HasCause before now (Ok value) = now ≡ before
 HasCause before now (Err Failed) = (before ≤ now) × Rose before now
 HasCause before now (Err OutOfMemory) = now ≡ before
 
--- where a keeper is attached: it doesn't tell, nowhere yet, or at a path
+-- where a keeper is attached: at a path, or nowhere yet; or untold, if the keeper doesn't tell
 pub data Place : Type 0 where
   Untold : Place
   Nowhere : Place
   At : (path : List ℕ) → Place
 
--- the place of a keeper that was attached at a path
+-- the place of a keeper after it was attached at `path`
 abbrev pub at : Place → List ℕ → Place
 at Untold path = Untold
 at Nowhere path = At path
 at (At other) path = At path
 
--- the tables told, after a change was stored
+-- the tables that a keeper tells after `change` was stored
 abbrev pub stored : Option Tables → Change → Option Tables
 stored kept change = option_map (λ tables. apply tables change) kept
 
--- the same, if there was a change
+-- the tables that a keeper tells after a change was stored, or after none
 abbrev pub changed : Option Tables → Option Change → Option Tables
 changed kept change = option_map (λ tables. applied tables change) kept

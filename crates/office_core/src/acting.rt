@@ -18,8 +18,8 @@ use outside::Watch;
 use std::alloc::Global;
 use std::thread::Threads;
 
-/// Does a command over a keeper that is attached. Returns the reply, after the change was stored if there is one. At every stop the tables that
-/// are kept stay.
+/// Does a command over a keeper that is attached. Returns the reply, after the change was stored if there is one. After every stop the kept
+/// tables are as before.
 pub fn act<K: Keeper, R: Threads + Sync, W: Watch + Sync>(
     rt: &R,
     alloc: Global,
@@ -29,7 +29,7 @@ pub fn act<K: Keeper, R: Threads + Sync, W: Watch + Sync>(
 ) -> Result<Reply, ActStop>
     requires { HasWorkers command.now }
     ensures step { ActsOn (K.tables keeper.old) (seen_command command.now) result (K.tables keeper.new) }
-    // So over every list of commands the tables are what those leave that ended with a reply or a refusal.
+    // So after any number of calls the tables are the fold of the commands that ended with an outcome.
     ensures fold { GoesOn (K.tables keeper.old) (seen_command command.now) result (K.tables keeper.new) }
     ensures place { K.place keeper.new ≡ K.place keeper.old }
     ensures fault { HasFault (K.faults keeper.old) (K.faults keeper.new) result }
@@ -37,7 +37,7 @@ pub fn act<K: Keeper, R: Threads + Sync, W: Watch + Sync>(
     acted(rt, alloc, keeper, command, watch)
 }
 
-/// Does the command.
+/// Does what `act` does, with each of its clauses except `fold`, which follows from `step`.
 fn acted<K: Keeper, R: Threads + Sync, W: Watch + Sync>(
     rt: &R,
     alloc: Global,
@@ -81,7 +81,7 @@ fn store<K: Keeper>(
     }
 }
 
-/// Returns the stop of a decision as one of the call.
+/// Returns the stop of `act` for a stop of `decide`.
 fn stopped(stop: DecideStop) -> ActStop
     ensures { result ≡ stop_of_decision stop }
 {

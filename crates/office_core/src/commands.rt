@@ -17,7 +17,7 @@ pub enum Command {
     Rules(Rules),
     /// Adds rows to the register, while volunteers are enrolled. All are added, or none.
     Register(Rows),
-    /// Answers an open round by the stated run under these limits. From 1 to 64 workers price.
+    /// Answers an open round by the stated run under these limits. `decide` requires 1 to 64 workers.
     Solve {
         /// The round's number.
         round: usize,
@@ -64,7 +64,7 @@ pub enum Command {
         /// The round's number.
         round: usize,
     },
-    /// Lets the volunteer with this key withdraw.
+    /// Lets a volunteer withdraw, named by the key.
     Withdraw {
         /// The volunteer's key.
         key: Name,

@@ -1,4 +1,4 @@
-//! What a command comes to over tables.
+//! Decides commands: the outcome of a command over tables.
 
 ghost use Rattle.std.specs.Prelude.{◌≡◌};
 ghost use Rattle.office_core.specs.Commands.{HasWorkers, seen_command};
@@ -18,7 +18,8 @@ use outside::Watch;
 use std::alloc::Global;
 use std::thread::Threads;
 
-/// Decides a command: returns the reply with the change, if the tables don't stay as they are; or stops with the refusal.
+/// Returns the outcome of a command over `tables`: a reply, with a change if the tables don't stay as they are; or a stop with the refusal,
+/// the run's stop or the verdict on the proof.
 pub fn decide<R: Threads + Sync, W: Watch + Sync>(
     rt: &R,
     alloc: Global,
@@ -52,7 +53,7 @@ pub fn decide<R: Threads + Sync, W: Watch + Sync>(
     }
 }
 
-/// Returns the same decision, with its stop as one of `decide`.
+/// Returns a decision of `office_steps`, with its stop turned into a stop of `decide`.
 fn stepped(
     decided: Result<(Option<Change>, Reply), OfficeStop>,
 ) -> Result<(Option<Change>, Reply), DecideStop>

@@ -1,4 +1,4 @@
-//! What keeps the tables of an office.
+//! The trait of what keeps the tables of an office between calls.
 
 ghost use Rattle.std.specs.Prelude.{◌≡◌, ℕ, IfOk, IfSome, OnErr, OnOk, Option};
 ghost use Rattle.define_offices.specs.Facts.{IsTables};
@@ -22,7 +22,8 @@ pub enum KeeperStop {
     OutOfMemory,
 }
 
-/// What keeps the tables of an office. Its count of faults never falls. A call fails only where the count rose, and counts none else.
+/// What keeps the tables of an office. It counts its faults; the count never falls. A call that returns `Failed` counts a fault, and no
+/// other call does.
 pub trait Keeper {
     /// The tables that are kept, if the keeper can tell.
     ghost tables: { Self → Option Seen };
@@ -33,7 +34,7 @@ pub trait Keeper {
     /// How many faults the keeper has counted.
     ghost faults: { Self → ℕ };
 
-    /// Goes to where the tables are kept. They stay.
+    /// Attaches the keeper to the tables at `path`. No tables change.
     fn attach(&mut self, alloc: Global, path: &str) -> Result<(), KeeperStop>
         ensures same { tables self.new ≡ tables self.old }
         ensures place { OnOk result (place self.new ≡ at (place self.old) path.now) }
@@ -47,7 +48,8 @@ pub trait Keeper {
         ensures loaded { IfOk result (λ loaded. IfSome (tables self.old) (λ kept. loaded ≡ kept)) }
         ensures cause { HasCause (faults self.old) (faults self.new) result };
 
-    /// Changes the tables that are kept; they stay if it stops. Where they are told, the change leaves tables.
+    /// Makes a change of the kept tables; after a stop they are as before. If the keeper tells its tables, the caller must show that
+    /// `IsTables` holds of them after the change.
     fn store(&mut self, alloc: Global, change: &Change) -> Result<(), KeeperStop>
         requires { IfSome (tables self.old) (λ kept. IsTables (apply kept (seen_change change.now))) }
         ensures place { place self.new ≡ place self.old }

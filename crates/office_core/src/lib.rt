@@ -1,9 +1,10 @@
-//! The office as a small machine: commands over its tables. A command is decided from the tables alone, as a reply with at most one change or as
-//! a refusal; `act` loads the tables from a keeper, decides, and stores the change. Stands on `office_steps`, which decides each command that
-//! needs neither the run nor a proof, on `leximin_run` and `proof_verify` for the others, and on the definitions of `define_offices` and
-//! their laws. Keepers, the desk and the commands over a store stand on it.
+//! The office as a small machine: commands over its tables. `decide` returns the outcome of a command over tables. `act` loads the tables
+//! from a keeper, decides, and stores the change. Stands on `office_steps`, which decides each command that needs neither the run nor a
+//! proof, on `leximin_run` and `proof_verify` for the others, and on the definitions of `define_offices` and their laws. `office_keeper`
+//! stands on it.
 //!
-//! Promises: `decide` is a step of the office, and `act` a step over a keeper.
+//! Promises: `decide` returns an outcome of the command by the definitions, and `act` changes a keeper's tables by that outcome; the trait
+//! `Keeper`.
 #![tactic(auto)]
 
 mod acting;

@@ -26,7 +26,7 @@ use proof_verify::verify;
 use std::alloc::{AllocError, Global};
 use std::thread::Threads;
 
-/// Decides a solve.
+/// Returns the outcome of a solve of a round.
 pub(crate) fn solve_round<R: Threads + Sync, W: Watch + Sync>(
     rt: &R,
     alloc: Global,
@@ -54,7 +54,7 @@ pub(crate) fn solve_round<R: Threads + Sync, W: Watch + Sync>(
     }
 }
 
-/// Returns why a solve has no reply if the run stops.
+/// Returns the stop of `decide` for a stop of the run.
 fn run_stopped(stop: Stop) -> DecideStop
     ensures { result ≡ stop_of_run stop }
 {
@@ -64,7 +64,7 @@ fn run_stopped(stop: Stop) -> DecideStop
     }
 }
 
-/// Decides a proof for a round.
+/// Returns the outcome of a `Keep`: of a proof for a round.
 pub(crate) fn keep_proof(
     alloc: Global,
     tables: &Tables,
@@ -93,7 +93,7 @@ pub(crate) fn keep_proof(
     }
 }
 
-/// Returns the reply and the change of a bundle that is kept for an open round with the same pool.
+/// Returns the reply and the change if an open round keeps the answer of `bundle`, whose pool is `pool`.
 fn keep_answer(
     alloc: Global,
     number: usize,
@@ -123,7 +123,7 @@ fn round_pool(alloc: Global, tables: &Tables, number: usize) -> Result<Pool, Dec
     }
 }
 
-/// Returns the reply and the change of an answer over the pool of an open round.
+/// Returns the reply and the change if round `number`, which is open and has the pool `pool`, gets the answer `answer`.
 fn answered(
     alloc: Global,
     number: usize,
@@ -146,7 +146,7 @@ fn answered(
     }
 }
 
-/// Returns the reply of a round that has an answer: how many panels its lottery has, and its total.
+/// Returns the reply to an answer of round `number`: how many panels its lottery has, and its total.
 fn solved_reply(alloc: Global, number: usize, bundle: &Bundle) -> Result<Reply, AllocError>
     ensures { IfOk result (λ reply. seen_reply reply ≡ one_line (solved_line number bundle.now)) }
 {
@@ -163,7 +163,7 @@ fn solved_reply(alloc: Global, number: usize, bundle: &Bundle) -> Result<Reply, 
     )
 }
 
-/// True if both are the same pool: each pool has one text.
+/// True if both pools are the same. Compares their texts, since each pool has one text.
 fn is_same_pool(alloc: Global, one: &Pool, other: &Pool) -> Result<bool, AllocError>
     ensures { IfOk result (λ same. same ≡ are_same one.now other.now) }
 {

@@ -1,4 +1,4 @@
-//! Why a call of the office gives no answer.
+//! Why a call of the office has no reply.
 
 use crate::keeper::KeeperStop;
 use leximin_run::Stop;

@@ -1,7 +1,15 @@
--- Where a keeper in memory is attached.
-use Rattle.std.specs.Prelude.{ℕ, List, Option, Some, None}
+-- Where a keeper in memory is attached, and which of its calls failed.
+use Rattle.std.specs.Prelude.{ℕ, Bool, true, false, List, Option, Some, None, Result, Ok, Err}
+use Rattle.office_core.specs.declared.keeper.KeeperStop.{KeeperStop}
+use Rattle.office_core.specs.declared.keeper.KeeperStop.TheVariants.{Failed, OutOfMemory}
 use Rattle.office_core.specs.Keeping.{At, Nowhere, Place}
 
 abbrev pub place_of : Option (List ℕ) → Place
 place_of None = Nowhere
 place_of (Some path) = At path
+
+-- true if the call failed with a fault; running out of memory is none
+abbrev pub has_failed : {T : Type 0} → Result T KeeperStop → Bool
+has_failed (Ok value) = false
+has_failed (Err Failed) = true
+has_failed (Err OutOfMemory) = false

@@ -1,39 +1,38 @@
-//! A keeper in memory.
+//! `MapKeeper`, a keeper in memory.
 
-ghost use Rattle.std.specs.Prelude.{◌≡◌, ◌≤◌, false, true, Some, None, IfOk};
+ghost use Rattle.std.specs.Prelude.{◌≡◌, ◌≤◌, Some, None, IfOk, OnErr, OnOk};
+ghost use Rattle.define_offices.specs.Facts.{IsTables};
+ghost use Rattle.define_offices.specs.Steps.{apply as applied};
 ghost use Rattle.define_offices.specs.Tables.{first_tables};
-ghost use Rattle.outside.specs.Faults.{Rose};
-ghost use Rattle.office_core.specs.Keeping.{Nowhere};
-ghost use Rattle.office_keeper.specs.Places.{place_of};
+ghost use Rattle.outside.specs.Memory.{after_call, next_fails, no_calls};
+ghost use Rattle.office_tables.specs.Changes.{seen_change};
+ghost use Rattle.office_core.specs.Keeping.{HasCause, Nowhere, at, stored};
+ghost use Rattle.office_keeper.specs.Places.{has_failed, place_of};
 
 use office_core::{Change, Keeper, KeeperStop, Tables, apply};
+use outside::CallPlan;
 use pool_model::Name;
 use std::alloc::{AllocError, Global};
 
-/// Tables in memory. A call of the trait `Keeper` whose number, counted from 1, is on its list fails and counts a fault. That just these calls fail
-/// isn't promised.
+/// Tables in memory, with a list of the calls of the trait `Keeper` that are to fail.
 #[derive(Drop)]
 pub struct MapKeeper {
     tables: Tables,
     path: Option<Name>,
-    failing: Vec<u64>,
-    calls: u64,
-    faults: u64,
+    calls: CallPlan,
 }
 
 impl MapKeeper {
-    /// Returns a keeper of the first tables, attached nowhere, of which the calls of these numbers fail.
+    /// Returns a keeper of the first tables, attached nowhere. The calls whose numbers are in `failing`, counted from 1, will fail.
     pub fn new(alloc: Global, failing: &[u64]) -> Result<MapKeeper, AllocError>
         ensures tables { IfOk result (λ keeper. keeper.tables ≡ first_tables) }
         ensures place { IfOk result (λ keeper. place_of keeper.path ≡ Nowhere) }
-        ensures faults { IfOk result (λ keeper. keeper.faults ≡ 0) }
+        ensures calls { IfOk result (λ keeper. keeper.calls ≡ no_calls failing.now) }
     {
         Ok(MapKeeper {
             tables: Tables::first(alloc)?,
             path: None,
-            failing: Vec::from_slice(alloc, failing)?,
-            calls: 0,
-            faults: 0,
+            calls: CallPlan::new(alloc, failing)?,
         })
     }
 
@@ -44,20 +43,24 @@ impl MapKeeper {
         &self.tables
     }
 
-    /// Counts a call, and a fault if it is to fail.
+    /// Returns how many calls have failed.
+    pub fn faults(&self) -> u64
+        ensures { result ≡ self.now.calls.faults }
+    {
+        self.calls.faults()
+    }
+
+    /// Counts a call, and returns true if it is to fail.
     fn fails(&mut self) -> bool
         ensures tables { self.new.tables ≡ self.old.tables }
         ensures path { self.new.path ≡ self.old.path }
-        ensures never_falls { self.old.faults ≤ self.new.faults }
-        ensures fault { result ≡ true → Rose self.old.faults self.new.faults }
-        ensures none { result ≡ false → self.new.faults ≡ self.old.faults }
+        ensures listed { result ≡ next_fails self.old.calls }
+        ensures calls { self.new.calls ≡ after_call self.old.calls result }
+        ensures never_falls { self.old.calls.faults ≤ self.new.calls.faults }
     {
-        self.calls = self.calls.saturating_add(1);
-        if self.failing.contains(&self.calls) {
-            self.faults = self.faults.saturating_add(1);
-            return true;
-        }
-        false
+        let is_fault = self.calls.next_fails();
+        self.calls.count(is_fault);
+        is_fault
     }
 }
 
@@ -66,9 +69,16 @@ impl Keeper for MapKeeper {
 
     ghost place = { λ k. place_of k.path };
 
-    ghost faults = { λ k. k.faults };
+    ghost faults = { λ k. k.calls.faults };
 
-    fn attach(&mut self, alloc: Global, path: &str) -> Result<(), KeeperStop> {
+    fn attach(&mut self, alloc: Global, path: &str) -> Result<(), KeeperStop>
+        ensures same { self.new.tables ≡ self.old.tables }
+        ensures place { OnOk result (place_of self.new.path ≡ at (place_of self.old.path) path.now) }
+        ensures stays { OnErr result (place_of self.new.path ≡ place_of self.old.path) }
+        ensures cause { HasCause self.old.calls.faults self.new.calls.faults result }
+        ensures failed { has_failed result ≡ next_fails self.old.calls }
+        ensures calls { self.new.calls ≡ after_call self.old.calls (has_failed result) }
+    {
         if self.fails() {
             return Err(KeeperStop::Failed);
         }
@@ -81,7 +91,14 @@ impl Keeper for MapKeeper {
         }
     }
 
-    fn load(&mut self, _alloc: Global) -> Result<Tables, KeeperStop> {
+    fn load(&mut self, _alloc: Global) -> Result<Tables, KeeperStop>
+        ensures same { self.new.tables ≡ self.old.tables }
+        ensures place { place_of self.new.path ≡ place_of self.old.path }
+        ensures loaded { IfOk result (λ loaded. loaded ≡ self.old.tables) }
+        ensures cause { HasCause self.old.calls.faults self.new.calls.faults result }
+        ensures failed { has_failed result ≡ next_fails self.old.calls }
+        ensures calls { self.new.calls ≡ after_call self.old.calls (has_failed result) }
+    {
         if self.fails() {
             return Err(KeeperStop::Failed);
         }
@@ -91,7 +108,15 @@ impl Keeper for MapKeeper {
         }
     }
 
-    fn store(&mut self, alloc: Global, change: &Change) -> Result<(), KeeperStop> {
+    fn store(&mut self, alloc: Global, change: &Change) -> Result<(), KeeperStop>
+        requires { IsTables (applied self.old.tables (seen_change change.now)) }
+        ensures place { place_of self.new.path ≡ place_of self.old.path }
+        ensures ok { OnOk result (self.new.tables ≡ applied self.old.tables (seen_change change.now)) }
+        ensures err { OnErr result (self.new.tables ≡ self.old.tables) }
+        ensures cause { HasCause self.old.calls.faults self.new.calls.faults result }
+        ensures failed { has_failed result ≡ next_fails self.old.calls }
+        ensures calls { self.new.calls ≡ after_call self.old.calls (has_failed result) }
+    {
         if self.fails() {
             return Err(KeeperStop::Failed);
         }

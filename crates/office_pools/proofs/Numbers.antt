@@ -1,4 +1,4 @@
--- The numbers of the volunteers with some ids, one volunteer after the other.
+-- The numbers of the volunteers whose ids are in a list, found volunteer by volunteer.
 use Rattle.std.proofs.Common.{◌≡◌, ℕ, suc, ◌+◌, ◌<◌, Bool, true, false, cond, List, [], ◌∷◌, ◌++◌, length, get_or, filter, None, sym, ap, ◌∙◌, arith}
 use Rattle.std.specs.List.{range_with_len}
 use Rattle.std.proofs.lemmas.List.{append-nil, get_or_read}
@@ -8,7 +8,7 @@ use Rattle.define_pools.specs.declared.Standing.TheVariants.{Gone}
 use Rattle.define_pools.specs.Lists.{includes_list}
 use Rattle.define_pools.specs.Pool.{Volunteer, volunteer}
 
--- the numbers below a count that pass
+-- the numbers below `count` that satisfy `test`
 abbrev pub passing : (ℕ → Bool) → ℕ → List ℕ
 passing test count = filter test (range_with_len 0 count)
 
@@ -22,7 +22,7 @@ module _ (volunteers : List Volunteer) (ids : List (List ℕ)) where
   abbrev pub has_one : ℕ → Bool
   has_one i = includes_list ids (volunteer volunteers i).id
 
-  -- what is read of a volunteer tells
+  -- if `v` is volunteer `i` and `id` is `v`'s id, then `has` is whether volunteer `i`'s id is in `ids`
   told : (i : ℕ) (v : Volunteer) (id : List ℕ) (has : Bool) → i < length volunteers → v ≡ get_or volunteers i v → id ≡ v.id → has ≡ includes_list ids id → has_one i ≡ has
   told i v id has h k e t =
       let read : v ≡ volunteer volunteers i = get_or_read volunteers i v h k (record { id = []; values = []; standing = Gone; household = None }) in

@@ -1,4 +1,4 @@
--- Rounds by their places and numbers, and what is known of the one before a round.
+-- Rounds by their places, from 0, and by their numbers, from 1. If a later round exists, a round was drawn.
 use Rattle.std.proofs.Common.{◌≡◌, ℕ, zero, suc, ◌-◌, ◌<◌, ◌≤◌, ltb, List, [], ◌∷◌, length, get_or, Bor, Option, Some, None, is_some, IfSome, option_map, refl, sym, ap, ◌∙◌, arith, subst}
 use Rattle.std.proofs.lemmas.Bool.{ltb-true, ltb-false}
 use Rattle.define_pools.specs.Pool.{Category, IsPool}
@@ -26,11 +26,11 @@ round_at-below [] place round h = absurd (cc)
 round_at-below (first ∷ rounds) zero round h = omega arith
 round_at-below (first ∷ rounds) (suc place) round h = let below : place < length rounds = round_at-below rounds place round h in omega arith
 
--- what is read there
+-- if `round` is read at a place within the list, it is the round of this place
 pub round_at-read : (rounds : List Round) (place : ℕ) (round : Round) → place < length rounds → round ≡ get_or rounds place round → round_at rounds place ≡ Some round
 round_at-read rounds place round h k = round_at-within rounds place round h ∙ ap Some (sym k)
 
--- what may be read there
+-- what `get` finds at a place is the round of this place, or None past the last
 got : (rounds : List Round) (place : ℕ) (found : Option (Bor Round)) → is_some found ≡ ltb place (length rounds) → IfSome found (λ round. round.now ≡ get_or rounds place round.now) →
     option_map (λ (round : Bor Round). round.now) found ≡ round_at rounds place
 got rounds place None h k = sym (round_at-past rounds place (ltb-false place (length rounds) (sym h)))
@@ -62,14 +62,14 @@ module _ (tables : Tables) (keeps : IsTables tables) where
       let same : Drawn drawn.bundle drawn.digits drawn.dropped ≡ round = cc in
       subst IsDrawn same (kept.0.total_agrees, kept.1.named)
 
-  -- it was drawn
+  -- if there is a round at `place`, the round before it was drawn
   pub is_drawn_before : (place : ℕ) → 0 < place → place < length tables.rounds → (round : Round) → round ≡ get_or tables.rounds (place - 1) round → IsDrawn round
   is_drawn_before zero h k round e = absurd (omega arith)
   is_drawn_before (suc before) h k round e =
       let same : suc before - 1 ≡ before = omega arith in
       is_drawn_at before k round (round_at-read tables.rounds before round (omega arith) (rw same at e))
 
--- the pool after it is that of the next round while it is open
+-- the pool after the round before `place` is the pool of the open round at `place`
 pub open_pool-later : (charter : Charter) (categories : List Category) (tables : Tables) (place : ℕ) → 0 < place → place < length tables.rounds → (round : Round) → round ≡ get_or tables.rounds (place - 1) round →
     pool_after tables.register (Some round) ≡ open_pool charter categories tables place
 open_pool-later charter categories tables zero h k round e = absurd (omega arith)

@@ -1,4 +1,4 @@
--- What `pool_of` answers, and which rounds have a next pool. Over Pools of `define_offices`.
+-- What `pool_of` may return, and which rounds have a next pool. Over Pools of `define_offices`.
 use Rattle.std.specs.Prelude.{◌≡◌, true, is_ok, Result, Ok, Err, ⊤}
 use Rattle.define_pools.specs.Lottery.{TotalAgrees}
 use Rattle.define_pools.specs.Pool.{Pool}
@@ -8,7 +8,8 @@ use Rattle.define_offices.specs.Tables.{Round, Open, Solved, Sealed, Drawn}
 use Rattle.office_pools.specs.declared.PoolStop.{PoolStop}
 use Rattle.office_pools.specs.declared.PoolStop.TheVariants.{NoRound, Incomplete, OutOfMemory}
 
--- the pool of a round, or why there is none; running out of memory is allowed at any time
+-- what `pool_of` may return if the definition's result is `is`: the same pool, or the same reason why there is none; running out of memory
+-- is allowed at any time
 abbrev pub TellsPool : Result Pool office.Refusal → Result Pool PoolStop → Type 0
 TellsPool is (Ok pool) = is ≡ Ok pool
 TellsPool is (Err (NoRound last)) = is ≡ Err (office.NoRound last)

@@ -31,7 +31,7 @@ pub(crate) fn later_pool(
     }
 }
 
-/// Returns the pool where the open volunteers whose rows have withdrawn are gone.
+/// Returns the pool in which each open volunteer whose row has withdrawn is gone.
 fn without_withdrawn(alloc: Global, mut pool: Pool, register: &[Entry]) -> Result<Pool, AllocError>
     ensures { IfOk result (λ next. next ≡ restood_pool (after_withdrawals register.now) pool) }
 {
@@ -68,7 +68,7 @@ fn panel_drawn(alloc: Global, bundle: &Bundle, digits: &[u8]) -> Result<Panel, A
     }
 }
 
-/// Returns the numbers of the volunteers with these ids.
+/// Returns the numbers of the volunteers whose ids are in `ids`, in rising order.
 fn numbers_of(alloc: Global, pool: &Pool, ids: &[Name]) -> Result<Vec<usize>, AllocError>
     ensures { IfOk result (λ numbers. numbers.items ≡ numbers_by pool.now ids.now) }
 {
@@ -81,7 +81,7 @@ fn numbers_of(alloc: Global, pool: &Pool, ids: &[Name]) -> Result<Vec<usize>, Al
     Ok(numbers)
 }
 
-/// True if the ids include the id.
+/// True if `id` is among `ids`.
 fn includes(ids: &[Name], id: &Name) -> bool
     ensures { result ≡ includes_list ids.now id.now }
 {

@@ -1,5 +1,5 @@
-//! The pool of each round of an office: from the charter, the rules and the register, or from the round before. Stands on `office_tables` and
-//! `rounds`. `office_core` stands on it.
+//! The pool of each round of an office: from the charter, the rules and the register, or from the round before. Stands on `office_tables`
+//! and `rounds`. Above: `office_steps` and `office_core`.
 //!
 //! Promise: `pool_of` returns exactly the pool of the definitions, or exactly why there is none.
 #![tactic(auto)]
@@ -50,10 +50,10 @@ impl From<AllocError> for PoolStop {
     }
 }
 
-/// Returns the pool of a round. While round 1 is open, it has the charter's size, the rules and the rows of the register, gone if they withdrew;
-/// while a later round is open, it is the next pool after the round before, where those who withdrew meanwhile are gone; past `Open` it is that
-/// of the round's bundle. Stops without a round of this number, then without a charter, and then without rules. Running out of memory is
-/// allowed at any time.
+/// Returns the pool of a round. While round 1 is open, its pool has the charter's size, the rules, and the rows of the register, gone if
+/// they withdrew. While a later round is open, its pool is the one after the round before, with those gone who withdrew meanwhile. Once a
+/// round is solved, its pool is that of its bundle. Fails if there is no round of this number, then if there is no charter, then if there
+/// are no rules. Running out of memory is allowed at any time.
 pub fn pool_of(alloc: Global, tables: &Tables, round: usize) -> Result<Pool, PoolStop>
     ensures { TellsPool (pool_of_round tables.now round) result }
 {
@@ -86,7 +86,7 @@ pub fn round_named(tables: &Tables, number: usize) -> Option<&Round>
     }
 }
 
-/// Returns the pool of the open round of a place, counted from 0.
+/// Returns the pool of the open round at `place`, counted from 0.
 fn open_pool(
     alloc: Global,
     tables: &Tables,

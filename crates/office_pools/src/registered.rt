@@ -52,7 +52,7 @@ fn volunteer_of(
     Ok(Volunteer::from_parts(id, places, standing_of(entry.withdrawn()), household))
 }
 
-/// Returns the standing of a volunteer who withdrew, or didn't.
+/// Returns `Gone` for a volunteer who withdrew, else `Open`.
 fn standing_of(withdrawn: bool) -> Standing
     ensures { result ≡ standing_by withdrawn }
 {

@@ -1,4 +1,4 @@
--- A step of the loops that find the least and the greatest count.
+-- One step of the loops that find the least and the greatest count.
 use Rattle.std.proofs.Common.{◌≡◌, ℕ, ◌+◌, ◌<◌, min, max, ltb, List, map, length, get_or, take, fold, ℤ, pos, unsigned_abs, FitsSigned, to_z, of_z, sym, ◌∙◌, ap, arith}
 use Rattle.std.specs.Int.{int_max, int_min, w128}
 use Rattle.std.proofs.Math.ListN.{get_or-map}
@@ -19,7 +19,7 @@ max_of_naturals a b =
 number_at : (counts : List ℤ) (i : ℕ) (x : ℤ) → counts ≡ map pos (map unsigned_abs counts) → x ≡ get_or counts i (pos 0) → x ≡ pos (get_or (map unsigned_abs counts) i 0)
 number_at counts i x natural e = e ∙ ap (λ zs. get_or zs i (pos 0)) natural ∙ get_or-map pos (map unsigned_abs counts) i 0
 
--- a step of a loop that keeps the pick of the counts read so far, stored as a signed number
+-- after one step of a loop, the stored number is the pick of the counts read so far, the count at `i` included
 pub next_stored : (pick : ℕ → ℕ → ℕ) (choose : ℤ → ℤ → ℤ) → ((a b : ℕ) → choose (pos a) (pos b) ≡ pos (pick a b)) → (counts : List ℤ) (i first : ℕ) (now next : ℤ) →
     FitsSigned w128 (get_or counts i (pos 0)) → FitsSigned w128 next → counts ≡ map pos (map unsigned_abs counts) → i < length counts →
     now ≡ pos (fold pick first (take i (map unsigned_abs counts))) → next ≡ choose now (to_z w128 (of_z w128 (get_or counts i (pos 0)))) →

@@ -11,7 +11,7 @@ use Rattle.define_made_pools.specs.MadePools.{ages, areas, genders, made_id}
 use Rattle.define_made_pools.proofs.Volunteers.{id_keeps_limits}
 use Rattle.office_reports.specs.Making.{ArePlaces, made_names, names_of_values, with_values}
 
--- the place of a name among the names of a category's values: of the categories, a builder's call reads only these names
+-- the place of a name among the names of a category's values, by the names alone: adding a volunteer reads nothing else of the categories
 abbrev place_in : List (List ℕ) → List ℕ → Option ℕ
 place_in [] name = None
 place_in (one ∷ names) name = cond (bytes_eq name one) (Some 0) (option_map (λ place. place + 1) (place_in names name))
@@ -96,7 +96,7 @@ names_have_places categories gender age area e a b c =
     places_here : places_in made_names (names_at gender age area) ≡ gender ∷ age ∷ area ∷ []
     places_here = rw (gender_place gender a, age_place age b, area_place area c) refl
 
--- a volunteer with these names and a new id has no kind of fault, and is added with these places
+-- a made volunteer with a new id has no kind of fault, if there are fewer than 400 volunteers
 pub made_volunteer_fits : (pool : Pool) (id : List ℕ) (number gender age area : ℕ) (g a r : List ℕ) →
     names_of_values pool.categories ≡ made_names → gender < 2 → age < 3 → area < 2 → g ≡ get_or genders gender [] → a ≡ get_or ages age [] → r ≡ get_or areas area [] →
     id ≡ made_id number → includes_list (ids pool.volunteers) (made_id number) ≡ false → number < 400 → length pool.volunteers < 400 →
@@ -115,7 +115,7 @@ made_volunteer_added pool id number g a r values names are ge ae re ide =
     let places = names_have_places pool.categories (get_or values 0 0) (get_or values 1 0) (get_or values 2 0) names are.0 are.1 are.2 in
     rw (ge, ae, re, ide, places) refl
 
--- if the volunteer is added, it has these values
+-- if a volunteer is added by the names of these values, the pool has the volunteer with these values
 pub made_volunteer_is_added : (result : Result (Unit {0}) AllocError) (pool new : Pool) (id : List ℕ) (number : ℕ) (g a r values : List ℕ) → names_of_values pool.categories ≡ made_names → ArePlaces values →
     g ≡ get_or genders (get_or values 0 0) [] → a ≡ get_or ages (get_or values 1 0) [] → r ≡ get_or areas (get_or values 2 0) [] → id ≡ made_id number →
     OnOk result (new ≡ volunteer_added pool id (g ∷ a ∷ r ∷ [])) → OnOk result (new ≡ record pool { volunteers = pool.volunteers ++ with_values number values ∷ [] })

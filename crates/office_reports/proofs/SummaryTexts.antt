@@ -25,32 +25,33 @@ as_naturals zs ns e = ap (map unsigned_abs) e ∙ again ns
     again [] = refl
     again (x ∷ xs) = ap (λ ys. x ∷ ys) (again xs)
 
--- the chance of the count that is picked, the least or the greatest
+-- the count that is picked, over the total, is in lowest terms the chance of the definition
 chance_is : (pick : List ℕ → ℕ) (zs : List ℤ) (ns : List ℕ) (num den : ℤ) (total : ℕ) → zs ≡ map pos ns → num ≡ pos (pick (map unsigned_abs zs)) → den ≡ pos total →
     lowest_of (unsigned_abs num) (unsigned_abs den) ≡ lowest_of (pick ns) total
 chance_is pick zs ns num den total e n d =
     ap (λ z. lowest_of (unsigned_abs z) (unsigned_abs den)) n ∙ ap (λ z. lowest_of (pick (map unsigned_abs zs)) (unsigned_abs z)) d
     ∙ ap (λ xs. lowest_of (pick xs) total) (as_naturals zs ns e)
 
--- lines, and more lines after them
+-- if a text ends with `lines`, and lines `more` are appended, it ends with `lines` and `more`
 pub more_lines : (before first second : List ℕ) (lines more : List (List ℕ)) → first ≡ before ++ text_of lines → second ≡ first ++ text_of more → second ≡ before ++ text_of (lines ++ more)
 more_lines before first second lines more e f =
     f ∙ ap (λ bytes. bytes ++ text_of more) e ∙ append_assoc before (text_of lines) (text_of more)
     ∙ ap (λ bytes. before ++ bytes) (sym (flat_map-append (λ (line : List ℕ). line ++ line_feed ∷ []) lines more))
 
--- lines, and the line of a number after them
+-- if a text ends with `lines`, and the line of a number is appended, it ends with `lines` and this line
 pub number_is_added : (before first second word : List ℕ) (n m : ℕ) (lines : List (List ℕ)) → n ≡ m → first ≡ before ++ text_of lines → second ≡ first ++ text_of (number_line word n ∷ []) →
     second ≡ before ++ text_of (lines ++ number_line word m ∷ [])
 number_is_added before first second word n m lines same e f =
     more_lines before first second lines (number_line word m ∷ []) e (f ∙ ap (λ k. first ++ text_of (number_line word k ∷ [])) same)
 
--- lines, and the line of a last number after them, unless memory runs out
+-- if a text ends with `lines`, and a call appends the line of a last number, the text ends with `lines` and this line, unless memory runs
+-- out
 pub last_number : {T E : Type 0} (result : Result T E) (before first second word : List ℕ) (n m : ℕ) (lines : List (List ℕ)) → n ≡ m → first ≡ before ++ text_of lines →
     OnOk result (second ≡ first ++ text_of (number_line word n ∷ [])) → OnOk result (second ≡ before ++ text_of (lines ++ number_line word m ∷ []))
 last_number result before first second word n m lines same e f =
     subst (λ (bytes : List ℕ). OnOk result (second ≡ bytes)) (number_is_added before first (first ++ text_of (number_line word n ∷ [])) word n m lines same e refl) f
 
--- lines, and the line of a chance after them
+-- if a text ends with `lines`, and the line of a chance is appended, it ends with `lines` and this line
 chance_is_added : (before first second word : List ℕ) (lines : List (List ℕ)) (pick : List ℕ → ℕ) (zs : List ℤ) (ns : List ℕ) (num den : ℤ) (total : ℕ) →
     zs ≡ map pos ns → num ≡ pos (pick (map unsigned_abs zs)) → den ≡ pos total → first ≡ before ++ text_of lines →
     second ≡ first ++ text_of (field_line word (fraction_text (lowest_of (unsigned_abs num) (unsigned_abs den))) ∷ []) →
@@ -59,7 +60,7 @@ chance_is_added before first second word lines pick zs ns num den total e n d so
     more_lines before first second lines (field_line word (fraction_text (lowest_of (pick ns) total)) ∷ []) so_far
     (added ∙ ap (λ (f : Fraction). first ++ text_of (field_line word (fraction_text f) ∷ [])) (chance_is pick zs ns num den total e n d))
 
--- what is written, and what each piece was written from
+-- the text after each piece of the summary, and the values from which each piece was written
 pub record IsWritten (pool : Pool) (answer : Answer) (sizes : Sizes) (empty with_sizes with_total with_least with_greatest all : List ℕ)
     (low_counts high_counts : List ℤ) (total low low_total high high_total : ℤ) (sealed : List ℕ) : Type 0 where
   pub is_empty : empty ≡ []

@@ -1,4 +1,5 @@
--- What the steps of making a pool make. Over MadePools of `define_made_pools`. For `made_pools`.
+-- The values, the categories and the volunteer that each step of making a pool makes. Over MadePools of `define_made_pools`. For
+-- `made_pools`.
 use Rattle.std.specs.Prelude.{ℕ, ◌==◌, ◌%◌, ◌<◌, None, List, [], ◌∷◌, count_by, codes, map, slice_index}
 use Rattle.std.specs.List.{enumerate_from}
 use Rattle.define_pools.specs.declared.Standing.TheVariants.{Open}
@@ -7,7 +8,7 @@ use Rattle.define_pools.specs.Building.{value_names}
 use Rattle.define_made_pools.specs.Generator.{next_state, upper_bits}
 use Rattle.define_made_pools.specs.MadePools.{ages, areas, bounded_by, genders, made_id}
 
--- the values of the volunteer who is made of the three numbers after state `x`
+-- the values of a volunteer, made of the three numbers after state `x`
 abbrev pub values_behind : ℕ → List ℕ
 values_behind x =
     let first = next_state x in
@@ -38,7 +39,7 @@ names_of_values categories = map (λ category. value_names category.values) cate
 abbrev pub made_names : List (List (List ℕ))
 made_names = genders ∷ ages ∷ areas ∷ []
 
--- each number is the place of a value in its category
+-- each of the three numbers is the place of a value in its category
 abbrev pub ArePlaces : List ℕ → Type 0
 ArePlaces values = (slice_index values 0 < 2) × (slice_index values 1 < 3) × (slice_index values 2 < 2)
 

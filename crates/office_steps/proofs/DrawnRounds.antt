@@ -19,7 +19,7 @@ bundle_keeps tables (Solved kept) bundle keeps has = let same : kept ≡ bundle 
 bundle_keeps tables (Sealed kept) bundle keeps has = let same : kept ≡ bundle = cc in subst (KeepsBundle tables) same keeps
 bundle_keeps tables (Drawn kept digits dropped) bundle keeps has = let same : kept ≡ bundle = cc in subst (KeepsBundle tables) same keeps.0
 
--- its weights sum to its total
+-- the weights of the bundle's lottery sum to its total
 pub bundle_agrees : (tables : Tables) (number : ℕ) (round : Round) (bundle : Bundle) → IsTables tables → named_round tables.rounds number ≡ Some round →
     bundle_of round ≡ Some bundle → TotalAgrees bundle.answer.lottery
 bundle_agrees tables number round bundle is named has = (bundle_keeps tables round bundle (named_keeps tables number round is named) has).total_agrees
@@ -30,14 +30,14 @@ round_is_drawn (Solved kept) bundle drawn has = absurd cc
 round_is_drawn (Sealed kept) bundle drawn has = absurd cc
 round_is_drawn (Drawn kept digits dropped) bundle drawn has = cc
 
--- the digits that drew it name a ticket
+-- the digits that drew a round name a ticket of its bundle
 pub digits_name : (tables : Tables) (number : ℕ) (round : Round) (bundle : Bundle) (thrown : List ℕ) → IsTables tables → named_round tables.rounds number ≡ Some round →
     phase_of round ≡ phase.Drawn → bundle_of round ≡ Some bundle → digits_of round ≡ thrown → IsTrue (is_ok (name_ticket bundle.answer.lottery.total thrown))
 digits_name tables number round bundle thrown is named drawn has threw =
     let keeps = subst (KeepsRound tables) (round_is_drawn round bundle drawn has) (named_keeps tables number round is named) in
     subst (λ t. IsTrue (is_ok (name_ticket bundle.answer.lottery.total t))) threw keeps.1.named
 
--- a draw from it is a draw again
+-- if a round is drawn already, a draw from it has the outcome of `same_draw`
 pub drawn_again : (tables : Tables) (number : ℕ) (given digits : List ℕ) (round : Round) (bundle : Bundle) (thrown : List ℕ) → named_round tables.rounds number ≡ Some round →
     phase_of round ≡ phase.Drawn → bundle_of round ≡ Some bundle → digits_of round ≡ thrown →
     draw_in tables number given digits (named_round tables.rounds number) ≡ same_draw bundle thrown given digits

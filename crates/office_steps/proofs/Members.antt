@@ -9,7 +9,7 @@ use Rattle.define_bundles.specs.BundleText.{Bundle, IsBundle}
 use Rattle.define_bundles.specs.Ranges.{is_row, is_weight}
 use Rattle.sealed_draw.specs.Answers.{IsOfRow}
 
--- the numbers of a row's panel, where all rows are in range
+-- if the members of all rows are numbers below `volunteers`, so are the members of each row
 pub panel_in_range : (volunteers : ℕ) (rows : List LotteryRow) (row : ℕ) → list_all (is_row volunteers) rows ≡ true →
     list_all (λ i. ltb i volunteers) (get_or (map (λ (r : LotteryRow). r.panel) rows) row []) ≡ true
 panel_in_range volunteers [] row h = refl
@@ -19,7 +19,7 @@ panel_in_range volunteers (first ∷ rows) zero h =
     (and_parts (ltb 0 (length first.panel) && is_increasing first.panel) (list_all (λ i. ltb i volunteers) first.panel) group).1
 panel_in_range volunteers (first ∷ rows) (suc row) h = panel_in_range volunteers rows row (and_parts (is_row volunteers first) (list_all (is_row volunteers) rows) h).1
 
--- the members of a panel that is drawn from a bundle
+-- the members of a panel that is drawn from a bundle are volunteers of its pool
 pub drawn_in_range : (bundle : Bundle) (pool : Pool) (ticket : ℕ) (panel : List ℕ) → IsBundle bundle → pool ≡ bundle.pool → IsOfRow bundle.answer.lottery ticket panel →
     list_all (λ i. ltb i (length pool.volunteers)) panel ≡ true
 drawn_in_range bundle pool ticket panel is same row =

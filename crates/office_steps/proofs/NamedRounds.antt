@@ -9,18 +9,6 @@ round_at_is [] place = refl
 round_at_is (round ∷ rounds) zero = refl
 round_at_is (round ∷ rounds) (suc place) = round_at_is rounds place
 
-pub named_at : (rounds : List Round) (number : ℕ) (round : Round) → (number ≡ 0 → ⊥) → number ≤ length rounds → round ≡ get_or rounds (number - 1) round → named_round rounds number ≡ Some round
-named_at rounds zero round some few is = absurd (some refl)
-named_at rounds (suc place) round some few is =
-    let before : suc place - 1 ≡ place = omega arith in
-    let at : round ≡ get_or rounds place round = is ∙ ap (λ n. get_or rounds n round) before in
-    round_at_is rounds place ∙ slice_get_read rounds (length rounds) place round refl (omega arith) at
-
-pub named_none : (rounds : List Round) (number : ℕ) → (number ≡ 0) ⊎ ((number ≡ 0 → ⊥) × (length rounds < number)) → named_round rounds number ≡ None
-named_none rounds zero h = refl
-named_none rounds (suc place) (inl h) = absurd (cc)
-named_none rounds (suc place) (inr h) = round_at_is rounds place ∙ slice_get_past rounds place (let l = h.1 in omega arith)
-
 pub last_is : (rounds : List Round) (round : Round) → slice_get rounds (length rounds - 1) ≡ Some round → last_phase rounds ≡ phase_of round
 last_is [] round h = absurd (cc)
 last_is (one ∷ []) round h = let same : one ≡ round = cc in ap phase_of same
@@ -28,7 +16,7 @@ last_is (one ∷ next ∷ later) round h =
     let first : length (one ∷ next ∷ later) - 1 ≡ suc (length (next ∷ later) - 1) = omega arith in
     last_is (next ∷ later) round (sym (ap (slice_get (one ∷ next ∷ later)) first) ∙ h)
 
--- the number of a round is at most their count
+-- the number of a round is at most the number of rounds
 pub named_within : (rounds : List Round) (number : ℕ) (round : Round) → named_round rounds number ≡ Some round → number ≤ length rounds
 named_within rounds zero round named = absurd cc
 named_within rounds (suc place) round named = omega (arith, slice_get_within rounds place round (sym (round_at_is rounds place) ∙ named))

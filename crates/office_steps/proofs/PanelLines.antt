@@ -6,7 +6,8 @@ use Rattle.define_pools.specs.Pool.{Pool, Volunteer, volunteer}
 use Rattle.define_lines.specs.Lines.{tab, tabbed}
 use Rattle.define_offices.specs.Lines.{member_ids}
 
--- one id more
+-- if `before` is `word` and the ids of the first `index` members, and `after` is `before` with a TAB and the next member's id added, then
+-- `after` is `word` and the ids of the first `index + 1` members
 pub one_id : (word : List ℕ) (pool : Pool) (members : List ℕ) (index : ℕ) (before after : List ℕ) (seen : Volunteer) →
     before ≡ word ++ tabbed (member_ids pool (take index members)) → index < length members →
     after ≡ before ++ (tab ∷ seen.id) → seen ≡ get_or pool.volunteers (get_or members index 0) seen → get_or members index 0 < length pool.volunteers →

@@ -1,4 +1,4 @@
--- Tests of two lists from the front are the tests of each place of lists of one length.
+-- Two lists pass a test from the front exactly if they have one length and pass it at each place.
 use Rattle.std.proofs.Common.{◌≡◌, ℕ, suc, Bool, false, ◌&&◌, ◌==◌, List, [], ◌∷◌, length, refl, ap, ◌∙◌}
 use Rattle.std.specs.List.{list_all, zip}
 use Rattle.std.specs.Cmp.Lexicographic.{pointwise}

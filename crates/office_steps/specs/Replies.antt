@@ -1,4 +1,4 @@
--- Replies and refusals as values of the program, and those of the definitions that they are.
+-- The program's replies and refusals as the definitions' replies and refusals.
 use Rattle.define_offices.specs.Commands as office
 use Rattle.office_steps.specs.declared.replies.Reply.{Reply}
 use Rattle.office_steps.specs.declared.replies.Reply.TheVariants.{Lines, NoPanel}

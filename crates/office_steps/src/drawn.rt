@@ -1,4 +1,4 @@
-//! Replies and refusals of a draw.
+//! The replies and refusals of a draw.
 
 ghost use Rattle.std.specs.Prelude.{◌≡◌, ◌++◌, ◌∷◌, [], ◌≤ℤ◌, pos, codes, length, nat_lt, unsigned_abs, IfOk, IsTrue, OnOk};
 ghost use Rattle.std.specs.Fmt.{decimal};
@@ -29,7 +29,7 @@ pub(crate) fn drawn_reply(alloc: Global, bundle: &Bundle, drawn: &Draw) -> Resul
     Ok(Reply::Lines(text))
 }
 
-/// Adds the line of a ticket and of how many digits were read.
+/// Appends the line with the ticket and how many digits were read.
 fn push_ticket(text: &mut Vec<u8>, ticket: i128, used: usize) -> Result<(), AllocError>
     requires { pos 0 ≤ℤ ticket }
     ensures { OnOk result (text.new.items ≡ text.old.items ++ text_of (line_of (codes "ticket" ∷ decimal (unsigned_abs ticket) ∷ decimal used ∷ []) ∷ [])) }
@@ -40,7 +40,7 @@ fn push_ticket(text: &mut Vec<u8>, ticket: i128, used: usize) -> Result<(), Allo
     end_line(text)
 }
 
-/// Adds the line of a panel: the ids of its members.
+/// Appends the line of a panel: the ids of its members.
 fn push_panel(text: &mut Vec<u8>, pool: &Pool, panel: &Panel) -> Result<(), AllocError>
     requires { IsTrue (list_all (λ i. nat_lt i (length pool.now.volunteers)) panel.now) }
     ensures { OnOk result (text.new.items ≡ text.old.items ++ text_of (line_of (codes "panel" ∷ member_ids pool.now panel.now) ∷ [])) }
@@ -52,7 +52,7 @@ fn push_panel(text: &mut Vec<u8>, pool: &Pool, panel: &Panel) -> Result<(), Allo
     end_line(text)
 }
 
-/// Returns the refusal of digits, or of a seal, that draw nothing. Want of memory is no refusal.
+/// Returns the refusal that a draw's stop is. Fails if memory runs out, or if the stop is that memory ran out.
 pub(crate) fn draw_refusal(alloc: Global, stop: &DrawStop) -> Result<Refusal, AllocError>
     ensures { IfOk result (λ refusal. IsStop stop.now (seen_refusal refusal)) }
 {

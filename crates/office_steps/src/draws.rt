@@ -1,4 +1,4 @@
-//! Seals, draws and dropouts.
+//! The outcomes of seals, draws and dropouts.
 
 ghost use Rattle.std.specs.Prelude.{◌≡◌, IfOk, IsTrue, Some, is_ok};
 ghost use Rattle.define_pools.specs.Lists.{includes_list};
@@ -14,17 +14,19 @@ ghost use Rattle.office_steps.specs.Steps.{Says};
 
 use crate::drawn::{draw_refusal, drawn_reply};
 use crate::lines::line;
-use crate::named::{no_round, round_named};
+use crate::named::no_round;
 use crate::replies::{Refusal, Reply};
 use crate::stops::OfficeStop;
 use bundle_text::{Bundle, write_bundle};
 use itoa::Buffer;
+use office_pools::round_named;
 use office_tables::{Change, Phase, Round, Tables, drawn_by, is_member};
 use pool_model::Name;
 use sealed_draw::{draw, seal};
 use std::alloc::{AllocError, Global};
 
-/// Decides a seal.
+/// Returns the outcome of sealing round `number`. It is refused if the round is open. A round that is sealed already gets the same reply,
+/// and no change.
 pub fn seal_round(
     alloc: Global,
     tables: &Tables,
@@ -45,7 +47,7 @@ pub fn seal_round(
     }
 }
 
-/// Returns the reply of a seal: that of the bundle's text.
+/// Returns the reply of sealing a round: the line with the seal of its bundle's text.
 fn seal_reply(alloc: Global, bundle: &Bundle) -> Result<Reply, AllocError>
     ensures { IfOk result (λ reply. seen_reply reply ≡ one_line (line_of_seal bundle.now)) }
 {
@@ -62,7 +64,7 @@ fn bundle_seal(alloc: Global, bundle: &Bundle) -> Result<Name, AllocError>
     Name::new(alloc, seal.as_str())
 }
 
-/// Decides a draw.
+/// Returns the outcome of a draw from round `number`, by the seal `given` and the digits of the dice.
 pub fn draw_round(
     alloc: Global,
     tables: &Tables,
@@ -86,7 +88,7 @@ pub fn draw_round(
     }
 }
 
-/// Decides a draw from a sealed round.
+/// Returns the outcome of the first draw from a sealed round.
 fn new_draw(
     alloc: Global,
     number: usize,
@@ -112,7 +114,7 @@ fn new_draw(
     }
 }
 
-/// Decides a draw from a round that was drawn by the digits `thrown`: the seal is asked first, and then the digits.
+/// Returns the outcome of a draw from a round that was drawn by the digits `thrown`: first the seal is compared, then the digits.
 fn same_draw(
     alloc: Global,
     bundle: &Bundle,
@@ -140,7 +142,7 @@ fn same_draw(
     }
 }
 
-/// Decides a dropout.
+/// Returns the outcome of a dropout of the member with this id from round `number`.
 pub fn drop_member(
     alloc: Global,
     tables: &Tables,
@@ -156,7 +158,8 @@ pub fn drop_member(
     drop_from(alloc, tables, number, round, id)
 }
 
-/// Decides a dropout from a round.
+/// Returns the outcome of a dropout from `round`, which has this number. It is refused unless the round is drawn, with this member. A
+/// dropout that is known already gets the same reply. A new one is refused if a later round has begun.
 fn drop_from(
     alloc: Global,
     tables: &Tables,
@@ -204,7 +207,7 @@ fn is_drawn(alloc: Global, bundle: &Bundle, digits: &[u8], id: &Name) -> Result<
     }
 }
 
-/// True if the id is among these.
+/// True if `id` is among `ids`.
 fn is_among(ids: &[Name], id: &Name) -> bool
     ensures { result ≡ includes_list ids.now id.now }
 {

@@ -16,7 +16,8 @@ use office_tables::{Change, Charter, Entry, Rules, Tables};
 use pool_model::{BoundedValue, Category, Name};
 use std::alloc::Global;
 
-/// Decides a charter.
+/// Returns the outcome of an import of the charter. A charter that is kept already gets the reply `same`. A different charter is refused
+/// unless volunteers are enrolled.
 pub fn set_charter(
     alloc: Global,
     tables: &Tables,
@@ -36,7 +37,7 @@ pub fn set_charter(
     Ok((Some(change), line(alloc, b"charter", &[b"set"])?))
 }
 
-/// True if the charter is kept as it is given.
+/// True if `charter` is the one that is kept.
 fn is_charter_kept(kept: &Option<Charter>, charter: &Charter) -> bool
     ensures { result ≡ charter_is_kept kept.now charter.now }
 {
@@ -48,7 +49,8 @@ fn is_charter_kept(kept: &Option<Charter>, charter: &Charter) -> bool
     }
 }
 
-/// Decides rules.
+/// Returns the outcome of an import of the rules. Rules that are kept already get the reply `same`. Others are refused unless volunteers
+/// are enrolled and the register's rows fit them.
 pub fn set_rules(
     alloc: Global,
     tables: &Tables,
@@ -81,7 +83,7 @@ pub(crate) fn rules_differ(alloc: Global) -> OfficeStop
     }
 }
 
-/// True if the rules are kept as they are given.
+/// True if `rules` are those that are kept.
 fn are_rules_kept(kept: &Option<Rules>, rules: &Rules) -> bool
     ensures { result ≡ rules_are_kept kept.now rules.now }
 {
@@ -91,7 +93,7 @@ fn are_rules_kept(kept: &Option<Rules>, rules: &Rules) -> bool
     }
 }
 
-/// True if no row is kept, or the rules that are kept have the same names in the same order.
+/// True if the register has no row, or the kept rules have the same names in the same order.
 fn fit_rows(register: &[Entry], kept: &Option<Rules>, rules: &Rules) -> bool
     ensures { result ≡ rows_fit register.now kept.now rules.now }
 {
@@ -104,14 +106,14 @@ fn fit_rows(register: &[Entry], kept: &Option<Rules>, rules: &Rules) -> bool
     }
 }
 
-/// True if these are the same categories with the same bounds, in the same order.
+/// True if both lists have the same categories with the same bounds, in the same order.
 fn same_rules(one: &[Category], other: &[Category]) -> bool
     ensures { result ≡ are_same_rules one.now other.now }
 {
     one.len() == other.len() && rules_agree(one, other)
 }
 
-/// True if the categories of each place are the same.
+/// True if the categories at each place of both lists are the same.
 fn rules_agree(one: &[Category], other: &[Category]) -> bool
     ensures { result ≡ list_all (λ pair. bytes_eq pair.0.name pair.1.name && are_same_values pair.0.values pair.1.values) (zip one.now other.now) }
 {
@@ -121,14 +123,14 @@ fn rules_agree(one: &[Category], other: &[Category]) -> bool
     })
 }
 
-/// True if these are the same values with the same bounds, in the same order.
+/// True if both lists have the same values with the same bounds, in the same order.
 fn same_values(one: &[BoundedValue], other: &[BoundedValue]) -> bool
     ensures { result ≡ are_same_values one.now other.now }
 {
     one.len() == other.len() && values_agree(one, other)
 }
 
-/// True if the values of each place are the same.
+/// True if the values at each place of both lists are the same.
 fn values_agree(one: &[BoundedValue], other: &[BoundedValue]) -> bool
     ensures { result ≡ list_all (λ pair. bytes_eq pair.0.name pair.1.name && (pair.0.lower == pair.1.lower) && (pair.0.upper == pair.1.upper)) (zip one.now other.now) }
 {
@@ -139,14 +141,14 @@ fn values_agree(one: &[BoundedValue], other: &[BoundedValue]) -> bool
     })
 }
 
-/// True if these are the same names of categories and values in the same order, whatever the bounds.
+/// True if both lists have the same names of categories and values in the same order, whatever the bounds.
 fn same_shape(one: &[Category], other: &[Category]) -> bool
     ensures { result ≡ are_of_one_shape one.now other.now }
 {
     one.len() == other.len() && shapes_agree(one, other)
 }
 
-/// True if the names of each place are the same.
+/// True if the names at each place of both lists are the same.
 fn shapes_agree(one: &[Category], other: &[Category]) -> bool
     ensures { result ≡ list_all (λ pair. bytes_eq pair.0.name pair.1.name && are_same_names (value_names pair.0.values) (value_names pair.1.values)) (zip one.now other.now) }
 {
@@ -156,14 +158,14 @@ fn shapes_agree(one: &[Category], other: &[Category]) -> bool
     })
 }
 
-/// True if these values have the same names, in the same order.
+/// True if the values of both lists have the same names, in the same order.
 fn have_same_names(one: &[BoundedValue], other: &[BoundedValue]) -> bool
     ensures { result ≡ are_same_names (value_names one.now) (value_names other.now) }
 {
     one.len() == other.len() && value_names_agree(one, other)
 }
 
-/// True if the values of each place have the same name.
+/// True if the values at each place of both lists have the same name.
 fn value_names_agree(one: &[BoundedValue], other: &[BoundedValue]) -> bool
     ensures { result ≡ list_all (λ pair. bytes_eq pair.0.name pair.1.name) (zip one.now other.now) }
 {

@@ -1,4 +1,4 @@
-//! The next round, and what a round shows.
+//! The beginning of the next round, and the showing of a round.
 
 ghost use Rattle.std.specs.Prelude.{◌≡◌, ◌+◌, ◌<◌, ◌^◌, IfOk};
 ghost use Rattle.define_bundles.specs.BundleText.{bundle_spelling};
@@ -10,15 +10,16 @@ ghost use Rattle.office_steps.specs.Replies.{seen_reply};
 ghost use Rattle.office_steps.specs.Steps.{Says};
 
 use crate::lines::line;
-use crate::named::{no_round, round_named};
+use crate::named::no_round;
 use crate::replies::{Refusal, Reply};
 use crate::stops::OfficeStop;
 use bundle_text::{Bundle, write_bundle};
 use itoa::Buffer;
+use office_pools::round_named;
 use office_tables::{Change, Part, Phase, Round, Tables};
 use std::alloc::{AllocError, Global};
 
-/// Decides that the round after another one begins.
+/// Returns the outcome of beginning the round after round `after`. If that round is there already, it gets the same reply, and no change.
 pub fn next_round(
     alloc: Global,
     tables: &Tables,
@@ -36,7 +37,7 @@ pub fn next_round(
     }
 }
 
-/// Decides that the round after the last one begins.
+/// Returns the outcome of beginning the round after the last one. It is refused unless the last one is drawn and has a dropout.
 fn next_after(
     alloc: Global,
     number: usize,
@@ -64,7 +65,7 @@ fn round_line(alloc: Global, number: usize) -> Result<Reply, AllocError>
     line(alloc, b"round", &[digits.format(number).as_bytes()])
 }
 
-/// Decides to print a round's bundle.
+/// Returns the outcome of showing round `number`: the text of its bundle. It is refused if the round is open.
 pub fn show_round(
     alloc: Global,
     tables: &Tables,

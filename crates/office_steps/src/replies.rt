@@ -3,7 +3,7 @@
 use define_offices::{Part, Phase};
 use pool_model::Name;
 
-/// What a command replies.
+/// The reply of a command that isn't refused.
 #[derive(Debug, Drop)]
 pub enum Reply {
     /// The lines that are printed, as one text, each ended by LF. A withdrawal has none.
@@ -25,12 +25,12 @@ pub enum Refusal {
         /// The part.
         what: Part,
     },
-    /// The round, or for an import the last one, hasn't come far enough, or too far.
+    /// The phase of the round doesn't allow the command. For an import, it is the last round's phase.
     WrongPhase {
-        /// How far it has come.
+        /// The round's phase.
         phase: Phase,
     },
-    /// A row differs from the one of its id that is kept, or rows and rules don't fit.
+    /// A row of the import differs from the kept row with its id, or rows and rules don't fit.
     RowDiffers {
         /// The row's id, or `rules`.
         what: Name,
@@ -40,14 +40,14 @@ pub enum Refusal {
         /// The id of that row.
         id: Name,
     },
-    /// The register is full.
+    /// The register, with the rows that the import adds before, has no room for one more row.
     RegisterFull {
-        /// How many rows it has.
+        /// The most rows that a register has.
         rows: usize,
     },
-    /// The round's seal wasn't told yet.
+    /// The round isn't sealed yet.
     NotSealed {
-        /// How far the round has come.
+        /// The round's phase.
         phase: Phase,
     },
     /// The seal that was given isn't the one of the round's bundle.
@@ -59,7 +59,7 @@ pub enum Refusal {
     },
     /// The round was drawn by other digits.
     DrawDiffers {
-        /// The digits that drew it.
+        /// The digits by which it was drawn.
         kept: Vec<u8>,
     },
     /// A byte isn't one of the digits `0` to `9`.

@@ -1,4 +1,4 @@
-//! Withdrawals.
+//! The withdrawal of a volunteer, who is found by a key.
 
 ghost use Rattle.std.specs.Prelude.{◌≡◌, ◌<◌, ◌&&◌, bytes_eq, length, not, position, IfOk};
 ghost use Rattle.define_draws.specs.Seal.{seal_of};
@@ -17,8 +17,8 @@ use pool_model::{Name, Standing, Volunteer};
 use sealed_draw::seal;
 use std::alloc::{AllocError, Global};
 
-/// Decides that the volunteer with this key withdraws. It is refused if no row has the key, if the last round isn't open, or if the volunteer is
-/// seated in it. A volunteer who withdrew already gets the same reply.
+/// Returns the outcome of a withdrawal by the volunteer with this key. It is refused if no row has the key. A volunteer who withdrew
+/// already gets the same reply. Else it is refused if the last round isn't open, or if the volunteer is seated in it.
 pub fn withdraw(
     alloc: Global,
     tables: &Tables,
@@ -57,7 +57,7 @@ fn position_of(register: &[Entry], hash: &[u8]) -> Option<usize>
         .position(|entry| hash == entry.hash().as_bytes())
 }
 
-/// True if the last round is open, and the volunteer of this place isn't seated in its pool.
+/// True if the last round is open, and the volunteer at `place` isn't seated in its pool.
 fn may_withdraw(alloc: Global, tables: &Tables, place: usize) -> Result<bool, AllocError>
     ensures { IfOk result (λ may. may ≡ (last_is_open tables.now.rounds && not (is_seated_in (pool_of_round tables.now (length tables.now.rounds)) place))) }
 {
@@ -86,7 +86,7 @@ fn is_last_open(rounds: &[Round]) -> bool
     }
 }
 
-/// True if the volunteer of this place is seated.
+/// True if the volunteer at `place` is seated.
 fn is_seated(volunteers: &[Volunteer], place: usize) -> bool
     ensures { result ≡ seated (volunteer volunteers.now place).standing }
 {

@@ -1,4 +1,4 @@
--- A list of which the element of a place is changed, by the parts before and after it.
+-- A list with one element changed is made of the part before it, the changed element, and the part after it.
 use Rattle.std.proofs.Common.{◌≡◌, ◌≤◌, ◌<◌, ◌+◌, ◌-◌, ℕ, zero, suc, List, [], ◌∷◌, ◌++◌, drop, get_or, length, take, true, refl, sym, ap, ◌∙◌, ◌⊎◌, inl, inr, arith}
 use Rattle.std.proofs.lemmas.List.{length-drop, take_all}
 use Rattle.define_offices.specs.Tables.{Entry, Round, changed_at, changed_named}
@@ -29,7 +29,7 @@ withdrawn-beyond (entry ∷ register) (suc place) h = ap (λ later. entry ∷ la
 rest : {X : Type 0} (n : ℕ) (xs : List X) → take (length xs - n) (drop n xs) ≡ drop n xs
 rest n xs = take_all (length xs - n) (drop n xs) (let e = length-drop n xs in omega arith)
 
--- as the parts are put together
+-- the rows before `place`, the changed row and the rows after it, joined, are the register with row `place` withdrawn
 pub withdrawn-whole : (register all pushed after : List Entry) (place : ℕ) (old entry : Entry) → all ≡ pushed ++ take (length register - (place + 1)) (drop (place + 1) register) → pushed ≡ after ++ entry ∷ [] →
     after ≡ take place register → entry ≡ record old { withdrawn = true } → old ≡ get_or register place old → place < length register → all ≡ withdrawn_at register place
 withdrawn-whole register all pushed after place old entry is put front new at h =
@@ -49,7 +49,7 @@ changed-whole change rounds all pushed after number place old round number_is is
     is ∙ (ap (λ xs. pushed ++ xs) (rest (place + 1) rounds ∙ more) ∙
     (ap (λ xs. xs ++ drop (suc place) rounds) (put ∙ (ap (λ xs. xs ++ round ∷ []) front ∙ ap (λ r. take place rounds ++ r ∷ []) round_is)) ∙ (changed-parts change rounds place old inside ∙ named)))
 
--- no round has this number
+-- if no round has number `number`, no round changes
 pub changed-none : (change : Round → Round) (rounds : List Round) (number : ℕ) → (number ≡ 0) ⊎ ((number ≡ 0 → ⊥) × (length rounds < number)) → changed_named change rounds number ≡ rounds
 changed-none change rounds zero h = refl
 changed-none change rounds (suc place) (inl h) = absurd (cc)

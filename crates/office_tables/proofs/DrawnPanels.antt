@@ -1,4 +1,4 @@
--- What digits draw from a bundle, by what a draw answers.
+-- What digits draw from a bundle, from the outcome of a draw.
 use Rattle.std.proofs.Common.{◌≡◌, ℕ, zero, suc, true, ◌&&◌, List, [], ◌∷◌, length, get_or, map, ltb, is_ok, unsigned_abs, Result, Ok, Err, refl, ap, ◌∙◌}
 use Rattle.std.specs.List.{list_all}
 use Rattle.std.proofs.lemmas.Bool.{and_parts}
@@ -16,7 +16,7 @@ use Rattle.sealed_draw.specs.declared.drawn.Draw.{Draw}
 use Rattle.sealed_draw.specs.Answers.{DrawSays, IsOfRow}
 use Rattle.office_tables.specs.Drawn.{Draws}
 
--- the numbers of a row's panel, where all rows are in range
+-- if all rows are in range, the numbers in a row's panel are below `volunteers`
 panel_in_range : (volunteers : ℕ) (rows : List LotteryRow) (row : ℕ) → list_all (is_row volunteers) rows ≡ true →
     list_all (λ i. ltb i volunteers) (get_or (map (λ (r : LotteryRow). r.panel) rows) row []) ≡ true
 panel_in_range volunteers [] row h = refl

@@ -7,7 +7,7 @@ use Rattle.define_pools.specs.Pool.{Category}
 use Rattle.define_offices.specs.Facts.{AreRules, IsTables, KeepsRound, closed_but_last, entry_hashes, entry_ids, is_charter, is_entry, rows_fit}
 use Rattle.define_offices.specs.Tables.{Charter, Entry, Round, Tables, round_at}
 
--- what a register keeps under rules
+-- the facts of a register under `rules`, as one test
 abbrev pub is_register : Option (List Category) → List Entry → Bool
 is_register rules register =
     leb (length register) 400 && list_all is_entry register && rows_fit rules register && all_different (entry_ids register) && all_different (entry_hashes register)
@@ -21,7 +21,7 @@ rounds_keep : (P : Round → Type 0) (rounds : List Round) → ((place : ℕ) (r
 rounds_keep P [] each = tt
 rounds_keep P (first ∷ rounds) each = (each 0 first refl, rounds_keep P rounds (λ place round e. each (suc place) round e))
 
--- the parts of a register's test
+-- the facts of a register under `rules`, one by one
 record RegisterKeeps (rules : Option (List Category)) (register : List Entry) : Type 0 where
   few : leb (length register) 400 ≡ true
   rows : list_all is_entry register ≡ true
@@ -66,7 +66,7 @@ tables_of_parts tables charter rules register closed rounds =
       rounds = λ place round e. round_keeps (KeepsRound tables) tables.rounds place round rounds e;
     }
 
--- where all other facts hold, the parts are tables exactly if each round keeps its facts
+-- if all other facts hold, the parts are tables exactly if each round keeps its facts
 pub left_to_rounds : (tables : Tables) (keep : Bool) → ((charter : Charter) → tables.charter ≡ Some charter → is_charter charter ≡ true) →
     ((rules : List Category) → tables.rules ≡ Some rules → AreRules rules) → is_register tables.rules tables.register ≡ true → closed_but_last tables.rounds ≡ true →
     (keep ≡ true ↔ AllByRecursion (KeepsRound tables) tables.rounds) → (keep ≡ true ↔ IsTables tables)

@@ -20,18 +20,18 @@ pub list_any-map : {X Y : Type 0} (p : Y → Bool) (f : X → Y) (xs : List X) �
 list_any-map p f [] = refl
 list_any-map p f (x ∷ xs) = ap (λ b. p (f x) || b) (list_any-map p f xs)
 
--- the names from a place on differ if the one there isn't behind it, and those behind it differ
+-- the names from place `i` on differ exactly if that of place `i` isn't among those after it, and those after it differ
 pub different_from : {X : Type 0} (f : X → List ℕ) (xs : List X) (i : ℕ) (x : X) → i < length xs → x ≡ get_or xs i x →
     all_different (map f (drop i xs)) ≡ (not (includes_list (map f (drop (i + 1) xs)) (f x)) && all_different (map f (drop (i + 1) xs)))
 different_from f [] i x l e = absurd (omega arith)
 different_from f (y ∷ xs) zero x l e = ap (λ z. not (includes_list (map f xs) (f z)) && all_different (map f xs)) (sym e)
 different_from f (y ∷ xs) (suc i) x l e = let more : suc i + 1 ≡ suc (i + 1) = omega arith in rw more (different_from f xs i x (omega arith) e)
 
--- what a slice from a place on holds
+-- the slice of a list from place `n` to its end is the list without its first `n` elements
 behind : {X : Type 0} (xs : List X) (n : ℕ) → take (length xs - n) (drop n xs) ≡ drop n xs
 behind xs n = rw (← length-drop n xs) (take-length (drop n xs))
 
--- a step of the loop over the places: no name before place i comes again, and the one there does, or doesn't
+-- if no name before place `i` comes again, but the name at `i` does, the names don't all differ
 pub comes_twice : {X : Type 0} (f : X → List ℕ) (xs : List X) (i : ℕ) (x : X) (name : List ℕ) (among : Bool) → i < length xs → x ≡ get_or xs i x → name ≡ f x →
     among ≡ includes_list (map f (take (length xs - (i + 1)) (drop (i + 1) xs))) name → among ≡ true → all_different (map f (drop i xs)) ≡ all_different (map f xs) →
     false ≡ all_different (map f xs)
@@ -84,7 +84,7 @@ pairs_from_ids (volunteer ∷ volunteers) (entry ∷ register) e =
 
 -- ---- ids of a panel's members
 
--- one member more
+-- an id is among the first `k + 1` members exactly if it is among the first `k` or is that of member `k`
 pub member_more : (pool : Pool) (panel : List ℕ) (k : ℕ) (id : List ℕ) (found : Volunteer) → list_all (λ i. ltb i (length pool.volunteers)) panel ≡ true → k < length panel →
     found ≡ get_or pool.volunteers (get_or panel k 0) found →
     includes_list (member_ids pool (take (k + 1) panel)) id ≡ (includes_list (member_ids pool (take k panel)) id || bytes_eq id found.id)
@@ -95,7 +95,7 @@ member_more pool panel k id found below l is =
     ∙ (list_any_more (λ i. bytes_eq id (f i)) panel k 0 l
     ∙ ap₂ (λ b (v : Volunteer). b || bytes_eq id v.id) (sym (list_any-map (bytes_eq id) f (take k panel))) here)
 
--- who is among the first is among all
+-- an id among the first `k` members is among all members
 pub member_among : (pool : Pool) (panel : List ℕ) (k : ℕ) (id : List ℕ) → includes_list (member_ids pool (take k panel)) id ≡ true → includes_list (member_ids pool panel) id ≡ true
 member_among pool panel k id h =
     let f = λ (i : ℕ). (volunteer pool.volunteers i).id in
@@ -104,7 +104,7 @@ member_among pool panel k id h =
     list_any-map (bytes_eq id) f panel
     ∙ (ap (list_any p) (sym (take-append-drop k panel)) ∙ (list_any-append p (take k panel) (drop k panel) ∙ ap (λ b. b || list_any p (drop k panel)) early))
 
--- the same by the facts of a step of `is_member`
+-- `member_more`, from the facts of a step of `is_member`
 pub member_step : (pool : Pool) (panel items : List ℕ) (volunteers : List Volunteer) (k : ℕ) (id one other : List ℕ) (found : Volunteer) (same : Bool) →
     list_all (λ i. ltb i (length pool.volunteers)) panel ≡ true → items ≡ panel → volunteers ≡ pool.volunteers → k < length items → found ≡ get_or volunteers (get_or items k 0) found →
     one ≡ id → other ≡ found.id → same ≡ bytes_eq one other →
@@ -113,9 +113,9 @@ member_step pool panel items volunteers k id one other found same below e f l is
     member_more pool items k id found (ap (list_all (λ i. ltb i (length pool.volunteers))) e ∙ below) l (is ∙ ap (λ all. get_or all (get_or items k 0) found) f)
     ∙ ap (λ b. includes_list (member_ids pool (take k items)) id || b) (sym (t ∙ ap₂ bytes_eq g h))
 
--- ---- what holds of each
+-- ---- facts of each element
 
--- one element more
+-- if P holds of the first `k` elements and of element `k`, it holds of the first `k + 1`
 pub each_more : {X : Type 0} (P : X → Type 0) (xs : List X) (k : ℕ) (x : X) → k < length xs → x ≡ get_or xs k x → AllByRecursion P (take k xs) → P x → AllByRecursion P (take (k + 1) xs)
 each_more P [] k x l e each here = absurd (omega arith)
 each_more P (y ∷ xs) zero x l e each here = (subst P e here, tt)

@@ -16,7 +16,7 @@ seen_change (Dropped round id) = office.DroppedOut round id
 seen_change Next = office.Begun
 seen_change (Withdrawn place) = office.Withdrawn place
 
--- a round after a change of it
+-- the round after `change`, which is a change of this round; a change of anything else than a round leaves it as it is
 abbrev pub round_after : office.Change → Round → Round
 round_after (office.SolvedWith number bundle) round = solved_with bundle round
 round_after (office.SealTold number) round = seal_told round

@@ -5,7 +5,7 @@ use Rattle.define_offices.specs.declared.Phase.{Phase}
 use Rattle.define_offices.specs.declared.Phase.TheVariants as phase
 use Rattle.define_offices.specs.Tables.{Round, Open, Solved, Sealed, Drawn}
 
--- the round of these parts; parts that don't fit are an open round
+-- the round of these parts; an open round if the parts don't fit
 abbrev pub round_of : Phase → Option Bundle → List ℕ → List (List ℕ) → Round
 round_of phase.Open bundle digits dropped = Open
 round_of phase.Solved (Some bundle) digits dropped = Solved bundle
@@ -18,14 +18,14 @@ round_of phase.Drawn None digits dropped = Open
 abbrev pub is_nil : {A : Type 0} → List A → Bool
 is_nil xs = length xs == 0
 
--- an open round has nothing, a later one has a bundle, and only one that was drawn has digits and dropouts
+-- the parts are those of a round: an open round has nothing, a later one has a bundle, and only a drawn one has digits and dropouts
 abbrev pub parts_fit : Phase → Option Bundle → List ℕ → List (List ℕ) → Bool
 parts_fit phase.Open bundle digits dropped = is_none bundle && is_nil digits && is_nil dropped
 parts_fit phase.Solved bundle digits dropped = is_some bundle && is_nil digits && is_nil dropped
 parts_fit phase.Sealed bundle digits dropped = is_some bundle && is_nil digits && is_nil dropped
 parts_fit phase.Drawn bundle digits dropped = is_some bundle
 
--- the digits and the dropouts of a round, which only one that was drawn has
+-- the digits of a round that was drawn; no digits before the draw
 abbrev pub digits_of : Round → List ℕ
 digits_of Open = []
 digits_of (Solved bundle) = []

@@ -18,13 +18,13 @@ use std::alloc::{AllocError, Global};
 /// What a command changes. Rounds are named by their numbers, counted from 1.
 #[derive(Debug, Drop)]
 pub enum Change {
-    /// The charter is this one.
+    /// Sets the charter.
     Charter(Charter),
-    /// The rules are these.
+    /// Sets the rules.
     Rules(Rules),
-    /// These rows stand at the register's end.
+    /// Appends rows to the register.
     Added(Vec<Entry>),
-    /// An open round has this bundle.
+    /// Solves an open round with a bundle.
     Solved {
         /// The round's number.
         round: usize,
@@ -36,7 +36,7 @@ pub enum Change {
         /// The round's number.
         round: usize,
     },
-    /// A sealed round is drawn.
+    /// A sealed round was drawn.
     Drawn {
         /// The round's number.
         round: usize,
@@ -50,7 +50,7 @@ pub enum Change {
         /// The member's id.
         id: Name,
     },
-    /// A further round is open.
+    /// Opens the next round, after the last one.
     Next,
     /// A volunteer withdrew.
     Withdrawn {
@@ -59,7 +59,8 @@ pub enum Change {
     },
 }
 
-/// Returns the tables after a change. The caller knows that they keep the facts of tables, as after each change that an office decides.
+/// Returns the tables after a change. The caller must know that they keep the facts of tables, which holds of each change that an office
+/// decides.
 pub fn apply(alloc: Global, tables: &Tables, change: &Change) -> Result<Tables, AllocError>
     requires { IsTables (applied tables.now (seen_change change.now)) }
     ensures { IfOk result (λ changed. changed ≡ applied tables.now (seen_change change.now)) }
@@ -111,7 +112,7 @@ fn register_after(alloc: Global, tables: &Tables, change: &Change) -> Result<Vec
     }
 }
 
-/// Returns the rows and then others.
+/// Returns copies of the rows of `register`, then of those of `added`.
 fn both(alloc: Global, register: &[Entry], added: &[Entry]) -> Result<Vec<Entry>, AllocError>
     ensures { IfOk result (λ all. all.items ≡ register.now ++ added.now) }
 {
@@ -120,7 +121,7 @@ fn both(alloc: Global, register: &[Entry], added: &[Entry]) -> Result<Vec<Entry>
     Ok(all)
 }
 
-/// Appends equal rows.
+/// Appends copies of the rows in `added`.
 fn push_entries(all: &mut Vec<Entry>, added: &[Entry]) -> Result<(), AllocError>
     ensures { OnOk result (all.new.items ≡ all.old.items ++ added.now) }
 {
@@ -130,7 +131,7 @@ fn push_entries(all: &mut Vec<Entry>, added: &[Entry]) -> Result<(), AllocError>
     Ok(())
 }
 
-/// Returns the rows after the volunteer of the row of this place withdrew. If there is no such row, they are equal.
+/// Returns the rows with row `place` marked as withdrawn. If there is no row `place`, returns equal rows.
 fn withdrawn(alloc: Global, register: &[Entry], place: usize) -> Result<Vec<Entry>, AllocError>
     ensures { IfOk result (λ after. after.items ≡ withdrawn_at register.now place) }
 {
@@ -157,7 +158,7 @@ fn rounds_after(alloc: Global, tables: &Tables, change: &Change) -> Result<Vec<R
     }
 }
 
-/// Returns the rounds after a change of the round of this number, counted from 1. If there is none, they are equal.
+/// Returns the rounds after the change of round `number`, counted from 1. If there is no such round, returns equal rounds.
 fn with_round(
     alloc: Global,
     rounds: &[Round],
@@ -176,7 +177,7 @@ fn with_round(
     Ok(after)
 }
 
-/// Appends equal rounds.
+/// Appends copies of the rounds in `added`.
 fn push_rounds(all: &mut Vec<Round>, added: &[Round]) -> Result<(), AllocError>
     ensures { OnOk result (all.new.items ≡ all.old.items ++ added.now) }
 {
@@ -199,7 +200,7 @@ fn changed_round(round: &Round, change: &Change) -> Result<Round, AllocError>
     }
 }
 
-/// Returns the rounds and an open one at their end.
+/// Returns the rounds with an open one appended.
 fn one_more(alloc: Global, rounds: &[Round]) -> Result<Vec<Round>, AllocError>
     ensures { IfOk result (λ all. all.items ≡ rounds.now ++ Open ∷ []) }
 {

@@ -13,7 +13,7 @@ use std::marker::Model;
 /// The most members that a panel may have.
 const MAX_SIZE: usize = 200;
 
-/// What an assembly is called, and how many members its panel has, from 1 to 200. The title has the limits of a name.
+/// The title of an assembly, and the number of members of its panel, from 1 to 200. The title has the limits of a name.
 #[derive(Debug, Drop)]
 pub struct Charter {
     title: Name,
@@ -44,14 +44,14 @@ impl Charter {
         }
     }
 
-    /// What the assembly is called.
+    /// The assembly's title.
     pub fn title(&self) -> &Name
         ensures { result.now ≡ self.now.title }
     {
         &self.title
     }
 
-    /// How many members a panel has.
+    /// The number of members of a panel, from 1 to 200.
     pub fn size(&self) -> usize
         ensures { result ≡ self.now.size }
     {
@@ -76,15 +76,15 @@ impl Charter {
     }
 }
 
-/// True if a panel may have so many members.
+/// True if a panel may have `size` members: from 1 to 200.
 fn is_size(size: usize) -> bool
     ensures { result ≡ is_panel_size size }
 {
     1 <= size && size <= MAX_SIZE
 }
 
-/// The categories of an assembly with the bounds of their values: those of a pool, at least one, each with a value, and none named `id` or
-/// `key`, which are columns of a register.
+/// The categories of an assembly with the bounds of their values. They have the limits of a pool's categories. There is at least one, each
+/// has a value, and none is named `id` or `key`, which are columns of a register.
 #[derive(Debug, Drop)]
 pub struct Rules {
     categories: Vec<Category>,

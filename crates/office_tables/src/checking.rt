@@ -1,4 +1,4 @@
-//! Whether parts keep the facts of tables.
+//! Tests whether parts keep the facts of tables.
 
 ghost use Rattle.std.specs.Prelude.{◌≡◌, ◌↔◌, ◌&&◌, nat_le, nat_lt, List, length, bytes_eq, IsTrue, Some, IfOk};
 ghost use Rattle.std.specs.List.{AllByRecursion, list_all, zip};
@@ -39,7 +39,7 @@ pub(crate) fn are_tables(alloc: Global, parts: &Parts) -> Result<bool, AllocErro
     )
 }
 
-/// Does nothing; its contract says what holds of charter and rules, which keep their facts by themselves.
+/// Does nothing; its contract says that each charter and all rules keep their facts, so `are_tables` needn't test them.
 fn charter_and_rules_keep(parts: &Parts)
     ensures charter { (charter : SeenCharter) → parts.now.charter ≡ Some charter → IsTrue (is_charter charter) }
     ensures rules { (rules : List SeenCategory) → parts.now.rules ≡ Some rules → AreRules rules }
@@ -52,7 +52,7 @@ fn charter_and_rules_keep(parts: &Parts)
     }
 }
 
-/// True if the rows keep all facts of a register under these rules. Each id and each digest is compared with all behind it, which is fast
+/// True if the rows keep all facts of a register under `rules`. Compares each id and each digest with all those after it, which is fast
 /// enough at 400 rows.
 fn is_register(register: &[Entry], rules: &Option<Rules>) -> bool
     ensures { result ≡ (nat_le (length register.now) 400 && list_all keeps_limits register.now && all_fit rules.now register.now
@@ -88,7 +88,7 @@ fn rows_fit(rules: &Option<Rules>, register: &[Entry]) -> bool
     }
 }
 
-/// True if each row has just one value of each category.
+/// True if each row has exactly one value of each category.
 fn have_values(categories: &[Category], register: &[Entry]) -> bool
     ensures { result ≡ list_all (λ entry. fits_rules categories.now entry.values) register.now }
 {
@@ -158,7 +158,7 @@ fn have_drops(rounds: &[Round]) -> bool
     rounds.iter().all(|round| round.has_drop())
 }
 
-/// True if each round keeps its facts beside the other parts.
+/// True if each round keeps its facts, which depend on charter, rules and register.
 fn rounds_keep(alloc: Global, parts: &Parts) -> Result<bool, AllocError>
     ensures { IfOk result (λ keep. IsTrue keep ↔ AllByRecursion (KeepsRound (seen_parts parts.now)) parts.now.rounds.items) }
 {
@@ -170,7 +170,7 @@ fn rounds_keep(alloc: Global, parts: &Parts) -> Result<bool, AllocError>
     Ok(true)
 }
 
-/// True if a round keeps its facts beside the other parts.
+/// True if a round keeps its facts, which depend on charter, rules and register.
 fn round_keeps(alloc: Global, parts: &Parts, round: &Round) -> Result<bool, AllocError>
     ensures { IfOk result (λ keeps. IsTrue keeps ↔ KeepsRound (seen_parts parts.now) round.now) }
 {
@@ -206,7 +206,7 @@ fn have_ids(volunteers: &[Volunteer], register: &[Entry]) -> bool
     volunteers.len() == register.len() && ids_agree(volunteers, register)
 }
 
-/// True if the ids are equal as far as both lists go.
+/// True if the ids at each place that both lists have are equal.
 fn ids_agree(volunteers: &[Volunteer], register: &[Entry]) -> bool
     ensures { result ≡ list_all (λ pair. bytes_eq pair.0.id pair.1.id) (zip volunteers.now register.now) }
 {

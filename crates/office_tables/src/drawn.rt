@@ -18,7 +18,7 @@ pub fn drawn_by(alloc: Global, bundle: &Bundle, digits: &[u8]) -> Result<Option<
     ensures { IfOk result (λ drawn. IsDrawnBy bundle.now digits.now drawn) }
 {
     bundle.facts();
-    // An empty seal is the same as an empty one, so the digits alone decide.
+    // The kept seal and the given seal are both empty, so they agree, and the digits alone decide.
     match draw(alloc, bundle, "", "", digits) {
         Ok(drawn) => Ok(Some(drawn)),
         Err(DrawStop::OutOfMemory) => Err(AllocError),

@@ -13,8 +13,8 @@ use pool_model::Name;
 use std::alloc::{AllocError, Global};
 use std::marker::Model;
 
-/// A round. An open one has nothing; from `Solved` on it has a bundle; one that was drawn has the digits of the dice, and the ids of those who
-/// dropped out since.
+/// A round. An open round has nothing; from `Solved` on it has a bundle; a drawn round also has the digits of the dice, and the ids of
+/// those who dropped out since.
 #[derive(Debug, Drop)]
 pub struct Round {
     phase: Phase,
@@ -48,8 +48,8 @@ impl Round {
         }
     }
 
-    /// Returns the round of these parts, or None exactly if they don't fit: an open round has no bundle, a later one has one, and only one that
-    /// was drawn has digits and dropouts.
+    /// Returns the round of these parts, or None exactly if they don't fit: an open round has no bundle, a later round has one, and only a
+    /// drawn round has digits and dropouts.
     pub fn from_parts(
         phase: Phase,
         bundle: Option<Bundle>,
@@ -193,7 +193,7 @@ impl Round {
     }
 }
 
-/// True if these are the parts of a round.
+/// True if the parts fit: see `Round::from_parts`.
 fn fit(phase: Phase, bundle: &Option<Bundle>, digits: &[u8], dropped: &[Name]) -> bool
     ensures { result ≡ parts_fit phase bundle.now digits.now dropped.now }
 {
@@ -215,7 +215,7 @@ fn copied_bundle(bundle: &Option<Bundle>) -> Result<Option<Bundle>, AllocError>
     }
 }
 
-/// Returns the names and one more at their end.
+/// Returns the names with `last` appended.
 fn with_one_more(alloc: Global, names: &[Name], last: &Name) -> Result<Vec<Name>, AllocError>
     ensures { IfOk result (λ all. all.items ≡ names.now ++ last.now ∷ []) }
 {

@@ -1,6 +1,6 @@
 //! The tables of an office as values: charter, rules, rows of the register and rounds, and how a change changes them. Contracts see them as
 //! the tables of `define_offices`, whose facts they keep at every moment. Stands on `pool_model`, `bundle_text` and `sealed_draw`.
-//! `office_core` stands on it.
+//! `office_core`, `office_pools` and `office_steps` stand on it.
 //!
 //! Promises: `tables_of` returns tables exactly of parts that keep the facts, and `apply` exactly the changed tables.
 #![tactic(auto)]

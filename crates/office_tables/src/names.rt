@@ -11,7 +11,7 @@ use std::alloc::{AllocError, Global};
 /// The most bytes that a key may have.
 const MAX_KEY_LEN: usize = 200;
 
-/// True if a name or id may be so: 1 to 200 bytes, none below 32 and none 127.
+/// True if a name or id is allowed: 1 to 200 bytes, none below 32 and none 127.
 pub(crate) fn is_name(name: &str) -> bool
     ensures { result ≡ is_allowed name.now }
 {
@@ -37,7 +37,7 @@ pub(crate) fn is_household(household: &Option<Name>) -> bool
     }
 }
 
-/// True if a key may be so: 1 to 200 bytes from 33 to 126.
+/// True if a key is allowed: 1 to 200 bytes from 33 to 126.
 pub(crate) fn is_key(key: &[u8]) -> bool
     ensures { result ≡ is_allowed_key key.now }
 {

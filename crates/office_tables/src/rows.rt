@@ -98,7 +98,7 @@ impl Entry {
         })
     }
 
-    /// Returns the row of a volunteer who withdrew, else equal.
+    /// Returns an equal row, marked as withdrawn.
     pub(crate) fn copy_withdrawn(&self) -> Result<Entry, AllocError>
         ensures { IfOk result (λ copied. copied ≡ record self.now { withdrawn = true }) }
     {
@@ -199,7 +199,7 @@ impl Given {
         let _ = &self.id;
     }
 
-    /// Returns the row as it is kept: with the digest of the key in its place.
+    /// Returns the row as the register keeps it: with the digest of the key instead of the key, and not withdrawn.
     pub fn entry(&self, alloc: Global) -> Result<Entry, AllocError>
         ensures { IfOk result (λ entry. entry ≡ entry_of self.now) }
     {
@@ -234,7 +234,7 @@ impl Model for Rows {
 }
 
 impl Rows {
-    /// Returns no rows.
+    /// Returns an empty list of rows.
     pub fn new(alloc: Global) -> Rows
         ensures { result ≡ [] }
     {

@@ -15,7 +15,7 @@ use std::marker::Model;
 /// The parts of tables.
 #[derive(Debug, Drop)]
 pub struct Parts {
-    /// What the assembly is called, and the size of its panels.
+    /// The assembly's title, and the size of its panels.
     pub charter: Option<Charter>,
     /// The categories with their bounds.
     pub rules: Option<Rules>,
@@ -74,14 +74,14 @@ impl Tables {
         let _parts = &self.parts;
     }
 
-    /// What the assembly is called, and the size of its panels, if it is known.
+    /// The assembly's title, and the size of its panels, if a charter was set.
     pub fn charter(&self) -> &Option<Charter>
         ensures { result.now ≡ self.now.charter }
     {
         &self.parts.charter
     }
 
-    /// The categories with their bounds, if they are known.
+    /// The categories with their bounds, if rules were set.
     pub fn rules(&self) -> &Option<Rules>
         ensures { result.now ≡ self.now.rules }
     {
@@ -147,11 +147,11 @@ pub(crate) fn copied_rules(rules: &Option<Rules>) -> Result<Option<Rules>, Alloc
 
 /// Returns the tables of these parts, or None exactly if they don't keep a fact of tables:
 ///
-/// - At most 400 rows, whose ids and households are names. Ids are different, and so are the digests of keys. Rows are there only with rules,
-///   and each has the name of one value of each category.
+/// - At most 400 rows, whose ids and households are names. Ids are different, and so are the digests of keys. Rows are there only with
+///   rules, and each has the name of one value of each category.
 /// - At least one round; each but the last is drawn and has a dropout.
-/// - With a round past `Open` there are charter and rules; the weights of its bundle sum to the total, and the ids of the bundle's pool are those of
-///   the register, in order.
+/// - If a round is past `Open`, there are charter and rules; the weights of its bundle sum to the total, and the ids of the bundle's pool
+///   are those of the register, in order.
 /// - The digits of a round that was drawn name a ticket, and its dropouts are from the panel of that ticket.
 pub fn tables_of(alloc: Global, parts: Parts) -> Result<Option<Tables>, AllocError>
     ensures { TellsTables (seen_parts parts) result }

@@ -15,11 +15,11 @@ AppendsLess old new piece = (count : ℕ) × (count < length piece) × Appends o
 abbrev pub LosesFront : Option (List ℕ) → Option (List ℕ) → Type 0
 LosesFront old new = (front : List ℕ) × Consumes old new front
 
--- the bytes, if they are told, lost more than `count` bytes from their front
+-- the bytes, if they are told, lost more than `limit` bytes from their front
 abbrev pub LosesMore : ℕ → Option (List ℕ) → Option (List ℕ) → Type 0
 LosesMore limit old new = (front : List ℕ) × (limit < length front) × Consumes old new front
 
--- these bytes are all that was told as left, and nothing is left
+-- if the source tells what is left, `bytes` is all that was left before, and nothing is left now
 abbrev pub ReadsAll : Option (List ℕ) → Option (List ℕ) → List ℕ → Type 0
 ReadsAll None new bytes = ⊤
 ReadsAll (Some left) new bytes = (bytes ≡ left) × (new ≡ Some [])

@@ -13,20 +13,20 @@ pub record Calls : Type 0 where
 abbrev pub no_calls : List ℕ → Calls
 no_calls failing = record { failing = failing; made = 0; faults = 0 }
 
--- is the next call to fail? Calls are numbered from 1
+-- true if the next call is to fail; calls are numbered from 1
 abbrev pub next_fails : Calls → Bool
 next_fails calls = list_any (λ number. number == raised calls.made) calls.failing
 
--- the calls after one more, which was a fault or not
+-- the calls after one more, which counted a fault if `is_fault` holds
 abbrev pub after_call : Calls → Bool → Calls
 after_call calls is_fault = record calls { made = raised calls.made; faults = if is_fault then raised calls.faults else calls.faults }
 
--- a source: the bytes still to come, and its calls
+-- a source: the bytes that are left, and its calls
 pub record SourceState : Type 0 where
   pub left : List ℕ
   pub calls : Calls
 
--- after a read into a room of this size: a call that fails takes nothing, and any other takes all that fits
+-- the source after a read into a room of `size` bytes: a call that is to fail takes nothing, any other takes as much as fits
 abbrev pub after_read : SourceState → ℕ → SourceState
 after_read source size = record {
   left = if next_fails source.calls then source.left else drop size source.left;
@@ -43,7 +43,7 @@ pub record SinkState : Type 0 where
 abbrev pub put_fails : SinkState → List ℕ → Bool
 put_fails sink piece = next_fails sink.calls || nat_lt sink.room (length sink.written + length piece)
 
--- after a put of this piece: a call that is to fail appends nothing, and any other appends what fits
+-- the sink after a put of `piece`: a call that is to fail appends nothing, any other appends as much as fits
 abbrev pub after_put : SinkState → List ℕ → SinkState
 after_put sink piece = record {
   written = if next_fails sink.calls then sink.written else sink.written ++ take (sink.room - length sink.written) piece;

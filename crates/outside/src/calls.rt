@@ -1,10 +1,11 @@
-//! Counts the calls of an object in memory, and says which of them fail. The source and the sink in memory keep one.
+//! Counts the calls of an object in memory, and says which of them fail. The source, the sink and the keeper in memory have one.
 ghost use Rattle.std.specs.Prelude.{◌≡◌, ◌≤◌, IfOk};
 ghost use Rattle.outside.specs.Memory.{no_calls, next_fails, after_call};
 
 use std::alloc::{AllocError, Global};
 use std::marker::Model;
 
+/// The calls of an object in memory: which are to fail, how many were made, and how many faults were counted.
 #[derive(Drop)]
 pub struct CallPlan {
     failing: Vec<u64>,
@@ -21,6 +22,7 @@ impl Model for CallPlan {
 }
 
 impl CallPlan {
+    /// Returns a plan by which the calls whose numbers are in `failing`, counted from 1, will fail. No call was made yet.
     pub fn new(alloc: Global, failing: &[u64]) -> Result<CallPlan, AllocError>
         ensures { IfOk result (λ plan. plan ≡ no_calls failing.now) }
     {
@@ -31,14 +33,14 @@ impl CallPlan {
         })
     }
 
-    // True if the next call is to fail.
+    /// True if the next call is to fail.
     pub fn next_fails(&self) -> bool
         ensures { result ≡ next_fails self.now }
     {
         self.failing.contains(&self.made.saturating_add(1))
     }
 
-    // Counts a call, and a fault if it was one.
+    /// Counts a call, and a fault if it was one. Both counts stay at 2^64 - 1 once they are there.
     pub fn count(&mut self, is_fault: bool)
         ensures state { self.new ≡ after_call self.old is_fault }
         ensures never_falls { self.old.faults ≤ self.new.faults }
@@ -49,6 +51,7 @@ impl CallPlan {
         }
     }
 
+    /// Returns how many faults were counted.
     pub fn faults(&self) -> u64
         ensures { result ≡ self.now.faults }
     {

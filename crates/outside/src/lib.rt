@@ -1,10 +1,10 @@
 //! The traits through which the program meets the world: a source of bytes and a sink of bytes, each of which counts its faults; in
 //! memory for tests, and over std's readers and writers; and a watch, which is told when pieces of work start. Stands on nothing of the
-//! repository. Above: the shell of the commands, which reads and writes through it; `pricing_pool`, `leximin_run` and the commands on
-//! pools, for the watch.
+//! repository. Above: the shell of the commands and the keeper of the office, which read and write through it; `pricing_pool`,
+//! `leximin_run`, `office_core` and the commands on pools, for the watch.
 //!
-//! Promises: what `Source` and `Sink` say of each implementation, and `read_all`. The definitions in `specs/` say what a call does to
-//! the bytes and to the count of faults.
+//! Promises: the contracts of `Source` and `Sink`, which each implementation keeps, and `read_all`. The definitions in `specs/` say what a
+//! call does to the bytes and to the count of faults.
 #![tactic(auto)]
 
 mod calls;
@@ -17,6 +17,7 @@ mod std_sink;
 mod std_source;
 mod watch;
 
+pub use calls::CallPlan;
 pub use mem_sink::MemSink;
 pub use mem_source::MemSource;
 pub use reading::{ReadStop, read_all};

@@ -10,7 +10,7 @@ use crate::{Failed, Source};
 use std::alloc::{AllocError, Global};
 use std::marker::Model;
 
-/// Bytes in memory, with a list of the calls that are to fail. Its meaning has the bytes that are left.
+/// Bytes in memory, with a list of the calls that are to fail. Contracts speak of the bytes that are left.
 #[derive(Drop)]
 pub struct MemSource {
     bytes: Vec<u8>,

@@ -24,21 +24,21 @@ pub enum ReadStop {
 // The most bytes that one read takes.
 const ROOM: usize = 4096;
 
-/// Reads all that is left, at most `limit` bytes. Each turn but the last takes at least one byte, so there are at most `limit + 2`
-/// turns, as the loop's bound shows.
+/// Returns all bytes that are left, or `TooLong` if they are more than `limit`. Each turn but the last takes at least one byte, so there
+/// are at most `limit + 2` turns, as the loop's bound shows.
 pub fn read_all<S: Source>(alloc: Global, source: &mut S, limit: usize) -> Result<Vec<u8>, ReadStop>
     requires { limit + 2 < 2 ^ 64 }
     ensures all { IfOk result
         (λ bytes. ReadsAll (S.left source.old) (S.left source.new) bytes.items) }
     ensures within { IfOk result (λ bytes. length bytes.items ≤ limit) }
 
-    // When each error is answered. Memory may run out at any time.
+    // When each error is returned. Memory may run out at any time.
     ensures fault { result ≡ Err ReadStop.Fault
         → Rose (S.faults source.old) (S.faults source.new) }
     ensures long { result ≡ Err ReadStop.TooLong
         → LosesMore limit (S.left source.old) (S.left source.new) }
 
-    // What is left of the source after each answer.
+    // What the call does to the source, whatever it returns.
     ensures front { LosesFront (S.left source.old) (S.left source.new) }
     ensures none { result ≢ Err ReadStop.Fault → S.faults source.new ≡ S.faults source.old }
     ensures never_falls { S.faults source.old ≤ S.faults source.new }

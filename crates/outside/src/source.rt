@@ -19,8 +19,8 @@ pub trait Source {
     /// How many faults the source has counted.
     ghost faults: { Self → ℕ };
 
-    /// Moves bytes from the front of what is left to the front of `room`, and returns how many. If `room` isn't empty, the answer
-    /// is 0 only at the end. `Failed` moves nothing and counts a fault; an answer counts none.
+    /// Moves bytes from the front of what is left to the front of `room`, and returns how many. If `room` isn't empty, it returns 0
+    /// only if nothing is left. A call that fails moves nothing and counts a fault; no other call counts one.
     fn read(&mut self, room: &mut [u8]) -> Result<usize, Failed>
         ensures fits { ReadsAtMost result room.new }
         ensures given { ReadConsumes (left self.old) (left self.new) result room.new }

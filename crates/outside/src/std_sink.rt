@@ -7,8 +7,8 @@ ghost use Rattle.outside.specs.Faults.{Rose, raised};
 use crate::{Failed, Sink};
 use std::io::Write;
 
-/// Any writer of std. Its meaning has the bytes that were written, if the writer's has. Each error of the writer is a fault, also an
-/// interrupted call, and so is a write that takes nothing. Nothing is tried again.
+/// Any writer of std. Contracts speak of the bytes that were written if those of the writer do. Each error of the writer is a fault, also
+/// an interrupted call, and so is a write that takes nothing. No failed write is tried again.
 #[derive(Drop)]
 pub struct StdSink<W: Write> {
     inner: W,
@@ -49,7 +49,7 @@ impl<W: Write> Sink for StdSink<W> {
         ensures none { OnOk result (⟦<StdSink<W> as Sink>⟧.faults self.new
             ≡ ⟦<StdSink<W> as Sink>⟧.faults self.old) }
 
-        // Each put that fails counts one fault, and no other does. A put whose piece was written whole doesn't fail.
+        // Each put that fails counts one fault, and no other put does. A put that wrote all of its piece doesn't fail.
         ensures less { OnErr result (AppendsLess (⟦<StdSink<W> as Sink>⟧.written self.old)
             (⟦<StdSink<W> as Sink>⟧.written self.new) piece.now) }
         ensures counted { ⟦<StdSink<W> as Sink>⟧.faults self.new

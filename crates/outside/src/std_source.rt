@@ -7,8 +7,8 @@ ghost use Rattle.outside.specs.Faults.{Rose, raised};
 use crate::{Failed, Source};
 use std::io::Read;
 
-/// Any reader of std. Its meaning has the bytes that are left, if the reader's has. Each error of the reader is a fault, also an
-/// interrupted call. Nothing is tried again.
+/// Any reader of std. Contracts speak of the bytes that are left if those of the reader do. Each error of the reader is a fault, also an
+/// interrupted call. No failed read is tried again.
 #[derive(Drop)]
 pub struct StdSource<R: Read> {
     inner: R,

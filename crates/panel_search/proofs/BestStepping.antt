@@ -71,11 +71,12 @@ child_at all closed row depth front count now = child_best all closed row (drop 
 abbrev pub children_within : Classes → List Row → Row → ℕ → List ℕ → ℕ → ℕ → Pricing → Pricing
 children_within all closed row depth front low end now = children_best all closed row (drop (depth + 1) all.classes) front (counts_below low end) now
 
--- if no count is left, nothing is searched
+-- if `end` is at most `low`, no child is searched
 pub children_none : (all : Classes) (closed : List Row) (row : Row) (depth : ℕ) (front : List ℕ) (low end : ℕ) (now : Pricing) → end ≤ low → children_within all closed row depth front low end now ≡ now
 children_none all closed row depth front low end now l = ap (λ counts. children_best all closed row (drop (depth + 1) all.classes) front counts now) (below_none low end l)
 
--- the child with the greatest count comes first, then those with the counts below it
+-- if `low` is below `end`, the children with counts in `low..end` are searched from the greatest count down: first the child with `end -
+-- 1`, then those with smaller counts
 pub children_next : (all : Classes) (closed : List Row) (row : Row) (depth : ℕ) (front : List ℕ) (low end : ℕ) (now : Pricing) → low < end →
     children_within all closed row depth front low end now ≡ children_within all closed row depth front low (end - 1) (child_at all closed row depth front (end - 1) now)
 children_next all closed row depth front low end now l = ap (λ counts. children_best all closed row (drop (depth + 1) all.classes) front counts now) (below_next low end l)
@@ -86,7 +87,7 @@ child_within all closed row depth front low end now l =
     let same = children_next all closed row depth front low end now l in
     rw same (children_more all closed row (drop (depth + 1) all.classes) front (counts_below low (end - 1)) (child_at all closed row depth front (end - 1) now) (enter_no_less all closed row (drop (depth + 1) all.classes)))
 
--- children that aren't reachable change nothing
+-- the search of the children is the same if the counts of the children that aren't reachable are left out
 passed_over : (all : Classes) (closed : List Row) (row : Row) (later : List Class) (front counts : List ℕ) (now : Pricing) →
     children_best all closed row later front counts now ≡ children_best all closed row later front (filter (λ c. is_reachable all (front ++ c ∷ [])) counts) now
 passed_over all closed row later front [] now = refl
@@ -101,7 +102,8 @@ passed_over all closed row later front (c ∷ counts) now =
           ∙ passed_over all closed row later front counts now
     ]) refl
 
--- to enter a front with classes after it counts one visit and searches its children
+-- if exactly the counts in `low..end` of the next class make reachable children of `front`, entering `front` counts one visit and searches
+-- the children with these counts
 pub enter_children : (all : Classes) (closed : List Row) (row : Row) (depth : ℕ) (class : Class) (front : List ℕ) (low end : ℕ) (now : Pricing) → Stands all depth class → class.least ≤ class.most → LiveBetween all front class low end →
     enter_best all closed row (drop depth all.classes) front now ≡ children_within all closed row depth front low end (record now { visits = now.visits + 1 })
 enter_children all closed row depth class front low end now stands order live =
@@ -109,7 +111,7 @@ enter_children all closed row depth class front low end now stands order live =
     ∙ passed_over all closed row (drop (depth + 1) all.classes) front (counts_of class) (record now { visits = now.visits + 1 })
     ∙ ap (λ counts. children_best all closed row (drop (depth + 1) all.classes) front counts (record now { visits = now.visits + 1 })) (live_counts all front class low end order live.inside live.outside)
 
--- ---- in the words of the code
+-- ---- what the contracts of the code need
 
 pub moves_err : (all : Classes) (closed : List Row) (row : Row) (depth : ℕ) (rest : List Class) (due : Pricing) (front : List ℕ) (nodes : ℕ) (result : Result (Unit {0}) BudgetSpent) (after : BestSearch) →
     IsErr result → nodes < due.visits → Moves all closed row depth rest due front nodes result after
@@ -125,7 +127,7 @@ moves_same all closed row depth rest due due' front front' nodes nodes' result a
 
 -- ---- where a search is
 
--- a search is at the same front if only its tally changes, and the classes that the tally has still to come
+-- if only the tally changes, and it still tracks the same front, now with the classes `rest'` to come, the search is at the same front
 pub stands_with : (all : Classes) (closed : List Row) (row : Row) (depth : ℕ) (rest rest' : List Class) (before after : BestSearch) → StandsAt all closed row depth rest before → after.counts.items ≡ before.counts.items → after.kept.items ≡ before.kept.items →
     after.priced ≡ before.priced → after.closed.items ≡ before.closed.items → Tracks all (take depth before.counts.items) rest' after.tally → StandsAt all closed row depth rest' after
 stands_with all closed row depth rest rest' before after stands e f g h tracks = record {
@@ -144,11 +146,11 @@ first_of [] rest n l = refl
 first_of (c ∷ front) rest zero l = absurd (omega arith)
 first_of (c ∷ front) rest (suc n) l = ap (λ (xs : List ℕ). c ∷ xs) (first_of front rest n (omega arith))
 
--- if a front is written into the first places, these places have it
+-- if `front` is written over the first places of `items`, the first `length front` places hold it
 pub written_first : (front given items : List ℕ) (n : ℕ) → given ≡ front → length front ≤ n → take (length front) (take n (given ++ drop (length given) items)) ≡ front
 written_first front given items n e l = subst (λ xs. take (length front) (take n (xs ++ drop (length xs) items)) ≡ front) (sym e) (first_of front (drop (length front) items) n l)
 
--- a search that was set up at a front is about to enter it
+-- if a search has the counts, the tally and the weights of `front`, it is about to enter `front`
 pub begins_at : (all : Classes) (closed : List Row) (row : Row) (front : List ℕ) (search : BestSearch) → length search.counts.items ≡ length all.classes → length search.kept.items ≡ length all.classes → length front ≤ length all.classes →
     take (length front) search.counts.items ≡ front → AreWithin all front → Tracks all front (drop (length front) all.classes) search.tally → Weighs all row front search.priced → WeighEach all closed front search.closed.items →
     BeginsAt all closed row (length front) search
@@ -162,7 +164,7 @@ begins_at all closed row front search places kept within e counts tally priced c
   closed_rows = subst (λ f. WeighEach all closed f search.closed.items) (sym e) closed_rows;
 }
 
--- if the front takes a count with which it is live, the search is at this child
+-- if a search at a front takes `count` of the next class, and this child is reachable, the search is then at the child
 pub child_stands : (all : Classes) (closed : List Row) (row : Row) (depth count : ℕ) (rest : List Class) (before after : BestSearch) → StandsAt all closed row depth rest before → depth < length all.classes → CanTake all depth count →
     is_reachable all (take depth before.counts.items ++ count ∷ []) ≡ true → after.counts.items ≡ set before.counts.items depth count → length after.kept.items ≡ length all.classes →
     Tracks all (take depth before.counts.items ++ count ∷ []) rest after.tally → Weighs all row (take depth before.counts.items ++ count ∷ []) after.priced →
@@ -180,7 +182,8 @@ child_stands all closed row depth count rest before after stands below can live 
       closed_rows = subst (λ f. WeighEach all closed f after.closed.items) (sym child) closed_rows;
     }
 
--- after a child's search, the search is at the front again
+-- if a search was at a front and then at a child of this front, and only its tally has changed since, so that it tracks the front, the
+-- search is at the front again
 pub parent_stands : (all : Classes) (closed : List Row) (row : Row) (depth count : ℕ) (rest : List Class) (before child after : BestSearch) → StandsAt all closed row depth rest before → StandsAt all closed row (depth + 1) rest child →
     take (depth + 1) child.counts.items ≡ take depth before.counts.items ++ count ∷ [] → take depth child.counts.items ≡ take depth before.counts.items →
     after.counts.items ≡ child.counts.items → after.kept.items ≡ child.kept.items → after.priced ≡ child.priced → after.closed.items ≡ child.closed.items →
@@ -199,7 +202,8 @@ parent_stands all closed row depth count rest before child after stands below e 
       closed_rows = subst (WeighEach all closed (take depth after.counts.items)) (sym i) (each_back all closed front_before _ _ count _ e front below.closed_rows);
     }
 
--- to search a live child that may weigh enough is to enter it
+-- if a child is reachable, and its optimistic weight is at least the right side in each closed row and above the floor in `row`, searching
+-- it is entering it
 pub child_due : (all : Classes) (closed : List Row) (row : Row) (later : List Class) (child : List ℕ) (now : Pricing) → is_reachable all child ≡ true →
     (list_all (λ r. int_le r.b (optimistic all r child)) closed && int_lt now.floor (optimistic all row child)) ≡ true → child_best all closed row later child now ≡ enter_best all closed row later child now
 child_due all closed row later child now live weighs =

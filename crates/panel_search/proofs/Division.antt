@@ -40,7 +40,8 @@ lists_next all depth class stands =
     taken (y ∷ ys) zero x l e = ap (λ (z : Class). z ∷ []) (sym e)
     taken (y ∷ ys) (suc n) x l e = let same : suc n + 1 ≡ suc (n + 1) = omega arith in rw same (ap (λ (zs : List Class). y ∷ zs) (taken ys n x (omega arith) e))
 
--- with one class more there are `next` lists of counts, and fewer classes than these have fewer than 64
+-- the first `depth + 1` classes have `next` lists of counts, at most 30000; the first `k` classes, for each `k` up to `depth`, have fewer
+-- than 64
 pub few_next : (all : Classes) (depth lists next : ℕ) (class : Class) → KeepsLimits all → Stands all depth class → lists ≡ lists_of (take depth all.classes) → lists < 64 → ((k : ℕ) → k < depth → lists_of (take k all.classes) < 64) →
     next ≡ lists * (class.most - class.least + 1) →
     (next ≡ lists_of (take (depth + 1) all.classes)) × (next ≤ 30000) × ((k : ℕ) → k < depth + 1 → lists_of (take k all.classes) < 64)
@@ -85,16 +86,16 @@ among_next all closed row floor front c counts =
       | false ↦ refl
     ]
 
--- if no count is left, there is no live child
+-- if `end` is at most `low`, there is no live child
 pub among_none : (all : Classes) (closed : List Row) (row : Row) (floor : ℤ) (front : List ℕ) (low end : ℕ) → end ≤ low → live_among all closed row floor front (counts_below low end) ≡ []
 among_none all closed row floor front low end l = ap (live_among all closed row floor front) (below_none low end l)
 
--- the child with the greatest count comes first, if it is live, then the live children with the counts below it
+-- if `low` is below `end`, the child with the count `end - 1` comes first, if it is live, and then the live children with smaller counts
 pub among_more : (all : Classes) (closed : List Row) (row : Row) (floor : ℤ) (front : List ℕ) (low end : ℕ) → low < end →
     live_among all closed row floor front (counts_below low end) ≡ live_among all closed row floor front ((end - 1) ∷ []) ++ live_among all closed row floor front (counts_below low (end - 1))
 among_more all closed row floor front low end l = ap (live_among all closed row floor front) (below_next low end l) ∙ among_next all closed row floor front (end - 1) (counts_below low (end - 1))
 
--- children that aren't reachable aren't live
+-- leaving out the children that aren't reachable leaves the same live children
 passed_over : (all : Classes) (closed : List Row) (row : Row) (floor : ℤ) (front counts : List ℕ) →
     live_among all closed row floor front counts ≡ live_among all closed row floor front (filter (λ c. is_reachable all (front ++ c ∷ [])) counts)
 passed_over all closed row floor front [] = refl
@@ -110,7 +111,8 @@ passed_over all closed row floor front (c ∷ counts) =
       | false ↦ λ e. ap (λ b. cond (b && weighs && above) (child ∷ left) left) e ∙ rest
     ]) refl
 
--- the live children with counts in `low..end` are all live children
+-- if exactly the counts in `low..end` make reachable children of `front`, the live children with these counts are all live children of
+-- `front`
 pub among_all : (all : Classes) (closed : List Row) (row : Row) (front : List ℕ) (class : Class) (low end : ℕ) → Stands all (length front) class → class.least ≤ class.most → LiveBetween all front class low end →
     live_among all closed row row.b front (counts_below low end) ≡ live_children all closed row front
 among_all all closed row front class low end stands order live =
@@ -122,7 +124,7 @@ among_all all closed row front class low end stands order live =
 abbrev pub firsts : Classes → List Class
 firsts all = take (piece_depth all) all.classes
 
--- the pieces below fronts of `depth` classes
+-- the pieces below `fronts`, each a front of the first `depth` classes
 abbrev pub below_each : Classes → List Row → Row → ℕ → List (List ℕ) → Pieces
 below_each all closed row depth fronts = together (map (λ front. pieces_below all closed row (drop depth (firsts all)) front) fronts)
 
@@ -178,7 +180,8 @@ enter_each all closed row class later (front ∷ fronts) h =
           ∙ ap (λ zs. (together (map below (live_children all closed row front))).fronts ++ zs) rest.1 ∙ sym split.1,
     )
 
--- the classes of a piece's front from place `depth` on: the class there, and those after it
+-- if `depth` is below the number of classes of a piece's front, these classes from place `depth` on are `class` and those from `depth + 1`
+-- on
 pub firsts_from : (all : Classes) (depth : ℕ) (class : Class) → Stands all depth class → depth < piece_depth all → drop depth (firsts all) ≡ class ∷ drop (depth + 1) (firsts all)
 firsts_from all depth class stands below =
     let size = length-take-le (piece_depth all) all.classes (depth_within all) in
@@ -242,7 +245,7 @@ goes_next all closed row depth visits more class fronts next limits stands below
         (subst (λ counts. AllByRecursion (IsLiveFront all closed row (depth + 1)) (live_among all closed row row.b front counts)) (sym k.0) (children_live all closed row depth class front limits stands h.0))
         (each_child fronts h.1 k.1)
 
--- if the visits so far and those to these fronts are more than the budget, all visits are
+-- if `visits` and one visit to each of `fronts` exceed the budget, the visits of the whole division exceed it
 pub goes_too_far : (all : Classes) (closed : List Row) (row : Row) (depth visits nodes : ℕ) (class : Class) (fronts : List (List ℕ)) → Stands all depth class → depth < piece_depth all → GoesOn all closed row depth visits fronts →
     nodes < visits + length fronts → nodes < (pieces all closed row).visits
 goes_too_far all closed row depth visits nodes class fronts stands below goes l =
@@ -256,7 +259,7 @@ goes_too_far all closed row depth visits nodes class fronts stands below goes l 
     each_count [] h = tt
     each_count (front ∷ fronts) h = (ap (λ n. counts_first (drop n all.classes)) h.0.long ∙ ap counts_first (comes_next all depth class stands), each_count fronts h.1)
 
--- fronts that have all classes of a piece's front are the fronts of the pieces
+-- if `fronts` are as long as a piece's front, they are the fronts of the pieces, and no more visits are made
 pub goes_last : (all : Classes) (closed : List Row) (row : Row) (depth visits : ℕ) (fronts : List (List ℕ)) → depth ≡ piece_depth all → GoesOn all closed row depth visits fronts → ((pieces all closed row).visits ≡ visits) × ((pieces all closed row).fronts ≡ fronts)
 goes_last all closed row depth visits fronts e goes =
     let none : drop depth (firsts all) ≡ [] = ap (λ n. drop n (firsts all)) (e ∙ sym (length-take-le (piece_depth all) all.classes (depth_within all))) ∙ dropped (firsts all) in
@@ -272,9 +275,9 @@ goes_last all closed row depth visits fronts e goes =
     each_only [] = (refl, refl)
     each_only (front ∷ fronts) = let rest = each_only fronts in (omega (arith, rest.0), ap (λ zs. front ∷ zs) rest.1)
 
--- ---- in the words of the code
+-- ---- what the contracts of the code need
 
--- the class that the code reads at the front's length is the one after the front
+-- the class that the code reads at the index `length front` is the class after the front
 pub stands_after : (all : Classes) (front items : List ℕ) (classes : List Class) (class : Class) → length front < length all.classes → items ≡ front → classes ≡ all.classes → class ≡ get_or classes (length items) class → Stands all (length front) class
 stands_after all front items classes class below e f is =
     stands_there all (length front) classes class below f (is ∙ ap (λ xs. get_or classes (length xs) class) e)

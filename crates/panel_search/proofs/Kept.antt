@@ -1,4 +1,4 @@
--- The rows that a pricer keeps, row after row.
+-- The closed rows of a pricer and their greatest sums, and what follows for the answers of a search.
 use Rattle.std.proofs.Common.{◌≡◌, ℕ, zero, suc, ◌^◌, ◌<◌, ◌≤◌, List, [], ◌∷◌, ◌++◌, length, map, Option, Some, Result, Ok, Err, sym, ap, ◌∙◌, arith, subst, length-append, ⊎_elim}
 use Rattle.std.specs.Prelude.{slice_get, slice_index, IfOk, Vec, vec_items}
 use Rattle.std.specs.declared.alloc.Global.{Global}
@@ -20,7 +20,7 @@ use Rattle.panel_search.specs.declared.searching.SearchStop.{SearchStop}
 use Rattle.laws_of_fronts.specs.Front.{AreWithin}
 use Rattle.laws_of_fronts.proofs.Beside.{get_pushed}
 
--- the closed rows are right with one more row and its greatest sums
+-- if a row with one entry per class and a reach below 2 ^ 127 is appended with its greatest sums, `AreClosed` still holds
 pub closed_more : (all : Classes) (rows : List Row) (sums : List Sums) (row : Row) (here : Sums) → AreClosed all rows sums → HaveEntries all (row ∷ []) → HaveReach all (row ∷ []) →
     IsSummed all row here → AreClosed all (rows ++ row ∷ []) (sums ++ here ∷ [])
 closed_more all rows sums row here kept entries reaches summed = record {
@@ -42,26 +42,26 @@ closed_more all rows sums row here kept entries reaches summed = record {
   };
 }
 
--- what holds of each row of a list holds of the row at a place
+-- if `P` holds of each row of a list, it holds of the row at place `i`
 pub row_has : (P : Row → Type 0) (rows : List Row) (i : ℕ) (row : Row) → AllByRecursion P rows → slice_get rows i ≡ Some row → P row
 row_has P [] i row h e = cc
 row_has P (r ∷ rows) zero row h e = let is : r ≡ row = cc in subst P is h.0
 row_has P (r ∷ rows) (suc i) row h e = row_has P rows i row h.1 e
 
--- the composition that a search answers is the one that it kept
+-- if a search kept `wanted` and answers without an error, its answer is `wanted`
 pub answers_kept : (pricing : Pricing) (nodes : ℕ) (wanted : Option (List ℕ)) (r : Result (Option (List ℕ) × ℕ) SearchStop) → pricing.kept ≡ wanted → AnswersBest pricing nodes r →
     IfOk r (λ answer. answer.0 ≡ wanted)
 answers_kept pricing nodes wanted (Ok (found, visits)) e told = told.1 ∙ e
 answers_kept pricing nodes wanted (Err stop) e told = tt
 
--- the front of each piece is a front of the classes
+-- if the classes keep their limits, the front of each piece in an answer is a front of the classes
 pub fronts_kept : (all made : Classes) (closed : List Row) (row : Row) (nodes : ℕ) (r : Result (Vec (List ℕ) Global × ℕ) SearchStop) → KeepsLimits all → made ≡ all → AnswersPieces (pieces made closed row) nodes r →
     IfOk r (λ answer. AllByRecursion (IsFront all) (vec_items answer.0))
 fronts_kept all made closed row nodes (Ok (fronts, visits)) limits e told =
     subst (AllByRecursion (IsFront all)) (ap (λ made. (pieces made closed row).fronts) (sym e) ∙ sym told.1) (pieces_are all closed row limits.searchable)
 fronts_kept all made closed row nodes (Err stop) limits e told = tt
 
--- a front takes no more of a class than it has members
+-- if the classes keep their limits, a front takes no more of a class than it has members
 pub front_within : (all : Classes) (front : List ℕ) → KeepsLimits all → IsFront all front → AreWithin all front
 front_within all front limits is t l = omega (arith, is.most t l, at all.classes t (recursion_from_All (λ (class : Class). class.most ≤ length class.members) all.classes limits.most))
   where

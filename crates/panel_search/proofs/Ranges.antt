@@ -1,4 +1,4 @@
--- The counts of the next class with which a front is live are one range.
+-- The counts of the next class with which a front is reachable are one range.
 use Rattle.std.proofs.Common.{◌≡◌, ℕ, zero, suc, ◌+◌, ◌-◌, ◌≤◌, ◌<◌, max, min, Bool, true, false, cond, eqb, leb, ltb, ◌&&◌, List, [], ◌∷◌, ◌++◌, length, drop, filter, Option, Some, refl, sym, ap, ◌∙◌, arith, subst}
 use Rattle.std.specs.Prelude.{slice_get, slice_index, slice_index_or}
 use Rattle.std.specs.List.{All}
@@ -21,17 +21,18 @@ use Rattle.laws_of_fronts.proofs.Liveness.{size_of_child, values_of_child, reach
 
 -- ---- the values
 
--- with `count` more of each of the first `done` values, their numbers are within reach
+-- with `count` more members, the value in each of the first `done` categories can still meet its bounds
 abbrev pub ReachTo : List (List Bounds) → List ℕ → List ℕ → List ℕ → ℕ → ℕ → Type 0
 ReachTo bounds held later values done count =
     (c : ℕ) (bound : Bounds) → c < done → HasBound bounds c (slice_index values c) bound → reaches bound held later count c (slice_index values c) ≡ true
 
--- of the counts in `from..until`, exactly those in `low..end` keep the first `done` values within reach
+-- of the counts in `from..until`, exactly those in `low..end` keep the values of the first `done` categories within reach
 pub record IsRange (bounds : List (List Bounds)) (held later values : List ℕ) (from until done low end : ℕ) : Type 0 where
   pub inside : (count : ℕ) → low ≤ count → count < end → (from ≤ count) × (count < until) × ReachTo bounds held later values done count
   pub outside : (count : ℕ) → from ≤ count → count < until → ReachTo bounds held later values done count → (low ≤ count) × (count < end)
 
--- the range for one value more
+-- if `low'..end'` are the counts of `low..end` that keep the value of the next category within reach, they are the range for `done + 1`
+-- categories
 pub range_next : (bounds : List (List Bounds)) (held later values : List ℕ) (from until done low end low' end' : ℕ) (bound : Bounds) → IsRange bounds held later values from until done low end →
     HasBound bounds done (slice_index values done) bound →
     ((count : ℕ) → low' ≤ count → count < end' → (low ≤ count) × (count < end) × (reaches bound held later count done (slice_index values done) ≡ true)) →
@@ -62,7 +63,8 @@ range_next bounds held later values from until done low end low' end' bound rang
           | false ↦ λ f. let apart = eqb-false c done f in earlier c other (omega (arith, below, apart)) at
         ]) refl
 
--- of the counts in `low..end`, exactly those in `low'..end'` keep a value's number within reach
+-- of the counts in `low..end`, exactly those in `low'..end'` keep a value within reach, if the front has `held` of it and later classes
+-- give at most `later`
 pub reach_between : (lower upper held later low end low' end' : ℕ) → low' ≡ max low (lower - (held + later)) → end' ≡ min end (upper + 1 - held) → (count : ℕ) →
     (low' ≤ count → count < end' → (low ≤ count) × (count < end) × ((leb (held + count) upper && leb lower (held + count + later)) ≡ true))
     × (low ≤ count → count < end → (leb (held + count) upper && leb lower (held + count + later)) ≡ true → (low' ≤ count) × (count < end'))
@@ -85,7 +87,7 @@ small_bounds all limits c v bound below has =
 
 -- ---- the child
 
--- what is known of a child that is reachable
+-- with `count` of the class, the size and the bounds of its values can still be met, and its household has at most one member
 pub record Reached (all : Classes) (class : Class) (count : ℕ) (tally : Tally) : Type 0 where
   pub few : tally.taken + count ≤ all.size
   pub enough : all.size ≤ tally.taken + count + tally.later_taken
@@ -163,7 +165,7 @@ passing passes from (suc m) low end inside outside =
     empty n false f = ltb-false low end f
     empty n true t = let l = ltb-true low end t in let h = inside low (omega arith) l in absurd (omega (arith, h.0, h.1))
 
-    -- if the last count passes, `end` is the number after it
+    -- if the last count, `m`, is in `low..end`, `end` is the number after it
     greatest : low ≤ m → m < end → (b : Bool) → ltb (suc m) end ≡ b → end ≡ suc m
     greatest l n false f = omega (arith, ltb-false (suc m) end f)
     greatest l n true t = let more = ltb-true (suc m) end t in absurd (omega (arith, (inside (suc m) (omega arith) more).1))
@@ -189,7 +191,8 @@ passing passes from (suc m) low end inside outside =
           | false ↦ λ g. let apart = eqb-false c m g in omega (arith, n, apart)
         ]) refl
 
--- the counts of a class with which a front is live are those in `low..end`
+-- if exactly the counts in `low..end` of a class make reachable children of `front`, a filter of the class's counts leaves exactly these,
+-- the greatest first
 pub live_counts : (all : Classes) (front : List ℕ) (class : Class) (low end : ℕ) → class.least ≤ class.most →
     ((c : ℕ) → low ≤ c → c < end → (class.least ≤ c) × (c < class.most + 1) × (is_reachable all (front ++ c ∷ []) ≡ true)) →
     ((c : ℕ) → class.least ≤ c → c < class.most + 1 → is_reachable all (front ++ c ∷ []) ≡ true → (low ≤ c) × (c < end)) →
@@ -199,12 +202,12 @@ live_counts all front class low end order inside outside =
     ap (filter (λ c. is_reachable all (front ++ c ∷ []))) (down_below class.least (class.most - class.least) ∙ ap (counts_below class.least) whole)
     ∙ passing (λ c. is_reachable all (front ++ c ∷ [])) class.least (class.most + 1) low end inside outside
 
--- of the counts of a class, exactly those in `low..end` keep the front live
+-- of the counts of `class`, exactly those in `low..end` make reachable children of `front`
 pub record LiveBetween (all : Classes) (front : List ℕ) (class : Class) (low end : ℕ) : Type 0 where
   pub inside : (c : ℕ) → low ≤ c → c < end → (class.least ≤ c) × (c < class.most + 1) × (is_reachable all (front ++ c ∷ []) ≡ true)
   pub outside : (c : ℕ) → class.least ≤ c → c < class.most + 1 → is_reachable all (front ++ c ∷ []) ≡ true → (low ≤ c) × (c < end)
 
--- `LiveBetween` holds, from what the code's contracts say of the front and the numbers that it has
+-- `LiveBetween` follows from the code's contracts, which speak of the front `given` and of the numbers `least` and `most`
 pub between : (all : Classes) (front given : List ℕ) (class : Class) (least most low end : ℕ) → given ≡ front → least ≡ class.least → most ≡ class.most →
     ((c : ℕ) → low ≤ c → c < end → (least ≤ c) × (c < most + 1) × (is_reachable all (given ++ c ∷ []) ≡ true)) →
     ((c : ℕ) → least ≤ c → c < most + 1 → is_reachable all (given ++ c ∷ []) ≡ true → (low ≤ c) × (c < end)) → LiveBetween all front class low end

@@ -14,7 +14,7 @@ use Rattle.laws_of_fronts.specs.Front.{Stands}
 use Rattle.laws_of_fronts.proofs.InTurn.{after_nothing, at_least_one, found_at_once, found_later, then_next}
 use Rattle.laws_of_fronts.proofs.Tracking.{comes_next}
 
--- the search of some children is that of the first, and then that of the others
+-- to search the children with the counts `c ∷ counts` is to search the child with `c` and then, if nothing was found, those with `counts`
 children_more : (all : Classes) (later : List Class) (front : List ℕ) (c : ℕ) (counts : List ℕ) →
     children_first all later front (c ∷ counts) ≡ then_next (child_first all later (front ++ c ∷ [])) (children_first all later front counts)
 children_more all later front c counts =
@@ -24,7 +24,7 @@ children_more all later front c counts =
       | false ↦ after_nothing (children_first all later front counts)
     ]
 
--- children that aren't reachable change nothing
+-- the search of the children is the same if the counts of the children that aren't reachable are left out
 passed_over : (all : Classes) (later : List Class) (front counts : List ℕ) → children_first all later front counts ≡ children_first all later front (filter (λ c. is_reachable all (front ++ c ∷ [])) counts)
 passed_over all later front counts = ap (λ children. one_by_one (map (λ child. enter_first all later child) children)) (kept counts)
   where
@@ -43,7 +43,8 @@ passed_over all later front counts = ap (λ children. one_by_one (map (λ child.
 
 -- ---- steps
 
--- if the first search finds nothing, and the second then does what the definition says, both together do
+-- if the search `one` found nothing from `before` to `mid`, and the step from `mid` does what `rest` says, then the whole step from
+-- `before` does what `one` and then `rest` say
 pub both : (all : Classes) (depth : ℕ) (later : List Class) (one rest : Due) (before mid : Search) (result : Result Bool BudgetSpent) (after : Search) →
     before.left ≡ mid.left + one.visits → one.found ≡ None → take depth mid.counts.items ≡ take depth before.counts.items →
     Steps all depth later rest mid result after → Steps all depth later (then_next one rest) before result after
@@ -54,7 +55,7 @@ both all depth later one rest before mid (Ok false) after left none same steps =
 both all depth later one rest before mid (Err spent) after left none same steps =
     let due = found_later one rest none in rw due (omega arith)
 
--- ---- in the words of the code
+-- ---- what the contracts of the code need
 
 pub steps_err : (all : Classes) (depth : ℕ) (later : List Class) (due : Due) (before : Search) (result : Result Bool BudgetSpent) (after : Search) → IsErr result → before.left < due.visits → Steps all depth later due before result after
 steps_err all depth later due before (Ok found) after e lt = absurd (false≢true e)
@@ -70,18 +71,19 @@ pub steps_false : (all : Classes) (depth : ℕ) (later : List Class) (due : Due)
 steps_false all depth later due left front true after steps e = cc
 steps_false all depth later due left front false after steps e = steps
 
--- the search of the child with `count` of the next class
+-- the search of the child of `front` with `count` of the next class, if this child is reachable
 abbrev pub child_at : Classes → ℕ → List ℕ → ℕ → Due
 child_at all depth front count = child_first all (drop (depth + 1) all.classes) (front ++ count ∷ [])
 
 abbrev pub children_within : Classes → ℕ → List ℕ → ℕ → ℕ → Due
 children_within all depth front low end = children_first all (drop (depth + 1) all.classes) front (counts_below low end)
 
--- if no count is left, nothing is searched
+-- if `end` is at most `low`, no child is searched
 pub children_none : (all : Classes) (depth : ℕ) (front : List ℕ) (low end : ℕ) → end ≤ low → children_within all depth front low end ≡ record { visits = 0; found = None }
 children_none all depth front low end l = ap (children_first all (drop (depth + 1) all.classes) front) (below_none low end l)
 
--- the child with the greatest count comes first, then those with the counts below it
+-- if `low` is below `end`, the children with counts in `low..end` are searched from the greatest count down: first the child with `end -
+-- 1`, then those with smaller counts
 children_next : (all : Classes) (depth : ℕ) (front : List ℕ) (low end : ℕ) → low < end → children_within all depth front low end ≡ then_next (child_at all depth front (end - 1)) (children_within all depth front low (end - 1))
 children_next all depth front low end l =
     ap (children_first all (drop (depth + 1) all.classes) front) (below_next low end l) ∙ children_more all (drop (depth + 1) all.classes) front (end - 1) (counts_below low (end - 1))
@@ -123,7 +125,7 @@ enter_due all depth class front front' low end stands order e live =
     ∙ ap (λ (below : Due). let due : Due = record { visits = 1 + below.visits; found = below.found } in due)
     (passed_over all (drop (depth + 1) all.classes) front' (counts_of class) ∙ ap (children_first all (drop (depth + 1) all.classes) front') (live_counts all front' class low end order live.inside live.outside))
 
--- to search a live child is to enter it
+-- to search a reachable child is to enter it
 pub child_due : (all : Classes) (later : List Class) (child child' : List ℕ) → is_reachable all child ≡ true → child' ≡ child → child_first all later child ≡ enter_first all later child'
 child_due all later child child' live e =
     ap (λ b. cond b (enter_first all later child) (record { visits = 0; found = None })) live ∙ ap (enter_first all later) (sym e)

@@ -1,5 +1,5 @@
--- What a search under a budget of visits answers. Over Visits of `define_searches` and Waves. The contracts of the public calls cite
--- it.
+-- What a search under a budget of visits answers. Over `Visits` of `define_searches` and `Waves` of `define_waves`. The contracts of the
+-- public calls cite it.
 use Rattle.std.specs.Prelude.{◌≡◌, ◌≤◌, ◌<◌, ℕ, ℤ, List, Option, Some, None, Result, Ok, Err, Vec, vec_items}
 use Rattle.std.specs.declared.alloc.Global.{Global}
 use Rattle.define_searches.specs.Visits.{Search, Pricing}
@@ -14,38 +14,39 @@ Answers search nodes (Ok found) = (search.visits ≤ nodes) × (found ≡ search
 Answers search nodes (Err Spent) = nodes < search.visits
 Answers search nodes (Err OutOfMemory) = Unit {0}
 
--- for a search for the best composition that has its memory: what it kept and its visits, if these are within the budget, else that the
--- budget is spent
+-- what a search for the best composition answers if its memory is there already: what it kept and its visits if these are at most `nodes`,
+-- else that the budget is spent
 abbrev pub AnswersBestWithin : Pricing → ℕ → Result (Option (List ℕ) × ℕ) BudgetSpent → Type 0
 AnswersBestWithin pricing nodes (Ok (found, visits)) = (pricing.visits ≤ nodes) × (found ≡ pricing.kept) × (visits ≡ pricing.visits)
 AnswersBestWithin pricing nodes (Err spent) = nodes < pricing.visits
 
--- for a search for the best composition: what it kept and its visits, if these are within the budget, else that the budget is spent; want
--- of memory may come at any time
+-- what a search for the best composition answers: what it kept and its visits if these are at most `nodes`, else that the budget is spent;
+-- running out of memory is allowed at any time
 abbrev pub AnswersBest : Pricing → ℕ → Result (Option (List ℕ) × ℕ) SearchStop → Type 0
 AnswersBest pricing nodes (Ok (found, visits)) = (pricing.visits ≤ nodes) × (found ≡ pricing.kept) × (visits ≡ pricing.visits)
 AnswersBest pricing nodes (Err Spent) = nodes < pricing.visits
 AnswersBest pricing nodes (Err OutOfMemory) = Unit {0}
 
--- the fronts of pieces and the visits before them, if these are within the budget, else that the budget is spent; want of memory may come
--- at any time
+-- what the division of a search answers: the fronts of the pieces and the visits made to find them if these are at most `nodes`, else that
+-- the budget is spent; running out of memory is allowed at any time
 abbrev pub AnswersPieces : Pieces → ℕ → Result (Vec (List ℕ) Global × ℕ) SearchStop → Type 0
 AnswersPieces parts nodes (Ok (fronts, visits)) = (parts.visits ≤ nodes) × (vec_items fronts ≡ parts.fronts) × (visits ≡ parts.visits)
 AnswersPieces parts nodes (Err Spent) = nodes < parts.visits
 AnswersPieces parts nodes (Err OutOfMemory) = Unit {0}
 
--- what a search kept, with its floor at the end, which is the weight of what it kept
+-- the composition that the search kept, with its weight, which is the search's floor at the end; None if it kept none
 abbrev pub IsKept : Pricing → Option (List ℕ × ℤ) → Type 0
 IsKept pricing None = pricing.kept ≡ None
 IsKept pricing (Some (counts, weight)) = (pricing.kept ≡ Some counts) × (weight ≡ pricing.floor)
 
--- for a search that has its memory: what it kept, with its weight, and its visits, if these are within the budget, else that the budget is
--- spent
+-- what a search answers if its memory is there already: what it kept, with its weight, and its visits if these are at most `nodes`, else
+-- that the budget is spent
 abbrev pub AnswersWeighedWithin : Pricing → ℕ → Result (Option (List ℕ × ℤ) × ℕ) BudgetSpent → Type 0
 AnswersWeighedWithin pricing nodes (Ok (found, visits)) = (pricing.visits ≤ nodes) × IsKept pricing found × (visits ≡ pricing.visits)
 AnswersWeighedWithin pricing nodes (Err spent) = nodes < pricing.visits
 
--- the same for a search that takes its memory first, so that want of memory may come
+-- what a search answers if it allocates its memory first: what it kept, with its weight, and its visits if these are at most `nodes`, else
+-- that the budget is spent; running out of memory is allowed at any time
 abbrev pub AnswersWeighed : Pricing → ℕ → Result (Option (List ℕ × ℤ) × ℕ) SearchStop → Type 0
 AnswersWeighed pricing nodes (Ok (found, visits)) = (pricing.visits ≤ nodes) × IsKept pricing found × (visits ≡ pricing.visits)
 AnswersWeighed pricing nodes (Err Spent) = nodes < pricing.visits

@@ -1,10 +1,10 @@
--- What a search keeps of the front that it is at, as the numbers of which `laws_of_fronts` speaks.
+-- The tally of the front that a search is at, as the record that `laws_of_fronts` speaks of.
 use Rattle.std.specs.Prelude.{ℕ, List}
 use Rattle.define_searches.specs.Classes.{Class, Classes}
 use Rattle.laws_of_fronts.specs.Front as laws
 use Rattle.panel_search.specs.declared.tally.Tally.{Tally}
 
--- the numbers of a tally
+-- a tally as the record of `laws_of_fronts`
 abbrev pub numbers : Tally → laws.FrontTally
 numbers tally = record { taken = tally.taken; held = tally.held.items; later_taken = tally.later_taken; later = tally.later.items; homes = tally.homes.items }
 

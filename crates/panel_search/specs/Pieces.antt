@@ -6,17 +6,17 @@ use Rattle.define_searches.specs.Compositions.{counts_of}
 use Rattle.define_searches.specs.Fronts.{is_live_above}
 use Rattle.define_waves.specs.Below.{IsFront}
 
--- a live front of the first `depth` classes, with the row's right side as the floor
+-- `front` has a count for each of the first `depth` classes, and is live with the right side of `row` as the floor
 pub record IsLiveFront (all : Classes) (closed : List Row) (row : Row) (depth : ℕ) (front : List ℕ) : Type 0 where
   pub long : length front ≡ depth
   pub is_front : IsFront all front
   pub live : is_live_above all closed row row.b front ≡ true
 
--- the children of a front that are live above a floor, with these counts of the next class
+-- the children of `front` that have one of `counts` of the next class and are live above `floor`, in the order of `counts`
 abbrev pub live_among : Classes → List Row → Row → ℤ → List ℕ → List ℕ → List (List ℕ)
 live_among all closed row floor front counts = filter (is_live_above all closed row floor) (map (λ c. front ++ c ∷ []) counts)
 
--- the counts that the first of these classes may have, none if there is no class
+-- the counts that the first class of the list may have, or no counts if the list is empty
 abbrev pub counts_first : List Class → List ℕ
 counts_first [] = []
 counts_first (class ∷ later) = counts_of class

@@ -12,7 +12,7 @@ pub record ClosedRows : Type 0 where
   pub classes : Classes
   pub closed : List Row
 
--- each row has one entry per class and a reach below 2 ^ 127, and these are the rows' greatest sums
+-- each row has one entry per class and a reach below 2 ^ 127, and `sums` are the rows' greatest sums
 pub record AreClosed (all : Classes) (closed : List Row) (sums : List Sums) : Type 0 where
   pub entries : HaveEntries all closed
   pub reaches : HaveReach all closed
@@ -24,7 +24,7 @@ pub record Priced : Type 0 where
   pub closed : List Row
   pub row : Row
 
--- each row has one entry per class, every weight in the rows fits 128 bits, and these are the rows' greatest sums
+-- each row has one entry per class, every weight in the rows fits 128 bits, and `closed_sums` and `sums` are the rows' greatest sums
 pub record ArePriced (all : Classes) (closed : List Row) (row : Row) (closed_sums : List Sums) (sums : Sums) : Type 0 where
   pub entries : HaveEntries all (row ∷ closed)
   pub narrow : AreNarrow all row.a

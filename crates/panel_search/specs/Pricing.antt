@@ -11,7 +11,7 @@ use Rattle.panel_search.specs.declared.pricing.BestSearch.{BestSearch}
 use Rattle.laws_of_fronts.specs.Front.{AreWithin, CanTake}
 use Rattle.define_waves.specs.Below.{child_best}
 
--- a search is at a live front of the first `depth` classes, and its tally has the classes `later` still to come
+-- a search is at a reachable front of the first `depth` classes, and its tally has the classes `later` still to come
 pub record StandsAt (all : Classes) (closed : List Row) (row : Row) (depth : ℕ) (later : List Class) (search : BestSearch) : Type 0 where
   pub places : length search.counts.items ≡ length all.classes
   pub kept_places : length search.kept.items ≡ length all.classes
@@ -22,7 +22,7 @@ pub record StandsAt (all : Classes) (closed : List Row) (row : Row) (depth : ℕ
   pub priced : Weighs all row (take depth search.counts.items) search.priced
   pub closed_rows : WeighEach all closed (take depth search.counts.items) search.closed.items
 
--- a search is about to enter the front of the first `depth` classes, which may be live or not
+-- a search is about to enter the front of the first `depth` classes, which may be reachable or not
 pub record BeginsAt (all : Classes) (closed : List Row) (row : Row) (depth : ℕ) (search : BestSearch) : Type 0 where
   pub places : length search.counts.items ≡ length all.classes
   pub kept_places : length search.kept.items ≡ length all.classes
@@ -36,11 +36,11 @@ pub record BeginsAt (all : Classes) (closed : List Row) (row : Row) (depth : ℕ
 abbrev pub pricing_of : BestSearch → Pricing
 pricing_of search = record { visits = search.visits; floor = search.floor; kept = if search.is_found then Some search.kept.items else None }
 
--- each count in `low..end` can be taken of the class in this place
+-- each count in `low..end` can be taken of the class at place `depth`
 abbrev pub CanTakeWithin : Classes → ℕ → ℕ → ℕ → Type 0
 CanTakeWithin all depth low end = (count : ℕ) → low ≤ count → count < end → CanTake all depth count
 
--- the search of a front's children, with these counts of the next class, one after the other
+-- where a search that is at `now` is after it has searched the children of `front` with each of `counts` of the next class, in this order
 abbrev pub children_best : Classes → List Row → Row → List Class → List ℕ → List ℕ → Pricing → Pricing
 children_best all closed row later front counts now = fold (λ now c. child_best all closed row later (front ++ c ∷ []) now) now counts
 

@@ -7,18 +7,18 @@ use Rattle.panel_search.specs.Front.{Tracks}
 use Rattle.panel_search.specs.declared.searching.BudgetSpent.{BudgetSpent}
 use Rattle.panel_search.specs.declared.searching.Search.{Search}
 
--- a search is at a live front of the first `depth` classes, and its tally has the classes `later` still to come
+-- a search is at a reachable front of the first `depth` classes, and its tally has the classes `later` still to come
 pub record StandsAt (all : Classes) (depth : ℕ) (later : List Class) (search : Search) : Type 0 where
   pub places : length search.counts.items ≡ length all.classes
   pub within : depth ≤ length all.classes
   pub live : is_reachable all (take depth search.counts.items) ≡ true
   pub tally : Tracks all (take depth search.counts.items) later search.tally
 
--- the search of a child if it is live, else no visit
+-- the search of a child if it is reachable, else no visit
 abbrev pub child_first : Classes → List Class → List ℕ → Due
 child_first all later child = if is_reachable all child then enter_first all later child else record { visits = 0; found = None }
 
--- the search of a front's children, with these counts of the next class, one after the other
+-- the search of the children of `front` with each of `counts` of the next class, one after the other
 abbrev pub children_first : Classes → List Class → List ℕ → List ℕ → Due
 children_first all later front counts = one_by_one (map (λ child. enter_first all later child) (filter (is_reachable all) (map (λ c. front ++ c ∷ []) counts)))
 
@@ -27,12 +27,12 @@ abbrev pub counts_below : ℕ → ℕ → List ℕ
 counts_below low zero = []
 counts_below low (suc n) = if nat_le low n then n ∷ counts_below low n else []
 
--- the front continued with any count in `low..end` is live
+-- each child of `front` with a count in `low..end` is reachable
 abbrev pub LiveWithin : Classes → List ℕ → ℕ → ℕ → Type 0
 LiveWithin all front low end = (count : ℕ) → low ≤ count → count < end → is_reachable all (front ++ count ∷ []) ≡ true
 
 -- a step from a front with `left` visits left: it finds what the definition says (`due`) with as many visits, or the definition needs more
--- visits than are left. If it finds nothing, it returns to the front
+-- visits than are left. If the step finds nothing, the search is at the same front again
 abbrev pub StepsFrom : Classes → ℕ → List Class → Due → ℕ → List ℕ → Result Bool BudgetSpent → Search → Type 0
 StepsFrom all depth later due left front (Ok true) after = (left ≡ after.left + due.visits) × (due.found ≡ Some after.counts.items)
 StepsFrom all depth later due left front (Ok false) after =
@@ -42,7 +42,8 @@ StepsFrom all depth later due left front (Err spent) after = left < due.visits
 abbrev pub Steps : Classes → ℕ → List Class → Due → Search → Result Bool BudgetSpent → Search → Type 0
 Steps all depth later due before result after = StepsFrom all depth later due before.left (take depth before.counts.items) result after
 
--- what a whole search finds with `left` visits left: what the definition says (`due`), with as many visits, or that more visits are needed
+-- a whole search with `left` visits left: it finds what the definition says (`due`) with as many visits, or the definition needs more
+-- visits than are left
 abbrev pub Finds : Due → ℕ → Result Bool BudgetSpent → Search → Type 0
 Finds due left (Ok true) after = (left ≡ after.left + due.visits) × (due.found ≡ Some after.counts.items)
 Finds due left (Ok false) after = (left ≡ after.left + due.visits) × (due.found ≡ None)

@@ -3,7 +3,7 @@ use Rattle.laws_of_fronts.specs.Weights.{AreNarrow, EachNarrow}
 use Rattle.panel_search.specs.Weights.{IsSummed, SumEach}
 use Rattle.panel_search.specs.declared.pricing.Terms.{Terms}
 
--- every weight in the rows fits 128 bits, and these are the rows' greatest sums
+-- every weight in the rows fits 128 bits, and the sums that the search reads are the rows' greatest sums
 pub record AreTerms (terms : Terms) : Type 0 where
   pub narrow : AreNarrow terms.classes.now terms.row.now.a
   pub closed_narrow : EachNarrow terms.classes.now terms.closed.now

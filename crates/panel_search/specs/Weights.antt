@@ -10,22 +10,22 @@ use Rattle.panel_search.specs.declared.weighing.Weights.{Weights}
 abbrev pub table_of : Sums → List ℤ
 table_of sums = sums.cells.items
 
--- the weights of a front and of each front before it, by their lengths
+-- the weights of a front's prefixes: the entry at k is the weight of the first k counts
 abbrev pub weights_of : Weights → List ℤ
 weights_of weights = weights.by_length.items
 
--- the table has the greatest sums of units in a row
+-- the table `sums` holds the greatest sums of units in `row`
 abbrev pub IsSummed : Classes → Row → Sums → Type 0
 IsSummed all row sums = laws.IsSummed all row (table_of sums)
 
--- the same for each of the rows
+-- each of the rows has its table of greatest sums, in the rows' order
 abbrev pub SumEach : Classes → List Row → List Sums → Type 0
 SumEach = laws.SumEach table_of
 
--- the weights are those, in a row, of a front and of each front before it
+-- `weights` are the weights in `row` of `front` and of each shorter prefix
 abbrev pub Weighs : Classes → Row → List ℕ → Weights → Type 0
 Weighs all row front weights = laws.Weighs all row front (weights_of weights)
 
--- the same for each of the rows
+-- each row has its weights, in the rows' order: those of `front` and of each shorter prefix in that row
 abbrev pub WeighEach : Classes → List Row → List ℕ → List Weights → Type 0
 WeighEach = laws.WeighEach weights_of

@@ -14,8 +14,8 @@ use crate::searching::{BudgetSpent, SearchStop};
 use alike::Classes;
 use std::alloc::{AllocError, Global};
 
-// Returns the fronts of the pieces of the search for the best composition, in order, and the visits to the fronts before them. Fails if
-// these are more than `nodes`.
+// Returns the fronts of the pieces of the search for the best composition, in order, and the number of visits made to find them. Fails if
+// the visits exceed `nodes`.
 pub(crate) fn pieces(
     alloc: Global,
     terms: &Terms<'_>,
@@ -50,7 +50,7 @@ fn begun(alloc: Global, terms: &Terms<'_>) -> Result<Vec<Front>, AllocError>
     Ok(fronts)
 }
 
-// Returns the visits after `fronts` more fronts are entered, if the budget allows them.
+// Returns `visits` plus one visit for each of `fronts` fronts. Fails if the sum exceeds the budget `nodes`.
 fn entered(visits: u64, fronts: usize, nodes: u64) -> Result<u64, BudgetSpent>
     requires { visits ≤ nodes }
     ensures ok { OnOk result (visits + fronts ≤ nodes) }
@@ -79,7 +79,7 @@ fn piece_depth(classes: &Classes) -> usize
     classes.classes().len()
 }
 
-// Returns the live fronts that continue these fronts by one class, in order.
+// Returns the live children of `fronts`, in order, with the row's right side as the floor.
 fn next_fronts(
     alloc: Global,
     terms: &Terms<'_>,
@@ -98,7 +98,7 @@ fn next_fronts(
     Ok(next)
 }
 
-// Appends the live fronts that continue a live front by one class.
+// Appends the live children of the live front `front` to `next`, with the row's right side as the floor.
 #[tactic(auto, using(crate::proofs::Kept::front_within))]
 fn push_children(
     alloc: Global,

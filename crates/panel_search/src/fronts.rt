@@ -20,7 +20,7 @@ impl Model for Front {
 }
 
 impl Front {
-    /// Returns the front of these counts.
+    /// Returns the front that takes `counts[i]` of class `i`.
     pub fn new(counts: Vec<usize>) -> Front
         ensures { result ≡ counts.items }
     {

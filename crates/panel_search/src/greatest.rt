@@ -10,8 +10,8 @@ use alike::Classes;
 use define_rows::Row;
 use std::alloc::{AllocError, Global};
 
-/// For the last 0, 1, 2 and more classes, up to all: the greatest sums of 0, 1, 2 and more of their units, up to as many as the size. These
-/// are (classes + 1) times (size + 1) numbers of 16 bytes.
+/// For each k from 0 to the number of classes: the greatest sums of 0, 1, 2 and more units of the last k classes, up to as many units as
+/// the size. If the classes have fewer units, it is the sum of all. The table has (classes + 1) times (size + 1) numbers of 16 bytes.
 #[derive(Debug, Drop)]
 pub(crate) struct Sums {
     cells: Vec<i128>,
@@ -46,7 +46,7 @@ impl Sums {
     }
 }
 
-// Returns, for the last 0, 1, 2 and more classes, the greatest sums of their units, up to as many units as the size.
+// Returns the cells of the table `Sums` for a row with these entries.
 fn greatest_sums(
     alloc: Global,
     classes: &Classes,
@@ -68,7 +68,7 @@ fn greatest_sums(
     Ok(table)
 }
 
-// Adds the units of the class in this place to the sums. Returns how many units there are then.
+// Adds the units of the class at `place` to `units` units whose greatest sums are `sums`. Returns how many units there are then.
 fn put_class(
     sums: &mut [i128],
     classes: &Classes,
@@ -91,7 +91,7 @@ fn put_class(
     units + most
 }
 
-// Adds one more unit, of this weight, to the `units` units of which these are the greatest sums.
+// Adds one unit that weighs `weight` to `units` units whose greatest sums are `sums`.
 fn put_unit(sums: &mut [i128], units: usize, weight: i128)
     requires { CanAdd weight sums.old }
     ensures { HasUnit units weight sums.old sums.new }
@@ -102,8 +102,8 @@ fn put_unit(sums: &mut [i128], units: usize, weight: i128)
     }
 }
 
-// Returns the greatest sum of `count` units out of `units` and one more. If all `units` are taken, it is the sum with the new one; else the
-// greater of the sums without and with it.
+// Returns the greatest sum of `count` units out of `units` and a new one. If `count` exceeds `units`, it is the sum with the new unit; else
+// the greater of the sums without and with it.
 fn greater(units: usize, count: usize, without: i128, with_it: i128) -> i128
     ensures { IsGreater units count without with_it result }
 {

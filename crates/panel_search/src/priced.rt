@@ -44,7 +44,7 @@ impl<'p> Model for PricedRow<'p> {
 }
 
 impl<'p> PricedRow<'p> {
-    // Returns a row with its greatest sums, over closed rows with theirs.
+    // Returns `row` with its greatest sums, as a row that is priced over the closed rows with theirs.
     pub(crate) fn new(
         classes: &'p Classes,
         closed: &'p [Row],
@@ -102,8 +102,8 @@ impl<'p> PricedRow<'p> {
         }
     }
 
-    /// Returns the fronts of the pieces of the search in waves, in order, and the visits to the fronts before them. Fails with `Spent` if
-    /// these are more than `nodes`. If the empty front isn't live, there is no piece, and one visit. Each front has at most one count for
+    /// Returns the fronts of the pieces of the search in waves, in order, and the number of visits made to find them. Fails with `Spent` if
+    /// the visits exceed `nodes`. If the empty front isn't live, there is no piece, and one visit. Each front has at most one count for
     /// each class, from the class's least to its most.
     pub fn pieces(&self, alloc: Global, nodes: u64) -> Result<(Vec<Front>, u64), SearchStop>
         ensures answers { AnswersPieces (pieces self.now.classes self.now.closed self.now.row) nodes result }

@@ -116,7 +116,7 @@ impl<'c> Pricer<'c> {
 
 /// Searches the compositions that weigh at least the right side in each closed row, and more than its right side in `row`. Returns the one
 /// of greatest weight in `row`, the first of equals, or None if there is none; and the visits of the search. Fails with `Spent` if these
-/// are more than `nodes`. A `Pricer` keeps what this makes of the closed rows.
+/// are more than `nodes`. To price several rows, use a `Pricer`: it makes the tables of the closed rows once.
 ///
 /// Each of the rows has one entry per class and a reach below 2^127: the absolute value of its right side, and of each entry times its
 /// class's size. So every weight fits 128 bits. All memory is taken before the first visit.
@@ -136,9 +136,9 @@ pub fn best(
     pricer.best(row, nodes)
 }
 
-/// Returns the fronts of the pieces of the search in waves for the best composition, in order, and the visits to the fronts before them:
-/// `PricedRow::pieces` for these rows. Fails with `Spent` if the visits are more than `nodes`. Each of the rows has one entry per class and
-/// a reach below 2^127.
+/// Returns the fronts of the pieces of the search in waves for the best composition, in order, and the number of visits made to find them:
+/// `PricedRow::pieces` for these rows. Fails with `Spent` if the visits exceed `nodes`. Each of the rows has one entry per class and a
+/// reach below 2^127.
 pub fn pieces(
     alloc: Global,
     classes: &Classes,

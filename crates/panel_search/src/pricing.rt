@@ -265,7 +265,7 @@ impl BestSearch {
     }
 
     // True if the child with `count` of the next class has an optimistic weight of at least the right side in each closed row, and above
-    // the floor in the priced row. The weights are then those of the child.
+    // the floor in the priced row. If so, the weights are then those of the child.
     fn weights_allow(&mut self, terms: &Terms<'_>, depth: usize, count: usize) -> bool
         requires terms { AreTerms terms.now }
         requires below { depth < length terms.now.classes.now.classes }
@@ -298,8 +298,8 @@ impl BestSearch {
                 .child(terms.sums, classes, terms.row, front, count, lack)
     }
 
-    // Makes the class after a live front the next one to try. Returns `(low, end)`: exactly the counts in `low..end` keep size,
-    // values and households within reach.
+    // Takes the class after a live front out of the classes still to come. Returns `(low, end)`: exactly the counts in `low..end` of this
+    // class keep size, values and households within reach.
     pub(crate) fn begin(&mut self, terms: &Terms<'_>, front: &Front) -> (usize, usize)
         requires below { length front.now < length terms.now.classes.now.classes }
         requires front { take (length front.now) self.old.counts.items ≡ front.now }
@@ -322,8 +322,8 @@ impl BestSearch {
             .range(classes, front.counts(), class.least(), class.most() + 1)
     }
 
-    // Appends the live children of a front with counts of the next class in `low..end`, the greatest first. Size, values and
-    // households are within reach with each of them.
+    // Appends the live children of `front` with counts of the next class in `low..end`, the greatest first. Their size, values and
+    // households must be within reach.
     pub(crate) fn push_children(
         &mut self,
         alloc: Global,
@@ -349,8 +349,7 @@ impl BestSearch {
         self.push_children(alloc, terms, front, low, end - 1, children)
     }
 
-    // Appends the child of a front with this count of the next class, if it is live. Its size, values and households are within
-    // reach.
+    // Appends the child of `front` with `count` of the next class, if it is live. Its size, values and households must be within reach.
     fn push_child(
         &mut self,
         alloc: Global,
@@ -407,8 +406,8 @@ impl BestSearch {
     }
 
     #[cycle(search)]
-    // Tries the children of the front with counts of the next class in `low..end`, the greatest first. Size, values and households
-    // are within reach with each of them.
+    // Tries the children of the front with counts of the next class in `low..end`, the greatest first. Their size, values and households
+    // must be within reach.
     fn children(
         &mut self,
         terms: &Terms<'_>,
@@ -435,7 +434,7 @@ impl BestSearch {
     }
 
     #[cycle(search)]
-    // Enters the child with this count of the next class, if it is live. Its size, values and households are within reach.
+    // Enters the child with `count` of the next class, if it is live. Its size, values and households must be within reach.
     fn try_child(
         &mut self,
         terms: &Terms<'_>,

@@ -62,7 +62,7 @@ impl From<BudgetSpent> for SearchStop {
     }
 }
 
-// No visit is left.
+// The error of a search that needs a visit more than its budget.
 #[derive(Debug, Clone, Copy)]
 pub(crate) struct BudgetSpent;
 
@@ -154,7 +154,8 @@ impl Search {
     }
 
     #[cycle(search)]
-    // Tries the live children of the front with counts of the next class in `low..end`, the greatest first.
+    // Tries the children of the front with counts of the next class in `low..end`, all live, the greatest first. True if one leads to a
+    // composition.
     fn children(
         &mut self,
         classes: &Classes,
@@ -180,7 +181,7 @@ impl Search {
     }
 
     #[cycle(search)]
-    // Enters the live child with this count of the next class.
+    // Enters the live child with `count` of the next class. True if it leads to a composition.
     fn try_child(
         &mut self,
         classes: &Classes,

@@ -9,7 +9,7 @@ use alike::{Bounds, ValueBounds};
 // How many places each category has.
 pub(crate) const PLACES: usize = 50;
 
-// Adds the count for each category's value. A search often tries the count 0, which changes nothing.
+// Adds `count` to the counter of each category's value. A search often tries the count 0, which changes nothing.
 pub(crate) fn add_to(cells: &mut [usize], values: &[usize], count: usize)
     requires cells { HaveCells values.now cells.old }
     requires small { AreAtMost 1000000 (length values.now) cells.old }
@@ -24,7 +24,7 @@ pub(crate) fn add_to(cells: &mut [usize], values: &[usize], count: usize)
     }
 }
 
-// Takes the count away for each category's value.
+// Takes `count` from the counter of each category's value.
 pub(crate) fn take_from(cells: &mut [usize], values: &[usize], count: usize)
     requires cells { HaveCells values.now cells.old }
     requires enough { CanGive values.now cells.old count }
@@ -38,8 +38,8 @@ pub(crate) fn take_from(cells: &mut [usize], values: &[usize], count: usize)
     }
 }
 
-// Returns `(low, end)`: of the counts in `from..until`, exactly those in `low..end` keep each of these values at most its upper bound
-// and able to reach its lower one.
+// Returns `(low, end)`: of the counts in `from..until`, exactly those in `low..end` keep each of `values` at most its upper bound and able
+// to reach its lower one.
 pub(crate) fn values_range(
     bounds: &[ValueBounds],
     held: &[usize],

@@ -13,7 +13,8 @@ use crate::tallies::{PLACES, add_to, all_within_reach, take_from, values_range};
 use alike::Classes;
 use std::alloc::{AllocError, Global};
 
-/// How many a front takes, and the most that later classes give: in all, and of each value; and how many it takes of each household.
+/// How many members a front takes and the most that later classes can give, in all and of each value; and how many members the front takes
+/// of each household.
 #[derive(Debug, Drop)]
 pub(crate) struct Tally {
     taken: usize,
@@ -111,7 +112,8 @@ impl Tally {
         self.taken -= count;
     }
 
-    // Returns `(low, end)`: of the counts of the next class in `from..until`, exactly those in `low..end` keep the front live.
+    // Returns `(low, end)`: of the counts of the next class in `from..until`, exactly those in `low..end` make reachable children of the
+    // front.
     pub(crate) fn range(
         &self,
         classes: &Classes,
@@ -140,7 +142,7 @@ impl Tally {
         )
     }
 
-    // True if the front is live.
+    // True if the front is reachable.
     pub(crate) fn is_alive(&self, classes: &Classes, front: &[usize]) -> bool
         requires small { taken_by classes.now front.now ≤ 1000 }
         requires stands { Tracks classes.now front.now (drop (length front.now) classes.now.classes) self.now }

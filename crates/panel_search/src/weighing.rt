@@ -13,7 +13,7 @@ use alike::Classes;
 use define_rows::Row;
 use std::alloc::{AllocError, Global};
 
-/// The weights in a row of a front and of each front before it, by their lengths.
+/// The weights in a row of a front and of its prefixes: the entry at k is the weight of the first k counts.
 #[derive(Debug, Drop)]
 pub(crate) struct Weights {
     by_length: Vec<i128>,
@@ -58,8 +58,8 @@ impl Weights {
         self.by_length[front.len()]
     }
 
-    // Returns the optimistic weight of the front, which lacks `lack` members: its weight, and the greatest sum of `lack` units of the classes
-    // after it.
+    // Returns the optimistic weight of the front, which lacks `lack` members: its weight plus the greatest sum of `lack` units of the
+    // classes after it.
     pub(crate) fn optimistic(
         &self,
         sums: &Sums,
@@ -153,8 +153,8 @@ fn with_count(weight: i128, count: usize, entry: i128) -> i128
     weight + count as i128 * entry
 }
 
-// True if the optimistic weight of the front with `count` of the next class is at least the right side of each closed row. The weights are
-// then those of this child.
+// True if the optimistic weight of the front with `count` of the next class is at least the right side of each closed row. If so, `weights`
+// are then those of this child; else they are still right for the front.
 pub(crate) fn child_attains(
     weights: &mut [Weights],
     sums: &[Sums],
@@ -183,7 +183,7 @@ pub(crate) fn child_attains(
     true
 }
 
-// True if the optimistic weight of the front, which lacks `lack` members, is at least the right side of each closed row.
+// True if the optimistic weight of the front is at least the right side of each closed row. The front lacks `lack` members.
 pub(crate) fn front_attains(
     weights: &[Weights],
     sums: &[Sums],

@@ -1,4 +1,4 @@
--- The last category by its place, as code reaches it.
+-- The last category is the one at place length - 1, where code changes it.
 use Rattle.std.proofs.Common.{◌≡◌, ℕ, zero, suc, ◌-◌, List, [], ◌∷◌, ◌++◌, length, get_or, set, Some, refl, ap, arith}
 use Rattle.std.specs.List.{slice_get}
 use Rattle.define_pools.specs.Pool.{BoundedValue, Category}

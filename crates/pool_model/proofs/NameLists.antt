@@ -1,4 +1,4 @@
--- The tests and places of names, as chains over the zipped lists give them.
+-- Tests of names and their places, computed over the list of categories zipped with the list of names.
 use Rattle.std.proofs.Common.{◌≡◌, ℕ, suc, ◌+◌, Bool, true, false, cond, ltb, not, ◌&&◌, ◌||◌, List, [], ◌∷◌, map, length, Some, None, option_map, unwrap_or, Bor, refl, ap, arith, position}
 use Rattle.std.specs.List.{list_all, list_any, zip, position_or_len}
 use Rattle.std.specs.Str.{bytes_eq}
@@ -12,7 +12,7 @@ pub list_any-map : {X Y : Type 0} (p : Y → Bool) (f : X → Y) (xs : List X) �
 list_any-map p f [] = refl
 list_any-map p f (x ∷ xs) = ap (λ b. p (f x) || b) (list_any-map p f xs)
 
--- the name is that of a value of the category beside it
+-- true if the name is that of a value of its category
 abbrev pub knows : Category × Bor (List ℕ) → Bool
 knows pair = includes_list (value_names pair.0.values) pair.1.now
 
@@ -21,7 +21,7 @@ are_known-zip [] names = refl
 are_known-zip (category ∷ categories) [] = refl
 are_known-zip (category ∷ categories) (name ∷ names) = ap (λ b. includes_list (value_names category.values) name.now && b) (are_known-zip categories names)
 
--- the same for a name that isn't borrowed
+-- true if the name, which isn't borrowed, is that of a value of its category
 abbrev pub has_name : Category × List ℕ → Bool
 has_name pair = includes_list (value_names pair.0.values) pair.1
 
@@ -30,7 +30,7 @@ are_named-zip [] names = refl
 are_named-zip (category ∷ categories) [] = refl
 are_named-zip (category ∷ categories) (name ∷ names) = ap (λ b. includes_list (value_names category.values) name && b) (are_named-zip categories names)
 
--- the place of the value whose name is beside the category, or 0
+-- the place of the value of this name in its category, or 0 if there is none
 abbrev pub place_beside : Category × Bor (List ℕ) → ℕ
 place_beside pair = unwrap_or (place_of pair.0.values pair.1.now) 0
 
@@ -39,7 +39,7 @@ places_of-zip [] names = refl
 places_of-zip (category ∷ categories) [] = refl
 places_of-zip (category ∷ categories) (name ∷ names) = ap (λ places. unwrap_or (place_of category.values name.now) 0 ∷ places) (places_of-zip categories names)
 
--- the place in a list with one more value before it
+-- with one more value before it, the place of a value is greater by 1
 shifted : (b : Bool) (n : ℕ) → option_map (λ p. p + 1) (cond b (Some n) None) ≡ cond b (Some (1 + n)) None
 shifted true n = let e : n + 1 ≡ 1 + n = omega arith in ap Some e
 shifted false n = refl

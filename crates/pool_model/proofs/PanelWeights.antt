@@ -8,7 +8,7 @@ use Rattle.laws_basic.proofs.Integers.{abs-add}
 use Rattle.define_pools.specs.Lists.{is_increasing}
 use Rattle.define_pools.specs.Certificate.{Stage, weight_of, panel_weight}
 
--- the absolute values of weight `m` and of the weights after it sum to at most those of the weights from `from` on
+-- if `from` is at most `m`, the absolute values of weight m and the later weights sum to at most those of all weights from `from` on
 one_more : (ws : List ℤ) (from m : ℕ) → from ≤ m → unsigned_abs (get_or ws m (pos 0)) + sum_by unsigned_abs (drop (suc m) ws) ≤ sum_by unsigned_abs (drop from ws)
 one_more [] zero zero h = omega arith
 one_more [] zero (suc m) h = omega arith
@@ -28,7 +28,7 @@ from_next m (i ∷ members) h =
     let below = ltb-true m i parts.0 in
     rw (le-leb (suc m) i (omega arith)) (from_next m members parts.1)
 
--- the absolute weights of increasing members, each at least `from`, sum to at most those of all weights from `from` on
+-- if members are increasing and each is at least `from`, their absolute weights sum to at most those of all volunteers from `from` on
 members_within : (ws : List ℤ) (members : List ℕ) (from : ℕ) → is_increasing members ≡ true → list_all (λ i. leb from i) members ≡ true →
     sum_by (λ i. unsigned_abs (get_or ws i (pos 0))) members ≤ sum_by unsigned_abs (drop from ws)
 members_within ws [] from increasing h = omega arith
@@ -44,7 +44,7 @@ from_zero : (members : List ℕ) → list_all (λ i. leb 0 i) members ≡ true
 from_zero [] = refl
 from_zero (m ∷ members) = rw (le-leb 0 m (omega arith)) (from_zero members)
 
--- the absolute value of a sum of weights is at most the sum of their absolute values
+-- the absolute value of a sum of weights is at most that of `start` plus the sum of the absolute weights
 fold_within : (stage : Stage) (members : List ℕ) (start : ℤ) →
     unsigned_abs (fold (λ sum i. sum +ℤ weight_of stage i) start members) ≤ unsigned_abs start + sum_by (λ i. unsigned_abs (weight_of stage i)) members
 fold_within stage [] start = omega arith
@@ -62,7 +62,7 @@ first_within stage panel n increasing =
     let all = members_within stage.weights panel 0 increasing (from_zero panel) in
     omega arith
 
--- the weight of a panel's first `n + 1` members
+-- the first n + 1 members weigh what the first n weigh, plus the weight of member n
 pub one_weight_more : (stage : Stage) (panel : List ℕ) (n d : ℕ) → n < length panel → panel_weight stage (take (n + 1) panel) ≡ panel_weight stage (take n panel) +ℤ weight_of stage (get_or panel n d)
 one_weight_more stage panel n d l = from (pos 0) panel n l
   where
@@ -73,7 +73,8 @@ one_weight_more stage panel n d l = from (pos 0) panel n l
     from start (i ∷ panel) (suc n) m =
         let e : suc n + 1 ≡ suc (n + 1) = omega arith in rw e (from (start +ℤ weight_of stage i) panel n (omega arith))
 
--- adding the next member's weight gives the weight of one member more, which is within the sum of the stage's absolute weights
+-- if `sum` is the weight of the first n members, `sum + weight` is that of the first n + 1; it is within the sum of the stage's absolute
+-- weights
 pub next_within : (stage : Stage) (panel items : List ℕ) (n d : ℕ) (sum weight : ℤ) → items ≡ panel → is_increasing panel ≡ true → n < length items → sum ≡ panel_weight stage (take n panel) →
     weight ≡ weight_of stage (get_or items n d) →
     (sum +ℤ weight ≡ panel_weight stage (take (n + 1) panel)) × (unsigned_abs (sum +ℤ weight) ≤ sum_by unsigned_abs stage.weights)

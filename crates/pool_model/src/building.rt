@@ -6,7 +6,7 @@ use thiserror::Error;
 /// Why a step of building a pool is refused.
 #[derive(Debug, Drop, Error)]
 pub enum BuildStop {
-    /// The lowest kind of fault that applies, by the numbers that a faulty pool text has.
+    /// The lowest kind of fault that applies; kinds are numbered as in the faults of a pool's text.
     #[error("fault of kind {0}")]
     Kind(u8),
     /// No memory was left.

@@ -1,5 +1,5 @@
-//! Certificates: stages, which give each volunteer a weight and cap a panel's weight; and answers, which are lotteries with their
-//! certificates.
+//! Certificates and answers. A certificate is a list of stages, each with a weight for each volunteer and a cap on a panel's weight. An
+//! answer is a lottery with its certificate.
 
 ghost use Rattle.std.specs.Prelude.{◌≡◌, ◌≤◌, ◌+◌, ◌+ℤ◌, ◌-◌, ◌^◌, ◌++◌, ◌∷◌, [], sum_by, unsigned_abs, IfOk, OnOk, OnErr};
 ghost use Rattle.define_pools.specs.Certificate.{panel_weight as weight_of_panel, weight_of as weight_of_one};
@@ -57,7 +57,7 @@ impl Stage {
     }
 }
 
-/// Stages, in order.
+/// A list of stages.
 #[derive(Debug, Drop)]
 pub struct Certificate {
     stages: Vec<Stage>,
@@ -115,7 +115,7 @@ fn copied_stages(alloc: Global, stages: &[Stage]) -> Result<Vec<Stage>, AllocErr
     Ok(copies)
 }
 
-/// A lottery, and the certificate that is to show that it is leximin greatest.
+/// A lottery, and a certificate that it is leximin greatest. Whether the certificate holds is for a check to find out.
 #[derive(Debug, Drop)]
 pub struct Answer {
     lottery: Lottery,
@@ -131,7 +131,7 @@ impl Model for Answer {
 }
 
 impl Answer {
-    /// Returns a lottery with its certificate.
+    /// Returns the answer of `lottery` and `certificate`.
     pub fn new(lottery: Lottery, certificate: Certificate) -> Answer
         ensures { result ≡ record { lottery = lottery; stages = certificate } }
     {
@@ -166,7 +166,7 @@ impl Answer {
     }
 }
 
-/// Returns the panel's weight in the stage: the sum of its members' weights. A number without a weight in the stage counts 0. The
+/// Returns the panel's weight in the stage: the sum of its members' weights. A member without a weight in the stage counts 0. The
 /// absolute values of the stage's cap and weights sum to at most 2^127 - 1, so every sum fits 128 bits.
 pub fn panel_weight(panel: &Panel, stage: &Stage) -> i128
     requires { unsigned_abs stage.now.cap + sum_by unsigned_abs stage.now.weights ≤ 2 ^ 127 - 1 }
@@ -179,7 +179,7 @@ pub fn panel_weight(panel: &Panel, stage: &Stage) -> i128
     sum
 }
 
-/// Adds a weight to a sum. The result fits 127 bits and a sign.
+/// Returns `sum + weight`, whose absolute value is at most 2^127 - 1.
 fn with_weight(sum: i128, weight: i128) -> i128
     requires { unsigned_abs (sum +ℤ weight) ≤ 2 ^ 127 - 1 }
     ensures { result ≡ sum +ℤ weight }
@@ -187,7 +187,7 @@ fn with_weight(sum: i128, weight: i128) -> i128
     sum + weight
 }
 
-/// Returns a volunteer's weight, or 0 if the stage has none for this number.
+/// Returns the weight of volunteer `i`, or 0 if the stage has none.
 fn weight_of(stage: &Stage, i: usize) -> i128
     ensures { result ≡ weight_of_one stage.now i }
 {

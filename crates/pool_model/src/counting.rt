@@ -1,4 +1,4 @@
-//! Counts how much of a lottery's weight is on panels with a volunteer. Summaries and the checks call it.
+//! The count of each volunteer: how much of a lottery's weight is on panels with the volunteer. Summaries and the checks call it.
 
 ghost use Rattle.std.specs.Prelude.{◌≡◌, ◌<◌, ℕ, map, length, pos, ◌+ℤ◌, IfOk, IsTrue, FitsSigned, if◌then◌else◌, slice_index_or};
 ghost use Rattle.std.specs.Int.{w128};
@@ -9,8 +9,8 @@ use crate::lotteries::Lottery;
 use crate::pools::Pool;
 use std::alloc::{AllocError, Global};
 
-/// Returns each volunteer's count: the sum of the weights of the panels with this volunteer. It is the volunteer's chance times the
-/// total. The lottery's weights are at least 1 and sum to its total.
+/// Returns each volunteer's count: the sum of the weights of the panels with this volunteer. The count is the volunteer's chance times
+/// the total. Each weight is at least 1, and they sum to the total.
 pub fn chances(alloc: Global, pool: &Pool, lottery: &Lottery) -> Result<Vec<i128>, AllocError>
     requires { TotalAgrees lottery.now }
     ensures { IfOk result (λ chances. chances.items ≡ map pos (counts pool.now lottery.now)) }
@@ -22,7 +22,7 @@ pub fn chances(alloc: Global, pool: &Pool, lottery: &Lottery) -> Result<Vec<i128
     Ok(chances)
 }
 
-/// Adds a panel's weight for each of its members.
+/// Adds `weight` to the count of each of `members`.
 fn add_weight(chances: &mut [i128], members: &[usize], weight: i128)
     requires increasing { IsTrue (is_increasing members.now) }
     requires room { (i : ℕ) → i < length chances.old → FitsSigned w128 (slice_index_or chances.old i (pos 0) +ℤ weight) }

@@ -1,4 +1,4 @@
-//! Whether volunteers have households, and which volunteers are of one household. The versions of texts and the classes depend on it.
+//! Whether volunteers have households, and which volunteers share one. The versions of texts and the classes depend on it.
 
 ghost use Rattle.std.specs.Prelude.{◌≡◌, is_some};
 ghost use Rattle.std.specs.List.{list_any};
@@ -22,8 +22,8 @@ fn are_housed(volunteers: &[Volunteer]) -> bool
         .any(|volunteer| volunteer.household().is_some())
 }
 
-/// True if the volunteers of these two numbers are of one household. A volunteer who has one is of one household with themself; a
-/// volunteer without one, or a number without a volunteer, is of one with nobody.
+/// True if volunteers `i` and `j` are of one household. If `i` is `j`, that is whether the volunteer has a household. False if `i` or `j`
+/// is no volunteer's number.
 pub fn share_household(volunteers: &[Volunteer], i: usize, j: usize) -> bool
     ensures { result ≡ share volunteers.now i j }
 {

@@ -1,10 +1,10 @@
-//! Pools of volunteers with their quotas, panels, lotteries and certificates: values that contracts see as the records of
-//! `define_pools`, on which this crate stands. Above: every crate that has a pool or a lottery in hand, among them `pool_text`,
-//! `bundle_text`, `alike`, `check_search`, `check_reasons`, `tickets` and the commands.
+//! Pools of volunteers with their quotas, panels, lotteries and certificates, as values. Contracts see them as the records of
+//! `define_pools`, on which this crate stands. Used by every crate that holds a pool or a lottery, among them `pool_text`, `bundle_text`,
+//! `alike`, `check_search`, `check_reasons`, `tickets`, the office and the commands.
 //!
-//! Promises: a `Pool` is within its limits at every moment, and each step of building it adds its part or is refused by kind and
-//! changes nothing; `fits` is exactly 'is a quota panel', `chances` exactly each volunteer's count. The modules `names` and the
-//! functions without `pub` are helpers.
+//! Promises: a `Pool` is always within its limits. Each step of building it adds its part, or is refused with a kind and changes nothing.
+//! `fits` is exactly 'is a quota panel', `chances` exactly each volunteer's count. The module `names` and the functions without `pub` are
+//! helpers.
 #![tactic(auto)]
 
 mod building;

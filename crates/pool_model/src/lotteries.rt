@@ -25,7 +25,7 @@ impl Model for LotteryRow {
 }
 
 impl LotteryRow {
-    /// Returns a panel with this weight, which is at least 0.
+    /// Returns the row of `panel` with `weight`, which is at least 0.
     pub fn new(panel: Panel, weight: i128) -> LotteryRow
         requires { pos 0 ≤ℤ weight }
         ensures { result ≡ record { panel = panel; weight = unsigned_abs weight } }
@@ -58,7 +58,7 @@ impl LotteryRow {
     }
 }
 
-/// Panels with their weights, in order, and a total of at least 0, which is the weights' sum in a lottery over a pool.
+/// Panels with their weights, in order, and a total of at least 0. In a lottery over a pool the total is the sum of the weights.
 #[derive(Debug, Drop)]
 pub struct Lottery {
     total: i128,
@@ -77,7 +77,7 @@ impl Model for Lottery {
 }
 
 impl Lottery {
-    /// Returns a lottery of these rows. Its total is at least 0.
+    /// Returns the lottery of `rows` with the total `total`, which is at least 0. The weights need not sum to it.
     pub fn new(total: i128, rows: Vec<LotteryRow>) -> Lottery
         requires { pos 0 ≤ℤ total }
         ensures { result ≡ record { total = unsigned_abs total; rows = rows.items } }
@@ -129,7 +129,7 @@ impl Lottery {
     }
 }
 
-/// True if the weights of the rows sum to the total. Each is taken from the total in turn, so no sum passes 128 bits.
+/// True if the weights of the rows sum to `total`. Subtracts each weight from the total, so no sum overflows 128 bits.
 fn weights_sum_to(total: u128, rows: &[LotteryRow]) -> bool
     ensures { result ≡ (total == sum_by (λ row. row.weight) rows.now) }
 {

@@ -1,5 +1,5 @@
-//! Tests of names, and of what is given for a volunteer; helpers of the builder. They go through the lists from the front, which is
-//! fast enough: a pool has at most 400 volunteers, 20 categories and 50 values a category. Only `bytes_of` and `places` take memory.
+//! Tests of the names and values that the builder is given. They search the lists from the front, which is fast enough: a pool has at
+//! most 400 volunteers, 20 categories and 50 values a category. Only `bytes_of`, `places` and `places_named` allocate.
 
 ghost use Rattle.std.specs.Prelude.{◌≡◌, ◌==◌, nat_le, not, ◌&&◌, map, IfOk};
 ghost use Rattle.std.specs.List.{list_all};
@@ -56,7 +56,7 @@ pub(crate) fn are_known(categories: &[Category], names: &[&[u8]]) -> bool
         .all(|(category, name)| is_value(category.values(), name))
 }
 
-/// True if each name that is given for a category is one of its values.
+/// True if the name given for each category is that of one of its values.
 pub fn are_named(categories: &[Category], names: &[Name]) -> bool
     ensures { result ≡ each_is_known categories.now names.now }
 {
@@ -66,7 +66,7 @@ pub fn are_named(categories: &[Category], names: &[Name]) -> bool
     ))
 }
 
-/// Returns the place of the value of this name, if there is one.
+/// Returns the place of the value called `name`, counted from 0, or None.
 fn place(values: &[BoundedValue], name: &[u8]) -> Option<usize>
     ensures { result ≡ place_of values.now name.now }
 {
@@ -75,7 +75,7 @@ fn place(values: &[BoundedValue], name: &[u8]) -> Option<usize>
         .position(|value| name == value.name().as_bytes())
 }
 
-/// Returns for each category the place of the value whose name is given for it, or 0 if there is none.
+/// Returns for each category the place of the value whose name is given for it, or 0 if it has no such value.
 pub(crate) fn places(
     alloc: Global,
     categories: &[Category],
@@ -97,7 +97,7 @@ pub(crate) fn bytes_of(alloc: Global, names: &[Name]) -> Result<Vec<&[u8]>, Allo
     names.iter().map(|name| name.as_bytes()).collect(alloc)
 }
 
-/// Returns for each category the place of the value of the name that is given for it, counted from 0; or 0 if there is none.
+/// Returns for each category the place of the value whose name is given for it, counted from 0; or 0 if it has no such value.
 pub fn places_named(
     alloc: Global,
     categories: &[Category],

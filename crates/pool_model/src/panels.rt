@@ -6,7 +6,7 @@ ghost use Rattle.define_pools.specs.Lists.{is_increasing};
 use std::alloc::AllocError;
 use std::marker::Model;
 
-/// An increasing list of numbers of volunteers, which are counted from 0.
+/// An increasing list of volunteers' numbers, which count from 0.
 #[derive(Debug, Drop)]
 pub struct Panel {
     members: Vec<usize>,
@@ -24,7 +24,7 @@ impl Model for Panel {
 }
 
 impl Panel {
-    /// Returns the panel of these members, exactly if they are increasing.
+    /// Returns the panel of `members`, or None if they are not increasing.
     pub fn new(members: Vec<usize>) -> Option<Panel>
         ensures { result ≡ (if is_increasing members.items then Some members.items else None) }
     {

@@ -14,7 +14,7 @@ pub struct Bound {
     pub upper: usize,
 }
 
-/// A text, which contracts see as its bytes.
+/// A text in UTF-8, which contracts see as its bytes.
 #[derive(Debug, Drop)]
 pub struct Name {
     text: String,
@@ -61,7 +61,7 @@ impl Name {
     }
 }
 
-/// A value of a category, and how many members of a panel may have it.
+/// A value of a category, with its bounds.
 #[derive(Debug, Drop)]
 pub struct BoundedValue {
     name: Name,
@@ -90,7 +90,7 @@ impl BoundedValue {
         &self.name
     }
 
-    /// Returns how many members of a panel may have the value.
+    /// Returns the value's bounds.
     pub fn bound(&self) -> Bound
         ensures lower { result.lower ≡ self.now.lower }
         ensures upper { result.upper ≡ self.now.upper }
@@ -98,14 +98,14 @@ impl BoundedValue {
         self.bound
     }
 
-    /// Returns the least number of members with the value.
+    /// Returns the least number of a panel's members who may have the value.
     pub fn lower(&self) -> usize
         ensures { result ≡ self.now.lower }
     {
         self.bound.lower
     }
 
-    /// Returns the greatest number of members with the value.
+    /// Returns the greatest number of a panel's members who may have the value.
     pub fn upper(&self) -> usize
         ensures { result ≡ self.now.upper }
     {
@@ -192,7 +192,7 @@ fn copied_values(alloc: Global, values: &[BoundedValue]) -> Result<Vec<BoundedVa
     Ok(copies)
 }
 
-/// A volunteer: for each category the place of a value among the category's values, counted from 0, and at most one household.
+/// A volunteer: an id, the place of a value for each category, counted from 0, a standing, and the name of a household if one is known.
 #[derive(Debug, Drop)]
 pub struct Volunteer {
     id: Name,
@@ -222,8 +222,8 @@ impl Volunteer {
         }
     }
 
-    /// Returns the volunteer of these parts: an id, for each category the place of a value among the category's values, a standing, and
-    /// the name of a household if one is known.
+    /// Returns the volunteer of these parts: an id, the place of a value for each category, counted from 0, a standing, and the name of a
+    /// household if one is known.
     pub fn from_parts(
         id: Name,
         values: Vec<usize>,
@@ -247,7 +247,7 @@ impl Volunteer {
         &self.id
     }
 
-    /// Returns for each category the place of the volunteer's value among the category's values, counted from 0.
+    /// Returns for each category the place of the volunteer's value among its values, counted from 0.
     pub fn values(&self) -> &[usize]
         ensures { result.now ≡ self.now.values }
     {

@@ -69,7 +69,7 @@ impl Pool {
         &self.volunteers
     }
 
-    /// Does nothing; its contract says what holds of each pool.
+    /// Does nothing. Its contract says that the pool is within its limits.
     pub fn facts(&self)
         ensures { IsPool self.now }
     {
@@ -91,7 +91,7 @@ impl Pool {
 }
 
 impl Pool {
-    /// Returns the pool of these parts. The caller knows that they keep the limits of a pool.
+    /// Returns the pool of these parts, which must be within the limits of a pool.
     pub fn from_parts(size: usize, categories: Vec<Category>, volunteers: Vec<Volunteer>) -> Pool
         requires { IsPool (record { size = size; categories = categories.items; volunteers = volunteers.items }) }
         ensures { result ≡ record { size = size; categories = categories.items; volunteers = volunteers.items } }
@@ -150,7 +150,7 @@ impl Pool {
         Ok(())
     }
 
-    /// Appends a category for which `category_kind` returns None.
+    /// Appends a category for which `category_kind` returns None, without testing it again.
     pub fn add_right_category(&mut self, name: &str) -> Result<(), AllocError>
         requires { category_kind self.old name.now ≡ None }
         ensures ok { OnOk result (self.new ≡ category_added self.old name.now) }
@@ -195,7 +195,7 @@ impl Pool {
         Ok(())
     }
 
-    /// Appends a value for which `value_kind` returns None.
+    /// Appends a value for which `value_kind` returns None, without testing it again.
     pub fn add_right_value(
         &mut self,
         name: &str,
@@ -212,8 +212,8 @@ impl Pool {
         Ok(())
     }
 
-    /// Returns the kind of fault of a volunteer of this id, given the name of a value for each category: 6 if a name given for a
-    /// category is none of its values, 7 if there isn't one name per category, 8 if an earlier volunteer has this id, 10 if the id
+    /// Returns the kind of fault of a volunteer with this id and these names of values, one for each category: 6 if a name isn't that of
+    /// a value of its category, 7 if the number of names isn't that of categories, 8 if an earlier volunteer has this id, 10 if the id
     /// isn't allowed or there are 400 volunteers; the lowest that applies, or None.
     pub fn volunteer_kind(&self, id: &[u8], values: &[&[u8]]) -> Option<u8>
         ensures { result ≡ volunteer_kind self.now id.now (map (λ name. name.now) values.now) }
@@ -244,8 +244,8 @@ impl Pool {
         }
     }
 
-    /// Appends an open volunteer, given the name of a value for each category. Stops with the kind that `volunteer_kind` returns; the pool is
-    /// then unchanged.
+    /// Appends an open volunteer, given the name of a value for each category. Stops with the kind that `volunteer_kind` returns; the
+    /// pool is then unchanged.
     pub fn add_volunteer(&mut self, id: &str, values: &[Name]) -> Result<(), BuildStop>
         ensures kind { Answers (volunteer_kind self.old id.now values.now) result }
         ensures ok { OnOk result (self.new ≡ volunteer_added self.old id.now values.now) }
@@ -260,7 +260,7 @@ impl Pool {
         Ok(())
     }
 
-    /// Appends a volunteer for whom `volunteer_kind` returns None.
+    /// Appends a volunteer for whom `volunteer_kind` returns None, without testing it again.
     pub fn add_right_volunteer(&mut self, id: &str, values: &[&[u8]]) -> Result<(), AllocError>
         requires { volunteer_kind self.old id.now (map (λ name. name.now) values.now) ≡ None }
         ensures ok { OnOk result (self.new ≡ volunteer_added self.old id.now (map (λ name. name.now) values.now)) }
@@ -273,7 +273,7 @@ impl Pool {
         Ok(())
     }
 
-    /// Sets the standing of the volunteer of this number, and changes nothing else.
+    /// Sets the standing of volunteer `number`, and changes nothing else.
     pub fn set_standing(&mut self, number: usize, standing: Standing)
         requires { number < length self.old.volunteers }
         ensures { self.new ≡ standing_set self.old number standing }
@@ -281,8 +281,8 @@ impl Pool {
         set_standing_of(&mut self.volunteers, number, standing);
     }
 
-    /// Sets the name of the household of the volunteer of this number, in place of an earlier one, and changes nothing else. Stops
-    /// with kind 10 exactly if the name isn't allowed; the pool is then unchanged.
+    /// Sets the name of the household of volunteer `number`, in place of an earlier one, and changes nothing else. Stops with kind 10
+    /// exactly if the name isn't allowed; the pool is then unchanged.
     pub fn set_household(&mut self, number: usize, name: &str) -> Result<(), BuildStop>
         requires { number < length self.old.volunteers }
         ensures kind { Answers (household_kind name.now) result }
@@ -296,7 +296,7 @@ impl Pool {
         Ok(())
     }
 
-    /// Sets a household for whose name `household_kind` returns None.
+    /// Sets a household for whose name `household_kind` returns None, without testing it again.
     pub fn set_right_household(&mut self, number: usize, name: &str) -> Result<(), AllocError>
         requires number { number < length self.old.volunteers }
         requires name { household_kind name.now ≡ None }
@@ -331,7 +331,7 @@ fn size_kind(size: usize) -> Option<u8>
     }
 }
 
-// Returns the values of the last category, none if there is no category.
+// Returns the values of the last category; none if there is no category.
 fn last_values(categories: &[Category]) -> &[BoundedValue]
     ensures { result.now ≡ values_of_last categories.now }
 {

@@ -1,4 +1,4 @@
-//! Whether a panel is a quota panel of a pool. Tests call it; the checks have a faster one of their own.
+//! Whether a panel is a quota panel of a pool. Tests call it; the checks have a faster test of their own.
 
 ghost use Rattle.std.specs.Prelude.{◌≡◌, IsTrue, nat_lt, count_by, length};
 ghost use Rattle.std.specs.List.{list_all, enumerate_from};
@@ -11,8 +11,8 @@ use crate::parts::{BoundedValue, Category, Volunteer};
 use crate::pools::Pool;
 use define_pools::Standing;
 
-/// True if the panel is a quota panel of the pool: of the pool's size, with numbers of its volunteers, with every seated and no gone
-/// volunteer, with every bound met, and with no two members of one household.
+/// True if the panel is a quota panel of the pool: it has the pool's size, its members are volunteers, it has everyone who is seated and
+/// no one who is gone, it meets each bound, and no two members share a household.
 pub fn fits(pool: &Pool, panel: &Panel) -> bool
     ensures { result ≡ is_quota_panel pool.now panel.now }
 {
@@ -102,7 +102,7 @@ fn keep_households(volunteers: &[Volunteer], members: &[usize]) -> bool
         .all(|i| number_of_household(volunteers, members, *i) <= 1)
 }
 
-// Returns how many of the members are of the household of volunteer `i`.
+// Returns how many members are of the household of volunteer `i`.
 fn number_of_household(volunteers: &[Volunteer], members: &[usize], i: usize) -> usize
     ensures { result ≡ count_by (share volunteers.now i) members.now }
 {

@@ -1,4 +1,4 @@
--- The entry of a line that is text holds text, and a line that isn't UTF-8 has that kind of fault.
+-- If a line is UTF-8, so is the new name or id of its entry; if it isn't, the line's kind of fault is 11, unless its entry has a lower one.
 use Rattle.std.proofs.Common.{◌≡◌, ℕ, true, false, not, cond, List, [], ◌∷◌, map, sym, ◌∙◌, ap, subst, Option, Some, None}
 use Rattle.std.proofs.Common.{Bor}
 use Rattle.std.specs.List.{AllByRecursion}
@@ -34,7 +34,7 @@ word_says_text (StandingWord standing) (id ∷ other ∷ fields) h = tt
 word_says_text EndWord [] h = tt
 word_says_text EndWord (other ∷ fields) h = tt
 
--- the entry of fields that are text holds text
+-- if all fields are UTF-8, the new name or id of their entry is
 entry_is_text : (fields : List (List ℕ)) → AllByRecursion IsUtf8 fields → IsText (entry_of fields)
 entry_is_text [] h = tt
 entry_is_text (first ∷ fields) h =
@@ -43,25 +43,25 @@ entry_is_text (first ∷ fields) h =
       | Some word ↦ word_says_text word fields h.1
     ]
 
--- the entry of a line that is text holds text
+-- if a line is UTF-8, the new name or id of its entry is
 pub line_says_text : (line : List ℕ) → is_utf8 line ≡ true → IsText (entry_of (fields_of line))
 line_says_text line h =
     let each = each_field_is_utf8 (fields_of line) (subst IsUtf8 (sym (line_of-fields_of line)) (IsUtf8-from_is_utf8 line h)) in
     entry_is_text (fields_of line) (each_map (λ field. is_utf8 field ≡ true) IsUtf8 IsUtf8-from_is_utf8 (fields_of line) each)
 
--- the kind of fault of a line whose entry has none: none if the line is text, else 11
+-- if a line's entry has no fault, the line has none if it is UTF-8, and else a fault of kind 11
 pub kind_of_text : (pool : Pool) (passed : Passed) (line : List ℕ) → entry_kind pool passed (entry_of (fields_of line)) ≡ None → is_utf8 line ≡ true → line_kind (Inside pool passed) line ≡ None
 kind_of_text pool passed line h text = line_kind_of pool passed line ∙ ap (λ kind. kind_or kind (encoding_kind line)) h ∙ ap (λ test. cond (not test) (Some 11) None) text
 
 pub kind_of_no_text : (pool : Pool) (passed : Passed) (line : List ℕ) → entry_kind pool passed (entry_of (fields_of line)) ≡ None → is_utf8 line ≡ false → line_kind (Inside pool passed) line ≡ Some 11
 kind_of_no_text pool passed line h text = line_kind_of pool passed line ∙ ap (λ kind. kind_or kind (encoding_kind line)) h ∙ ap (λ test. cond (not test) (Some 11) None) text
 
--- the entry of the fields that were taken from a line is the entry of the line
+-- if `taken` are the fields of a line, the entry that was made of them is the entry of the line
 pub says : (entry : Entry) (lent taken : List (Bor (List ℕ))) (line : List ℕ) → entry ≡ entry_of (map (λ field. field.now) lent) → lent ≡ taken → map (λ field. field.now) taken ≡ fields_of line →
     entry ≡ entry_of (fields_of line)
 says entry lent taken line h same is = h ∙ (ap (λ fields. entry_of (map (λ field. field.now) fields)) same ∙ ap entry_of is)
 
--- if no kind was found in the entry, none applies to the line's entry
+-- if no kind of fault was found for an entry, and it is the line's entry, no kind applies to the line's entry
 pub is_right : (pool : Pool) (passed : Passed) (entry : Entry) (line : List ℕ) (found : Option ℕ) → entry ≡ entry_of (fields_of line) → found ≡ entry_kind pool passed entry → found ≡ None →
     entry_kind pool passed (entry_of (fields_of line)) ≡ None
 is_right pool passed entry line found same is none = ap (entry_kind pool passed) (sym same) ∙ (sym is ∙ none)

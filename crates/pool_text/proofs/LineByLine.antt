@@ -1,4 +1,4 @@
--- The pieces of a text, one line at a time.
+-- Reading a text one line at a time has the definition's result for the whole text.
 use Rattle.std.proofs.Common.{◌≡◌, ℕ, ◌+◌, ◌≤◌, arith, List, [], ◌∷◌, Result, Ok, Err, refl, sym, subst, Some, None}
 use Rattle.define_lines.specs.Lines.{Fault, fields_of, pieces_of}
 use Rattle.define_lines.specs.Reading.{fault_or, read_lines}
@@ -13,7 +13,7 @@ use Rattle.pool_text.specs.declared.faults.ReadPool.{ReadPool}
 use Rattle.pool_text.specs.declared.faults.ReadPool.TheVariants.{OutOfMemory as Unread}
 use Rattle.pool_text.specs.Progress.{line_due}
 
--- if the reading stops at a line, this stop is the answer for the whole text
+-- if the reading stops at a line, the stop is right for the whole text
 pub stops_at : (T : Type 0) (number : ℕ) (progress : Progress) (rest line later : List ℕ) → pieces_of rest ≡ line ∷ pieces_of later → (wanted : Result Pool Fault) →
     read_lines reader number progress (pieces_of rest) ≡ wanted → (stop : BuildStop) → Tells {T = T} (line_kind progress line) (Err stop) → (told : ReadPool) → told ≡ stopped number stop → Reads wanted (Err told)
 stops_at T number progress rest line later parted wanted same stop tells told e = subst (λ said. Reads wanted (Err said)) (sym e) (by stop tells)
@@ -22,7 +22,7 @@ stops_at T number progress rest line later parted wanted same stop tells told e 
     by OutOfMemory h = tt
     by (Kind kind) h = reading.stops_at reader number progress rest line later parted wanted same kind h
 
--- if an entry is at line 3 or later, line `number + 1` isn't too early for the progress after it
+-- if line `number` says an entry, and `number` is at least 3, line `number + 1` isn't too early for the progress after the entry
 entry_due : (pool : Pool) (passed : Passed) (entry : Entry) (number : ℕ) → 3 ≤ number → line_due (after_entry pool passed entry) ≤ number + 1
 entry_due pool passed (OfCategory name) number h = omega arith
 entry_due pool passed (OfValue value) number h = omega arith
@@ -39,7 +39,7 @@ next_due (Versioned second) line number h = omega arith
 next_due (Inside pool passed) line number h = entry_due pool passed (entry_of (fields_of line)) number h
 next_due (Ended pool) line number h = omega arith
 
--- a fault that is found from line `number` on is in this line or a later one
+-- if the text has a fault where it ends, at line `number`, the fault is in no earlier line
 last_from : (number : ℕ) (progress : Progress) (bytes : List ℕ) → IsRightBefore number (at_last number progress bytes)
 last_from number Begun bytes = omega arith
 last_from number (Versioned second) bytes = omega arith
@@ -60,7 +60,7 @@ reads_from number progress (line ∷ next ∷ later) =
       | Some kind ↦ omega arith
     ]
 
--- if a stop at a line says that memory ran out, it did in the builder
+-- if the stop at a line is out of memory, the builder's stop was out of memory
 pub memory_wanted : (stop : BuildStop) (number : ℕ) → stopped number stop ≡ Unread → stop ≡ OutOfMemory
 memory_wanted OutOfMemory number h = refl
 memory_wanted (Kind kind) number h = cc

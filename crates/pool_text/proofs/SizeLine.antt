@@ -11,7 +11,7 @@ use Rattle.define_lines.proofs.FieldLemmas.{plain_field, decimal_field}
 use Rattle.define_lines.proofs.NumberLemmas.{bytes_are, number_spelled}
 use Rattle.define_pool_texts.specs.PoolReading.{size_of}
 
--- a text with a TAB spells no number
+-- a field that has a TAB spells no number
 no_number : (field : List ℕ) (fields : List (List ℕ)) → fields_of field ≡ fields → (length fields ≡ 1 → ⊥) → number_up_to 200 field ≡ None
 no_number field fields e apart =
     (elim (number_up_to 200 field) as (λ o. number_up_to 200 field ≡ o → o ≡ None) [
@@ -23,13 +23,13 @@ no_number field fields e apart =
           absurd (apart (ap (λ (fs : List (List ℕ)). length fs) one))
     ]) refl
 
--- the one field after the word `size` gives the size
+-- if `field` splits into `fields`, the size of a line with `size` before `fields` is the number that `field` spells, or 0 if none
 one_field : (field : List ℕ) (fields : List (List ℕ)) → fields_of field ≡ fields → unwrap_or (number_up_to 200 field) 0 ≡ size_of (codes "size" ∷ fields)
 one_field field [] e = ap (λ o. unwrap_or o 0) (no_number field [] e (λ h. omega arith))
 one_field field (x ∷ []) e = ap (λ f. unwrap_or (number_up_to 200 f) 0) (sym (line_of-fields_of field) ∙ ap line_of e)
 one_field field (x ∷ y ∷ fields) e = ap (λ o. unwrap_or o 0) (no_number field (x ∷ y ∷ fields) e (λ h. omega arith))
 
--- a line that begins with `size` and a TAB gives the size that the rest spells
+-- if a line begins with `size` and a TAB, its size is the number that the rest of the line spells, or 0 if it spells none
 pub size_behind : (line field : List ℕ) → bytes_eq (take 5 line) (codes "size" ++ 9 ∷ []) ≡ true → field ≡ drop 5 line → unwrap_or (number_up_to 200 field) 0 ≡ size_of (fields_of line)
 size_behind line field h e =
     let parts : line ≡ (codes "size" ++ 9 ∷ []) ++ field = sym (take-append-drop 5 line) ∙ (ap (λ front. front ++ drop 5 line) (bytes_are (take 5 line) (codes "size" ++ 9 ∷ []) h) ∙ ap (λ rest. (codes "size" ++ 9 ∷ []) ++ rest) (sym e)) in

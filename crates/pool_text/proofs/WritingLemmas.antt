@@ -1,4 +1,4 @@
--- Names as they are written, one field after the other.
+-- The names of a volunteer's values, written field by field, and the text of a pool, written part by part.
 use Rattle.std.proofs.Common.{◌≡◌, ℕ, zero, suc, ◌+◌, ◌<◌, true, List, [], ◌∷◌, ◌++◌, length, map, take, get_or, refl, sym, ◌∙◌, ap, append_assoc, arith}
 use Rattle.std.proofs.lemmas.Bool.{and_parts, false≢true, ltb-true}
 use Rattle.std.proofs.lemmas.List.{append-nil}
@@ -9,7 +9,7 @@ use Rattle.define_pool_texts.specs.PoolText.{version_line, size_line, category_l
 use Rattle.define_lines.specs.Lines.{tab, tabbed, text_of}
 use Rattle.define_lines.proofs.LineLemmas.{text_of-append}
 
--- each place is that of a value of its category
+-- if `places` has a value for each category, each place is below the number of its category's values
 pub place_inside : (categories : List Category) (places : List ℕ) (i : ℕ) (d : Category) → has_values categories places ≡ true → i < length places → get_or places i 0 < length (get_or categories i d).values
 place_inside [] [] i d h l = absurd (omega arith)
 place_inside [] (place ∷ places) i d h l = absurd (false≢true h)
@@ -17,14 +17,14 @@ place_inside (category ∷ categories) [] i d h l = absurd (omega arith)
 place_inside (category ∷ categories) (place ∷ places) zero d h l = ltb-true place (length category.values) (and_parts _ (has_values categories places) h).0
 place_inside (category ∷ categories) (place ∷ places) (suc i) d h l = place_inside categories places i d (and_parts _ (has_values categories places) h).1 (omega arith)
 
--- there are as many places as categories
+-- if `places` has a value for each category, there are as many places as categories
 pub as_many : (categories : List Category) (places : List ℕ) → has_values categories places ≡ true → length places ≡ length categories
 as_many [] [] h = refl
 as_many [] (place ∷ places) h = absurd (false≢true h)
 as_many (category ∷ categories) [] h = absurd (false≢true h)
 as_many (category ∷ categories) (place ∷ places) h = ap suc (as_many categories places (and_parts _ (has_values categories places) h).1)
 
--- the names with that of one more category
+-- the fields of the first `i + 1` names are those of the first `i`, then one for the name in category `i`
 pub tabbed_more : (categories : List Category) (places : List ℕ) (i : ℕ) (d : Category) → i < length categories → i < length places →
     tabbed (names_at (take (i + 1) categories) (take (i + 1) places)) ≡ tabbed (names_at (take i categories) (take i places)) ++ (tab ∷ get_or (value_names (get_or categories i d).values) (get_or places i 0) [])
 tabbed_more [] places i d l m = absurd (omega arith)

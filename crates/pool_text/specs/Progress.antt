@@ -12,14 +12,14 @@ seen (Versioned second) = words.Versioned second
 seen (Inside pool passed) = words.Inside pool passed
 seen (Ended pool) = words.Ended pool
 
--- the least number that the next line can have
+-- the least number that the next line can have, counted from 1
 abbrev pub line_due : words.Progress → ℕ
 line_due words.Begun = 1
 line_due (words.Versioned second) = 2
 line_due (words.Inside pool passed) = 3
 line_due (words.Ended pool) = 4
 
--- the progress within a pool, if `passed` says how far its lines have come, else after its end
+-- the progress inside a pool, if `passed` says how far its lines have come; after its end, if it is None
 abbrev pub with_pool : Pool → Option Passed → words.Progress
 with_pool pool (Some passed) = words.Inside pool passed
 with_pool pool None = words.Ended pool

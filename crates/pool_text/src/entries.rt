@@ -1,4 +1,4 @@
-//! What the lines between the size and the end say, and how that is added to the pool.
+//! What the lines between the size and the end say, and how an entry is added to the pool.
 
 ghost use Rattle.std.specs.Prelude.{◌≡◌, ◌<◌, ◌+◌, length, map, IfOk, IfSome, IsSome, None, OnOk, Option, unwrap_or};
 ghost use Rattle.define_pools.specs.Building.{household_kind as name_kind, household_set, standing_set};
@@ -23,8 +23,8 @@ const NO_BOUND: usize = 1000;
 /// The kind of fault of a line that isn't allowed where it is.
 pub(crate) const FORM: u8 = 1;
 
-/// The kind of fault of a household or standing line whose id isn't that of a volunteer who comes after the volunteer of the last line of
-/// this sort.
+/// The kind of fault of a household or standing line, if no volunteer with its id comes after the volunteer of the last line of the same
+/// sort.
 const NOT_AHEAD: u8 = 9;
 
 /// The kind of fault of a line that isn't UTF-8.
@@ -115,8 +115,8 @@ fn standing_entry<'a>(standing: Standing, rest: &'a [&'a [u8]]) -> Entry<'a>
     }
 }
 
-/// Adds to the pool what a line says. `passed` is how far the lines before it have come. Returns how far they have come with it, or None if
-/// it is the end. A line with a fault changes nothing.
+/// Adds to the pool what a line says. `passed` is how far the lines before it have come. Returns how far they have come after it, or None
+/// if it is the end line. A line with a fault changes nothing.
 pub(crate) fn read_entry(
     alloc: Global,
     pool: &mut Pool,
@@ -169,7 +169,8 @@ fn awaits_household(passed: Passed) -> bool
     passed.second && passed.households == 0
 }
 
-/// True if `id` is that of a volunteer whose number is at least `passed`, so that the lines haven't passed this volunteer.
+/// True if a volunteer has this id, and the volunteer's number is at least `passed`, which is how many volunteers the household lines, or
+/// the standing lines, have passed.
 fn is_ahead(pool: &Pool, passed: usize, id: &[u8]) -> bool
     ensures { result ≡ is_number_ahead passed (number_in pool.now.volunteers id.now) }
 {
@@ -189,7 +190,7 @@ fn number_of(volunteers: &[Volunteer], id: &[u8]) -> Option<usize>
         .position(|volunteer| id == volunteer.id().as_bytes())
 }
 
-/// Adds what a right entry says to the pool; its new name is text. Returns what `read_entry` returns.
+/// Adds to the pool a right entry, whose new name or id is UTF-8. Returns what `read_entry` returns.
 fn add_entry(
     pool: &mut Pool,
     passed: Passed,

@@ -16,7 +16,7 @@ use text_lines::number_up_to;
 /// The greatest size of a panel.
 const MAX_SIZE: usize = 200;
 
-/// What a line that gives no size is read as.
+/// The size that a line is read as, if it spells none.
 const NO_SIZE: usize = 0;
 
 /// The first line, in version 1.
@@ -75,7 +75,7 @@ pub fn after(alloc: Global, progress: Progress, line: &[u8]) -> Result<Progress,
     }
 }
 
-/// Returns the size that the second line gives, or 0 if it gives none.
+/// Returns the size that the second line spells, or 0 if it spells none.
 fn size_of(line: &[u8]) -> usize
     ensures { result ≡ size_in (fields_in line.now) }
 {

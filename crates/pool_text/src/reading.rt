@@ -22,11 +22,11 @@ const MISSING_END: u8 = 12;
 /// Reads the bytes as the text of a pool. Fails exactly if they aren't the text of a pool, with the first faulty line and its lowest
 /// kind of fault, or if memory runs out.
 pub fn read_pool(alloc: Global, bytes: &[u8]) -> Result<Pool, ReadPool>
-    // A pool that is read has this text, byte for byte.
+    // If a pool is returned, the bytes are its text, byte for byte.
     ensures spelled { IfOk result (λ pool. IsPool pool × (bytes.now ≡ spelling pool)) }
     // The text of each pool is read as this pool, unless memory runs out.
     ensures read { (pool : Words) → IsPool pool → bytes.now ≡ spelling pool → Reads (Ok pool) result }
-    // The answer is this pool or this fault, as the definition of reading has it.
+    // The result is the pool or the fault of the definition `read`.
     ensures exact { Reads (read bytes.now) result }
     // Memory runs out only if the first two lines are right and a third one is ended by LF.
     ensures memory { result ≡ Err OutOfMemory → IsRightBefore 3 (read bytes.now) × (3 < length (pieces_of bytes.now)) }

@@ -13,7 +13,7 @@ use pool_model::{BoundedValue, Category, Pool, Standing, Volunteer, has_househol
 use std::alloc::{AllocError, Global};
 use text_lines::{end_line, push_field, push_line};
 
-/// Returns the text of the pool. It is read as this pool.
+/// Returns the text of the pool. Reading this text returns the same pool.
 pub fn write_pool(alloc: Global, pool: &Pool) -> Result<Vec<u8>, AllocError>
     ensures spelled { IfOk result (λ text. text.items ≡ spelling pool.now) }
     ensures read { IfOk result (λ text. read text.items ≡ Ok pool.now) }

@@ -1,4 +1,4 @@
--- The answers of workers, piece by piece.
+-- The workers' outcomes are those of the pieces, one for each place.
 use Rattle.std.proofs.Common.{◌≡◌, ℕ, zero, suc, ◌+◌, ◌*◌, ◌/◌, ◌%◌, ◌<◌, ◌≤◌, true, false, ltb, ltb-true, List, [], ◌∷◌, ◌++◌, length, Some, Result, refl, sym, ap, ◌∙◌, subst, arith, mul-le-mul_right}
 use Rattle.std.specs.Prelude.{slice_get, Vec, vec_items, IfOk, Ok, Err}
 use Rattle.std.specs.declared.alloc.AllocError.{AllocError}
@@ -10,7 +10,7 @@ use Rattle.define_searches.specs.Visits.{Pricing}
 use Rattle.panel_search.specs.Answers.{AnswersWeighed}
 use Rattle.pricing_pool.specs.Outcomes.{AreOf, AreOfAll, AreTogether, HasAnswer, IsAnswer, Outcome}
 
--- what holds of each element of a list, and of an element that is appended, holds of each element of the longer list
+-- if P holds of each element of `xs` at its place, and of `x` at the next place, it holds of each element of `xs ++ x ∷ []`
 pub each_pushed : {X : Type 0} (P : ℕ → X → Type 0) (xs : List X) (x : X) → ((i : ℕ) (y : X) → slice_get xs i ≡ Some y → P i y) → P (length xs) x →
     (i : ℕ) (y : X) → slice_get (xs ++ x ∷ []) i ≡ Some y → P i y
 each_pushed P [] x old new zero y e = let same : x ≡ y = cc in subst (P 0) same new
@@ -18,7 +18,7 @@ each_pushed P [] x old new (suc i) y e = absurd cc
 each_pushed P (z ∷ xs) x old new zero y e = old 0 y e
 each_pushed P (z ∷ xs) x old new (suc i) y e = each_pushed (λ j. P (suc j)) xs x (λ j w. old (suc j) w) new i y e
 
--- what holds of each element of two lists holds of each element of one after the other
+-- if P holds of each element of `xs` at its place, and of each of `ys` at the places after them, it holds of each element of `xs ++ ys`
 each_of_both : {X : Type 0} (P : ℕ → X → Type 0) (xs ys : List X) → ((i : ℕ) (x : X) → slice_get xs i ≡ Some x → P i x) → ((i : ℕ) (y : X) → slice_get ys i ≡ Some y → P (length xs + i) y) →
     (i : ℕ) (z : X) → slice_get (xs ++ ys) i ≡ Some z → P i z
 each_of_both P [] ys first second i z e = let same : 0 + i ≡ i = omega arith in subst (λ j. P j z) same (second i z e)
@@ -27,7 +27,7 @@ each_of_both P (x ∷ xs) ys first second (suc i) z e =
     each_of_both (λ j. P (suc j)) xs ys (λ j w. first (suc j) w) (λ j w h. let same : length (x ∷ xs) + j ≡ suc (length xs + j) = omega arith in subst (λ k. P k w) same (second j w h)) i z e
 
 module _ (search : ℕ → Pricing) (nodes workers places : ℕ) where
-  -- the answers of some workers, and those of the workers after them, are the answers of all of them
+  -- the outcomes of `half` workers from `from` on, followed by those of the next `others` workers, are the outcomes of all `count` of them
   pub of_both : (from half others count : ℕ) (xs ys : List (Vec Outcome Global)) → AreOfAll search nodes workers from half places xs → AreOfAll search nodes workers (from + half) others places ys → count ≡ half + others →
       length (xs ++ ys) ≡ length xs + length ys → AreOfAll search nodes workers from count places (xs ++ ys)
   of_both from half others count xs ys first second e lengths = record {
@@ -41,7 +41,7 @@ module _ (search : ℕ → Pricing) (nodes workers places : ℕ) where
     worker_there : (place : ℕ) → place % workers < length all
     worker_there place = omega (arith, are.one_each, mod-lt place {m = workers} some)
 
-    -- each place has an answer
+    -- each place below `places` has an outcome
     pub has_answer : (place : ℕ) → place < places → HasAnswer all workers place
     has_answer place l = (
       worker_there place,
@@ -54,18 +54,18 @@ module _ (search : ℕ → Pricing) (nodes workers places : ℕ) where
           ]) refl,
     )
 
-    -- the answer at a place is that of the piece in this place
+    -- the outcome for a place is that of the piece at this place
     pub answers_piece : (place : ℕ) (outcome : Outcome) → IsAnswer all workers place outcome → AnswersWeighed (search place) nodes outcome
     answers_piece place outcome answer =
         let of = are.each (place % workers) answer.0 answer.1 in
         let same : 0 + place % workers + place / workers * workers ≡ place = omega (arith, mod-add-div' place workers) in
         subst (λ p. AnswersWeighed (search p) nodes outcome) same (of.each (place / workers) outcome answer.2)
 
--- the place of a worker's next piece
+-- a worker's next piece is `workers` places after the last one
 pub next_place : (workers worker place many more : ℕ) → place ≡ worker + many * workers → more ≡ many + 1 → place + workers ≡ worker + more * workers
 next_place workers worker place many more e f = omega (arith, e, ap (λ n. n * workers) f)
 
--- if the answers of some workers and those of the workers after them are both there, they are together those of all of them
+-- if `left` has the outcomes of `half` workers, `right` those of the next `others`, and neither failed, the result has those of all `count`
 pub both_are : (search : ℕ → Pricing) (nodes workers places from half others count : ℕ) (left right result : Result (Vec (Vec Outcome Global) Global) AllocError) → count ≡ half + others →
     IfOk result (λ all. AreTogether left right (vec_items all)) → IfOk left (λ all. AreOfAll search nodes workers from half places (vec_items all)) →
     IfOk right (λ all. AreOfAll search nodes workers (from + half) others places (vec_items all)) → IfOk result (λ all. AreOfAll search nodes workers from count places (vec_items all))

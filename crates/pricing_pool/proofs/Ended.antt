@@ -1,4 +1,4 @@
--- How pieces and waves end.
+-- Adding the outcomes of a wave's pieces, one by one, leads to the definition's wave, or stops for the same reason.
 use Rattle.std.proofs.Common.{◌≡◌, ℕ, zero, suc, ◌+◌, ◌-◌, ◌*◌, ◌<◌, ◌≤◌, List, [], ◌∷◌, ◌++◌, fold, length, map, take, ℤ, Ok, Err, refl, sym, ap, ◌∙◌, arith}
 use Rattle.std.specs.Prelude.{slice_index_or}
 use Rattle.define_rows.specs.Row.{Row}
@@ -23,7 +23,7 @@ one_more row search begun [] place l = absurd (omega arith)
 one_more row search begun (f ∷ fs) zero l = refl
 one_more row search begun (f ∷ fs) (suc place) l = one_more row search (take_piece row begun (search f)) fs place (omega arith)
 
--- the visits before a piece and those of the piece are at most the visits after all pieces
+-- the visits before the piece at `place`, with those of this piece, are at most the visits after all pieces
 with_those_before : (row : Row) (search : List ℕ → Pricing) (begun : Pricing) (fronts : List (List ℕ)) (place : ℕ) → place < length fronts →
     (came_up_to row search begun fronts place).visits + (search (slice_index_or fronts place [])).visits ≤ (fold (take_piece row) begun (map search fronts)).visits
 with_those_before row search begun [] place l = absurd (omega arith)
@@ -37,7 +37,7 @@ module _ (all : Classes) (closed : List Row) (row : Row) (begun : Pricing) (fron
   abbrev pub before : Pricing
   before = came_up_to row search begun fronts place
 
-  -- if the outcome of the piece in a place is taken, the pricing is that after this piece
+  -- if the outcome of the piece at `place` is taken, the pricing is the one after the first `place + 1` pieces
   pub piece_taken : (now after : Pricing) (outcome : Outcome) → now ≡ before → place < length fronts → AnswersWeighed (search (slice_index_or fronts place [])) budget outcome → CameTo outcome nodes (Ok tt) now after →
       (after ≡ came_up_to row search begun fronts (place + 1)) × (after.visits ≤ nodes) × (begun.visits ≤ now.visits → begun.visits ≤ after.visits)
   piece_taken now after outcome e l answers came =
@@ -47,7 +47,7 @@ module _ (all : Classes) (closed : List Row) (row : Row) (begun : Pricing) (fron
       taken.0 ∙ ap (λ p. take_piece row p (search (slice_index_or fronts place []))) e ∙ sym (one_more row search begun fronts place l) ∙ ap (came_up_to row search begun fronts) place_on in
       (is, taken.1, λ m. omega (arith, ap (λ p. p.visits) taken.0, piece_visits row now (search (slice_index_or fronts place [])), m))
 
-  -- if it can't be taken, the wave stops for the same reason
+  -- if the outcome of the piece at `place` can't be taken, the wave stops for the same reason
   pub piece_stops : (now after : Pricing) (outcome : Outcome) (stop : SearchStop) (left : Pricing) → now ≡ before → place < length fronts → budget ≡ nodes - begun.visits → begun.visits ≤ now.visits → now.visits ≤ nodes →
       AnswersWeighed (search (slice_index_or fronts place [])) budget outcome → CameTo outcome nodes (Err stop) now after → GoesOn (wave all closed row begun fronts) nodes (Err stop) left
   piece_stops now after outcome Spent left e l of more within answers came =

@@ -1,4 +1,4 @@
--- The floor of a search is the weight of what it kept.
+-- If a search kept a composition, its floor is the weight of this composition.
 use Rattle.std.proofs.Common.{◌≡◌, ℕ, ◌+◌, true, false, cond, List, [], ◌∷◌, ◌++◌, fold, ℤ, Some, None, ap}
 use Rattle.define_rows.specs.Row.{Row}
 use Rattle.define_searches.specs.Classes.{Class, Classes}
@@ -7,12 +7,12 @@ use Rattle.define_searches.specs.Fronts.{is_live_above, later_than}
 use Rattle.define_searches.specs.Visits.{Pricing, enter_best}
 use Rattle.define_waves.specs.Below.{search_from}
 
--- what holds at first and is kept by each step holds at the end
+-- if P holds at first, and each step of a fold keeps it, P holds at the end
 fold_keeps : {A X : Type 0} (P : A → Type 0) (f : A → X → A) → ((a : A) (x : X) → P a → P (f a x)) → (xs : List X) (a : A) → P a → P (fold f a xs)
 fold_keeps P f step [] a p = p
 fold_keeps P f step (x ∷ xs) a p = fold_keeps P f step xs (f a x) (step a x p)
 
--- the floor is the weight of what was kept last, if there is one
+-- if a composition was kept, the floor is its weight in `row`
 abbrev pub IsWeighed : Row → Pricing → Type 0
 IsWeighed row now = (counts : List ℕ) → now.kept ≡ Some counts → now.floor ≡ weight_in row.a counts
 

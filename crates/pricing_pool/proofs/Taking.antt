@@ -1,4 +1,4 @@
--- To take an outcome is to take its piece, as the definition says.
+-- Taking an outcome changes the pricing as the definition's `take_piece` does for the outcome's piece.
 use Rattle.std.proofs.Common.{◌≡◌, ℕ, ◌+◌, ◌-◌, ◌<◌, ◌≤◌, true, false, cond, List, [], ◌∷◌, ◌++◌, fold, ℤ, Option, Some, None, Ok, Err, refl, sym, ap, ◌∙◌, arith}
 use Rattle.std.specs.Prelude.{int_lt}
 use Rattle.define_rows.specs.Row.{Row}
@@ -13,7 +13,7 @@ use Rattle.pricing_pool.specs.Outcomes.{Outcome}
 use Rattle.pricing_pool.specs.SoFar.{CameTo, heavier}
 use Rattle.pricing_pool.proofs.Kept.{IsWeighed, search_weighed}
 
--- to keep the composition of an outcome, if it is heavier, is to keep that of its piece
+-- if `found` is what the piece kept, with its weight, then `heavier` and `keep_heavier` lead to the same pricing
 heavier_kept : (row : Row) (piece : Pricing) (found : Option (List ℕ × ℤ)) (now : Pricing) → IsWeighed row piece → IsKept piece found → heavier found now ≡ keep_heavier row now piece.kept
 heavier_kept row piece None now weighed kept = sym (ap (keep_heavier row now) kept)
 heavier_kept row piece (Some (counts, weight)) now weighed kept =

@@ -1,4 +1,4 @@
--- A whole search in waves.
+-- If each wave returns what the definition says, the whole search does. If a wave stops, the search stops for the same reason.
 use Rattle.std.proofs.Common.{◌≡◌, ℕ, ◌+◌, ◌/◌, ◌%◌, ◌<◌, ◌≤◌, List, [], ◌∷◌, fold, length, min, ℤ, None, Ok, Err, ap, ◌∙◌, arith}
 use Rattle.define_rows.specs.Row.{Row}
 use Rattle.define_searches.specs.Classes.{Classes, IsSearchable}
@@ -13,7 +13,7 @@ use Rattle.panel_search.specs.declared.searching.SearchStop.TheVariants.{Spent, 
 use Rattle.pricing_pool.specs.SoFar.{GoesOn}
 use Rattle.pricing_pool.proofs.Waving.{part, up_to, wave_adds, wave_within}
 
--- how many waves there are
+-- `n / 16`, and one more if there is a remainder, is `(n + 15) / 16`: the number of waves for `n` pieces
 pub ceiling : (n : ℕ) → n / 16 + min 1 (n % 16) ≡ (n + 15) / 16
 ceiling n = omega arith
 

@@ -8,21 +8,21 @@ use Rattle.panel_search.specs.Answers.{AnswersWeighed}
 use Rattle.panel_search.specs.Pricers.{Priced}
 use Rattle.panel_search.specs.declared.searching.SearchStop.{SearchStop}
 
--- what the search of a piece answers: what it kept with its weight, and its visits
+-- what the search of a piece returns: the composition that it kept, if any, with its weight, and its visits; or why it stopped
 abbrev pub Outcome : Type 0
 Outcome = Result (Option (List ℕ × ℤ) × ℕ) SearchStop
 
--- the search of the piece in this place of a wave
+-- the search of the piece at place `place` of a wave
 abbrev pub search_at : Priced → List (List ℕ) → ℤ → ℕ → Pricing
 search_at priced fronts floor place = search_from priced.classes priced.closed priced.row (slice_index_or fronts place []) floor
 
--- the answers of worker number `worker` of `workers`, in order: of the pieces whose place in the wave is below `places`, and `worker`
--- modulo `workers`
+-- `outcomes` are those of worker `worker`: outcome `i` is that of the piece at place `worker + i * workers`. Each such place below
+-- `places` has its outcome
 pub record AreOf (search : ℕ → Pricing) (nodes workers worker places : ℕ) (outcomes : List Outcome) : Type 0 where
   pub each : (i : ℕ) (outcome : Outcome) → slice_get outcomes i ≡ Some outcome → AnswersWeighed (search (worker + i * workers)) nodes outcome
   pub all : places ≤ worker + length outcomes * workers
 
--- the answers of `count` of the workers, from worker `from` on
+-- `all` has a list of outcomes for each of `count` workers, from worker `from` on
 pub record AreOfAll (search : ℕ → Pricing) (nodes workers from count places : ℕ) (all : List (Vec Outcome Global)) : Type 0 where
   pub one_each : length all ≡ count
   pub each : (j : ℕ) (outcomes : Vec Outcome Global) → slice_get all j ≡ Some outcomes → AreOf search nodes workers (from + j) places (vec_items outcomes)
@@ -34,16 +34,16 @@ pub record Wave : Type 0 where
   pub floor : ℤ
   pub nodes : ℕ
 
--- the piece in this place has an answer
+-- there is an outcome for the piece at `place`: outcome `place / workers` of worker `place % workers`, both counted from 0
 abbrev pub HasAnswer : List (Vec Outcome Global) → ℕ → ℕ → Type 0
 HasAnswer all workers place = (place % workers < length all)
     × ((outcomes : Vec Outcome Global) → slice_get all (place % workers) ≡ Some outcomes → place / workers < length (vec_items outcomes))
 
--- this is the answer of the piece in this place
+-- `outcome` is that of the piece at `place`: outcome `place / workers` of worker `place % workers`, both counted from 0
 abbrev pub IsAnswer : List (Vec Outcome Global) → ℕ → ℕ → Outcome → Type 0
 IsAnswer all workers place outcome = (outcomes : Vec Outcome Global) × (slice_get all (place % workers) ≡ Some outcomes) × (slice_get (vec_items outcomes) (place / workers) ≡ Some outcome)
 
--- one list of answers after the other, if both are there
+-- `all` is the first list followed by the second, neither of which failed
 abbrev pub AreTogether : Result (Vec (Vec Outcome Global) Global) AllocError → Result (Vec (Vec Outcome Global) Global) AllocError → List (Vec Outcome Global) → Type 0
 AreTogether (Ok first) (Ok second) all = all ≡ vec_items first ++ vec_items second
 AreTogether (Ok first) (Err stop) all = ⊥

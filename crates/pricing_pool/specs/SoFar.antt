@@ -10,12 +10,14 @@ use Rattle.pricing_pool.specs.declared.waves.SoFar.{SoFar}
 abbrev pub pricing_so_far : SoFar → Pricing
 pricing_so_far so_far = record { visits = so_far.visits; floor = so_far.floor; kept = so_far.kept }
 
--- a composition with its weight is kept if it weighs more than what was kept so far
+-- a composition that a piece found is kept if it weighs more than the floor; its weight is then the floor
 abbrev pub heavier : Option (List ℕ × ℤ) → Pricing → Pricing
 heavier None now = now
 heavier (Some (counts, weight)) now = if int_lt now.floor weight then record now { floor = weight; kept = Some counts } else now
 
--- to take an outcome adds it, or the visits are more than the budget `nodes`; running out of memory is allowed at any time
+-- what taking a piece's outcome may return: `Ok` if it is added and the visits are at most `nodes`; `Spent` if they would exceed `nodes`.
+-- If the piece failed, taking its outcome fails, and with `OutOfMemory` if the piece ran out of memory. Running out of memory is allowed at
+-- any time
 abbrev pub CameTo : Outcome → ℕ → Result (Unit {0}) SearchStop → Pricing → Pricing → Type 0
 CameTo (Ok (found, visits)) nodes (Ok done) before after = (after ≡ heavier found (record before { visits = before.visits + visits })) × (after.visits ≤ nodes)
 CameTo (Ok (found, visits)) nodes (Err Spent) before after = nodes < before.visits + visits
@@ -26,8 +28,8 @@ CameTo (Err OutOfMemory) nodes (Ok done) before after = ⊥
 CameTo (Err OutOfMemory) nodes (Err Spent) before after = ⊥
 CameTo (Err OutOfMemory) nodes (Err OutOfMemory) before after = Unit {0}
 
--- the search does what the definition says (`due`), or the definition needs more visits than the budget `nodes`; want of memory may come at
--- any time
+-- what a search may return if its pricing is `due` by the definition: `Ok` if it has `due` and its visits are at most `nodes`; `Spent` if
+-- they exceed `nodes`; running out of memory at any time
 abbrev pub GoesOn : Pricing → ℕ → Result (Unit {0}) SearchStop → Pricing → Type 0
 GoesOn due nodes (Ok done) after = (after ≡ due) × (due.visits ≤ nodes)
 GoesOn due nodes (Err Spent) after = nodes < due.visits

@@ -17,7 +17,7 @@ use panel_search::{Front, PricedRow, Pricer, Row, SearchStop, pricer_of};
 use std::alloc::Global;
 use std::thread::Threads;
 
-/// How many pieces each wave has, but for the last one.
+/// How many pieces each wave has, except the last one, which may have fewer.
 const WAVE: usize = 16;
 
 /// Searches the compositions that weigh at least the right side in each closed row, and more than its right side in `row`. Returns the one
@@ -47,7 +47,7 @@ pub fn best_by<R: Threads + Sync, W: Watch + Sync>(
     price_by(rt, alloc, workers, watch, &pricer, row, nodes)
 }
 
-/// Searches as `best_by` does, over the closed rows that a pricer keeps.
+/// Searches as `best_by` does, with the closed rows of `pricer`.
 pub fn price_by<R: Threads + Sync, W: Watch + Sync>(
     rt: &R,
     alloc: Global,
@@ -68,7 +68,7 @@ pub fn price_by<R: Threads + Sync, W: Watch + Sync>(
     search_waves(rt, alloc, workers as usize, watch, &priced, nodes)
 }
 
-/// Searches in waves for a row that is priced.
+/// Searches in waves for a row that is being priced.
 fn search_waves<R: Threads + Sync, W: Watch + Sync>(
     rt: &R,
     alloc: Global,
@@ -127,7 +127,7 @@ fn take_waves<R: Threads + Sync, W: Watch + Sync>(
     Ok(())
 }
 
-/// Searches the wave of this number.
+/// Searches wave `number`, counted from 0.
 fn take_wave_of<R: Threads + Sync, W: Watch + Sync>(
     rt: &R,
     alloc: Global,
@@ -153,7 +153,7 @@ fn take_wave_of<R: Threads + Sync, W: Watch + Sync>(
     so_far.take_wave(rt, alloc, watch, &wave, workers.min(part.len()), nodes)
 }
 
-/// Returns the fronts of the wave that begins in this place.
+/// Returns the fronts of the wave whose first front is at place `start`.
 fn part_from(fronts: &[Front], start: usize) -> &[Front]
     requires { start < length fronts.now }
     ensures part { result.now ≡ take 16 (drop start fronts.now) }

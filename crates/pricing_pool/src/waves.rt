@@ -26,7 +26,7 @@ pub(crate) struct SoFar {
 }
 
 impl SoFar {
-    /// Searches a wave with this number of workers, and adds the outcomes of its pieces in their order, if all visits are at most
+    /// Searches a wave with `workers` workers, and adds the outcomes of its pieces in their order. Fails with `Spent` if the visits exceed
     /// `nodes`.
     pub(crate) fn take_wave<R: Threads + Sync, W: Watch + Sync>(
         &mut self,
@@ -70,7 +70,7 @@ impl SoFar {
         Ok(())
     }
 
-    /// Adds the outcome of a piece.
+    /// Adds the outcome of a piece. Fails if the piece failed, or with `Spent` if the visits would exceed `nodes`.
     fn take(&mut self, outcome: &Outcome, nodes: u64) -> Result<(), SearchStop>
         requires { self.old.visits ≤ nodes }
         ensures { CameTo outcome.now nodes result (pricing_so_far self.old) (pricing_so_far self.new) }
@@ -88,7 +88,7 @@ impl SoFar {
         }
     }
 
-    /// Keeps a composition that was found, if it weighs more than what was kept so far.
+    /// Keeps a composition that a piece found, if it weighs more than the floor. Its weight is then the floor.
     fn keep_heavier(&mut self, found: &Option<(Composition, i128)>) -> Result<(), SearchStop>
         ensures ok { OnOk result (pricing_so_far self.new ≡ heavier found.now (pricing_so_far self.old)) }
         ensures err { OnErr result (result ≡ Err OutOfMemory) }
@@ -103,7 +103,7 @@ impl SoFar {
     }
 }
 
-/// Returns the outcome of the piece in this place, among the outcomes of this number of workers.
+/// Returns the outcome of the piece at place `place` of a wave that `workers` workers searched.
 fn outcome_of<'o>(outcomes: &'o [Vec<Outcome>], workers: usize, place: usize) -> &'o Outcome
     requires some { 1 ≤ workers }
     requires all { HasAnswer outcomes.now workers place }

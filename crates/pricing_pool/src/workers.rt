@@ -18,7 +18,7 @@ pub(crate) type Outcome = Result<(Option<(Composition, i128)>, u64), SearchStop>
 
 /// The pieces of a wave, which may be searched side by side.
 pub(crate) trait Pieces {
-    /// The search of the piece in this place.
+    /// The search of the piece at a place.
     ghost search: { Self → ℕ → Pricing };
 
     /// How many visits each piece may make.
@@ -31,7 +31,7 @@ pub(crate) trait Pieces {
         ensures value { result ≡ places self.now }
         ensures few { result ≤ 16 };
 
-    /// Returns the number of the piece in this place, among all pieces of the pricing.
+    /// Returns the number of the piece at `place`, among all pieces of the pricing.
     fn number(&self, place: usize) -> u64;
 
     fn searched(&self, alloc: Global, place: usize) -> Outcome
@@ -39,7 +39,7 @@ pub(crate) trait Pieces {
         ensures { AnswersWeighed (search self.now place) (budget self.now) result };
 }
 
-/// Searches the pieces of one worker, where there are `workers` in all, and returns their outcomes.
+/// Searches the pieces of worker `worker` of `workers`, and returns their outcomes in order.
 fn work<P: Pieces, W: Watch>(
     alloc: Global,
     watch: &W,
@@ -101,7 +101,7 @@ pub(crate) fn work_side_by_side<R: Threads + Sync, P: Pieces + Sync, W: Watch + 
     together(left, right)
 }
 
-/// Returns one list after the other, if both are there.
+/// Returns the lists of `left`, then those of `right`. Fails if one of the two failed.
 fn together(
     left: Result<Vec<Vec<Outcome>>, AllocError>,
     right: Result<Vec<Vec<Outcome>>, AllocError>,

@@ -22,7 +22,7 @@ pub record IsWithin (spans : List Ends) (point : List ℤ) : Type 0 where
   pub one_each : length point ≡ length spans
   pub inside : LieWithin spans point (length spans)
 
--- a point that is found lies in the spans; a search that ends in doubt took `most` nodes, and one more that it did not look at
+-- a point that is found lies in the spans; a search that ends in doubt spent `most + 1` nodes, and didn't look at the last of them
 abbrev pub IsFound : List Ends → ℕ → Left → Left → Found → Type 0
 IsFound spans most old new (Point point) = IsWithin spans point.items
 IsFound spans most old new Nothing = Unit {0}

@@ -19,7 +19,7 @@ pub enum Found {
     Point(Vec<Narrow>),
     /// There is no point, if the table was right.
     Nothing,
-    /// No point was found at the nodes that the search may look at, and others are left.
+    /// No point was found at the nodes that the search may look at, and further nodes are left.
     Doubt,
 }
 

@@ -56,7 +56,7 @@ pub fn add_weights(alloc: Global, table: &mut Table, weights: &[Narrow]) -> Resu
     table.aim(&goal, 1)
 }
 
-/// Returns the most that a point of values from -1 to 1 can weigh: the sum of the weights without their signs.
+/// Returns the most that a point of values from -1 to 1 can weigh: the sum of the weights' absolute values.
 pub fn reach_of(weights: &[Narrow]) -> Result<Narrow, ProveStop>
     ensures { IfErr result IsWideOrMemory }
 {

@@ -8,7 +8,7 @@ pub record Left : Type 0 where
   pub most_pivots : ℕ
   pub most_nodes : ℕ
 
--- a budget of which nothing is spent
+-- an unspent budget: all is left
 abbrev pub unspent : ℕ → ℕ → Left
 unspent pivots nodes = record { pivots = pivots; nodes = nodes; most_pivots = pivots; most_nodes = nodes }
 
@@ -17,7 +17,7 @@ pub record IsWithinMost (left : Left) : Type 0 where
   pub pivots : left.pivots ≤ left.most_pivots
   pub nodes : left.nodes ≤ left.most_nodes
 
--- the whole run may spend the same, and nothing that was spent is given back
+-- the most that the whole run may spend is unchanged, and nothing that was spent is given back
 pub record SpendsOn (old new : Left) : Type 0 where
   pub most_pivots : new.most_pivots ≡ old.most_pivots
   pub most_nodes : new.most_nodes ≡ old.most_nodes

@@ -20,6 +20,6 @@ pub record Operation : Type 0 where
   pub x : ℤ
   pub y : ℤ
 
--- the absolute value of its exact result is above 2^62
+-- an operation passes 2^62: the absolute value of its exact result is greater
 abbrev pub Passes : Operation → Type 0
 Passes o = 2 ^ 62 < unsigned_abs (outcome o.op o.x o.y)

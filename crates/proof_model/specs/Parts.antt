@@ -1,4 +1,5 @@
--- How contracts see a proof's parts and a line's node: as proofs and lines of `define_additions`. The contracts above cite `seen`.
+-- What contracts see of a proof's parts and of a node: the proofs and tree lines of `define_additions`. The contracts of this crate and
+-- of those above cite `seen`.
 use Rattle.define_additions.specs.ProofVerdict as words
 use Rattle.define_additions.specs.TreeLines as lines
 use Rattle.proof_model.specs.declared.proofs.Parts.{Parts}

@@ -1,10 +1,11 @@
-//! Leaves: a scale, and multipliers of constraints. Contracts see the same record. `trees`, `ranges` and the crates above use this.
+//! Leaves: a scale, and multipliers of constraints. Contracts see the records of `define_additions`. `trees`, `ranges` and the crates
+//! above use them.
 
 ghost use Rattle.std.specs.Prelude.{◌≡◌};
 
 use std::marker::Model;
 
-/// A constraint, by its number, and what it is multiplied by.
+/// A constraint's number, and the factor that multiplies the constraint.
 #[derive(Debug, Drop)]
 pub struct Multiplier {
     number: usize,
@@ -20,7 +21,7 @@ impl Model for Multiplier {
 }
 
 impl Multiplier {
-    /// Returns a multiplier of the constraint of this number.
+    /// Returns the multiplier of constraint `number` with `factor`.
     pub fn new(number: usize, factor: i128) -> Multiplier
         ensures { result ≡ record { number = number; factor = factor } }
     {
@@ -34,7 +35,7 @@ impl Multiplier {
         self.number
     }
 
-    /// Returns what the constraint is multiplied by.
+    /// Returns the factor, which may be negative.
     pub fn factor(&self) -> i128
         ensures { result ≡ self.now.factor }
     {
@@ -42,7 +43,7 @@ impl Multiplier {
     }
 }
 
-/// Multipliers of constraints, and the scale, by which the stage's weights are multiplied.
+/// A scale, which multiplies the stage's weights, and multipliers of constraints.
 #[derive(Debug, Drop)]
 pub struct Leaf {
     scale: u64,
@@ -58,14 +59,14 @@ impl Model for Leaf {
 }
 
 impl Leaf {
-    /// Returns a leaf.
+    /// Returns the leaf of this scale and these multipliers, which need not be in their ranges.
     pub fn new(scale: u64, multipliers: Vec<Multiplier>) -> Leaf
         ensures { result ≡ record { scale = scale; multipliers = multipliers.items } }
     {
         Leaf { scale, multipliers }
     }
 
-    /// Returns what the stage's weights are multiplied by.
+    /// Returns the scale, which multiplies the weights of the stage.
     pub fn scale(&self) -> u64
         ensures { result ≡ self.now.scale }
     {

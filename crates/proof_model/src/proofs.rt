@@ -1,5 +1,5 @@
-//! Proofs: a bundle with a tree for each stage, or a pool with a tree that is to show that there is no quota panel. Stands on `ranges` and
-//! `trees`; readers, writers, the verifier and the run take and return `Proof`.
+//! Proofs: a bundle with a tree for each stage, or a pool with a tree which shows that there is no quota panel, if the proof is valid.
+//! Stands on `ranges` and `trees`; readers, writers, the verifier and the run take and return `Proof`.
 
 ghost use Rattle.std.specs.Prelude.{◌≡◌, ◌↔◌, IfSome, IsSome, IsTrue};
 ghost use Rattle.define_additions.specs.ProofVerdict.{OfLottery, OfNoPanel};
@@ -12,20 +12,20 @@ use bundle_text::Bundle;
 use pool_model::Pool;
 use std::marker::Model;
 
-/// The greatest number of trees.
+/// The greatest number of trees: one for each stage.
 const MOST_TREES: usize = 400;
 
 /// The parts of a proof.
 #[derive(Debug, Drop)]
 pub enum Parts {
-    /// A lottery with its stages, and for each stage the lines of a tree.
+    /// A bundle, and for each stage of its certificate the lines of a tree.
     Lottery(Bundle, Vec<TreeLines>),
-    /// A pool, and the lines of a tree that is to show that it has no quota panel.
+    /// A pool, and the lines of one tree, which shows that there is no quota panel if the proof is valid.
     NoPanel(Pool, TreeLines),
 }
 
 /// A proof of a lottery, with one tree for each of at most 400 stages, or a proof that there is no quota panel. The lines of the trees
-/// keep their ranges, so each proof has a text. Whether it is valid is for `proof_verify` to say.
+/// are in their ranges, so each proof has a text. `proof_verify` decides whether the proof is valid.
 #[derive(Debug, Drop)]
 pub struct Proof {
     parts: Parts,
@@ -44,8 +44,8 @@ impl Model for Proof {
 }
 
 impl Proof {
-    /// Returns the proof of a lottery by these trees. Some exactly if there is one tree for each of at most 400 stages and all lines keep
-    /// their ranges.
+    /// Returns the proof of the bundle's lottery by `trees`; None if there isn't one tree for each stage, if there are more than 400, or
+    /// if a line is out of its ranges.
     pub fn of_lottery(bundle: Bundle, trees: Vec<TreeLines>) -> Option<Proof>
         ensures value { IfSome result (λ proof. proof ≡ OfLottery bundle.pool bundle.answer trees.items) }
         ensures exact { IsSome result ↔ IsProof (OfLottery bundle.pool bundle.answer trees.items) }
@@ -59,7 +59,7 @@ impl Proof {
         }
     }
 
-    /// Returns the proof that there is no quota panel, by these lines. Some exactly if they keep their ranges.
+    /// Returns the proof by `lines` that the pool has no quota panel; None if a line is out of its ranges.
     pub fn of_no_panel(pool: Pool, lines: TreeLines) -> Option<Proof>
         ensures value { IfSome result (λ proof. proof ≡ OfNoPanel pool lines) }
         ensures exact { IsSome result ↔ IsProof (OfNoPanel pool lines) }
@@ -73,14 +73,14 @@ impl Proof {
         }
     }
 
-    /// Returns the parts.
+    /// Returns the parts of the proof.
     pub fn parts(&self) -> &Parts
         ensures { seen result.now ≡ self.now }
     {
         &self.parts
     }
 
-    /// Does nothing. Its contract says what holds of every proof.
+    /// Does nothing. Its contract says that the pool or bundle, the number of trees and their lines are within their limits.
     pub fn facts(&self)
         ensures { IsProof self.now }
     {
@@ -88,7 +88,7 @@ impl Proof {
     }
 }
 
-/// True if these parts make a proof of a lottery.
+/// True if the bundle with the trees is a proof: one tree for each of at most 400 stages, all lines in their ranges.
 fn is_lottery_proof(bundle: &Bundle, trees: &[TreeLines]) -> bool
     ensures { IsTrue result ↔ IsLotteryProof bundle.now.pool bundle.now.answer trees.now }
 {
@@ -98,7 +98,7 @@ fn is_lottery_proof(bundle: &Bundle, trees: &[TreeLines]) -> bool
     trees.len() == stages.len() && trees.len() <= MOST_TREES && are_trees(volunteers, trees)
 }
 
-/// True if these parts make a proof that there is no quota panel.
+/// True if the pool with the lines is a proof: all lines are in their ranges.
 fn is_no_panel_proof(pool: &Pool, lines: &TreeLines) -> bool
     ensures { IsTrue result ↔ IsNoPanelProof pool.now lines.now }
 {

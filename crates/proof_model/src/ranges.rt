@@ -8,7 +8,7 @@ ghost use Rattle.define_additions.specs.TreeRanges.{is_leaf as keeps_leaf, is_mu
 use crate::leaves::{Leaf, Multiplier};
 use crate::trees::{Node, TreeLine, TreeLines};
 
-/// The greatest number of a constraint.
+/// The greatest number of a constraint that a multiplier may name.
 const LAST_CONSTRAINT: usize = 1800;
 
 /// The greatest absolute value of a factor: 2^56.
@@ -17,7 +17,7 @@ const MAX_FACTOR: u128 = 72_057_594_037_927_936;
 /// The greatest scale: 2^56.
 const MAX_SCALE: u64 = 72_057_594_037_927_936;
 
-/// True if the line is a split on one of `volunteers` volunteers, or a leaf in its ranges.
+/// True if the line is a split on a number below `volunteers`, or a leaf in its ranges.
 pub fn is_tree_line(volunteers: usize, line: &TreeLine) -> bool
     ensures { result ≡ keeps_line volunteers line.now }
 {
@@ -35,7 +35,7 @@ pub fn is_leaf(leaf: &Leaf) -> bool
     leaf.scale() <= MAX_SCALE && are_multipliers(multipliers) && are_in_order(multipliers)
 }
 
-/// True if the number is at most 1800, and the factor is not 0 and at most 2^56 without its sign.
+/// True if the number is at most 1800, and the factor isn't 0 and has an absolute value of at most 2^56.
 pub fn is_multiplier(multiplier: &Multiplier) -> bool
     ensures { result ≡ keeps_multiplier multiplier.now }
 {
@@ -50,7 +50,7 @@ fn are_multipliers(multipliers: &[Multiplier]) -> bool
     multipliers.iter().all(is_multiplier)
 }
 
-/// True if the numbers of the constraints rise.
+/// True if the constraints' numbers are in rising order, so none comes twice.
 fn are_in_order(multipliers: &[Multiplier]) -> bool
     ensures { result ≡ is_increasing (map (λ multiplier. multiplier.number) multipliers.now) }
 {
@@ -70,14 +70,14 @@ fn number_at(multipliers: &[Multiplier], i: usize) -> usize
     multipliers[i].number()
 }
 
-/// True if all lines keep their ranges.
+/// True if all lines are in their ranges, for a pool of `volunteers` volunteers.
 pub(crate) fn are_tree_lines(volunteers: usize, lines: &[TreeLine]) -> bool
     ensures { result ≡ list_all (keeps_line volunteers) lines.now }
 {
     lines.iter().all(|line| is_tree_line(volunteers, line))
 }
 
-/// True if all lines of all trees keep their ranges.
+/// True if all lines of all trees are in their ranges, for a pool of `volunteers` volunteers.
 pub(crate) fn are_trees(volunteers: usize, trees: &[TreeLines]) -> bool
     ensures { result ≡ list_all (λ lines. list_all (keeps_line volunteers) lines) trees.now }
 {

@@ -1,4 +1,4 @@
-//! Trees as lists of lines, one for each node. Stands on `leaves`; readers, writers and the verifier go through the lines.
+//! Trees as lists of lines, one for each node. Stands on `leaves`; readers, writers and the verifier read the lines in order.
 
 ghost use Rattle.std.specs.Prelude.{◌≡◌, ◌++◌, ◌∷◌, [], OnOk, OnErr};
 ghost use Rattle.define_additions.specs.TreeLines.{OfLeaf, OfSplit};
@@ -11,13 +11,13 @@ use std::marker::Model;
 /// A node of a tree.
 #[derive(Debug, Drop)]
 pub enum Node {
-    /// A split on the volunteer of this number. The subtree without the volunteer follows, and then the subtree with the volunteer.
+    /// A split on the volunteer of this number. First the subtree without the volunteer follows, then the one with the volunteer.
     Split(usize),
     /// A leaf.
     Leaf(OneLeaf),
 }
 
-/// A line of a tree.
+/// A line of a tree, which is one node.
 #[derive(Debug, Drop)]
 pub struct TreeLine {
     node: Node,
@@ -59,7 +59,7 @@ impl TreeLine {
     }
 }
 
-/// Lines, in order. They need not be those of a tree.
+/// A list of lines. They need not be those of a whole tree.
 #[derive(Debug, Drop)]
 pub struct TreeLines {
     lines: Vec<TreeLine>,
@@ -75,14 +75,14 @@ impl Model for TreeLines {
 }
 
 impl TreeLines {
-    /// Returns these lines.
+    /// Returns the list of these lines.
     pub fn new(lines: Vec<TreeLine>) -> TreeLines
         ensures { result ≡ lines.items }
     {
         TreeLines { lines }
     }
 
-    /// Adds a line after the others.
+    /// Appends a line.
     pub fn add_line(&mut self, line: TreeLine) -> Result<(), AllocError>
         ensures ok { OnOk result (self.new ≡ self.old ++ line ∷ []) }
         ensures err { OnErr result (self.new ≡ self.old) }

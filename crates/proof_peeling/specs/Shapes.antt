@@ -3,7 +3,7 @@ use Rattle.std.specs.Prelude.{◌≡◌, ◌+◌, length, IfSome}
 use Rattle.proof_peeling.specs.declared.lotteries.PeelingRun.{PeelingRun}
 use Rattle.proof_peeling.specs.declared.tails.PanelMix.{PanelMix}
 
--- a tail has a span for each column and row of its table, and the table has a row for each volunteer of `moving` and one for the total
+-- a tail has a span for each column and row of its table; the table has a row for each volunteer in `moving`, and one for the total
 pub record IsPanelMix (mix : PanelMix) : Type 0 where
   pub columns : length mix.columns.items ≡ mix.table.columns
   pub rows : length mix.rows.items ≡ mix.table.rows
@@ -14,7 +14,7 @@ pub record IsPeelingRun (run : PeelingRun) : Type 0 where
   pub remainder : length run.remainder.parts.items ≡ length run.program.now.firsts
   pub best : IfSome run.best (λ best. length best.parts.items ≡ length run.program.now.firsts)
 
--- the table has a column for each volunteer, and a row for each row that panels keep
+-- the table has a column for each volunteer, and a row for each of the run's rows
 pub record HasTable (run : PeelingRun) : Type 0 where
   pub columns : run.table.columns ≡ length run.program.now.firsts
   pub rows : run.table.rows ≡ length run.rows.now.rows.items

@@ -8,9 +8,9 @@ use crate::rows::PanelRow;
 use proof_limits::{Narrow, ProveStop, Span, times};
 use std::alloc::Global;
 
-/// Spans that each panel keeps that can be peeled off a remainder. A volunteer with all of the total is on the panel, one with nothing is
-/// not. A row whose sum over the remainder is at an end of its span has this end as its sum for the panel. `sums` has the rows' sums over
-/// the remainder.
+/// Spans that hold of each panel that can be peeled off a remainder. If a volunteer's part is all of the total, the volunteer is on each
+/// such panel; if it is 0, on none. If a row's sum over the remainder is an end of its span times the total, each such panel's sum is that
+/// end. `sums` has the rows' sums over the remainder.
 #[derive(Debug, Drop)]
 pub(crate) struct Face {
     pub(crate) columns: Vec<Span>,
@@ -46,7 +46,7 @@ impl Face {
         })
     }
 
-    /// True if a panel, given by a value of 0 or 1 for each volunteer, keeps the face.
+    /// True if a panel, given by a value of 0 or 1 for each volunteer, is within the spans of the face.
     pub(crate) fn has(&self, rows: &[PanelRow], point: &[Narrow]) -> Result<bool, ProveStop> {
         if !self
             .columns
@@ -65,7 +65,7 @@ impl Face {
     }
 }
 
-/// Returns the span of a volunteer with this part of the total.
+/// Returns the span of a volunteer with this part of the total: 1 if it is all, 0 if it is nothing, else from 0 to 1.
 fn column_span(part: Narrow, total: Narrow) -> Span {
     let least = if part.get() >= total.get() {
         Narrow::ONE
@@ -80,7 +80,7 @@ fn column_span(part: Narrow, total: Narrow) -> Span {
     Span::reaching(least, greatest)
 }
 
-/// Returns the span of a row. It is one number if the sum over the remainder is the greatest or the least that the row allows.
+/// Returns the span of a row with the sum `sum` over the remainder: one number if the sum is the greatest or the least that the row allows.
 fn row_span(span: Span, sum: i128, total: Narrow) -> Span {
     if sum == times(span.greatest(), total) {
         Span::point(span.greatest())

@@ -1,6 +1,6 @@
-//! A lottery over panels that gives each volunteer the chance of a point. Panels are peeled off the point one after the other. If a
+//! Makes a lottery over panels that gives each volunteer the chance of a point. Panels are peeled off the point one after the other. If a
 //! remainder is left, an exact table looks for weights of the panels seen that make it up. Stands on `proof_stages`, `proof_program`,
-//! `proof_branching`, `proof_table` and `proof_limits`; `proof_run` stands on it.
+//! `proof_branching`, `proof_table` and `proof_limits`. Used by `proof_run`.
 //! Promises: each call is safe and ends, and gives nothing of the budget back. That the lottery has the point's chances is no promise:
 //! `proof_verify` tests each proof.
 #![tactic(auto)]

@@ -19,7 +19,7 @@ use std::alloc::Global;
 /// How many turns of peeling each round has. One more turn comes before the first round.
 const TURNS: [u64; 4] = [12, 12, 48, 96];
 
-/// How far pseudo-random numbers may shift a wish in all turns but the first.
+/// How far pseudo-random numbers may shift a volunteer's wish, up or down, in all turns but the first.
 const WILDNESS: u32 = 40;
 
 /// A remainder is doubled only if its whole is below this number, 2^56.
@@ -37,7 +37,7 @@ pub struct WeightedPanel {
     pub members: Vec<usize>,
 }
 
-/// What was found for a point.
+/// The result for a point.
 #[derive(Debug, Drop)]
 pub enum Peeled {
     /// Panels with weights. A panel may come more than once.
@@ -60,8 +60,8 @@ struct PeelingRun<'a> {
     best: Option<Remainder>,
 }
 
-/// Makes a lottery over panels of `size` members that keep the rows, in which each volunteer has the chance of their column. The contract
-/// says nothing of the lottery, since each proof is verified before it is printed.
+/// Makes a lottery over panels of `size` members that satisfy the rows, in which each volunteer has the chance of their column. The
+/// contract says nothing of the lottery, since each proof is verified before it is printed.
 pub fn lottery_of_point(
     alloc: Global,
     program: &Program,
@@ -97,7 +97,7 @@ fn tail_width() -> Narrow {
     }
 }
 
-/// Returns a table with a column for each volunteer and these rows.
+/// Returns a table with a column for each volunteer and the rows `rows`.
 fn loaded(alloc: Global, program: &Program, rows: &PanelRows) -> Result<Table, ProveStop>
     ensures columns { IfOk result (λ table. table.columns ≡ length program.now.firsts) }
     ensures rows { IfOk result (λ table. table.rows ≡ length rows.now.rows.items) }
@@ -139,7 +139,7 @@ fn is_too_wide(found: &Result<Peeled, ProveStop>) -> bool {
 }
 
 impl PeelingRun<'_> {
-    /// Makes the lottery: one quiet turn, then rounds of turns, with tails after each round.
+    /// Makes the lottery: one turn without pseudo-random shifts, then rounds of turns, with tails after each round.
     fn lottery(&mut self, budget: &mut Budget) -> Result<Peeled, ProveStop>
         requires run { IsPeelingRun self.old }
         requires table { HasTable self.old }
@@ -300,7 +300,8 @@ impl PeelingRun<'_> {
         self.return_to_best()
     }
 
-    /// Tries tails. While the remainder is no mix of panels, puts back twice as many panels as before and tries again.
+    /// Tries tails. If the remainder is no mix of panels, or a tail ends in doubt, puts back 2 panels, then 4, 8 and so on, and tries
+    /// again. Once no panel is left to put back, returns `Outside` or `Doubt`.
     fn tails(&mut self, is_last: bool, budget: &mut Budget) -> Result<Peeled, ProveStop>
         requires run { IsPeelingRun self.old }
         requires table { HasTable self.old }
@@ -335,8 +336,8 @@ impl PeelingRun<'_> {
         Err(ProveStop::Lost)
     }
 
-    /// Returns the panels that were taken off and those of the tail, with their weights times `denominator`, which is that of the tail's
-    /// weights.
+    /// Returns the panels that were taken off, with their weights times `denominator`, and those of the tail. `denominator` is that of the
+    /// tail's weights.
     fn found(&self, tail: &[(i128, usize)], denominator: Narrow) -> Result<Peeled, ProveStop> {
         let mut panels = Vec::new(self.alloc);
         for taken in &self.remainder.taken {

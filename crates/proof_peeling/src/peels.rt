@@ -1,5 +1,5 @@
-//! Peeling: panels are taken off a remainder, each as often as the remainder keeps the quotas on average, until nothing is left. Stands on
-//! `faces`, `remainders`, `seen` and `odds`; `lotteries` calls `peel`.
+//! Peeling: panels are taken off a remainder, one after the other, until nothing is left. Each is taken off as often as possible while
+//! the rest still meets the quotas on average. Stands on `faces`, `remainders`, `seen` and `odds`; `lotteries` calls `peel`.
 
 ghost use Rattle.std.specs.Prelude.{◌≡◌, length};
 ghost use Rattle.proof_table.specs.Sizes.{SameSizes};
@@ -18,7 +18,7 @@ use std::alloc::Global;
 /// How many nodes a search for a panel may look at.
 pub(crate) const MOST_NODES: u64 = 2000;
 
-/// The number of a turn of peeling, which seeds its pseudo-random numbers, and how much they may change wishes.
+/// The number of a turn of peeling. It seeds the turn's pseudo-random numbers.
 #[derive(Clone, Copy, Debug)]
 pub(crate) struct Turn {
     pub(crate) number: u64,
@@ -61,7 +61,8 @@ pub(crate) fn peel(
     Ok(true)
 }
 
-/// Returns how much each volunteer is wished for: more if more of the remainder is theirs, and a little at random.
+/// Returns a wish for each volunteer; a search prefers panels with a great sum of wishes. The greater the volunteer's part of the
+/// remainder, the greater the wish, except for a pseudo-random shift.
 fn wishes_of(
     alloc: Global,
     remainder: &Remainder,
@@ -84,7 +85,7 @@ fn wishes_of(
     Ok(wishes)
 }
 
-/// Returns how often a panel can be taken off such that the remainder keeps each row on average.
+/// Returns how often a panel can be taken off so that the remainder still satisfies each row on average.
 fn greatest_weight(
     remainder: &Remainder,
     face: &Face,
@@ -107,8 +108,8 @@ fn greatest_weight(
     narrow_add(weight, 0)
 }
 
-/// Returns how often a panel can be taken off such that the remainder keeps one row on average. `own` is the panel's sum in this row, and
-/// `sum` the remainder's.
+/// Returns how often a panel can be taken off so that the remainder still satisfies one row on average. `own` is the panel's sum in this
+/// row, and `sum` the remainder's.
 fn row_weight(own: i128, span: Span, sum: i128, total: Narrow) -> Result<i128, ProveStop> {
     let (least, greatest) = (span.least(), span.greatest());
     let mut weight = total.wide();
@@ -123,7 +124,7 @@ fn row_weight(own: i128, span: Span, sum: i128, total: Narrow) -> Result<i128, P
     Ok(weight)
 }
 
-/// Returns a quotient, rounded towards 0.
+/// Returns `x / y`, rounded towards 0. Stops if `y` is 0.
 fn quotient(x: i128, y: i128) -> Result<i128, ProveStop> {
     x.checked_div(y).ok_or(ProveStop::Lost)
 }

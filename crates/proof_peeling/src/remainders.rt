@@ -6,7 +6,7 @@ use crate::seen::SeenPanels;
 use proof_limits::{Narrow, ProveStop, narrow_add, narrow_sub, times};
 use std::alloc::{AllocError, Global};
 
-/// A panel that was taken off, by its number, and how often.
+/// A panel that was taken off, by its number among the panels seen, and how often.
 #[derive(Clone, Copy, Debug)]
 pub(crate) struct Taken {
     pub(crate) weight: Narrow,
@@ -24,7 +24,7 @@ pub(crate) struct Remainder {
 }
 
 impl Remainder {
-    /// Returns a copy.
+    /// Returns a copy of the remainder.
     pub(crate) fn copy(&self, alloc: Global) -> Result<Remainder, AllocError>
         ensures { IfOk result (λ copied. length copied.parts.items ≡ length self.now.parts.items) }
     {
@@ -65,7 +65,7 @@ impl Remainder {
         Ok(())
     }
 
-    /// Doubles all numbers.
+    /// Doubles the parts, the totals and the weights of the panels taken off, so that all fractions stay the same.
     pub(crate) fn double(&mut self) -> Result<(), ProveStop>
         ensures { length self.new.parts.items ≡ length self.old.parts.items }
     {
@@ -82,7 +82,7 @@ impl Remainder {
     }
 }
 
-/// Takes a weight from the part of each member.
+/// Subtracts `weight` from the part of each member.
 fn take_from(parts: &mut [Narrow], members: &[usize], weight: Narrow) -> Result<(), ProveStop>
     ensures { length parts.new ≡ length parts.old }
 {
@@ -94,7 +94,7 @@ fn take_from(parts: &mut [Narrow], members: &[usize], weight: Narrow) -> Result<
     Ok(())
 }
 
-/// Adds a weight to the part of each member.
+/// Adds `weight` to the part of each member.
 fn add_to(parts: &mut [Narrow], members: &[usize], weight: Narrow) -> Result<(), ProveStop>
     ensures { length parts.new ≡ length parts.old }
 {

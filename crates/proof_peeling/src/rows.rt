@@ -1,5 +1,5 @@
-//! The rows that each panel of a lottery keeps: those of the quotas, and those of stages. `faces`, `peels`, `tails` and `lotteries` use them;
-//! `proof_run` makes `PanelRows`, and uses `weights_of`. Promises: the lengths.
+//! The rows that each panel of a lottery satisfies: those of the quotas, and one for each stage. `faces`, `peels`, `tails` and `lotteries`
+//! use them; `proof_run` makes `PanelRows`, and uses `weights_of`. Promises: the lengths.
 
 ghost use Rattle.std.specs.Prelude.{◌≡◌, ◌+◌, length, IfOk};
 
@@ -16,7 +16,7 @@ pub(crate) struct PanelRow {
     pub(crate) span: Span,
 }
 
-/// The rows that each panel of a lottery keeps.
+/// The rows that each panel of a lottery satisfies.
 #[derive(Debug, Drop)]
 pub struct PanelRows {
     pub(crate) rows: Vec<PanelRow>,
@@ -62,7 +62,7 @@ pub fn weights_of(
     Ok(own)
 }
 
-/// Returns a row with these coefficients.
+/// Returns a row with the coefficients `coefficients` and the span `span`.
 fn panel_row(alloc: Global, coefficients: Vec<Narrow>, span: Span) -> Result<PanelRow, ProveStop> {
     let mut places = Vec::new(alloc);
     for (i, coefficient) in coefficients.iter().enumerate() {
@@ -78,7 +78,7 @@ fn panel_row(alloc: Global, coefficients: Vec<Narrow>, span: Span) -> Result<Pan
 }
 
 impl PanelRow {
-    /// Returns the sum of the row over values of volunteers.
+    /// Returns the sum of the coefficients times the volunteers' values.
     pub(crate) fn sum(&self, values: &[Narrow]) -> Result<i128, ProveStop> {
         let mut sum = 0;
         for place in &self.places {

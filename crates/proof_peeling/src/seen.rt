@@ -12,7 +12,7 @@ pub(crate) struct SeenPanels {
 }
 
 impl SeenPanels {
-    /// Begins with no panel.
+    /// Returns a collection with no panel yet, for panels of `size` members.
     pub(crate) fn new(alloc: Global, size: usize) -> SeenPanels {
         SeenPanels {
             alloc,
@@ -26,7 +26,7 @@ impl SeenPanels {
         &self.panels
     }
 
-    /// Returns the members of the panel of a number, or none if there is no such panel.
+    /// Returns the members of panel `number`, or none if there is no such panel.
     pub(crate) fn members(&self, number: usize) -> &[usize] {
         match self.panels.get(number) {
             Some(members) => members,
@@ -34,8 +34,8 @@ impl SeenPanels {
         }
     }
 
-    /// Adds the panel of a point, if it is new, and returns its number. Stops if the point has a value other than 0 and 1, or not exactly
-    /// `size` ones.
+    /// Adds the panel of a point, if it is new, and returns its number. Stops if a value of the point is neither 0 nor 1, or if not exactly
+    /// `size` of them are 1.
     pub(crate) fn see(&mut self, point: &[Narrow]) -> Result<usize, ProveStop> {
         let mut members = Vec::new(self.alloc);
         for (i, value) in point.iter().enumerate() {

@@ -19,7 +19,7 @@ use std::alloc::Global;
 /// How many further panels a tail may search for.
 const MOST_STEPS: usize = 600;
 
-/// The greatest pseudo-random number that is a panel's part of the goal. These parts break ties.
+/// The greatest pseudo-random number that is a panel's part of the goal. These parts break ties between panels.
 const MOST_TIE_BREAK: u64 = 64;
 
 /// The result of a tail.
@@ -33,8 +33,8 @@ pub(crate) enum Tail {
     Doubt,
 }
 
-/// The table of a tail: a column for each panel of the face, a row for each volunteer whom the face leaves open, and a row for the total.
-/// `moving` has these volunteers, and `panels` the numbers of the panels.
+/// The table of a tail: a column for each panel of the face, a row for each volunteer whose span in the face is from 0 to 1, and a row for
+/// the total. `moving` has the numbers of the volunteers with a row, and `panels` those of the panels.
 #[derive(Drop)]
 struct PanelMix {
     table: Table,
@@ -45,7 +45,7 @@ struct PanelMix {
     rows: Vec<Span>,
 }
 
-/// Looks for weights of panels that make up a remainder exactly. Stops if an entry of the tail's table passes `width`.
+/// Looks for weights of panels that make up a remainder exactly. Stops if an entry of the tail's table is greater than `width`.
 pub(crate) fn tail_of(
     alloc: Global,
     table: &mut Table,
@@ -87,7 +87,7 @@ pub(crate) fn tail_of(
     Ok(Tail::Doubt)
 }
 
-/// Returns the numbers of the seen panels that keep a face, sorted by their members.
+/// Returns the numbers of the seen panels that are within a face, sorted by their members.
 fn panels_of(
     alloc: Global,
     seen: &SeenPanels,
@@ -105,7 +105,7 @@ fn panels_of(
     Ok(numbers)
 }
 
-/// Returns a value of 1 for each member, and 0 for each other volunteer.
+/// Returns a point with the value 1 for each member, and 0 for each other volunteer.
 fn point_of(alloc: Global, members: &[usize], volunteers: usize) -> Result<Vec<Narrow>, ProveStop> {
     let mut point = vec![in alloc; Narrow::ZERO; volunteers]?;
     for member in members {
@@ -145,7 +145,7 @@ fn beat(
 }
 
 impl PanelMix {
-    /// Begins with the rows of a remainder, and no panel.
+    /// Returns the tail of a remainder, with its rows and without panels.
     fn new(
         alloc: Global,
         remainder: &Remainder,
@@ -179,7 +179,7 @@ impl PanelMix {
         })
     }
 
-    /// Adds a column for the seen panel of this number.
+    /// Adds a column for the seen panel of number `number`.
     fn join(
         &mut self,
         alloc: Global,
@@ -212,7 +212,7 @@ impl PanelMix {
         self.table.run(&self.columns, &self.rows, budget)
     }
 
-    /// Returns the panels whose weights in the point that was found are not 0, with these weights.
+    /// Returns the panels whose weights in the table's point are not 0, with these weights.
     fn weights(&self, alloc: Global) -> Result<Tail, ProveStop> {
         let values = self.table.point(alloc)?;
         let mut weights = Vec::new(alloc);
@@ -224,8 +224,8 @@ impl PanelMix {
         Ok(Tail::Inside(weights, self.table.denominator()))
     }
 
-    /// Returns how much each volunteer is wished for on a further panel, which is minus the multiplier of their row, and the least sum of
-    /// wishes of a panel that helps.
+    /// Returns a wish for each volunteer, which is minus the multiplier of their row, or 0 if they have no row; and the least sum of wishes
+    /// of a panel that helps.
     fn wanted(
         &self,
         alloc: Global,

@@ -8,7 +8,7 @@ use Rattle.define_additions.specs.Constraints.{Constraint, category_constraints,
 use Rattle.define_pools.specs.Pool.{Category, Pool}
 use Rattle.proof_program.proofs.ListSteps.{numbered_at}
 
--- the constraints of one more category are added
+-- if the constraints of category `k` are appended to those of the first `k` categories, they are those of the first `k + 1`
 pub category_added : (pool : Pool) (k : ℕ) (category : Category) (old new : List Constraint) → k < length pool.categories → category ≡ get_or pool.categories k category →
     old ≡ size_constraint pool ∷ flat_map (category_constraints pool) (take k (enumerate_from 0 pool.categories)) → new ≡ old ++ category_constraints pool (k, category) →
     new ≡ size_constraint pool ∷ flat_map (category_constraints pool) (take (k + 1) (enumerate_from 0 pool.categories))

@@ -6,7 +6,7 @@ use Rattle.std.proofs.lemmas.List.Elements.{filter-append}
 use Rattle.std.proofs.lemmas.List.FromFn.{get_or-enumerate_from}
 use Rattle.laws_basic.proofs.Lists.{numbers_more}
 
--- element `k` of a numbered list
+-- element `k` of a numbered list is `k` with element `k` of the list
 pub numbered_at : {X : Type 0} (xs : List X) (k : ℕ) (x : X) → k < length xs → x ≡ get_or xs k x → get_or (enumerate_from 0 xs) k (k, x) ≡ (k, x)
 numbered_at xs k x l e = get_or-enumerate_from 0 xs k (k, x) l ∙ ap₂ (λ n y. (n, y)) (let at : 0 + k ≡ k = omega arith in at) (sym e)
 

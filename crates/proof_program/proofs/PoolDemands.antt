@@ -19,7 +19,7 @@ use Rattle.proof_program.specs.Demands.{AreDemands, HasBounds, constraint_of}
 use Rattle.proof_program.specs.Programs.{quota_constraints}
 use Rattle.define_searches.proofs.Limits.{category_parts, value_parts}
 
--- bounds in order and at most 999, and coefficients of 0 or 1
+-- the bounds are in order and at most 999, and each coefficient is 0 or 1
 pub record Counts (constraint : Constraint) : Type 0 where
   pub in_order : constraint.lower ≤ℤ constraint.upper
   pub small : constraint.upper ≤ℤ pos 999

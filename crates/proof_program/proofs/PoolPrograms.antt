@@ -54,7 +54,7 @@ module _ (pool : Pool) (is : IsPool pool) (numbers : List ℕ) (columns : List C
         rows = are_rows;
       }
 
--- a program with these parts is the program of the pool over the columns
+-- if a program's parts are those of the columns and of the pool's constraints, it is the program of the pool over the columns
 pub same_program : (pool : Pool) (numbers : List ℕ) (columns : List Column) (leaders : List ℕ) (sizes : List ℤ) (spans : List Ends) (rows : List QuotaRow) (quotas : ℕ) →
     leaders ≡ map (λ column. column.first) columns → sizes ≡ map (λ column. pos column.size) columns → spans ≡ map span_of columns → rows ≡ rows_of columns (constraints pool []) →
     quotas ≡ length (quota_constraints pool) →

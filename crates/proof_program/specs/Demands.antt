@@ -10,7 +10,7 @@ use Rattle.proof_program.specs.declared.demands.Counted.{Counted}
 use Rattle.proof_program.specs.declared.demands.Counted.TheVariants.{Everybody, WithValue, OfHousehold}
 use Rattle.proof_program.specs.declared.demands.Demand.{Demand}
 
--- whether volunteer `i` is one of those whom a demand counts
+-- true if volunteer `i` is among those whom a demand counts
 abbrev pub is_counted : Pool → Counted → ℕ → Bool
 is_counted pool Everybody i = true
 is_counted pool (WithValue category value) i = slice_index (volunteer pool.volunteers i).values category == value
@@ -20,7 +20,7 @@ is_counted pool (OfHousehold number) i = is_of_household number (shared_househol
 abbrev pub constraint_of : Pool → Demand → Constraint
 constraint_of pool demand = counting pool (is_counted pool demand.counted) demand.lower demand.upper
 
--- for each volunteer the number of the household that they share, or None
+-- for each volunteer, the number of the household that the volunteer shares, or None
 abbrev pub shared_households : Pool → List (Option ℕ)
 shared_households pool = map (shared_household pool.volunteers) (everybody pool)
 
@@ -29,7 +29,7 @@ abbrev pub household_of : Option Class → Option ℕ
 household_of None = None
 household_of (Some class) = class.household
 
--- a column has from 1 to 400 members, and its bounds are in order
+-- a column has from 1 to 400 members, and its bounds are in order and at most its size
 pub record IsColumn (column : Column) : Type 0 where
   pub has_member : 1 ≤ column.size
   pub few : column.size ≤ 400

@@ -1,4 +1,5 @@
--- The program of a pool's quotas: columns of alike volunteers or of single ones, and a row for each constraint that a point of the columns can break.
+-- The program of a pool's quotas: columns of alike volunteers or of single ones, and a row for each constraint that a point of the columns
+-- can break.
 use Rattle.std.specs.Prelude.{◌≡◌, ℕ, ◌+◌, ◌<◌, ◌≤◌, nat_lt, if◌then◌else◌, Bool, ◌||◌, List, [], ◌∷◌, map, filter, length, slice_index, ℤ, pos, ◌*ℤ◌, ◌≤ℤ◌, int_lt}
 use Rattle.std.specs.List.{All, enumerate_from, flat_map}
 use Rattle.define_additions.specs.Constraints.{Constraint, category_constraints, coefficient, constraints, signed_sum, size_constraint}
@@ -38,11 +39,12 @@ row_of columns (number, constraint) = record {
   span = record { least = constraint.lower; greatest = constraint.upper };
 }
 
--- a constraint's sum if a panel has `count` members of each column; the columns' least or greatest counts give the least or greatest sum
+-- the constraint's sum if a panel has `count column` members of each column. If no coefficient is below 0, the sum is least at the columns'
+-- least counts, and greatest at their greatest counts
 abbrev pub sum_over : (Column → ℕ) → List Column → Constraint → ℤ
 sum_over count columns constraint = signed_sum (λ column. coefficient constraint column.first *ℤ pos (count column)) columns
 
--- whether some point of the columns' spans breaks a constraint
+-- true if some point of the columns' spans breaks the constraint, whose coefficients are at least 0
 abbrev pub can_break : List Column → ℕ × Constraint → Bool
 can_break columns (number, constraint) =
     int_lt (sum_over (λ column. column.least) columns constraint) constraint.lower

@@ -92,7 +92,7 @@ pub(crate) fn push_households(
     Ok(())
 }
 
-/// Returns for each volunteer the number of the household that they share, or None. It is taken from the volunteer's class.
+/// Returns, for each volunteer, the number of the household that the volunteer shares, or None. It is that of the volunteer's class.
 pub(crate) fn shared_households(
     alloc: Global,
     pool: &Pool,
@@ -108,7 +108,7 @@ pub(crate) fn shared_households(
     Ok(households)
 }
 
-/// Returns the households of the classes of these numbers.
+/// Returns, for each of `numbers`, the shared household of the class with this number, or None.
 fn class_households(
     alloc: Global,
     classes: &[Class],
@@ -122,7 +122,7 @@ fn class_households(
         .collect(alloc)
 }
 
-/// Returns the shared household of the class of a number, if it has one.
+/// Returns the shared household of the class with this number, or None.
 fn class_household(classes: &[Class], number: usize) -> Option<usize>
     ensures { result ≡ household_in (slice_get classes.now number) }
 {
@@ -175,7 +175,7 @@ fn household_of(pool: &Pool, households: &[Option<usize>], i: usize) -> Option<u
     }
 }
 
-/// True if `household` is that of this number.
+/// True if there is a household, and `number` is its number.
 fn is_of_household(household: Option<usize>, number: usize) -> bool
     ensures { result ≡ is_member number household }
 {

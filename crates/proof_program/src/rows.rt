@@ -123,7 +123,7 @@ fn reach(
     (least, greatest)
 }
 
-/// Returns the row of a demand, which has this number.
+/// Returns the row of `demand`, which is the demand with this number.
 fn row(
     alloc: Global,
     pool: &Pool,

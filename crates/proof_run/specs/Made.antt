@@ -1,4 +1,4 @@
--- What a proof that was made is about, and why a run stops. `command_proofs` cites all of it.
+-- What a proof that was made is a proof of, and why a run stops. `command_proofs` cites all of it.
 use Rattle.std.specs.Prelude.{◌≡◌}
 use Rattle.define_additions.specs.ProofVerdict.{OfLottery, OfNoPanel, Proof}
 use Rattle.define_bundles.specs.BundleText.{Bundle}
@@ -8,17 +8,18 @@ use Rattle.proof_limits.specs.declared.stops.Limit.TheVariants.{Pivots, Nodes, L
 use Rattle.proof_limits.specs.declared.stops.ProveStop.{ProveStop}
 use Rattle.proof_limits.specs.declared.stops.ProveStop.TheVariants.{Wide, BeyondWidth, Spent, Lost, OutOfMemory}
 
--- the proof is over this pool
+-- the proof is of the pool `pool`
 abbrev pub IsOfPool : Pool → Proof → Type 0
 IsOfPool pool (OfLottery own its trees) = own ≡ pool
 IsOfPool pool (OfNoPanel own lines) = own ≡ pool
 
--- the proof is of this bundle's lottery
+-- the proof is of the lottery and the stages of the bundle
 abbrev pub IsOfBundle : Bundle → Proof → Type 0
 IsOfBundle bundle (OfLottery own its trees) = (own ≡ bundle.pool) × (its ≡ bundle.answer)
 IsOfBundle bundle (OfNoPanel own lines) = ⊥
 
--- the stops of a run: an operation passes 2^62, a limit is spent, the run is lost, or memory runs out
+-- the stops of a run: an operation passes 2^62, a limit is spent, the run is lost, or memory runs out. If the limit is that of pivots or
+-- nodes, none of them is left
 abbrev pub StopsSo : Left → ProveStop → Type 0
 StopsSo left (Wide pass) = Unit {0}
 StopsSo left BeyondWidth = ⊥

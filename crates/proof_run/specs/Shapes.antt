@@ -1,4 +1,4 @@
--- The lengths of the lists of a search for panels above caps.
+-- The lengths of the lists in a search for panels above caps.
 use Rattle.std.specs.Prelude.{◌≡◌, length}
 use Rattle.proof_run.specs.declared.caps.CapSearch.{CapSearch}
 

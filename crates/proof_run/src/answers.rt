@@ -1,5 +1,5 @@
-//! The answer of a run: a lottery with its stages. Panels that come more than once are put together, and the weights are divided by their
-//! greatest common divisor. `runs` uses this.
+//! The answer of a run: a lottery with its stages. Equal panels are merged, and the weights are divided by their greatest common divisor.
+//! `runs` uses this.
 
 use frac128::gcd;
 use pool_model::{Answer, Certificate, Lottery, LotteryRow, Panel, Stage};
@@ -9,7 +9,7 @@ use proof_program::Program;
 use proof_stages::ClassStage;
 use std::alloc::Global;
 
-/// Returns the lottery of panels, with its stages.
+/// Returns the lottery of `panels`, with its stages.
 pub(crate) fn answer_of(
     alloc: Global,
     classes: &Program,
@@ -33,7 +33,7 @@ fn stage_of(alloc: Global, classes: &Program, stage: &ClassStage) -> Result<Stag
     Ok(Stage::new(weights, stage.cap.wide()))
 }
 
-/// Returns the lottery of panels, each once, with weights in lowest terms.
+/// Returns the lottery of `panels`: equal panels are merged, and the weights have no common divisor above 1.
 fn lottery_of(alloc: Global, panels: &[WeightedPanel]) -> Result<Lottery, ProveStop> {
     let merged = merged(alloc, panels)?;
     let mut divisor = 0;
@@ -57,7 +57,7 @@ fn lottery_of(alloc: Global, panels: &[WeightedPanel]) -> Result<Lottery, ProveS
     Ok(Lottery::new(total, rows))
 }
 
-/// Returns the panels, each once, with the sum of its weights.
+/// Returns the panels with equal ones merged: each panel once, with the sum of its weights.
 fn merged(alloc: Global, panels: &[WeightedPanel]) -> Result<Vec<WeightedPanel>, ProveStop> {
     let mut merged: Vec<WeightedPanel> = Vec::new(alloc);
     for own in panels {

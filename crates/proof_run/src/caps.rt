@@ -35,7 +35,7 @@ pub(crate) fn tree_of_none(
     steps.ok_or(ProveStop::Lost)
 }
 
-/// Returns the number of each row's constraint after `stages` earlier stages.
+/// Returns, for each row of the program, the number of its constraint at a stage after `stages` earlier ones.
 fn numbers_after(alloc: Global, program: &Program, stages: usize) -> Result<Vec<usize>, ProveStop>
     requires { stages < 2 ^ 63 }
     ensures { IfOk result (λ numbers. length numbers.items ≡ length program.now.rows) }
@@ -54,14 +54,14 @@ pub(crate) struct CapSearch<'a> {
     program: &'a Program,
     table: Table,
     rows: Vec<Span>,
-    // the numbers of the constraints of the stages that were searched so far
+    // the numbers of the constraints of the stages searched so far
     stages: Vec<usize>,
     // how many constraints come before those of stages
     quotas: usize,
 }
 
 impl<'a> CapSearch<'a> {
-    /// Begins with no stage. `quotas` constraints come before those of stages.
+    /// Returns a search before the first stage. `quotas` constraints come before those of stages.
     pub(crate) fn new(
         alloc: Global,
         program: &'a Program,

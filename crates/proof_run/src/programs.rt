@@ -1,4 +1,4 @@
-//! The two programs of a pool. `runs` makes them, and `trees` reads them too.
+//! The two programs of a pool. `runs` makes them; `runs` and `trees` read them.
 
 use proof_program::Program;
 

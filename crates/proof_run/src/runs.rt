@@ -1,5 +1,5 @@
-//! The whole run: stages, a lottery of their point, and trees. Stands on all other modules. Both public calls are the promises of the
-//! crate; the other functions are helpers.
+//! The whole run: stages, a lottery of their point, and trees. Stands on all other modules. The two public calls are the crate's promises;
+//! the other functions are helpers.
 
 ghost use Rattle.std.specs.Prelude.{IfErr, IfOk};
 ghost use Rattle.proof_limits.specs.Budgets.{SpendsOn};
@@ -18,8 +18,8 @@ use proof_program::Program;
 use proof_stages::{Chances, ClassStage, Columned, Relaxed, column_stages, relaxed_stages};
 use std::alloc::Global;
 
-/// Makes a proof of a lottery over a pool's quota panels, or that there is no quota panel, within a budget. Whether the proof is valid is
-/// for `proof_verify` to say. Stops if a limit is spent, an operation passes 2^62, the run is lost, or memory runs out.
+/// Makes a proof of a lottery over a pool's quota panels, or that there is no quota panel, within a budget. `proof_verify` decides whether
+/// the proof is valid. Stops if a limit is spent, an operation passes 2^62, the run is lost, or memory runs out.
 pub fn make_proof(alloc: Global, pool: &Pool, budget: &mut Budget) -> Result<Proof, ProveStop>
     ensures about { IfOk result (IsOfPool pool.now) }
     ensures spends { SpendsOn budget.old budget.new }
@@ -31,8 +31,8 @@ pub fn make_proof(alloc: Global, pool: &Pool, budget: &mut Budget) -> Result<Pro
     }
 }
 
-/// Makes a proof of a bundle's lottery and stages, with the trees that searches find within a budget. If some quota panel is above the cap of
-/// a stage, the trees of this and all later stages have no lines. Stops as `make_proof` does.
+/// Makes a proof of a bundle's lottery and stages, with the trees that searches find within a budget. If some quota panel is above the cap
+/// of a stage, the trees of this and all later stages have no lines. Stops as `make_proof` does.
 pub fn prove_bundle(alloc: Global, bundle: &Bundle, budget: &mut Budget) -> Result<Proof, ProveStop>
     ensures about { IfOk result (IsOfBundle bundle.now) }
     ensures spends { SpendsOn budget.old budget.new }
@@ -57,7 +57,7 @@ fn reported(stop: ProveStop, budget: &Budget) -> ProveStop
     }
 }
 
-/// Makes a proof of a pool: first by the relaxation, and by compositions if no lottery of the relaxation's point was found.
+/// Makes a proof of a pool: first by the relaxation; if no lottery of the relaxation's point is found, by compositions.
 fn made(alloc: Global, pool: &Pool, budget: &mut Budget) -> Result<Proof, ProveStop>
     ensures about { IfOk result (IsOfPool pool.now) }
     ensures spends { SpendsOn budget.old budget.new }
@@ -105,7 +105,7 @@ fn by_compositions(
     }
 }
 
-/// Makes a lottery over panels that keep the rows, in which each volunteer has the chance of their column.
+/// Makes a lottery over panels that satisfy the rows, in which each volunteer has the chance of their column.
 fn lottery_of_chances(
     alloc: Global,
     pool: &Pool,

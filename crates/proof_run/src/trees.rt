@@ -45,14 +45,14 @@ pub(crate) fn stage_trees(
     Ok(trees)
 }
 
-/// Returns the tree of one leaf, which has the multipliers of a refutation.
+/// Returns a tree of one leaf, with the multipliers of a refutation.
 fn tree_of_refutation(alloc: Global, refutation: Refutation) -> Result<TreeLines, AllocError> {
     let mut lines = TreeLines::new(Vec::new(alloc));
     lines.add_line(leaf_line(alloc, refutation)?)?;
     Ok(lines)
 }
 
-/// Returns the tree that the steps of a search make. Their rows have the numbers of constraints, and their columns are volunteers.
+/// Returns the tree of a search's steps. Their rows are numbers of constraints, and their columns are volunteers.
 pub(crate) fn tree_of_steps(alloc: Global, steps: Vec<Step>) -> Result<TreeLines, AllocError> {
     let mut lines = TreeLines::new(Vec::new(alloc));
     for step in steps {

@@ -3,7 +3,7 @@ use Rattle.std.specs.Prelude.{◌≡◌, ◌+◌, ℕ, length}
 use Rattle.proof_stages.specs.declared.finders.Finder.{Finder}
 use Rattle.proof_stages.specs.declared.mixes.CompositionMix.{CompositionMix}
 
--- a finder's program and table have `columns` columns, and the finder has a span for each row of the table
+-- the program and the table of a finder have `columns` columns, and the finder has a span for each row of the table
 pub record IsFinder (columns : ℕ) (finder : Finder) : Type 0 where
   pub of_program : length finder.program.now.firsts ≡ columns
   pub of_table : finder.table.columns ≡ columns

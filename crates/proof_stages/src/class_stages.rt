@@ -21,8 +21,8 @@ pub struct ClassStage {
     pub shown_by: Option<Refutation>,
 }
 
-/// Returns a stage's weights and cap: 1 for each unsettled column and 0 for the others, and the most members that a panel may have of all
-/// unsettled columns by their spans.
+/// Returns the weights and the cap of a stage in which each unsettled column weighs 1 and each other one 0. The cap is the sum of the
+/// greatest numbers in the unsettled columns' spans.
 pub(crate) fn everybody_left(
     alloc: Global,
     program: &Program,

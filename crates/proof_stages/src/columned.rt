@@ -1,6 +1,6 @@
-//! Stages over compositions, by column generation: if the known compositions don't give a level, the multipliers of their exact table say
-//! which further composition to search for. Stands on `finders`, `mixes` and `levels`; `proof_run` calls `column_stages` if it finds no
-//! lottery of the relaxation's point. Promise: nothing of the budget is given back.
+//! Stages over compositions, by column generation: if the known compositions don't give a level, the multipliers of their table are the
+//! weights for the search for a further composition. Stands on `finders`, `mixes` and `levels`; `proof_run` calls `column_stages` if it
+//! finds no lottery of the relaxation's point. Promise: nothing of the budget is given back.
 
 ghost use Rattle.std.specs.Prelude.{◌≡◌, ◌<◌, IfOk, OnOk, length};
 ghost use Rattle.proof_stages.specs.Shapes.{IsFinder, IsCompositionMix};
@@ -27,7 +27,7 @@ pub enum Columned {
     Settled(Vec<ClassStage>, Chances),
 }
 
-/// Finds the stages of a pool over its compositions. The contract says nothing of them, since each proof is verified before it is
+/// Finds the stages of a pool over its compositions. The contract leaves the stages open, since each proof is verified before it is
 /// printed.
 pub fn column_stages(
     alloc: Global,

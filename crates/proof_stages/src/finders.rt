@@ -106,7 +106,7 @@ fn point_of(found: Found, columns: usize) -> Result<Option<Vec<Narrow>>, ProveSt
     }
 }
 
-/// Returns the most that a point of the columns' spans weighs, with the weights taken without their signs.
+/// Returns the most that a point of the columns' spans weighs by the absolute values of the weights.
 fn reach(program: &Program, weights: &[Narrow]) -> Result<Narrow, ProveStop> {
     let mut reach = 0;
     for (weight, span) in weights.iter().zip(program.spans()) {

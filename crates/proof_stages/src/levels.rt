@@ -1,5 +1,5 @@
-//! Levels: a level is a chance that all unsettled columns are to have at least, the greatest that the weights and the cap of a stage allow.
-//! Stands on `chances`; `relaxed` and `columned` use this.
+//! Levels: a level is a chance that all unsettled columns have at least. Finds the greatest level that the weights and the cap of a stage
+//! allow. Stands on `chances`; `relaxed` and `columned` use this.
 
 ghost use Rattle.std.specs.Prelude.{◌≡◌, ◌≤ℤ◌, ◌<ℤ◌, pos, length};
 
@@ -64,7 +64,7 @@ impl WeightSums {
     }
 }
 
-/// Returns the greatest common divisor of a number and one above 0.
+/// Returns the greatest common divisor of `x` and `y`, at least 1.
 fn divisor_of(x: i128, y: i128) -> i128
     requires { pos 0 <ℤ y }
     ensures { pos 1 ≤ℤ result }

@@ -9,10 +9,10 @@ use proof_limits::{Budget, Narrow, ProveStop, Span, narrow_add, times, wide_add}
 use proof_table::{PseudoRandom, Table};
 use std::alloc::Global;
 
-/// The greatest pseudo-random number that is a composition's part of the goal. These parts break ties.
+/// The greatest pseudo-random number in the goal of the table. Each composition has such a number there, which breaks ties.
 const MOST_TIE_BREAK: u64 = 64;
 
-/// A composition, and whether it weighs less than the cap of a closed stage, so that it has no part in later mixes.
+/// A composition, and whether it weighs less than the cap of a closed stage; then later mixes don't use it.
 #[derive(Debug, Drop)]
 struct Known {
     counts: Vec<Narrow>,
@@ -95,7 +95,7 @@ impl CompositionMix {
         self.table.run(&columns, &rows, budget)
     }
 
-    /// Returns the multipliers of the rows that refute the last run.
+    /// Returns the multipliers of the table's rows by which its last run was refuted.
     pub(crate) fn multipliers(&self) -> Result<Vec<Narrow>, ProveStop> {
         self.table.refutation(self.alloc)
     }
@@ -126,7 +126,7 @@ impl CompositionMix {
     }
 }
 
-/// Returns what a composition weighs.
+/// Returns the weight of a composition: the sum of its counts times the weights of their columns.
 pub(crate) fn weight_of(weights: &[Narrow], counts: &[Narrow]) -> Result<Narrow, ProveStop> {
     let mut sum = 0;
     for (weight, count) in weights.iter().zip(counts) {

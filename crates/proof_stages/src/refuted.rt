@@ -1,4 +1,4 @@
-//! What multipliers that refute a program show: weights, and a cap that no point passes. Stands on `chances`; `relaxed` uses this.
+//! Turns multipliers that refute a program into weights, and a cap that no point passes. Stands on `chances`; `relaxed` uses this.
 
 ghost use Rattle.std.specs.Prelude.{◌≡◌, ◌+◌, ◌≤◌, length, IfOk};
 
@@ -72,8 +72,8 @@ fn add_row(weights: &mut [Narrow], row: &QuotaRow, multiplier: Narrow) -> Result
     Ok(())
 }
 
-/// Sets the weight to 0 for each unsettled column that weighs less than 0 or is seated. Takes this weight, times the most members that a
-/// panel may have of the column, off the cap. Returns the cap.
+/// Sets the weight of each unsettled column that weighs less than 0 or is seated to 0, and subtracts the old weight, times the most members
+/// that a panel may have of the column, from the cap. Returns the cap.
 fn charge_columns(
     program: &Program,
     chances: &Chances,

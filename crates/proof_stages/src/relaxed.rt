@@ -17,7 +17,7 @@ use proof_program::Program;
 use proof_table::Table;
 use std::alloc::Global;
 
-/// What the relaxation says of a pool.
+/// What the relaxation found for a pool.
 #[derive(Debug, Drop)]
 pub enum Relaxed {
     /// No point meets the quotas, so there is no quota panel.
@@ -26,7 +26,7 @@ pub enum Relaxed {
     Settled(Vec<ClassStage>, Chances, bool),
 }
 
-/// Finds the stages of a pool by the relaxation of its quotas. The contract says nothing of them, since each proof is verified before it
+/// Finds the stages of a pool by the relaxation of its quotas. The contract leaves the stages open, since each proof is verified before it
 /// is printed.
 pub fn relaxed_stages(
     alloc: Global,
@@ -152,7 +152,7 @@ fn gone_weights(
     Ok(is_some.then_some(weights))
 }
 
-/// Returns the stage after `earlier` earlier ones, with a refutation made of these multipliers of the rows.
+/// Returns the stage after `earlier` earlier ones, with a refutation made of `multipliers` of the rows.
 fn found_by(
     alloc: Global,
     program: &Program,

@@ -18,7 +18,7 @@ pub record SameSizes (old new : TableSizes) : Type 0 where
   pub columns : new.columns ≡ old.columns
   pub width : new.width ≡ old.width
 
--- the whole run may spend the same, and only pivots are spent
+-- the most that the whole run may spend is unchanged, and only pivots are spent
 pub record Spends (old new : Left) : Type 0 where
   pub most_pivots : new.most_pivots ≡ old.most_pivots
   pub most_nodes : new.most_nodes ≡ old.most_nodes
@@ -43,7 +43,7 @@ RunStops table left (Spent Lottery) = ⊥
 RunStops table left Lost = ⊥
 RunStops table left OutOfMemory = Unit {0}
 
--- the stops of a call that takes a row off: those of a run, or the row was not found
+-- the stops of dropping a row: those of a run, or the row was not found
 abbrev pub DropStops : TableSizes → Left → ProveStop → Type 0
 DropStops table left (Wide pass) = Unit {0}
 DropStops table left BeyondWidth = table.width < 2 ^ 62

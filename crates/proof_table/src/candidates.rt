@@ -103,7 +103,7 @@ fn need_after(need: i128, candidate: &Candidate, span: Span) -> Result<i128, Pro
     wide_sub(need, wide_mul(candidate.entry.abs().wide(), gap)?)
 }
 
-// Moves the candidates in order to the other ends of their spans, until one would bring the row's variable back. Returns that one.
+// Moves the candidates, in order, to the other ends of their spans, until one would bring the row's variable back. Returns that candidate.
 fn pass(
     candidates: &[Candidate],
     slots: &mut [Slot],

@@ -40,8 +40,8 @@ fn row_value(entries: &[Narrow], values: &[Narrow]) -> Result<i128, ProveStop>
     Ok(sum)
 }
 
-// Returns by how much a value is out of its span, times the denominator, or a number of at most 0 if it is inside. The flag is true if it
-// is below the span.
+// Returns by how much a value is out of its span, times the denominator, or a number of at most 0 if the value is inside. The flag is true
+// if the value is below the span.
 fn distance(value: i128, span: Span, denominator: Narrow) -> Result<(i128, bool), ProveStop>
     ensures { IfErr result IsWideOrMemory }
 {
@@ -50,7 +50,7 @@ fn distance(value: i128, span: Span, denominator: Narrow) -> Result<(i128, bool)
     Ok((below.max(above), below > 0))
 }
 
-// True if a row is picked before the one so far.
+// True if a row is picked rather than `so_far`, the row picked so far.
 fn is_before(rule: Rule, variable: Variable, need: i128, so_far: &Option<Worst>) -> bool {
     match so_far {
         None => true,

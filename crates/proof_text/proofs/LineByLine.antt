@@ -1,4 +1,4 @@
--- The reading of a text line by line: a stop at a line, and the end.
+-- Reading a text line by line: a stop in a line, and the end.
 use Rattle.std.proofs.Common.{◌≡◌, ℕ, List, ◌∷◌, Result, Err, sym, subst}
 use Rattle.define_lines.specs.Lines.{Fault, pieces_of}
 use Rattle.define_lines.specs.Reading.{read_lines}
@@ -13,7 +13,7 @@ use Rattle.proof_text.specs.Answers.{Reads, stopped}
 use Rattle.proof_text.specs.Progress.{IsClosedRight}
 use Rattle.define_additions.specs.ProofVerdict.{Proof}
 
--- if a line stops, the reading of the whole text answers this stop
+-- if reading stops in a line, the stop is the result for the whole text
 pub stops_at : (T : Type 0) (number : ℕ) (progress : Progress) (rest line later : List ℕ) → pieces_of rest ≡ line ∷ pieces_of later → (wanted : Result Proof Fault) →
     read_lines reader number progress (pieces_of rest) ≡ wanted → (stop : BuildStop) → Tells {T = T} (line_kind progress line) (Err stop) → (told : TextStop) → told ≡ stopped number stop → Reads wanted (Err told)
 stops_at T number progress rest line later parted wanted same stop tells told e = subst (λ said. Reads wanted (Err said)) (sym e) (by stop tells)
@@ -22,7 +22,7 @@ stops_at T number progress rest line later parted wanted same stop tells told e 
     by OutOfMemory h = tt
     by (Kind kind) h = reading.stops_at reader number progress rest line later parted wanted same kind h
 
--- progress that is right is right at the end too
+-- if a progress is right and closed, it holds a proof
 pub closed_right : (progress : Progress) → IsRight progress → IsClosedRight progress
 closed_right Begun right = tt
 closed_right Opened right = tt

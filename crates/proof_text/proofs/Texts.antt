@@ -1,4 +1,4 @@
--- Parts of a proof's text that are added one after the other.
+-- Parts of a proof's text, appended one after the other.
 use Rattle.std.proofs.Common.{◌≡◌, ℕ, ◌+◌, ◌<◌, List, [], ◌∷◌, ◌++◌, length, get_or, take, sym, ◌∙◌, ap, arith, append_assoc}
 use Rattle.std.proofs.lemmas.List.{length-take-le, take_more}
 use Rattle.define_lines.specs.Lines.{text_of}
@@ -21,7 +21,7 @@ one_tree_more text trees i d l =
     ∙ ap (λ lines. text ++ text_of lines) (sym (trees-push 1 (take i trees) (get_or trees i d)))
     ∙ ap (λ ts. text ++ text_of (trees_from 1 ts)) (sym (take_more trees i d l))
 
--- the lines of a proof that a pool has no quota panel
+-- the parts of a proof that a pool has no quota panel, appended in turn, are its lines before the last
 pub no_panel_text : (text : List ℕ) (pool : Pool) (lines : List TreeLine) →
     (((text ++ text_of (proof_line ∷ [])) ++ text_of (pool_lines pool)) ++ text_of (none_line ∷ [])) ++ text_of (tree_lines 0 lines) ≡ text ++ text_of (lines_before_close (OfNoPanel pool lines))
 no_panel_text text pool lines =
@@ -30,7 +30,7 @@ no_panel_text text pool lines =
     ∙ text_of-append text (proof_line ∷ (pool_lines pool ++ none_line ∷ [])) (tree_lines 0 lines)
     ∙ ap (λ behind. text ++ text_of (proof_line ∷ behind)) (append_assoc (pool_lines pool) (none_line ∷ []) (tree_lines 0 lines))
 
--- the lines of a proof of a lottery
+-- the parts of a proof of a lottery, appended in turn, are its lines before the last
 pub lottery_text : (text : List ℕ) (pool : Pool) (answer : Answer) (trees : List (List TreeLine)) →
     ((text ++ text_of (proof_line ∷ [])) ++ text_of (bundle_lines pool answer)) ++ text_of (trees_from 1 trees) ≡ text ++ text_of (lines_before_close (OfLottery pool answer trees))
 lottery_text text pool answer trees =

@@ -1,4 +1,4 @@
--- The answers of a reading of the text of a proof.
+-- The results that reading the text of a proof may have. The contracts of `reading` cite it.
 use Rattle.std.specs.Prelude.{◌≡◌, ℕ, Result, Ok, Err, ⊤}
 use Rattle.define_lines.specs.Lines.{Fault}
 use Rattle.define_additions.specs.ProofVerdict.{Proof}
@@ -7,13 +7,13 @@ use Rattle.pool_model.specs.declared.building.BuildStop.TheVariants.{Kind, OutOf
 use Rattle.text_lines.specs.declared.faults.TextStop.{TextStop}
 use Rattle.text_lines.specs.declared.faults.TextStop.TheVariants.{Fault as fault, OutOfMemory}
 
--- the answer is the proof or the fault that the definitions say, or out of memory, which may come at any time
+-- the result is the proof or the fault that the definitions compute, or out of memory, which is always allowed
 abbrev pub Reads : Result Proof Fault → Result Proof TextStop → Type 0
 Reads said (Ok proof) = said ≡ Ok proof
 Reads said (Err (fault f)) = said ≡ Err (record { line = f.line; kind = f.kind })
 Reads said (Err OutOfMemory) = ⊤
 
--- the error for a stop at a line
+-- the error for a stop in line `line`, counted from 1
 abbrev pub stopped : ℕ → BuildStop → TextStop
 stopped line (Kind kind) = fault (record { line = line; kind = kind })
 stopped line NoMemory = OutOfMemory

@@ -1,4 +1,4 @@
--- How contracts see the progress of a reading and a line in a tree: as those of the definitions.
+-- What contracts see of the progress of a reading and of a line in a tree: the values of `define_proof_texts`.
 use Rattle.define_additions.specs.ProofVerdict.{OfLottery, OfNoPanel}
 use Rattle.bundle_text.specs.Progress as bundles
 use Rattle.pool_text.specs.Progress as pools
@@ -28,7 +28,7 @@ seen (InNoPanel pool lines) = words.InNoPanel pool lines
 seen (ClosedLottery pool answer trees) = words.Closed (OfLottery pool answer trees.items)
 seen (ClosedNoPanel pool lines) = words.Closed (OfNoPanel pool lines)
 
--- if the progress is closed, what was read is a proof
+-- if the progress is closed, it holds a proof within its limits
 abbrev pub IsClosedRight : words.Progress → Type 0
 IsClosedRight words.Begun = Unit {0}
 IsClosedRight words.Opened = Unit {0}

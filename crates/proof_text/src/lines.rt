@@ -1,4 +1,5 @@
-//! The lines of a tree, and what each says. Stands on `text_lines` and the ranges of `proof_model`; `progress` reads lines by these calls.
+//! The lines of a tree: what each is read as. Stands on `text_lines` and the ranges of `proof_model`; `progress` reads lines by these
+//! calls.
 
 ghost use Rattle.std.specs.Prelude.{◌≡◌, ◌<◌, ◌^◌, ◌==◌, nat_lt, ◌&&◌, if◌then◌else◌, map, IfOk, bytes_eq, option_map};
 ghost use Rattle.define_lines.specs.Numbers.{number_up_to as number_in, signed_up_to};
@@ -13,7 +14,7 @@ use proof_model::{Leaf, Multiplier, TreeLine, is_tree_line};
 use std::alloc::{AllocError, Global};
 use text_lines::{fields, number_up_to, signed_number};
 
-/// The greatest number of a constraint.
+/// The greatest number of a constraint that a text may name.
 const LAST_CONSTRAINT: usize = 1800;
 
 /// The greatest scale: 2^56.
@@ -22,7 +23,7 @@ const MAX_SCALE: usize = 72_057_594_037_927_936;
 /// The greatest absolute value of a factor: 2^56.
 const MAX_FACTOR: u128 = 72_057_594_037_927_936;
 
-/// The greatest number of trees.
+/// The greatest number of trees: one for each stage, of which a proof has at most 400.
 const MOST_TREES: usize = 400;
 
 /// How the first line of a tree begins.
@@ -34,7 +35,7 @@ const BOUND: &[u8] = b"bound";
 
 const CLOSE: &[u8] = b"close";
 
-/// What a line in a tree says, after the one that begins the tree.
+/// What a line in a tree is, after the one that begins the tree.
 #[derive(Debug, Drop)]
 pub(crate) enum LineInTree {
     /// A node in its ranges.
@@ -47,7 +48,7 @@ pub(crate) enum LineInTree {
     Unknown,
 }
 
-/// Reads a line in tree `number` of `last` trees, for a pool of `volunteers` volunteers.
+/// Reads a line in tree `number`, if the last tree is tree `last`, for a pool of `volunteers` volunteers.
 pub(crate) fn line_in_tree(
     alloc: Global,
     volunteers: usize,
@@ -68,7 +69,7 @@ pub(crate) fn line_in_tree(
     }
 }
 
-/// Reads `close`, which is allowed after the last tree only.
+/// Reads `close`, which is allowed only in the last tree.
 fn close_at(number: usize, last: usize) -> LineInTree
     ensures { said result ≡ (if number == last then TheClose else Unknown) }
 {
@@ -79,7 +80,7 @@ fn close_at(number: usize, last: usize) -> LineInTree
     }
 }
 
-/// Reads the line that begins the next tree, which is allowed after each tree but the last.
+/// Reads the line that begins the next tree, which is allowed in each tree before the last one and before tree 400.
 fn next_at(number: usize, last: usize) -> LineInTree
     ensures { said result ≡ (if nat_lt number last && nat_lt number most_trees then NextTree else Unknown) }
 {
@@ -100,7 +101,7 @@ pub(crate) fn begins_tree(number: usize, line: &[u8]) -> bool
     }
 }
 
-/// True if the field has the digits of the number.
+/// True if the field is the digits of the number.
 fn is_spelled(number: usize, field: &[u8]) -> bool
     ensures { result ≡ bytes_eq (decimal number) field.now }
 {
@@ -157,7 +158,7 @@ fn leaf_of(alloc: Global, volunteers: usize, fields: &[&[u8]]) -> Result<LineInT
     }
 }
 
-/// Returns the node, if it keeps its ranges.
+/// Returns the node if its numbers are in their ranges, else `Unknown`.
 fn in_range(volunteers: usize, node: TreeLine) -> LineInTree
     ensures { said result ≡ node_in_range volunteers node }
 {
@@ -186,7 +187,7 @@ fn multipliers_of(alloc: Global, fields: &[&[u8]]) -> Result<Option<Vec<Multipli
     }
 }
 
-/// Reads a multiplier, if both fields are numbers.
+/// Returns the multiplier, or None if `number` is no number up to 1800 or `factor` none from -2^56 to 2^56.
 fn multiplier_of(number: &[u8], factor: &[u8]) -> Option<Multiplier>
     ensures { result ≡ multiplier_in (number_in last_constraint number.now) (signed_up_to number_limit factor.now) }
 {
@@ -195,7 +196,7 @@ fn multiplier_of(number: &[u8], factor: &[u8]) -> Option<Multiplier>
     Some(Multiplier::new(number, factor))
 }
 
-/// Reads a number from -2^56 to 2^56.
+/// Reads a number from -2^56 to 2^56, or returns None.
 fn factor_of(field: &[u8]) -> Option<i128>
     ensures { result ≡ signed_up_to number_limit field.now }
 {

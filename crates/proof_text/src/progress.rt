@@ -1,5 +1,5 @@
-//! How far the text of a proof has been read: what the lines so far make, and what they make with one more line. Stands on `lines`, and on
-//! the calls `after` of `bundle_text` and `pool_text`; `reading` calls `after` for each line.
+//! How far the text of a proof has been read: the progress after the lines so far, and after one more line. Stands on `lines`, and on the
+//! calls `after` of `bundle_text` and `pool_text`; `reading` calls `after` for each line.
 
 ghost use Rattle.std.specs.Prelude.{◌≡◌, IfOk};
 ghost use Rattle.bundle_text.specs.Progress.{seen as bundle_seen};
@@ -19,16 +19,16 @@ const FIRST: &[u8] = b"proof\t1";
 
 const NONE: &[u8] = b"none";
 
-/// The kind of a first line that begins no proof.
+/// The kind of fault of a first line that isn't that of a proof.
 const VERSION: u8 = 21;
 
-/// The kind of a later line that is not allowed there.
+/// The kind of fault of a later line that is not allowed in its place.
 const FORM: u8 = 22;
 
-/// The kind of a text that ends too early, but not within the bundle's or the pool's text, and of anything after the last line.
+/// The kind of fault if a text ends too early, outside the bundle's and the pool's lines; also of anything after the last line.
 pub(crate) const ENDING: u8 = 23;
 
-/// What the lines so far make.
+/// What has been read.
 #[derive(Debug, Drop)]
 pub(crate) enum Progress {
     /// No line yet.
@@ -41,13 +41,13 @@ pub(crate) enum Progress {
     InPool(PoolProgress),
     /// A whole pool, and the line that there is no quota panel.
     WithoutPanel(Pool),
-    /// A whole bundle, these whole trees, and one more tree with these lines so far.
+    /// A whole bundle, whole trees, and the lines so far of the next tree.
     InTrees(Pool, Answer, Vec<TreeLines>, TreeLines),
-    /// A pool without quota panel, and its tree with these lines so far.
+    /// A pool without quota panel, and the lines so far of its tree.
     InNoPanel(Pool, TreeLines),
-    /// The last line, after the trees of a bundle.
+    /// All lines, with the trees of a bundle.
     ClosedLottery(Pool, Answer, Vec<TreeLines>),
-    /// The last line, after the tree that there is no quota panel.
+    /// All lines, with the tree that there is no quota panel.
     ClosedNoPanel(Pool, TreeLines),
 }
 
@@ -100,7 +100,7 @@ fn second_line(alloc: Global, line: &[u8]) -> Result<Progress, BuildStop>
     }
 }
 
-/// Reads a line of the bundle, or after its end the line that begins the first tree.
+/// Reads a line of the bundle; after the bundle's end, the line that begins the first tree.
 fn after_bundle(alloc: Global, progress: BundleProgress, line: &[u8]) -> Result<Progress, BuildStop>
     ensures kind { Tells (line_kind (InBundle (bundle_seen progress)) line.now) result }
     ensures ok { IfOk result (λ next. seen next ≡ after_line (InBundle (bundle_seen progress)) line.now) }
@@ -122,7 +122,7 @@ fn after_bundle(alloc: Global, progress: BundleProgress, line: &[u8]) -> Result<
     }
 }
 
-/// Reads a line of the pool, or after its end the line that there is no quota panel.
+/// Reads a line of the pool; after the pool's end, the line `none`.
 fn after_pool(alloc: Global, progress: PoolProgress, line: &[u8]) -> Result<Progress, BuildStop>
     ensures kind { Tells (line_kind (InPool (pool_seen progress)) line.now) result }
     ensures ok { IfOk result (λ next. seen next ≡ after_line (InPool (pool_seen progress)) line.now) }

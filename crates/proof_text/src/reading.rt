@@ -15,15 +15,15 @@ use proof_model::{Proof, TreeLines};
 use std::alloc::Global;
 use text_lines::{TextFault, TextStop, next_line};
 
-/// The kind of a text that ends in the pool's lines.
+/// The kind of fault if a text ends before the end of the pool's lines.
 const MISSING_END: u8 = 12;
 
-/// The kind of a text that ends in the bundle's lines after the pool's end.
+/// The kind of fault if a text ends in the bundle's lines after the pool's end.
 const MISSING_DONE: u8 = 17;
 
-/// Returns the proof that the bytes spell, all of them, or a fault exactly if they are not the text of a proof: the first line that has a
-/// fault, and the lowest kind in it:
-/// - 1 to 17 in the text of the bundle or of the pool, as there
+/// Returns the proof that all the bytes spell. If they are the text of no proof, returns a fault: the first line that has one, and the
+/// lowest kind in it:
+/// - 1 to 17 in the text of the bundle or of the pool, as in a bundle's or a pool's text alone
 /// - 21 the first line is not that of a proof
 /// - 22 the line is not allowed there: after the first line, it begins neither a bundle nor a pool; after a bundle, it is not `tree` and
 ///   1; after a pool, it is not `none`, and after `none` it is not `tree` and 0; in a tree, it is neither a split or bound in its ranges,
@@ -34,13 +34,13 @@ pub fn read_proof(alloc: Global, bytes: &[u8]) -> Result<Proof, TextStop>
     ensures spelled { IfOk result (λ proof. IsProof proof × (bytes.now ≡ proof_spelling proof)) }
     // A proof that is spelled by these bytes is read, unless memory runs out.
     ensures read { (proof : Words) → IsProof proof → bytes.now ≡ proof_spelling proof → Reads (Ok proof) result }
-    // A fault is the one that the definitions say.
+    // A fault is the one that the definitions compute.
     ensures exact { Reads (read bytes.now) result }
 {
     read_lines(alloc, bytes)
 }
 
-/// Reads line after line.
+/// Reads the text line by line.
 fn read_lines(alloc: Global, bytes: &[u8]) -> Result<Proof, TextStop>
     ensures { Reads (read bytes.now) result }
 {
@@ -58,7 +58,7 @@ fn read_lines(alloc: Global, bytes: &[u8]) -> Result<Proof, TextStop>
     last(progress, number, unread)
 }
 
-/// Returns the stop at a line.
+/// Returns the error for a stop in line `line`, counted from 1.
 fn stop_at(line: usize, stop: BuildStop) -> TextStop
     ensures { result ≡ stopped line stop }
 {
@@ -68,7 +68,7 @@ fn stop_at(line: usize, stop: BuildStop) -> TextStop
     }
 }
 
-/// Ends the reading: `unread` is what follows the last LF, and has to be empty.
+/// Ends the reading. `unread` is the bytes after the last LF, and must be empty.
 fn last(progress: Progress, line: usize, unread: &[u8]) -> Result<Proof, TextStop>
     requires { IsClosedRight (seen progress) }
     ensures { Reads (at_last line (seen progress) unread.now) result }
@@ -91,7 +91,7 @@ fn last(progress: Progress, line: usize, unread: &[u8]) -> Result<Proof, TextSto
     }
 }
 
-/// Returns the proof of this bundle by these trees.
+/// Returns the proof of the bundle of `pool` and `answer` by the trees.
 fn lottery_proof(pool: Pool, answer: Answer, trees: Vec<TreeLines>) -> Proof
     requires { IsProof (OfLottery pool answer trees.items) }
     ensures { result ≡ OfLottery pool answer trees.items }
@@ -105,7 +105,7 @@ fn lottery_proof(pool: Pool, answer: Answer, trees: Vec<TreeLines>) -> Proof
     }
 }
 
-/// Returns the proof that this pool has no quota panel.
+/// Returns the proof by these lines that the pool has no quota panel.
 fn no_panel_proof(pool: Pool, lines: TreeLines) -> Proof
     requires { IsProof (OfNoPanel pool lines) }
     ensures { result ≡ OfNoPanel pool lines }
@@ -116,7 +116,7 @@ fn no_panel_proof(pool: Pool, lines: TreeLines) -> Proof
     }
 }
 
-/// Returns the kind of a text that ends here: in the pool's lines, in the bundle's after them, or elsewhere.
+/// Returns the kind of fault if the text ends at this progress: 12 in the pool's lines, 17 in the bundle's lines after them, else 23.
 fn missing_kind(progress: &Progress) -> u8
     ensures { result ≡ missing_kind (seen progress.now) }
 {

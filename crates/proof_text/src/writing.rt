@@ -19,7 +19,7 @@ use proof_model::{Leaf, Multiplier, Node, Parts, Proof, TreeLine, TreeLines};
 use std::alloc::{AllocError, Global};
 use text_lines::{end_line, push_line, push_number, push_signed};
 
-/// Returns the text of the proof. Reading it returns the same proof.
+/// Returns the text of the proof. If it is read, the result is the same proof.
 pub fn write_proof(alloc: Global, proof: &Proof) -> Result<Vec<u8>, AllocError>
     ensures spelled { IfOk result (λ bytes. bytes.items ≡ proof_spelling proof.now) }
     ensures read { IfOk result (λ bytes. read_proof bytes.items ≡ Ok proof.now) }
@@ -31,7 +31,7 @@ pub fn write_proof(alloc: Global, proof: &Proof) -> Result<Vec<u8>, AllocError>
     Ok(text)
 }
 
-/// Adds the lines before the last.
+/// Appends all lines of a proof except the last.
 fn push_parts(alloc: Global, text: &mut Vec<u8>, parts: &Parts) -> Result<(), AllocError>
     ensures { OnOk result (text.new.items ≡ text.old.items ++ text_of (lines_before_close (seen parts.now))) }
 {
@@ -41,7 +41,7 @@ fn push_parts(alloc: Global, text: &mut Vec<u8>, parts: &Parts) -> Result<(), Al
     }
 }
 
-/// Adds the lines of a proof of a lottery.
+/// Appends the lines of a proof of a lottery, except the last.
 fn push_lottery(
     alloc: Global,
     text: &mut Vec<u8>,
@@ -55,7 +55,7 @@ fn push_lottery(
     push_trees(text, trees)
 }
 
-/// Adds the lines of a proof that there is no quota panel.
+/// Appends the lines of a proof that there is no quota panel, except the last.
 fn push_no_panel(
     alloc: Global,
     text: &mut Vec<u8>,
@@ -70,7 +70,7 @@ fn push_no_panel(
     push_tree(text, 0, lines)
 }
 
-/// Adds the lines of a pool.
+/// Appends the lines of a pool.
 fn push_pool(alloc: Global, text: &mut Vec<u8>, pool: &Pool) -> Result<(), AllocError>
     ensures { OnOk result (text.new.items ≡ text.old.items ++ text_of (pool_lines pool.now)) }
 {
@@ -78,7 +78,7 @@ fn push_pool(alloc: Global, text: &mut Vec<u8>, pool: &Pool) -> Result<(), Alloc
     text.extend_from_slice(&bytes)
 }
 
-/// Adds the lines of a bundle.
+/// Appends the lines of a bundle.
 fn push_bundle(alloc: Global, text: &mut Vec<u8>, bundle: &Bundle) -> Result<(), AllocError>
     ensures { OnOk result (text.new.items ≡ text.old.items ++ text_of (bundle_lines bundle.now.pool bundle.now.answer)) }
 {
@@ -86,7 +86,7 @@ fn push_bundle(alloc: Global, text: &mut Vec<u8>, bundle: &Bundle) -> Result<(),
     text.extend_from_slice(&bytes)
 }
 
-/// Adds trees, numbered from 1.
+/// Appends the lines of the trees, which are numbered from 1.
 fn push_trees(text: &mut Vec<u8>, trees: &[TreeLines]) -> Result<(), AllocError>
     ensures { OnOk result (text.new.items ≡ text.old.items ++ text_of (trees_from 1 trees.now)) }
 {
@@ -96,7 +96,7 @@ fn push_trees(text: &mut Vec<u8>, trees: &[TreeLines]) -> Result<(), AllocError>
     Ok(())
 }
 
-/// Adds tree `number`.
+/// Appends the lines of tree `number`.
 fn push_tree(text: &mut Vec<u8>, number: usize, lines: &TreeLines) -> Result<(), AllocError>
     ensures { OnOk result (text.new.items ≡ text.old.items ++ text_of (tree_lines number lines.now)) }
 {
@@ -104,7 +104,7 @@ fn push_tree(text: &mut Vec<u8>, number: usize, lines: &TreeLines) -> Result<(),
     push_nodes(text, lines.lines())
 }
 
-/// Adds a line of a word and a number.
+/// Appends a line of a word and a number.
 fn push_number_line(text: &mut Vec<u8>, word: &[u8], number: usize) -> Result<(), AllocError>
     ensures { OnOk result (text.new.items ≡ text.old.items ++ text_of (line_of (word.now ∷ decimal number ∷ []) ∷ [])) }
 {
@@ -112,7 +112,7 @@ fn push_number_line(text: &mut Vec<u8>, word: &[u8], number: usize) -> Result<()
     push_line(text, word, &[digits.format(number).as_bytes()])
 }
 
-/// Adds the lines of nodes.
+/// Appends the lines of nodes.
 fn push_nodes(text: &mut Vec<u8>, lines: &[TreeLine]) -> Result<(), AllocError>
     ensures { OnOk result (text.new.items ≡ text.old.items ++ text_of (map node_line lines.now)) }
 {
@@ -122,7 +122,7 @@ fn push_nodes(text: &mut Vec<u8>, lines: &[TreeLine]) -> Result<(), AllocError>
     Ok(())
 }
 
-/// Adds the line of a node.
+/// Appends the line of a node.
 fn push_node(text: &mut Vec<u8>, line: &TreeLine) -> Result<(), AllocError>
     ensures { OnOk result (text.new.items ≡ text.old.items ++ text_of (node_line line.now ∷ [])) }
 {
@@ -132,7 +132,7 @@ fn push_node(text: &mut Vec<u8>, line: &TreeLine) -> Result<(), AllocError>
     }
 }
 
-/// Adds a leaf's line: its scale, and the number and factor of each multiplier.
+/// Appends a leaf's line: its scale, and the number and factor of each multiplier.
 fn push_leaf(text: &mut Vec<u8>, leaf: &Leaf) -> Result<(), AllocError>
     ensures { OnOk result (text.new.items ≡ text.old.items ++ text_of (leaf_line leaf.now ∷ [])) }
 {
@@ -142,7 +142,7 @@ fn push_leaf(text: &mut Vec<u8>, leaf: &Leaf) -> Result<(), AllocError>
     end_line(text)
 }
 
-/// Adds the fields of multipliers.
+/// Appends the fields of multipliers.
 fn push_multipliers(text: &mut Vec<u8>, multipliers: &[Multiplier]) -> Result<(), AllocError>
     ensures { OnOk result (text.new.items ≡ text.old.items ++ tabbed (flat_map multiplier_fields multipliers.now)) }
 {
@@ -152,7 +152,7 @@ fn push_multipliers(text: &mut Vec<u8>, multipliers: &[Multiplier]) -> Result<()
     Ok(())
 }
 
-/// Adds the two fields of a multiplier.
+/// Appends the two fields of a multiplier.
 fn push_multiplier(text: &mut Vec<u8>, multiplier: &Multiplier) -> Result<(), AllocError>
     ensures { OnOk result (text.new.items ≡ text.old.items ++ tabbed (multiplier_fields multiplier.now)) }
 {

@@ -1,4 +1,4 @@
--- The constraints that are kept, as a stage is passed.
+-- How the kept constraints change when a stage is passed.
 use Rattle.std.proofs.Common.{◌≡◌, ℕ, ◌+◌, ◌-◌, ◌≤◌, true, List, [], ◌∷◌, ◌++◌, map, length, reverse, refl, sym, ap, ◌∙◌, subst, arith}
 use Rattle.std.specs.List.{enumerate_from, flat_map, insert, list_all}
 use Rattle.std.proofs.lemmas.Bool.{and_from}
@@ -66,7 +66,7 @@ module _ (pool : Pool) where
           behind = let behind = are.behind in omega (arith, behind, f);
         }
 
-    -- the problem of a stage is within reach
+    -- if `stage` and the stages before it are within reach, the problem of `stage` is within reach
     pub near : (stage : Stage) (problem : Problem) → IsPool pool → list_all is_stage_in_reach earlier ≡ true → is_stage_in_reach stage ≡ true → problem ≡ record { constraints = rows; stage = stage } →
         is_problem_in_reach problem ≡ true
     near stage problem is each own e =

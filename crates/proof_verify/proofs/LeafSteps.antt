@@ -1,4 +1,4 @@
--- The sums over a leaf's multipliers and over the volunteers: what one more of these adds, and that all sums fit 128 bits.
+-- The sums over a leaf's multipliers and over the volunteers: what one more multiplier or volunteer adds. All sums fit 128 bits.
 use Rattle.std.proofs.Common.{◌≡◌, ℕ, ◌+◌, ◌<◌, ◌≤◌, ◌^◌, true, ltb, List, length, take, get_or, ℤ, pos, ◌+ℤ◌, ◌-ℤ◌, ◌*ℤ◌, FitsSigned, to_z, of_z, sym, ap, ap₂, ◌∙◌, subst, arith}
 use Rattle.std.specs.Prelude.{unsigned_abs}
 use Rattle.std.specs.List.{enumerate_from}
@@ -17,7 +17,7 @@ use Rattle.define_additions.specs.Leaves.{Leaf, Multiplier, Problem, charge, has
 use Rattle.define_additions.specs.TreeRanges.{is_leaf}
 use Rattle.define_additions.proofs.NarrowSums.{charges_narrow, products_narrow, rest_narrow, total_narrow}
 
--- an element of a list is that of an equal list
+-- equal lists have the same element at place `k`
 pub at_item : {X : Type 0} (items xs : List X) (k : ℕ) (x : X) → items ≡ xs → k < length items → x ≡ get_or items k x → (k < length xs) × (x ≡ get_or xs k x)
 at_item items xs k x e l is = subst (λ ys. (k < length ys) × (x ≡ get_or ys k x)) e (l, is)
 
@@ -42,32 +42,34 @@ more_none : (a : ℤ) → a +ℤ pos 0 ≡ a
 more_none a = omega (arith, ints)
 
 module _ (problem : Problem) (leaf : Leaf) where
-  -- the sums before the first multiplier, and after the last
+  -- before the first multiplier, the rest of volunteer `i` is the weight times the scale
   pub rest_begins : (i : ℕ) → rest problem (first_multipliers 0 leaf) i ≡ pos leaf.scale *ℤ weight_of problem.stage i
   rest_begins i = less_none (pos leaf.scale *ℤ weight_of problem.stage i)
 
+  -- after all multipliers, the rest of volunteer `i` is the whole rest
   pub rest_ends : (k i : ℕ) → length leaf.multipliers ≤ k → rest problem (first_multipliers k leaf) i ≡ rest problem leaf i
   rest_ends k i h = ap (λ ms. pos leaf.scale *ℤ weight_of problem.stage i -ℤ signed_sum (multiplied problem.constraints i) ms) (take_all k leaf.multipliers h)
 
+  -- after all multipliers, the sum of the first charges is the sum of all charges
   pub charges_end : (k : ℕ) → length leaf.multipliers ≤ k → first_charges problem k leaf ≡ signed_sum (charge problem.constraints) leaf.multipliers
   charges_end k h = ap (signed_sum (charge problem.constraints)) (take_all k leaf.multipliers h)
 
   module _ (k : ℕ) (below : k < length leaf.multipliers) (m : Multiplier) (at : m ≡ get_or leaf.multipliers k m) where
-    -- the constraint of each multiplier is one of the problem
+    -- if all multipliers are of constraints of the problem, so is multiplier `k`
     pub known_at : has_constraints problem leaf ≡ true → m.number < length problem.constraints
     known_at known =
         let P : Multiplier → Type 0 = λ it. ltb it.number (length problem.constraints) ≡ true in
         ltb-true m.number (length problem.constraints)
         (each_at P leaf.multipliers k m (each_from_list_all (λ it. ltb it.number (length problem.constraints)) leaf.multipliers known) below at)
 
-    -- the products of each multiplier fit 128 bits
+    -- if the problem is within reach and the leaf in its ranges, the product and the charge of multiplier `k` are below 2^127 without signs
     pub narrow_at : (i : ℕ) → is_problem_in_reach problem ≡ true → is_leaf leaf ≡ true →
         (unsigned_abs (multiplied problem.constraints i m) < 2 ^ 127) × (unsigned_abs (charge problem.constraints m) < 2 ^ 127)
     narrow_at i near is =
         let P : Multiplier → Type 0 = λ it. (unsigned_abs (multiplied problem.constraints i it) < 2 ^ 127) × (unsigned_abs (charge problem.constraints it) < 2 ^ 127) in
         each_at P leaf.multipliers k m (products_narrow problem near leaf is i) below at
 
-    -- one multiplier more
+    -- multiplier `k` adds its charge to those of the first `k` multipliers
     pub charges_more : first_charges problem (k + 1) leaf ≡ first_charges problem k leaf +ℤ charge problem.constraints m
     charges_more =
         fold_more (λ sum it. sum +ℤ charge problem.constraints it) (pos 0) leaf.multipliers k m below
@@ -97,7 +99,8 @@ module _ (problem : Problem) (leaf : Leaf) where
       pub rest_next : (i : ℕ) (before one : ℤ) → before ≡ rest problem (first_multipliers k leaf) i → one ≡ multiplied problem.constraints i m → to_z w128 (of_z w128 (before -ℤ one)) ≡ rest problem (first_multipliers (k + 1) leaf) i
       rest_next i before one e f = stored (before -ℤ one) (rest problem (first_multipliers (k + 1) leaf) i) (rest_fits i before one e f) (ap₂ (λ a b. a -ℤ b) e f ∙ sym (rest_more i))
 
--- the charges of the volunteers' rests
+-- ---- the charges of the volunteers' rests
+
 module _ (problem : Problem) (leaf : Leaf) (standings : List Standing) where
   abbrev charges : ℤ
   charges = signed_sum (charge problem.constraints) leaf.multipliers
@@ -113,7 +116,7 @@ module _ (problem : Problem) (leaf : Leaf) (standings : List Standing) where
       ap (λ places. charges +ℤ signed_sum of_rest places) (take_all k (enumerate_from 0 standings) (let many = length-enumerate_from 0 standings in omega (arith, many)))
 
   module _ (k : ℕ) (standing d : Standing) (below : k < length standings) (at : standing ≡ get_or standings k d) where
-    -- one volunteer more
+    -- the rest of volunteer `k` adds its charge to the sum for the first `k` volunteers
     pub total_more : charges_and_rests problem standings (k + 1) leaf ≡ charges_and_rests problem standings k leaf +ℤ rest_charge standing (rest problem leaf k)
     total_more =
         let places = enumerate_from 0 standings in

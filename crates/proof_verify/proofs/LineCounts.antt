@@ -14,7 +14,7 @@ use Rattle.define_bundles.specs.BundleText.{answer_lines, lines_before_done, pan
 use Rattle.define_additions.specs.Trees.{is_open}
 use Rattle.define_pool_texts.specs.PoolText.{category_lines, end_line, household_line, household_lines, lines_before_end, standing_line, standing_lines, value_line, volunteer_line}
 
--- the lines of one category more
+-- one more category adds a line for itself and one for each of its values
 pub categories_more : (categories : List Category) (k : ℕ) (category : Category) → k < length categories → category ≡ get_or categories k category →
     length (flat_map category_lines (take (k + 1) categories)) ≡ length (flat_map category_lines (take k categories)) + length category.values + 1
 categories_more categories k category below at =
@@ -77,11 +77,11 @@ bundle_lines_counted pool answer =
     let fourth = length-map answer.stages stage_line in
     omega (arith, first, second, third, fourth)
 
--- a sum that a call returns is replaced by an equal one
+-- if a call returns `a`, and `a` equals `b`, the call returns `b`
 pub same_sum : (result : Result ℕ AllocError) (a b : ℕ) → IfOk result (λ sum. sum ≡ a) → a ≡ b → IfOk result (λ sum. sum ≡ b)
 same_sum result a b h e = subst (λ n. IfOk result (λ sum. sum ≡ n)) e h
 
--- the sums that the code makes, one after another, are the number of a pool's lines, or of a bundle's
+-- if `first` to `fourth`, `housed` and `decided` are what the code computes for a pool, `fourth + decided` is the number of its lines
 pub pool_sum : (pool : Pool) (categories : List Category) (volunteers : List Volunteer) (first second third fourth housed decided : ℕ) → categories ≡ pool.categories → volunteers ≡ pool.volunteers →
     first ≡ length (flat_map category_lines categories) → second ≡ first + 3 → third ≡ second + length volunteers → housed ≡ count_by (λ volunteer. is_some volunteer.household) volunteers →
     fourth ≡ third + housed → decided ≡ count_by (λ volunteer. not (is_open volunteer.standing)) volunteers → fourth + decided ≡ length (pool_lines pool)
@@ -93,6 +93,7 @@ pool_sum pool categories volunteers first second third fourth housed decided sam
     let others = ap (count_by (λ (volunteer : Volunteer). not (is_open volunteer.standing))) same_volunteers in
     omega (arith, all, in_categories, many, homes, others, a, b, c, d, e, f)
 
+-- if `before` to `stages` are what the code computes for a bundle, `with_rows + stages` is the number of its lines before `done`
 pub bundle_sum : (pool : Pool) (answer : Answer) (before with_total with_rows rows stages : ℕ) → before ≡ length (pool_lines pool) → with_total ≡ before + 2 → with_rows ≡ with_total + rows →
     rows ≡ length answer.lottery.rows → stages ≡ length answer.stages → with_rows + stages ≡ length (lines_before_done pool answer)
 bundle_sum pool answer before with_total with_rows rows stages a b c d e =

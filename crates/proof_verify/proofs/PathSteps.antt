@@ -27,7 +27,7 @@ module _ (pool : Pool) (decisions : List Decision) (kept : List Standing) where
   abbrev path : Path
   path = record { pool = pool; decisions = reverse decisions }
 
-  -- the standings are kept right by one more decision
+  -- if the kept standings are right and a volunteer is undecided, setting this volunteer's standing keeps them right for one more decision
   pub keeps_more : (i : ℕ) (is_in : Bool) (one : Decision) (all : List Decision) → KeepsStandings path kept → is_undecided (reached path) i ≡ true → one ≡ record { volunteer = i; is_in = is_in } → all ≡ decisions ++ one ∷ [] →
       KeepsStandings (record { pool = pool; decisions = reverse all }) (set kept i (decided_standing is_in))
   keeps_more i is_in one all keeps free is e =
@@ -39,7 +39,7 @@ module _ (pool : Pool) (decisions : List Decision) (kept : List Standing) where
         undecided = and_from (is_undecided (reached path) i) (each_undecided (standings pool) (reverse decisions)) free keeps.undecided;
       })
 
--- the standings are kept right as the latest decision is undone
+-- if the kept standings are right, they stay right when the latest decision is undone
 module _ (pool : Pool) (decisions rest : List Decision) (one : Decision) (kept : List Standing) (e : decisions ≡ rest ++ one ∷ [])
     (keeps : KeepsStandings (record { pool = pool; decisions = reverse decisions }) kept) where
   abbrev before : Path
@@ -73,7 +73,7 @@ module _ (problem : Problem) (all : List Standing) (number : ℕ) where
   along (Ok place) later = fault_from problem all (number + 1) place later
   along (Err reason) later = fault number reason
 
-  -- the first fault from a line on is the one that the line's step leads to
+  -- the first fault from `line` on is the fault of `line`, or else the first fault of the later lines at the next path
   by_step : (place : Option (List Decision)) (line : TreeLine) (later : List TreeLine) → fault_from problem all number place (line ∷ later) ≡ along (next problem all place line) later
   by_step None line later = refl
   by_step (Some path) (OfSplit i) later =
@@ -95,7 +95,7 @@ module _ (problem : Problem) (all : List Standing) (number : ℕ) where
   pub refused_here : (place : Option (List Decision)) (reason : ℕ) (line : TreeLine) (later : List TreeLine) → next problem all place line ≡ Err reason → fault_from problem all number place (line ∷ later) ≡ fault number reason
   refused_here place reason line later e = by_step place line later ∙ ap (λ step. along step later) e
 
--- line `k` is passed, so the first fault of all lines is that of the lines after it
+-- if line `k` is passed, and `whole` was the first fault from line `k` on, it is the first fault of the lines after line `k`
 pub line_passed : (problem : Problem) (pool at : Pool) (number k : ℕ) (lines : List TreeLine) (line : TreeLine) (here there : Option (List Decision)) (whole : Option TreeFault) → at ≡ pool → k < length lines →
     line ≡ get_or lines k line → next problem (standings at) here line ≡ Ok there → whole ≡ fault_from problem (standings pool) (number + k) here (drop k lines) →
     whole ≡ fault_from problem (standings pool) (number + (k + 1)) there (drop (k + 1) lines)

@@ -13,7 +13,7 @@ use Rattle.define_additions.specs.Constraints.{first_members, household_constrai
 use Rattle.proof_verify.specs.Kept.{household_row}
 use Rattle.proof_verify.proofs.LeafSteps.{at_item}
 
--- element `k` of a numbered list
+-- element `k` of a numbered list is element `k` of the list, with the number `k`
 numbered_at : {X : Type 0} (items xs : List X) (k : ℕ) (x : X) → items ≡ xs → k < length items → x ≡ get_or items k x →
     (k < length (enumerate_from 0 xs)) × (get_or (enumerate_from 0 xs) k (k, x) ≡ (k, x))
 numbered_at items xs k x e l is =
@@ -28,7 +28,7 @@ numbered_all items xs k e h =
     let same = ap (λ ys. length ys) e in take_all k (enumerate_from 0 xs) (omega (arith, many, same))
 
 module _ {X Y : Type 0} (before : List Y) (items xs : List X) (e : items ≡ xs) (k : ℕ) where
-  -- each element adds one row
+  -- the next element adds one row
   pub one_more : (f : ℕ × X → Y) (rows new : List Y) (x : X) (y : Y) → k < length items → x ≡ get_or items k x → rows ≡ before ++ map f (take k (enumerate_from 0 xs)) →
       new ≡ rows ++ y ∷ [] → y ≡ f (k, x) → new ≡ before ++ map f (take (k + 1) (enumerate_from 0 xs))
   one_more f rows new x y l is so_far added made =
@@ -41,7 +41,7 @@ module _ {X Y : Type 0} (before : List Y) (items xs : List X) (e : items ≡ xs)
   pub one_by_one : (f : ℕ × X → Y) (rows : List Y) → length items ≤ k → rows ≡ before ++ map f (take k (enumerate_from 0 xs)) → rows ≡ before ++ map f (enumerate_from 0 xs)
   one_by_one f rows h so_far = so_far ∙ ap (λ those. before ++ map f those) (numbered_all items xs k e h)
 
-  -- each element adds several rows
+  -- the next element adds its list of rows
   pub several_more : (f : ℕ × X → List Y) (rows new : List Y) (x : X) → k < length items → x ≡ get_or items k x → rows ≡ before ++ flat_map f (take k (enumerate_from 0 xs)) →
       new ≡ rows ++ f (k, x) → new ≡ before ++ flat_map f (take (k + 1) (enumerate_from 0 xs))
   several_more f rows new x l is so_far added =

@@ -1,4 +1,4 @@
--- What a valid proof shows.
+-- If a proof is valid, its lottery is leximin greatest, or its pool has no quota panel.
 use Rattle.std.proofs.Common.{◌≡◌, List, [], Result, Ok, Err, sym, ap, ◌∙◌, subst}
 use Rattle.std.specs.Prelude.{IfOk}
 use Rattle.std.specs.declared.alloc.AllocError.{AllocError}

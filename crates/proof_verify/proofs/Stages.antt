@@ -47,13 +47,14 @@ module _ (pool : Pool) (lottery : Lottery) (earlier : List Stage) (stage : Stage
   too_far true fault e = absurd (false≢true (sym e))
   too_far false fault e = refl
 
-  -- a stage whose numbers are not within reach is refused
+  -- if no reason before the cap applies, a stage that is not within reach is refused for reason 13
   pub refused_far : (lines : List TreeLine) → holds before ≡ true → is_stage_in_reach stage ≡ false → of_stage lines ≡ Refused (record { stage = length earlier + 1; reason = 13; who = [] })
   refused_far lines valid far =
       ap₂ (λ first second. or_next first (or_next second listed)) (is_valid before valid)
       (too_far (leb (reach stage) number_limit) (tree_fault (stage_problem pool earlier stage) (standings pool) line lines) far)
 
-  -- a stage within reach is refused for a line if one has a fault, and else for a listed panel, if at all
+  -- if no reason before the cap applies, and a stage is within reach, a fault of its lines refuses it; without a fault, the verdict is that
+  -- on the listed panels
   pub of_fault : (lines : List TreeLine) (fault : Option TreeFault) → holds before ≡ true → is_stage_in_reach stage ≡ true →
       fault ≡ tree_fault (stage_problem pool earlier stage) (standings pool) line lines →
       of_stage lines ≡ or_next (first_reason (line_reason (length earlier + 1) fault ∷ [])) listed

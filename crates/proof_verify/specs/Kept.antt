@@ -10,7 +10,7 @@ use Rattle.define_additions.specs.Constraints.{Constraint, category_constraints,
 abbrev pub fixed_constraints : Pool → List Constraint
 fixed_constraints pool = size_constraint pool ∷ flat_map (category_constraints pool) (enumerate_from 0 pool.categories)
 
--- `rows` are the constraints of the stage after the earlier ones, and `next` is the place after the constraints of earlier stages
+-- `rows` are the constraints of the stage that follows `earlier`, and `next` is the place after the constraints of the stages of `earlier`
 pub record AreConstraintsOf (pool : Pool) (earlier : List Stage) (rows : List Constraint) (next : ℕ) : Type 0 where
   pub all : rows ≡ constraints pool earlier
   pub behind : next ≡ length (fixed_constraints pool) + length earlier

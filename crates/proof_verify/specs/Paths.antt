@@ -1,4 +1,4 @@
--- A path of decisions in a tree, and the standings where it leads.
+-- A path of decisions in a tree, and the standings after its decisions.
 use Rattle.std.specs.Prelude.{◌≡◌, Bool, true, ◌&&◌, IsTrue, List, [], ◌∷◌, Option, Some, None}
 use Rattle.define_pools.specs.declared.Standing.{Standing}
 use Rattle.define_pools.specs.Pool.{Pool}
@@ -11,7 +11,7 @@ pub record Path : Type 0 where
   pub pool : Pool
   pub decisions : List Decision
 
--- the standings where a path leads
+-- the pool's standings after the path's decisions
 abbrev pub reached : Path → List Standing
 reached path = standings_at (standings path.pool) path.decisions
 
@@ -20,7 +20,7 @@ abbrev pub each_undecided : List Standing → List Decision → Bool
 each_undecided standings [] = true
 each_undecided standings (decision ∷ path) = is_undecided (standings_at standings path) decision.volunteer && each_undecided standings path
 
--- the kept standings are those where the path leads
+-- `kept` are the standings after the path's decisions, each of which is on a volunteer who was undecided before it
 pub record KeepsStandings (path : Path) (kept : List Standing) : Type 0 where
   pub same : kept ≡ reached path
   pub undecided : IsTrue (each_undecided (standings path.pool) path.decisions)
@@ -29,7 +29,8 @@ pub record KeepsStandings (path : Path) (kept : List Standing) : Type 0 where
 abbrev pub with_decision : Path → Decision → Path
 with_decision path decision = record path { decisions = decision ∷ path.decisions }
 
--- what undoing returns: the latest decision, which the path loses and which was on an undecided volunteer, or None if there is none
+-- undoing returns the latest decision and removes it from the path, which leaves its volunteer undecided. Without a decision it returns
+-- None
 abbrev pub Undoes : Option Decision → Path → Path → Type 0
 Undoes None old new = (old.decisions ≡ []) × (new ≡ old)
 Undoes (Some decision) old new = (old ≡ with_decision new decision) × IsTrue (is_undecided (reached new) decision.volunteer)

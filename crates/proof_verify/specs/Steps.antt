@@ -1,11 +1,11 @@
--- What a call returns that passes a line of a tree.
+-- The result of passing a line of a tree.
 use Rattle.std.specs.Prelude.{ℕ, if◌then◌else◌, Bool, true, false, List, ◌∷◌, Option, Some, None, Result, Ok, Err}
 use Rattle.define_pools.specs.declared.Standing.{Standing}
 use Rattle.define_additions.specs.Leaves.{Problem, leaf_shows}
 use Rattle.define_additions.specs.TreeLines.{Decision, OfLeaf, OfSplit, TreeLine, path_behind, standings_at}
 use Rattle.define_additions.specs.Trees.{is_undecided}
 
--- the path of the line after this one, or None if the tree ends, or the reason why this one is refused
+-- the path of the line after `line`, or None if the tree ends with `line`, or the reason why `line` is refused
 abbrev pub next : Problem → List Standing → Option (List Decision) → TreeLine → Result (Option (List Decision)) ℕ
 next problem standings None line = Err 11
 next problem standings (Some path) (OfSplit i) =
@@ -17,7 +17,7 @@ abbrev pub place : Bool → List Decision → Option (List Decision)
 place true path = Some path
 place false path = None
 
--- the step that a call makes: it returns whether the tree goes on, and leaves `path`, or it returns a reason
+-- the result of a call that leaves `path`, as a step: the call returns whether the tree goes on, or the reason why a line is refused
 abbrev pub seen_step : Result Bool ℕ → List Decision → Result (Option (List Decision)) ℕ
 seen_step (Ok goes_on) path = Ok (place goes_on path)
 seen_step (Err reason) path = Err reason

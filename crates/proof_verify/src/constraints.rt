@@ -1,5 +1,5 @@
-//! The constraints of a stage, with a coefficient for each volunteer. Those of the pool are made once, and each stage that is passed adds
-//! its own. Stands on `pool_model`; `leaves` and `verifying` use this. It shares no code with the searches.
+//! The constraints of a stage, with a coefficient for each volunteer. The pool's constraints are made once, and each stage that is passed
+//! adds its own. Stands on `pool_model`; `leaves` and `verifying` use this. It shares no code with the searches.
 
 ghost use Rattle.std.specs.Prelude.{◌≡◌, ◌==◌, ◌++◌, ◌≤◌, ◌+◌, [], filter, IfOk, OnOk, if◌then◌else◌, insert, length, map, pos, slice_index, slice_index_or};
 ghost use Rattle.std.specs.List.{count_by, enumerate_from, find, flat_map, range_with_len};
@@ -93,7 +93,7 @@ impl Constraints {
     }
 }
 
-/// Returns the constraint of a stage: a panel weighs its cap.
+/// Returns the constraint of a stage: a panel's weight in the stage equals the cap.
 fn stage_constraint(alloc: Global, stage: &Stage) -> Result<Constraint, AllocError>
     ensures { IfOk result (λ constraint. constraint ≡ stage_constraint_of stage.now) }
 {
@@ -165,7 +165,7 @@ fn value_constraint(
     })
 }
 
-/// Returns 1 for each volunteer who has a value, and 0 for each other one.
+/// Returns 1 for each volunteer who has a value, and 0 for everybody else.
 fn ones_with(
     alloc: Global,
     volunteers: &[Volunteer],
@@ -223,7 +223,7 @@ fn household_constraint(
     })
 }
 
-/// Returns 1 for each member of a household, and 0 for each other volunteer.
+/// Returns 1 for each member of a household, and 0 for everybody else.
 fn ones_of(
     alloc: Global,
     households: &[Option<usize>],
@@ -237,7 +237,7 @@ fn ones_of(
         .collect(alloc)
 }
 
-/// True if `household` is that of this number.
+/// True if `household` is the number `number`.
 fn is_of_household(number: usize, household: Option<usize>) -> bool
     ensures { result ≡ is_of number household }
 {
@@ -247,7 +247,7 @@ fn is_of_household(number: usize, household: Option<usize>) -> bool
     }
 }
 
-/// Returns the volunteers whose household has their own number: the first members.
+/// Returns the first member of each shared household: each volunteer whose own number is the household's number.
 fn first_members(alloc: Global, households: &[Option<usize>]) -> Result<Vec<usize>, AllocError>
     ensures { IfOk result (λ numbers. numbers.items ≡ filter (λ i. is_of i (slice_index_or households.now i None)) (range_with_len 0 (length households.now))) }
 {
@@ -296,7 +296,7 @@ fn household_size(volunteers: &[Volunteer], i: usize) -> usize
         .count()
 }
 
-/// Returns the first member of a volunteer's household.
+/// Returns the first member of a volunteer's household, or None if the volunteer has none.
 fn first_of_household(volunteers: &[Volunteer], i: usize) -> Option<usize>
     ensures { result ≡ find (are_of_one_household volunteers.now i) (range_with_len 0 (length volunteers.now)) }
 {

@@ -54,7 +54,7 @@ fn constraint_of(constraints: &[Constraint], number: usize) -> &Constraint
     &constraints[number]
 }
 
-/// True if the leaf shows the problem for the panels that keep these standings.
+/// True if the leaf shows the cap for the panels that keep the standings: everybody seated is in, nobody gone is.
 pub(crate) fn leaf_shows(problem: &Problem, standings: &[Standing], leaf: &Leaf) -> bool
     requires near { IsTrue (is_problem_in_reach problem.now) }
     requires leaf { IsTrue (is_leaf leaf.now) }

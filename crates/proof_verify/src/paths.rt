@@ -11,7 +11,7 @@ use pool_model::{Pool, Standing, Volunteer};
 use std::alloc::{AllocError, Global};
 use std::marker::Model;
 
-/// A volunteer on whom a split decides, and whether the next line is in the subtree with this volunteer or in the one without.
+/// The volunteer on whom a split decides, and whether the next line is in the subtree with this volunteer or in the one without.
 #[derive(Debug, Drop)]
 pub(crate) struct Decision {
     volunteer: usize,

@@ -8,7 +8,7 @@ use Rattle.define_offices.specs.Tables.{Entry}
 use Rattle.define_offices.specs.Pools.{after_withdrawals, has_withdrawn, restood, restood_pool, standing_of}
 use Rattle.rounds.specs.Next.{standing_marked}
 
--- volunteers numbered from a number on, of whom the first so many have another standing
+-- volunteers, numbered from `i`. The first `count` have the standing that `other` returns for their number and standing so far
 abbrev pub restood_to : (ℕ → Standing → Standing) → ℕ → ℕ → List Volunteer → List Volunteer
 restood_to other i zero volunteers = volunteers
 restood_to other i (suc count) [] = []
@@ -29,7 +29,7 @@ module _ (other : ℕ → Standing → Standing) where
   length-restood_to i (suc count) [] = refl
   length-restood_to i (suc count) (v ∷ volunteers) = ap suc (length-restood_to (i + 1) count volunteers)
 
-  -- the next volunteer still has the standing from before
+  -- after `count` standings are set, the next volunteer still has the standing from before
   pub restood_to-next : (i count : ℕ) (volunteers : List Volunteer) (d : Volunteer) → get_or (restood_to other i count volunteers) count d ≡ get_or volunteers count d
   restood_to-next i zero volunteers d = refl
   restood_to-next i (suc count) [] d = refl
@@ -47,7 +47,7 @@ module _ (other : ℕ → Standing → Standing) where
   pub restood_pool_to-all : (count : ℕ) (pool : Pool) → length pool.volunteers ≤ count → restood_pool_to other count pool ≡ restood_pool other pool
   restood_pool_to-all count pool h = ap (λ volunteers. record pool { volunteers = volunteers }) (restood_to-all 0 count pool.volunteers h)
 
-  -- one more standing is set
+  -- setting the standing of volunteer `count` yields the pool with `count + 1` standings set
   pub restood_pool_to-more : (count : ℕ) (pool : Pool) (d : Volunteer) → count < length pool.volunteers →
       record pool { volunteers = with_standing (restood_to other 0 count pool.volunteers) count (other count (get_or pool.volunteers count d).standing) } ≡ restood_pool_to other (count + 1) pool
   restood_pool_to-more count pool d h =
@@ -58,13 +58,13 @@ module _ (other : ℕ → Standing → Standing) where
   pub length-next : (count : ℕ) (pool next : Pool) → next ≡ restood_pool_to other count pool → length next.volunteers ≡ length pool.volunteers
   length-next count pool next h = ap (λ (p : Pool). length p.volunteers) h ∙ length-restood_to 0 count pool.volunteers
 
-  -- a pool in which one more standing is set
+  -- if `count` standings of a pool are set, and that of volunteer `count` is set next, `count + 1` are set
   pub next-more : (count : ℕ) (pool next later : Pool) (d : Volunteer) (s : Standing) → next ≡ restood_pool_to other count pool → count < length pool.volunteers →
       s ≡ other count (get_or pool.volunteers count d).standing → later ≡ standing_set next count s → later ≡ restood_pool_to other (count + 1) pool
   next-more count pool next later d s h k e set =
       set ∙ (ap (λ (p : Pool). standing_set p count s) h ∙ (ap (λ (t : Standing). standing_set (restood_pool_to other count pool) count t) e ∙ restood_pool_to-more count pool d k))
 
-  -- whom the loop has not passed has the standing from before
+  -- volunteer `count`, whom the loop has not yet passed, has the standing from before
   pub next-same : (count : ℕ) (pool next : Pool) (d : Volunteer) → next ≡ restood_pool_to other count pool → get_or next.volunteers count d ≡ get_or pool.volunteers count d
   next-same count pool next d h = ap (λ (p : Pool). get_or p.volunteers count d) h ∙ restood_to-next 0 count pool.volunteers d
 
@@ -84,7 +84,7 @@ restood-same : (one other : ℕ → Standing → Standing) → ((i : ℕ) (s : S
 restood-same one other same i [] = refl
 restood-same one other same i (v ∷ volunteers) = rw (same i v.standing, restood-same one other same (i + 1) volunteers) refl
 
--- the marks of a register stand for it
+-- if the marks equal a register's withdrawals, they set the same standings as the register
 pub withdrawn_by_marks : (register : List Entry) (marks : List Bool) (pool : Pool) → map (λ (entry : Entry). entry.withdrawn) register ≡ marks →
     restood_pool (standing_marked marks) pool ≡ restood_pool (after_withdrawals register) pool
 withdrawn_by_marks register marks pool h =

@@ -1,8 +1,8 @@
 //! The pool of the next round, after a panel was drawn and some of its members dropped out, and pools after withdrawals. Stands on
 //! `pool_model`, and on the definitions of `define_offices`. `office_pools` stands on it.
 //!
-//! Promises: `next_pool` returns exactly the next pool of the definitions, or the first dropout who isn't in the panel; `pool_after` is the
-//! same pool, whoever the dropouts are; `withdraw` changes exactly the standings of the open volunteers who have withdrawn.
+//! Promises: `next_pool` returns exactly the next pool of the definitions, or the first dropout who isn't in the panel; `pool_after`
+//! returns the same pool, whoever the dropouts are; `withdraw` changes exactly the standings of the open volunteers who have withdrawn.
 #![tactic(auto)]
 
 ghost use Rattle.std.specs.Prelude.{◌≡◌, List, map, slice_index_or, false, if◌then◌else◌, IfOk};
@@ -40,9 +40,9 @@ impl From<AllocError> for NextStop {
     }
 }
 
-/// Returns the pool after a panel of this pool was drawn and the volunteers of the numbers `drops` dropped out. Who was gone stays gone, the
-/// dropouts are gone, the panel's other members are seated, and all others are open; nothing else changes. Stops with the first dropout
-/// who isn't in the panel. Running out of memory is allowed at any time.
+/// Returns the pool after `panel` was drawn from this pool and the volunteers with the numbers `drops` dropped out. Who was gone stays
+/// gone, the dropouts are gone, the panel's other members are seated, and all others are open; nothing else changes. Stops with the first
+/// dropout who isn't in the panel. It may run out of memory at any time.
 pub fn next_pool(pool: &Pool, panel: &Panel, drops: &[usize]) -> Result<Pool, NextStop>
     ensures { TellsNext pool.now panel.now drops.now result }
 {
@@ -52,7 +52,7 @@ pub fn next_pool(pool: &Pool, panel: &Panel, drops: &[usize]) -> Result<Pool, Ne
     }
 }
 
-/// Returns the same pool as `next_pool`, also where a dropout isn't in the panel.
+/// Returns the pool of `next_pool`, even if a dropout isn't in the panel.
 pub fn pool_after(pool: &Pool, panel: &Panel, drops: &[usize]) -> Result<Pool, AllocError>
     ensures { IfOk result (λ next. next ≡ pool_next pool.now panel.now drops.now) }
 {
@@ -64,8 +64,8 @@ pub fn pool_after(pool: &Pool, panel: &Panel, drops: &[usize]) -> Result<Pool, A
     Ok(next)
 }
 
-/// Makes the open volunteers gone whose rows of a register have withdrawn, and changes nothing else. `withdrawn` says of each row in order
-/// whether it has; a volunteer past the last row hasn't.
+/// Makes each open volunteer gone who has withdrawn, and changes nothing else. `withdrawn` has, for each row of the register in order,
+/// whether its volunteer has withdrawn. A volunteer past the last row hasn't.
 pub fn withdraw(pool: &mut Pool, withdrawn: &[bool])
     ensures { (register : List Entry) → map (λ entry. entry.withdrawn) register ≡ withdrawn.now → pool.new ≡ restood_pool (after_withdrawals register) pool.old }
 {
@@ -104,7 +104,7 @@ fn standing_marked(withdrawn: &[bool], number: usize, standing: Standing) -> Sta
     }
 }
 
-/// True if the mark of this number is true; a number past the marks has none.
+/// True if there is a mark with this number, and it is true.
 fn is_marked(marks: &[bool], number: usize) -> bool
     ensures { result ≡ slice_index_or marks.now number false }
 {

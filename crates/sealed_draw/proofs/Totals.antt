@@ -1,4 +1,4 @@
--- A bundle's weights are at least 1, so its total agrees exactly where they sum to it.
+-- A bundle's weights are at least 1, so its total agrees exactly if they sum to it.
 use Rattle.std.proofs.Common.{◌≡◌, ◌↔◌, ◌∙◌, Bool, eqb, length, sym, IsTrue}
 use Rattle.std.specs.Prelude.{sum_by}
 use Rattle.std.proofs.lemmas.Bool.{eq-eqb, eqb-true}

@@ -14,9 +14,9 @@ use pool_model::{Lottery, Panel};
 use std::alloc::{AllocError, Global};
 use tickets::{DiceStop, Named, name_ticket, pick, table};
 
-/// Draws from the lottery of a bundle whose weights sum to its total. Returns the panel whose range has the ticket that the digits
-/// name, if the seal that was given is the one that is kept, capitals aside. Fails with `SealDiffers` if it is another one, else with
-/// `BadDigit` or `MoreDigits` if the digits name no ticket.
+/// Draws from the lottery of a bundle whose weights sum to its total. Returns the panel whose range has the ticket that the digits name.
+/// Fails with `SealDiffers` unless the given seal is the kept one, capitals aside; else with `BadDigit` or `MoreDigits` if the digits name
+/// no ticket.
 pub fn draw(
     alloc: Global,
     bundle: &Bundle,

@@ -29,7 +29,7 @@ pub same_text : (before after : Option (List ℕ)) (text bytes : List ℕ) → b
 same_text None after text bytes told held = absurd (cc (told))
 same_text (Some left) after text bytes told held = let same : left ≡ text = cc (told) in held.0 ∙ same
 
--- a source that told a text of at most `limit` bytes can't lose more than `limit`
+-- if a source told a text of at most `limit` bytes, no call reads more than `limit` bytes from it
 pub not_longer : (before after : Option (List ℕ)) (text : List ℕ) (limit : ℕ) → before ≡ Some text → length text ≤ limit → LosesMore limit before after → ⊥
 not_longer None after text limit told within loses = cc (told)
 not_longer (Some left) None text limit told within loses = loses.2

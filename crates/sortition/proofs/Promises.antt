@@ -1,4 +1,4 @@
--- Every call that is right keeps the promises, command by command and status by status.
+-- Every call that is right keeps the promises, status by status and command by command.
 use Rattle.std.proofs.Common.{◌≡◌, ◌∙◌, ℕ, true, List, [], Option, Some, None, refl, ap, sym, subst, inl, inr}
 use Rattle.std.specs.Prelude.{◌≢◌, ◌⊎◌}
 use Rattle.define_additions.specs.Refusals.{RefusalMeans}
@@ -77,7 +77,7 @@ module _ (told : Told) where
   held_either (either.Pool pool) bytes held is = inl (held_pool pool bytes held is)
   held_either (either.Bundle bundle) bytes held is = inr (bundle.answer, held_bundle bundle bytes held is)
 
-  -- the source held the pool, or the bundle whose lottery is proved
+  -- if an answer is about a given pool or bundle, the source held that pool, or the bundle whose lottery is proved
   held_given : (about : PoolOrBundle) (its : Answer) (bytes : List ℕ) → HeldAll told.source bytes → IsTextOfEither about bytes → IsGiven (given_in about) its →
       HeldPool told.source (pool_in about) ⊎ HeldBundle told.source (record { pool = pool_in about; answer = its })
   held_given (either.Pool pool) its bytes held is given = inl (held_pool pool bytes held is)
@@ -129,7 +129,7 @@ module _ (told : Told) where
         leximin = leximin (made_pool seed volunteers) right.right.answer.lottery right.right.finds.greatest;
       }
 
-  -- ---- what else status 0 says
+  -- ---- what status 0 means for the other commands
 
   valid_told : (nodes : ℕ) → Answers bundle_format (CheckMeans nodes) told → told.status ≡ 0 → TellsValid told
   valid_told nodes outcome s =
@@ -222,7 +222,7 @@ module _ (told : Told) where
   usage (Some (asks.Check it)) right s = absurd (text_not_two told right s)
   usage (Some (asks.Make it)) right s = absurd (outcome_not_two told right.ends s)
 
-  -- if no answer of a command about a value has status 3, then 3 comes only if the text is none of the format, or too long
+  -- if no answer of a command about a value has status 3, then status 3 comes only if the input is outside the format or too long
   no_text : {Value : Type 0} (format : Format Value) (Means : Value → Saying → Type 0) → ((value : Value) (line : List ℕ) → Means value (Stops Input line) → ⊥) →
       IsInput format Means told → HeldNoText format told
   no_text format Means never (NoText bytes fault held fails) = inl (bytes, fault, held, fails)
@@ -289,7 +289,7 @@ module _ (told : Told) where
       let is = is_spent at.0 at.1 in
       (is.0, (subst (λ said. IsTold said told) is.1 at.2.is_told).errs, (subst (IsTheAnswer (MakeMeans it.seed it.volunteers it.limits)) is.1 at.2.right).right)
 
-  -- a proof that `bundle` refuses is one that there is no quota panel
+  -- if `bundle` refuses the proof that the source held, this proof is one that there is no quota panel
   no_lottery : (proof : Proof) (bytes line : List ℕ) → HeldAll told.source bytes → IsProofText proof bytes → GainsLine told.errs line → IsRight (BundleMeans proof) (Stops Rule line) →
       RuleBroken (Some (asks.Bundle (record {}))) told
   no_lottery (OfLottery pool its trees) bytes line held is gained right = absurd right
@@ -337,7 +337,7 @@ module _ (told : Told) where
   write_fault (Some (asks.Check it)) right s = text_writes_not told right s
   write_fault (Some (asks.Make it)) right s = writes_not told right.ends s
 
-  -- if `prove` answers a refusal, the source held a bundle, which the trees make a refused proof
+  -- if `prove` prints a refusal, the source held a bundle, and with some trees this bundle is a refused proof
   given_fails : (about : PoolOrBundle) (bytes : List ℕ) → HeldAll told.source bytes → IsTextOfEither about bytes → (pivots nodes : ℕ) (text : List ℕ) → Gains told.out text →
       ProvesWithin pivots nodes about (Prints Rejected text) → CheckFailed (Some (asks.Prove (record { pivots = pivots; nodes = nodes }))) told
   given_fails (either.Pool pool) bytes held is pivots nodes text out means = absurd (cc (means.right.is_given))

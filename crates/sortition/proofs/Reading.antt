@@ -1,4 +1,4 @@
--- What the status of a call says of the answer that was told.
+-- The status of a call determines how the answer that was told begins, and about which value it is right.
 use Rattle.std.proofs.Common.{◌≡◌, ◌∙◌, ℕ, true, List, Ok, ap, refl, sym, subst}
 use Rattle.std.specs.Prelude.{◌≢◌, Err}
 use Rattle.command_shell.specs.declared.status.Printed.TheVariants.{Done, NoPanel, Refused}
@@ -11,17 +11,20 @@ use Rattle.command_shell.specs.Told.{Told, HasFaulted, HeldAll, HeldMore}
 use Rattle.define_lines.specs.Lines.{Fault}
 use Rattle.sortition.specs.Headline.{is_status}
 
--- an answer that was told has its status
+-- if an answer was told, the status of the call is that of the answer
 pub its_status : (answer : Saying) (told : Told) → IsTold answer told → told.status ≡ status_of answer
 its_status (Prints printed text) told is = is.status
 its_status (Stops cause line) told is = is.status
 
--- the form of an answer, by its status
+-- ---- how an answer of each status begins
+
+-- an answer with status 0 prints what its command is for
 pub is_done : (answer : Saying) → status_of answer ≡ 0 → (text : List ℕ) × (answer ≡ Prints Done text)
 is_done (Prints Done text) s = (text, refl)
 is_done (Stops Input line) s = absurd (cc)
 is_done answer s = absurd (cc)
 
+-- an answer with status 1 prints that there is no panel
 pub is_no_panel : (answer : Saying) → status_of answer ≡ 1 → (text : List ℕ) × (answer ≡ Prints NoPanel text)
 is_no_panel (Prints NoPanel text) s = (text, refl)
 is_no_panel (Stops Input line) s = absurd (cc)
@@ -127,7 +130,7 @@ module _ {Value : Type 0} (format : Format Value) (Means : Value → Saying → 
       let is = is_refused at.0 at.1 in
       (is.0, subst (IsAbout format Means told) is.1 at.2)
 
--- status 7 comes only if the source counted a fault, and 8 only if out did
+-- status 7 comes only if the source counted a fault
 pub reads_not : {Means : List ℕ → Saying → Type 0} (told : Told) → TextOutcome Means told → told.status ≡ 7 → HasFaulted told.source
 reads_not told (Ends (Answered (Prints Done text) right is)) s = absurd (cc (is.status, s))
 reads_not told (Ends (Answered (Prints NoPanel text) right is)) s = absurd (cc (is.status, s))
@@ -141,6 +144,7 @@ reads_not told (Ends (WantOfMemory want)) s = absurd (cc (want.status, s))
 reads_not told (TooLong long) s = absurd (cc (long.stopped.status, s))
 reads_not told (ReadFault fault) s = fault.faulted
 
+-- status 8 comes only if out counted a fault
 pub writes_not : {Right : Saying → Type 0} (told : Told) → Outcome Right told → told.status ≡ 8 → HasFaulted told.out
 writes_not told (Answered (Prints Done text) right is) s = absurd (cc (is.status, s))
 writes_not told (Answered (Prints NoPanel text) right is) s = absurd (cc (is.status, s))
@@ -157,7 +161,7 @@ text_writes_not told (Ends ends) s = writes_not told ends s
 text_writes_not told (TooLong long) s = absurd (cc (long.stopped.status, s))
 text_writes_not told (ReadFault fault) s = absurd (cc (fault.stopped.status, s))
 
--- the status is one of the program's
+-- the status of an answer is one of the program's statuses
 said_is_status : (answer : Saying) → is_status (status_of answer) ≡ true
 said_is_status (Prints Done text) = refl
 said_is_status (Prints NoPanel text) = refl
@@ -223,7 +227,7 @@ said_at told number n8 n12 status (Answered answer right is) = (answer, sym (its
 said_at told number n8 n12 status (WriteFault printed text right cut) = absurd (n8 (sym status ∙ cut.status))
 said_at told number n8 n12 status (WantOfMemory want) = absurd (n12 (sym status ∙ want.status))
 
--- why a call has status 3: the format's `read` fails on the text, the source held too much, or the command's meaning has 3 for the value
+-- why a call has status 3: the format's `read` fails on the text, the source held too much, or the answer told about the value has status 3
 pub data IsInput {Value : Type 0} (format : Format Value) (Means : Value → Saying → Type 0) (told : Told) : Type 0 where
   NoText : (bytes : List ℕ) (fault : Fault) → HeldAll told.source bytes → format.read bytes ≡ Err fault → IsInput format Means told
   Long : HeldMore told.source input_limit → IsInput format Means told

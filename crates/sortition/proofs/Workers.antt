@@ -1,4 +1,5 @@
--- Two calls of one command about one text tell the same, faults and want of memory aside. So the number of workers changes nothing.
+-- Two calls of one command about one text tell the same, if there is no fault and no want of memory. So the number of workers changes
+-- nothing.
 use Rattle.std.proofs.Common.{◌≡◌, ◌≤◌, ℕ, List, length, Some, sym, subst, inl, inr}
 use Rattle.std.specs.Prelude.{◌≢◌}
 use Rattle.command_shell.specs.Answers.{IsRight, IsTheAnswer, Meaning, Saying}
@@ -14,7 +15,7 @@ module _ {Value : Type 0} (format : Format Value) (Means : Value → Meaning) wh
   abbrev OneAbout : List ℕ → Saying → Type 0
   OneAbout = About format (λ value. IsTheAnswer (Means value))
 
-  -- at most one answer is right about some bytes
+  -- about given bytes, at most one answer is right
   one_about : (bytes : List ℕ) (first second : Saying) → OneAbout bytes first → OneAbout bytes second → first ≡ second
   one_about bytes first second (AboutValue a ra sa ma) (AboutValue b rb sb mb) =
       let same : b ≡ a = cc (ra, rb) in

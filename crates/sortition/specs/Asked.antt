@@ -1,5 +1,5 @@
--- What the words of a call ask for: a command with its arguments.
--- Over `given_in`, which says what the words give by the program's table. The contract of `office` cites it.
+-- What the words of a call ask for: a command with its arguments. `given_in` (command_words) matches the words to the program's table of
+-- commands and options; this file tests the ranges of the numbers and makes the command. The contract of `office` cites it.
 use Rattle.std.specs.Prelude.{◌&&◌, ℕ, List, Option, Some, None, codes, if◌then◌else◌, nat_le, option_and_then, option_map}
 use Rattle.define_runs.specs.Run.{Limits}
 use Rattle.command_words.specs.Given.{Given, number_of, text_of}
@@ -14,7 +14,7 @@ limits_from bits pivots nodes =
     if nat_le 1 bits && nat_le bits 127 && nat_le pivots 1000000000 && nat_le nodes 1000000000000
     then Some (record { bits = bits; pivots = pivots; nodes = nodes }) else None
 
--- the limits of a run
+-- the limits of a run, by `bits`, `pivots` and `nodes`; None if one is missing or out of its range
 abbrev pub limits_in : Given → Option Limits
 limits_in given =
     option_and_then (λ bits.
@@ -25,14 +25,14 @@ limits_in given =
 abbrev pub workers_from : ℕ → Option ℕ
 workers_from number = if nat_le 1 number && nat_le number 64 then Some number else None
 
--- how many workers price
+-- how many workers price, by `workers`: from 1 to 64, else None
 abbrev pub workers_in : Given → Option ℕ
 workers_in given = option_and_then workers_from (number_of (codes "workers") given)
 
 abbrev pub volunteers_from : ℕ → Option ℕ
 volunteers_from number = if nat_le 1 number && nat_le number 400 then Some number else None
 
--- how many volunteers a made pool is to have
+-- how many volunteers a made pool has, by `volunteers`: from 1 to 400, else None
 abbrev pub volunteers_in : Given → Option ℕ
 volunteers_in given = option_and_then volunteers_from (number_of (codes "volunteers") given)
 
@@ -59,10 +59,10 @@ command_asked name.Lottery given =
 command_asked name.Check given = option_map (λ nodes. asks.Check (record { nodes = nodes })) (number_of (codes "nodes") given)
 command_asked name.Make given = make_asked given
 
--- the command with the values that the words give
+-- the command with its arguments, or None if a value is missing or out of its range
 abbrev pub asked_by : Given → Option Asked
 asked_by given = command_asked given.command given
 
--- what the words ask for; nothing if they are not of the forms, or ask for help
+-- the command that the words ask for; None if the words are not of the forms, or ask for help
 abbrev pub asked : List (List ℕ) → Option Asked
 asked words = option_and_then asked_by (given_in words)

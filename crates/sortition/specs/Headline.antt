@@ -1,11 +1,11 @@
--- What the program promises, in one file: each field of `Headline` is a sentence, and `headline` (src/headline.rt) shows that every call of
--- `office` keeps them. To believe them a reader needs, beside this file, what a pool, a quota panel, a lottery and a certificate are
--- (define_pools: Pool, Lottery, Certificate), when a proof holds (define_additions: ProofVerdict, Refusals), how they are spelled (PoolText,
--- BundleText, ProofText), what the words ask for (Asked), what was read and printed (Told), and the limits and lines that the imports below name.
+-- What the program promises, in one file. Each field of `Headline` is one promise, and the law `headline` (src/headline.rt) proves them of
+-- every call of `office`. Beside this file, a reader needs what a pool, a quota panel, a lottery and a certificate are (define_pools: Pool,
+-- Lottery, Certificate), when a proof holds (define_additions: ProofVerdict, Refusals), how they are spelled (PoolText, BundleText,
+-- ProofText), what the words ask for (Asked), what was read and printed (Told), and the limits and lines that the imports below name.
 --
--- The sentences on statuses say what holds if a status comes; only those on `check` and `verify` also say when status 0 comes. When the
--- others come, and that out is untouched at 2 to 7 and at 12 and errs at 0, 1 and 11, is said by the contract of `office` (Office): the
--- latter in command_shell/specs/Outcomes.antt alone, by `IsStopped` and `IsPrinted`.
+-- Most promises say what holds if a call has some status; only those on `check` and `verify` also say when the status is 0. When the other
+-- statuses come is said by the contract of `office` (Office). That out is untouched at status 2 to 7 and 12, and errs at 0, 1 and 11, is
+-- said only by `IsStopped` and `IsPrinted` (command_shell/specs/Outcomes.antt).
 use Rattle.std.specs.Prelude.{◌≡◌, ◌≢◌, ◌↔◌, ◌⊎◌, ◌≤◌, ◌==◌, ℕ, nat_lt, Bool, IsTrue, IsFalse, List, [], ◌∷◌, length, Option, Some, None, Err}
 use Rattle.std.specs.List.{list_all, list_any}
 use Rattle.define_additions.specs.ProofVerdict.{OfLottery, OfNoPanel, Proof, verdict}
@@ -47,16 +47,16 @@ use Rattle.sortition.specs.declared.asked.Asked.TheVariants as asks
 -- ---- what is promised of a lottery over the quota panels of a pool
 
 pub record IsLeximin (pool : Pool) (lottery : Lottery) : Type 0 where
-  -- it is a lottery over quota panels: different ones, each with a weight. The fields down to `fractions` say in parts what that means
+  -- it is a lottery over quota panels: different ones, each with a weight. The fields down to `fractions` spell out what that means
   pub is_lottery : IsLottery pool lottery
-  -- it has a panel, and each panel has as many different volunteers of the pool as the pool's size says
+  -- it has at least one panel, and each panel lists different volunteers of the pool, as many as the pool's size
   pub some : IsTrue (nat_lt 0 (length lottery.rows))
   pub sized : IsTrue (list_all (λ row. is_of_size pool row.panel) lottery.rows)
   -- each panel meets every quota
   pub quotas : IsTrue (list_all (λ row. meets_quotas pool.categories pool.volunteers row.panel) lottery.rows)
-  -- none has two members of one household
+  -- no panel has two members of one household
   pub households : IsTrue (list_all (λ row. keeps_households pool.volunteers row.panel) lottery.rows)
-  -- each holds everyone who is seated and no one who is gone
+  -- each panel has everyone who is seated and no one who is gone
   pub standings : IsTrue (list_all (λ row. keeps_standings pool.volunteers row.panel) lottery.rows)
   -- the fractions sum to one: the weights are at least 1 and sum to the total
   pub fractions : TotalAgrees lottery
@@ -65,8 +65,8 @@ pub record IsLeximin (pool : Pool) (lottery : Lottery) : Type 0 where
   -- so there is a quota panel
   pub exists : panels pool ≢ []
 
--- ---- what the source held, all of which was read. What a terminal, a file or a pipe held no contract can say: for such a source these
--- records hold of every pool, bundle and proof
+-- ---- what the source held, all of which was read. No contract can say what a terminal, a file or a pipe held: for such a source,
+-- `HeldPool`, `HeldBundle` and `HeldProof` hold of every pool, bundle and proof
 
 pub record HeldPool (source : Bytes) (pool : Pool) : Type 0 where
   pub is_pool : IsPool pool
@@ -80,13 +80,13 @@ pub record HeldProof (source : Bytes) (proof : Proof) : Type 0 where
   pub is_proof : IsProof proof
   pub held : HeldAll source (proof_spelling proof)
 
--- a pool, or a bundle over it
+-- the source held the text of this pool, or of a bundle over it
 abbrev pub HeldEither : Bytes → Pool → Type 0
 HeldEither source pool = HeldPool source pool ⊎ ((answer : Answer) × HeldBundle source (record { pool = pool; answer = answer }))
 
 -- ---- a lottery is answered
 
--- `lottery`: the bundle of a leximin greatest lottery over the pool that the source held
+-- `lottery` printed the bundle of a leximin greatest lottery over the pool that the source held
 pub record TellsBundle (told : Told) : Type 0 where
   pub pool : Pool
   pub held : HeldPool told.source pool
@@ -95,7 +95,8 @@ pub record TellsBundle (told : Told) : Type 0 where
   pub certified : Certifies pool answer.lottery answer.stages
   pub leximin : IsLeximin pool answer.lottery
 
--- `prove`: a valid proof of a lottery over the pool that the source held, or of the lottery of the bundle that the source held
+-- `prove` printed a valid proof of a leximin greatest lottery: one over the pool that the source held, or that of the bundle that the
+-- source held
 pub record TellsProof (told : Told) : Type 0 where
   pub pool : Pool
   pub answer : Answer
@@ -105,16 +106,16 @@ pub record TellsProof (told : Told) : Type 0 where
   pub valid : verdict (OfLottery pool answer trees) ≡ Valid
   pub leximin : IsLeximin pool answer.lottery
 
--- `make`: the summary of a lottery over the made pool
+-- `make` printed the summary of a leximin greatest lottery over the made pool
 pub record TellsSummary (pool : Pool) (told : Told) : Type 0 where
   pub answer : Answer
   pub sizes : Sizes
   pub out : Gains told.out (summary_text pool answer sizes)
   pub leximin : IsLeximin pool answer.lottery
 
--- ---- what status 0 says of each command
+-- ---- what status 0 means, command by command
 
--- `check`: the certificate of the bundle that the source held holds, so its lottery is leximin greatest, whoever wrote it
+-- `check` found that the certificate of the bundle in the source holds. So the bundle's lottery is leximin greatest, whoever wrote it
 pub record TellsValid (told : Told) : Type 0 where
   pub bundle : Bundle
   pub held : HeldBundle told.source bundle
@@ -122,11 +123,12 @@ pub record TellsValid (told : Told) : Type 0 where
   pub leximin : IsLeximin bundle.pool bundle.answer.lottery
   pub out : Gains told.out valid_line
 
--- `verify`: the proof that the source held is valid, so its lottery is leximin greatest, or its pool has no quota panel, whoever wrote it
+-- what a valid proof shows, whoever wrote it: its lottery is leximin greatest, or its pool has no quota panel
 abbrev pub IsShown : Proof → Type 0
 IsShown (OfLottery pool answer trees) = IsLeximin pool answer.lottery
 IsShown (OfNoPanel pool lines) = panels pool ≡ []
 
+-- `verify` found the proof in the source valid, so what the proof shows holds
 pub record TellsShown (told : Told) : Type 0 where
   pub proof : Proof
   pub held : HeldProof told.source proof
@@ -134,7 +136,7 @@ pub record TellsShown (told : Told) : Type 0 where
   pub shown : IsShown proof
   pub out : Gains told.out (shown_line proof)
 
--- `draw`: what the dice draw from the bundle that the source held, whose seal was given
+-- `draw` printed what the digits of dice draw from the bundle that the source held, whose seal was given
 pub record TellsDrawn (seal digits : List ℕ) (told : Told) : Type 0 where
   pub bundle : Bundle
   pub held : HeldBundle told.source bundle
@@ -142,13 +144,13 @@ pub record TellsDrawn (seal digits : List ℕ) (told : Told) : Type 0 where
   pub out : Gains told.out text
   pub drawn : PrintsDrawn seal digits bundle text
 
--- `seal`: the seal of the bundle that the source held
+-- `seal` printed the seal of the bundle that the source held
 pub record TellsSeal (told : Told) : Type 0 where
   pub bundle : Bundle
   pub held : HeldBundle told.source bundle
   pub out : Gains told.out (seal_line bundle)
 
--- `bundle`: the bundle in the proof that the source held. Nothing is verified
+-- `bundle` printed the bundle of the proof that the source held. It verifies nothing
 pub record TellsItsBundle (told : Told) : Type 0 where
   pub pool : Pool
   pub answer : Answer
@@ -156,7 +158,7 @@ pub record TellsItsBundle (told : Told) : Type 0 where
   pub held : HeldProof told.source (OfLottery pool answer trees)
   pub out : Gains told.out (bundle_spelling (record { pool = pool; answer = answer }))
 
--- `panel`: the first quota panel of the pool that the source held
+-- `panel` printed the first quota panel of the pool that the source held
 pub record TellsPanel (nodes : ℕ) (told : Told) : Type 0 where
   pub pool : Pool
   pub held : HeldPool told.source pool
@@ -176,27 +178,27 @@ TellsDone (Some (asks.Lottery it)) told = TellsBundle told
 TellsDone (Some (asks.Check it)) told = TellsValid told
 TellsDone (Some (asks.Make it)) told = TellsSummary (made_pool it.seed it.volunteers) told
 
--- ---- no panel is answered
+-- ---- status 1: there is no quota panel
 
--- the pool has no quota panel
+-- what status 1 means for each command: the pool that the source held, or the made pool, has no quota panel
 abbrev pub TellsNone : Option Asked → Told → Type 0
 TellsNone (Some (asks.Lottery it)) told = (pool : Pool) × HeldPool told.source pool × (panels pool ≡ [])
 TellsNone (Some (asks.Panel it)) told = (pool : Pool) × HeldPool told.source pool × (panels pool ≡ [])
 TellsNone (Some (asks.Prove it)) told = (pool : Pool) × HeldEither told.source pool × (panels pool ≡ [])
 TellsNone (Some (asks.Make it)) told = panels (made_pool it.seed it.volunteers) ≡ []
--- no other command answers so
+-- no other command has status 1
 TellsNone other told = ⊥
 
 -- ---- every other answer is a refusal whose cause holds
 
--- `format.read` fails on the bytes that the source held, or the source held more bytes than an input may have. This says that `read` fails,
--- and not that no value spells the bytes. The laws `pool_or_fault`, `bundle_or_fault` and `proof_or_fault` (define_pool_texts,
--- define_bundles, define_proof_texts) say that such bytes spell no value
+-- `format.read` fails on the bytes that the source held, or the source held more bytes than an input may have. If `read` fails, the bytes
+-- are the text of no value: that isn't said here, but by the laws `pool_or_fault`, `bundle_or_fault` and `proof_or_fault`
+-- (define_pool_texts, define_bundles, define_proof_texts)
 abbrev pub HeldNoText : {Value : Type 0} → Format Value → Told → Type 0
 HeldNoText format told =
     ((bytes : List ℕ) × (fault : Fault) × HeldAll told.source bytes × (format.read bytes ≡ Err fault)) ⊎ HeldMore told.source input_limit
 
--- 3: a text outside its format, or too long. `make` reads nothing, so 3 never comes
+-- status 3: the input is outside its format, or too long. `make` reads nothing, so it never has status 3
 abbrev pub TextIsWrong : Option Asked → Told → Type 0
 TextIsWrong (Some (asks.Prove it)) told = HeldNoText pool_or_bundle_format told
 TextIsWrong (Some (asks.Verify it)) told = HeldNoText proof_format told
@@ -211,14 +213,16 @@ TextIsWrong (Some (asks.Check it)) told = HeldNoText bundle_format told
 TextIsWrong (Some (asks.Make it)) told = ⊥
 TextIsWrong None told = ⊥
 
--- 4: the operation, or the total, that passed its limit, as errs tells it. For `prove` the operation may be any that passes
+-- status 4: an operation or a total passed its limit, and errs gained the line that says which. For `prove` the line may name any operation
+-- whose result is too great, not only one of the run
 abbrev pub NumberPassed : Option Asked → Told → Type 0
 NumberPassed (Some (asks.Lottery it)) told = (pool : Pool) × HeldPool told.source pool × (line : List ℕ) × GainsLine told.errs line × PassesWidth it.limits pool line
 NumberPassed (Some (asks.Make it)) told = (line : List ℕ) × GainsLine told.errs line × PassesWidth it.limits (made_pool it.seed it.volunteers) line
 NumberPassed (Some (asks.Prove it)) told = (line : List ℕ) × GainsLine told.errs line × PassesProofWidth line
 NumberPassed other told = ⊥
 
--- 5: the budget that was spent, as errs tells it. For `prove` the turns of peeling, or a lost step, may always be told
+-- status 5: a budget was spent, and errs gained the line that says which. For `prove` the lines of spent turns of peeling and of a lost
+-- step have no condition
 abbrev pub BudgetSpent : Option Asked → Told → Type 0
 BudgetSpent (Some (asks.Panel it)) told = (pool : Pool) × HeldPool told.source pool × (line : List ℕ) × GainsLine told.errs line × SpendsVisits it.nodes pool line
 BudgetSpent (Some (asks.Lottery it)) told = (pool : Pool) × HeldPool told.source pool × (line : List ℕ) × GainsLine told.errs line × SpendsBudget it.limits pool line
@@ -227,15 +231,15 @@ BudgetSpent (Some (asks.Check it)) told = (bundle : Bundle) × HeldBundle told.s
 BudgetSpent (Some (asks.Prove it)) told = (left : Left) × SpendsOn (unspent it.pivots it.nodes) left × (line : List ℕ) × GainsLine told.errs line × SpendsProofBudget left line
 BudgetSpent other told = ⊥
 
--- 6: the rule that was broken, as errs tells it
+-- status 6: a rule was broken, and errs gained the line that says which
 abbrev pub RuleBroken : Option Asked → Told → Type 0
 RuleBroken (Some (asks.Draw seal digits)) told = (bundle : Bundle) × HeldBundle told.source bundle × (line : List ℕ) × GainsLine told.errs line × RefusesDraw seal digits bundle line
 RuleBroken (Some (asks.Bundle it)) told = (pool : Pool) × (lines : List TreeLine) × HeldProof told.source (OfNoPanel pool lines) × GainsLine told.errs no_lottery_line
 RuleBroken other told = ⊥
 
--- 11: the certificate, or the proof, that doesn't hold. For `prove`: there are trees with which the bundle is a proof that is refused for
--- the printed reason. If the reason is below 11, the certificate doesn't hold; the reasons from 11 on are of the trees, which may be bad
--- ones, and say nothing of the certificate
+-- status 11: the certificate or the proof doesn't hold. For `prove`: with some trees, the bundle is a proof that is refused for the printed
+-- reason. If the reason's number is below 11, the certificate doesn't hold. The reasons from 11 on concern the trees alone, and say nothing
+-- of the certificate
 abbrev pub CheckFailed : Option Asked → Told → Type 0
 CheckFailed (Some (asks.Check it)) told =
     (bundle : Bundle) × HeldBundle told.source bundle × (Certifies bundle.pool bundle.answer.lottery bundle.answer.stages → ⊥)
@@ -245,9 +249,9 @@ CheckFailed (Some (asks.Prove it)) told =
     RefusalMeans (OfLottery bundle.pool bundle.answer trees) refusal × Gains told.out (refused_line refusal)
 CheckFailed other told = ⊥
 
--- ---- a checker
+-- ---- a text that `check` or `verify` reads
 
--- the source told that it held this text, which is within the limit, and counted no fault
+-- the source told its content, which was `text`, of at most `input_limit` bytes; and it counted no fault
 pub record ToldText (source : Bytes) (text : List ℕ) : Type 0 where
   pub told : source.before ≡ Some text
   pub within : length text ≤ input_limit
@@ -255,49 +259,52 @@ pub record ToldText (source : Bytes) (text : List ℕ) : Type 0 where
 
 -- ---- the promises
 
--- the statuses of the program
+-- `number` is one of the program's statuses
 abbrev pub is_status : ℕ → Bool
 is_status number = list_any (λ status. number == status) (0 ∷ 1 ∷ 2 ∷ 3 ∷ 4 ∷ 5 ∷ 6 ∷ 7 ∷ 8 ∷ 11 ∷ 12 ∷ [])
 
--- what every call of the program with these words keeps
+-- the promises, for every call with these words
 pub record Headline (words : List (List ℕ)) (told : Told) : Type 0 where
-  -- where a lottery is answered, it is leximin greatest over the quota panels of its pool; and what else status 0 says
+  -- status 0: an answered lottery is leximin greatest over the quota panels of its pool. `TellsDone` says for each command what status 0
+  -- means
   pub done : told.status ≡ 0 → TellsDone (asked words) told
-  -- 1, 'no panel', comes only if the pool has no quota panel
+  -- status 1, 'no panel', comes only if the pool has no quota panel
   pub no_panel : told.status ≡ 1 → TellsNone (asked words) told
-  -- every other answer is a refusal whose cause holds. 2 comes only if the words ask for nothing: they are outside their form, or ask for
-  -- help. (That such words get 2, unless memory is wanting, is said in Office, not here.)
+  -- status 2 comes only if the words ask for nothing: they are outside their form, or ask for help. (That such words have status 2, unless
+  -- memory is wanting, is said in Office, not here.)
   pub usage : told.status ≡ 2 → asked words ≡ None
-  -- 3 comes only for a text outside its format or too long, or for a bundle that `draw` doesn't take;
+  -- status 3 comes only if the input is outside its format or too long, or is a bundle that `draw` refuses for its total
   pub text : told.status ≡ 3 → TextIsWrong (asked words) told
-  -- 4 only for a number that passed its limit;
+  -- status 4 comes only if a number passed its limit
   pub number : told.status ≡ 4 → NumberPassed (asked words) told
-  -- 5 only for a budget that was spent;
+  -- status 5 comes only if a budget was spent; see `BudgetSpent` for `prove`
   pub budget : told.status ≡ 5 → BudgetSpent (asked words) told
-  -- 6 only for a broken rule;
+  -- status 6 comes only if a rule was broken
   pub rule : told.status ≡ 6 → RuleBroken (asked words) told
-  -- 7 and 8 only for a fault that the source or out counted;
+  -- status 7 comes only if the source counted a fault
   pub read_fault : told.status ≡ 7 → HasFaulted told.source
+  -- status 8 comes only if out counted a fault
   pub write_fault : told.status ≡ 8 → HasFaulted told.out
-  -- and 11 only for a certificate or a proof that doesn't hold (of `prove` see `CheckFailed`)
+  -- status 11 comes only if a certificate or a proof doesn't hold; see `CheckFailed` for `prove`
   pub check : told.status ≡ 11 → CheckFailed (asked words) told
-  -- 12, want of memory, needs no cause. There is no other status. The run of `prove` is no definition, so which of its refusals comes is
-  -- not said
+  -- status 12, want of memory, may come in any call. There is no other status. The run of `prove` has no definition, so nothing says which
+  -- of its refusals comes
   pub statuses : IsTrue (is_status told.status)
-  -- if the source told the text of a bundle, and the status is none of 5, 8 and 12, `check` says valid exactly if the certificate holds
+  -- if the source told the text of a bundle, and the status is none of 5, 8 and 12, then `check` has status 0 exactly if the certificate
+  -- holds
   pub certificate : (it : Check) → asked words ≡ Some (asks.Check it) → (bundle : Bundle) → IsBundle bundle → ToldText told.source (bundle_spelling bundle) →
       told.status ≢ 5 → told.status ≢ 8 → told.status ≢ 12 → told.status ≡ 0 ↔ Certifies bundle.pool bundle.answer.lottery bundle.answer.stages
-  -- if the source told the text of a proof, and the status is neither 8 nor 12, `verify` says valid exactly if the proof is valid
+  -- if the source told the text of a proof, and the status is neither 8 nor 12, then `verify` has status 0 exactly if the proof is valid
   pub proof : (it : Verify) → asked words ≡ Some (asks.Verify it) → (proof : Proof) → IsProof proof → ToldText told.source (proof_spelling proof) →
       told.status ≢ 8 → told.status ≢ 12 → told.status ≡ 0 ↔ verdict proof ≡ Valid
 
--- two calls told the same answer, or both that the input is too long
+-- both calls told the same answer, or both told that the input is too long
 abbrev pub TellTheSame : Told → Told → Type 0
 TellTheSame first second = ((answer : Saying) × IsTold answer first × IsTold answer second) ⊎ (IsTooLong first × IsTooLong second)
 
--- the number of workers changes nothing: two calls of `lottery` with equal limits about one text tell the same, faults and want of memory
--- aside. This speaks of `lottery` alone, and not of `make`, which has workers too. That they change nothing there follows from Office: its
--- line of `make` names no workers, and only one answer is right
+-- two calls of `lottery` over the same text with equal limits tell the same, whatever their numbers of workers, if there is no fault and no
+-- want of memory. `make` has workers too, and is not covered here: Office names no workers in its line of `make`, and only one answer is
+-- right there, so they change nothing
 abbrev pub WorkersChangeNothing : Type 0
 WorkersChangeNothing =
     (words other_words : List (List ℕ)) (first second : Told) → OfficeIsRight words first → OfficeIsRight other_words second →

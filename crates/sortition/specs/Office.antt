@@ -1,7 +1,7 @@
--- What a call of the program may tell, for its words. A line of `AnswersRightly` names the command's meaning (`command_meanings/specs`),
--- which has a field for each of its statuses. What all commands tell alike is defined in the shell (`command_shell/specs`): faults of the
--- outside, want of memory, a text that is too long, and which of out and errs stay untouched (`Outcomes`); a text outside its format
--- (`Subjects`). Over the words, the outcomes of the shell, and the meanings of commands. It is the contract of `office`.
+-- The contract of `office`: what a call of the program may do, for its words. Each line of `AnswersRightly` names the meaning of a command
+-- (`command_meanings/specs`), which has a field for each of the command's statuses. What is the same for all commands is defined in the
+-- shell (`command_shell/specs`): faults of source, out and errs, want of memory, a text that is too long, and which of out and errs stay
+-- untouched (`Outcomes`); and a text outside its format (`Subjects`).
 use Rattle.std.specs.Prelude.{◌≡◌, ℕ, List, [], ◌∷◌, codes, Option, Some, None}
 use Rattle.command_shell.specs.Answers.{IsTheAnswer, Meaning}
 use Rattle.command_shell.specs.Lines.{line, want_of_memory_line}
@@ -22,43 +22,43 @@ use Rattle.sortition.specs.Asked.{asked}
 use Rattle.sortition.specs.declared.asked.Asked.{Asked}
 use Rattle.sortition.specs.declared.asked.Asked.TheVariants as asks
 
--- the one answer that is right about what the source held was told, whole or cut off by a fault of out; or the source held too much or
+-- the call told the one answer that is right about what the source held, whole or cut off by a fault of out; or the source held too much or
 -- counted a fault; or memory was wanting
 abbrev pub Answers : {Value : Type 0} → Format Value → (Value → Meaning) → Told → Type 0
 Answers format Means told = TextOutcome (About format (λ value. IsTheAnswer (Means value))) told
 
--- what is told if the words ask for nothing: they are not of the forms, or ask for help
+-- the outcome of words that ask for nothing: they are not of the forms, or ask for help
 pub record IsUsage (told : Told) : Type 0 where
   pub source : IsUntouched told.source
-  -- 2: errs got a text. That it is `clap`'s is tested, not proved
+  -- status 2: errs got a text. That the text is `clap`'s is tested, not proved
   pub text : List ℕ
   pub stopped : IsStopped 2 text told
 
--- what a call may tell whose words ask for this command, or for nothing
+-- the outcomes that a call may have if its words ask for this command, or for nothing
 abbrev pub AnswersRightly : Option Asked → Told → Type 0
 AnswersRightly None told = IsUsage told
--- the run that makes a proof is no definition, so which of 0, 1, 4, 5 and 11 comes is not said
+-- the run that makes a proof has no definition, so nothing says which of the statuses 0, 1, 4, 5 and 11 comes
 AnswersRightly (Some (asks.Prove it)) told = TextOutcome (About pool_or_bundle_format (ProvesWithin it.pivots it.nodes)) told
 AnswersRightly (Some (asks.Verify it)) told = Answers proof_format VerifyMeans told
 AnswersRightly (Some (asks.Bundle it)) told = Answers proof_format BundleMeans told
 AnswersRightly (Some (asks.Seal it)) told = Answers bundle_format SealMeans told
 AnswersRightly (Some (asks.Draw seal digits)) told = Answers bundle_format (DrawMeans seal digits) told
 AnswersRightly (Some (asks.Panel it)) told = Answers pool_format (PanelMeans it.nodes) told
--- the number of workers is in no meaning, neither here nor for `make`, so it changes nothing that is told
+-- no meaning names the number of workers, neither here nor for `make`, so it changes nothing that is told
 AnswersRightly (Some (asks.Lottery it)) told = Answers pool_format (LotteryMeans it.limits) told
 AnswersRightly (Some (asks.Check it)) told = Answers bundle_format (CheckMeans it.nodes) told
 AnswersRightly (Some (asks.Make it)) told = SilentOutcome (IsTheAnswer (MakeMeans it.seed it.volunteers it.limits)) told
 
--- 12: memory was wanting while the words were read, so the source is untouched
+-- status 12: memory was wanting while the words were read, so the source is untouched
 pub record WantsMemory (told : Told) : Type 0 where
   pub source : IsUntouched told.source
   pub stopped : IsStopped 12 want_of_memory_line told
 
--- a call with these words is right
+-- the outcomes that a call with these words may have
 pub data OfficeIsRight (words : List (List ℕ)) (told : Told) : Type 0 where
   Asks : AnswersRightly (asked words) told → OfficeIsRight words told
   NoMemory : WantsMemory told → OfficeIsRight words told
 
--- the line that is told if a word isn't UTF-8. `office` isn't called then, since its words are strings
+-- the line that errs gets if a word isn't UTF-8. `office` isn't called then, since its words are strings
 abbrev pub words_not_utf8_line : List ℕ
 words_not_utf8_line = line (codes "error: invalid UTF-8 was detected in one or more arguments" ∷ [])

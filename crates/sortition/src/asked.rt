@@ -51,7 +51,8 @@ pub(crate) enum Asked<'a> {
     Make(Make),
 }
 
-/// Returns the command that the words ask for. `words` don't include the program's name. `Usage` if they ask for nothing.
+/// Returns the command that the words ask for. `words` don't include the program's name. Fails with `Usage` if they ask for nothing, or if
+/// memory runs out.
 pub(crate) fn read_asked<'a>(alloc: Global, words: &'a [String]) -> Result<Asked<'a>, WordsStop>
     ensures { Says (asked (map string_bytes words.entry.now)) result }
 {
@@ -115,14 +116,14 @@ fn make_of<'a>(given: &Given<'a>) -> Option<Asked<'a>>
     }))
 }
 
-/// Returns how many volunteers a made pool is to have.
+/// Returns how many volunteers a made pool is to have, or None if the words don't give a number from 1 to 400.
 fn volunteers_of(given: &Given<'_>) -> Option<Volunteers>
     ensures { result ≡ volunteers_in given.now }
 {
     Volunteers::new(given.number("volunteers")?)
 }
 
-/// Returns the limits of a run.
+/// Returns the limits of a run, or None if one is missing or out of its range.
 fn limits_of(given: &Given<'_>) -> Option<Limits>
     ensures { result ≡ limits_in given.now }
 {
@@ -138,7 +139,7 @@ fn limits_from(bits: u64, pivots: u64, nodes: u64) -> Option<Limits>
     Limits::new(u32::try_from(bits).ok()?, pivots, nodes)
 }
 
-/// Returns how many workers price.
+/// Returns how many workers price, or None if the words don't give a number from 1 to 64.
 fn workers_of(given: &Given<'_>) -> Option<Workers>
     ensures { result ≡ workers_in given.now }
 {

@@ -1,4 +1,4 @@
-//! The words that the program is called with, and what is told if they can't be had.
+//! Reads the words that the program is called with, and answers if they can't be read.
 
 ghost use Rattle.std.specs.Prelude.{◌≡◌, ◌≢◌};
 ghost use Rattle.std.specs.declared.io.ErrorKind.TheVariants.{InvalidData};
@@ -19,7 +19,7 @@ pub(crate) fn given_words(rt: &HostRuntime) -> io::Result<Vec<String>> {
     Ok(words)
 }
 
-/// Tells why the words could not be had: one of them isn't UTF-8, or no memory was left.
+/// Writes to `errs` why the words could not be read: one of them isn't UTF-8, or no memory was left.
 pub(crate) fn no_words<E: Sink>(errs: &mut E, kind: io::ErrorKind) -> Status
     ensures not_utf8 { kind ≡ InvalidData → (number_of result ≡ 2)
         × GainsLine (object (E.written errs.old) (E.written errs.new) (E.faults errs.old) (E.faults errs.new)) words_not_utf8_line }

@@ -5,7 +5,7 @@ ghost use Rattle.command_shell.specs.Told.{Told};
 ghost use Rattle.sortition.specs.Headline.{Headline, WorkersChangeNothing};
 ghost use Rattle.sortition.specs.Office.{OfficeIsRight};
 
-/// Every call that is right by the contract of `office` keeps what the program promises.
+/// Every call that satisfies the contract of `office` keeps the promises of `Headline`.
 pub fn headline()
     ensures { (words : List (List ℕ)) (told : Told) → OfficeIsRight words told → Headline words told }
 {}

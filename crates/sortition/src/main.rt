@@ -1,6 +1,6 @@
-//! The program: a citizens' assembly sortition office. `office` is the top call, whose contract says what each answer means; `main`
-//! calls it over standard input and output, and has no contract of its own. Below are the words of a call, the shell of commands and the
-//! commands. Promises: `office`, and the laws in `headline.rt`.
+//! The program: a citizens' assembly sortition office. `office` is the top call, whose contract says what each answer means; `main` calls
+//! it over standard input and output, and has no contract of its own. Stands on `command_words`, which reads the words of a call, on
+//! `command_shell`, and on the crates of commands. Promises: `office`, and the laws in `headline.rt`.
 #![tactic(auto)]
 
 mod asked;

@@ -16,10 +16,10 @@ use std::thread::Threads;
 
 /// Makes one call of the program, and returns the program's status. `words` don't include the program's name.
 ///
-/// The contract says what each status means and what `out` and `errs` gained then, for each list of words.
+/// The contract says for each list of words what each status means, and what `out` and `errs` gained.
 ///
 /// For `lottery` and `make`, workers search the pieces of a pricing on threads, and `watch` is told of each piece as it starts. No answer
-/// depends on that.
+/// depends on the workers or the watch.
 pub fn office<R: Threads + Sync, S: Source, O: Sink, E: Sink, W: Watch + Sync>(
     rt: &R,
     alloc: Global,

@@ -21,7 +21,7 @@ const APART: &[u8] =
 const PAIR: &[u8] =
     b"pool\t1\nsize\t2\ncategory\tgender\nvalue\tfemale\t0\t2\nvalue\tmale\t0\t2\nvolunteer\ta\tfemale\nvolunteer\tb\tmale\nend\n";
 
-/// Two women are asked for, and one is there.
+/// Two women are required, and the pool has one.
 const SHORT: &[u8] =
     b"pool\t1\nsize\t2\ncategory\tgender\nvalue\tfemale\t2\t2\nvalue\tmale\t0\t2\nvolunteer\ta\tfemale\nvolunteer\tb\tmale\nvolunteer\tc\tmale\nend\n";
 
@@ -41,7 +41,7 @@ const COUPLE_PROOF: &[u8] =
 const FOUR_PROOF: &[u8] =
     b"proof\t1\nbundle\t1\npool\t1\nsize\t2\ncategory\tgender\nvalue\tfemale\t1\t1\nvalue\tmale\t1\t1\nvolunteer\ta\tfemale\nvolunteer\tb\tfemale\nvolunteer\tc\tmale\nvolunteer\td\tmale\nend\ntotal\t2\npanel\t1\t0\t2\npanel\t1\t1\t3\nstage\t1\t1\t1\t0\t0\nstage\t0\t-1\t-1\t1\t1\ndone\ntree\t1\nbound\t1\t1\t1\ntree\t2\nbound\t1\t2\t1\t3\t-1\nclose\n";
 
-/// `FOUR_PROOF` with a multiplier of 2 in the first stage, which doesn't show the cap.
+/// `FOUR_PROOF` with the factor 2 in the first stage's tree, which then doesn't show the cap.
 const DOUBLED_PROOF: &[u8] =
     b"proof\t1\nbundle\t1\npool\t1\nsize\t2\ncategory\tgender\nvalue\tfemale\t1\t1\nvalue\tmale\t1\t1\nvolunteer\ta\tfemale\nvolunteer\tb\tfemale\nvolunteer\tc\tmale\nvolunteer\td\tmale\nend\ntotal\t2\npanel\t1\t0\t2\npanel\t1\t1\t3\nstage\t1\t1\t1\t0\t0\nstage\t0\t-1\t-1\t1\t1\ndone\ntree\t1\nbound\t1\t1\t2\ntree\t2\nbound\t1\t2\t1\t3\t-1\nclose\n";
 
@@ -49,8 +49,8 @@ const DOUBLED_PROOF: &[u8] =
 const FOUR_PROVED: &[u8] =
     b"proof\t1\nbundle\t1\npool\t1\nsize\t2\ncategory\tgender\nvalue\tfemale\t1\t1\nvalue\tmale\t1\t1\nvolunteer\ta\tfemale\nvolunteer\tb\tfemale\nvolunteer\tc\tmale\nvolunteer\td\tmale\nend\ntotal\t2\npanel\t1\t0\t3\npanel\t1\t1\t2\nstage\t1\t1\t1\t0\t0\nstage\t1\t0\t0\t1\t1\ndone\ntree\t1\nbound\t1\t1\t1\ntree\t2\nbound\t1\t0\t1\t1\t-1\nclose\n";
 
-/// The proof that `prove` makes for `FOUR_BUNDLE`. The weights of the second stage are the coefficients of the size less twice those of the
-/// women.
+/// The proof that `prove` makes for `FOUR_BUNDLE`. A volunteer's weight in the second stage is 1, the coefficient in the size, less twice
+/// the coefficient in the value `female`.
 const FOUR_BUNDLE_PROVED: &[u8] =
     b"proof\t1\nbundle\t1\npool\t1\nsize\t2\ncategory\tgender\nvalue\tfemale\t1\t1\nvalue\tmale\t1\t1\nvolunteer\ta\tfemale\nvolunteer\tb\tfemale\nvolunteer\tc\tmale\nvolunteer\td\tmale\nend\ntotal\t2\npanel\t1\t0\t2\npanel\t1\t1\t3\nstage\t1\t1\t1\t0\t0\nstage\t0\t-1\t-1\t1\t1\ndone\ntree\t1\nbound\t1\t1\t1\ntree\t2\nbound\t1\t0\t1\t1\t-2\nclose\n";
 
@@ -64,7 +64,7 @@ const NOBODY: &[u8] = b"pool\t1\nsize\t1\nend\n";
 const FOUR_BUNDLE: &[u8] =
     b"bundle\t1\npool\t1\nsize\t2\ncategory\tgender\nvalue\tfemale\t1\t1\nvalue\tmale\t1\t1\nvolunteer\ta\tfemale\nvolunteer\tb\tfemale\nvolunteer\tc\tmale\nvolunteer\td\tmale\nend\ntotal\t2\npanel\t1\t0\t2\npanel\t1\t1\t3\nstage\t1\t1\t1\t0\t0\nstage\t0\t-1\t-1\t1\t1\ndone\n";
 
-/// `FOUR_BUNDLE` with a first stage whose cap the quota panel of a and d is above.
+/// `FOUR_BUNDLE` with another first stage. The quota panel of a and d weighs more than its cap.
 const PASSED_CAP: &[u8] =
     b"bundle\t1\npool\t1\nsize\t2\ncategory\tgender\nvalue\tfemale\t1\t1\nvalue\tmale\t1\t1\nvolunteer\ta\tfemale\nvolunteer\tb\tfemale\nvolunteer\tc\tmale\nvolunteer\td\tmale\nend\ntotal\t2\npanel\t1\t0\t2\npanel\t1\t1\t3\nstage\t1\t1\t0\t0\t1\nstage\t0\t-1\t-1\t1\t1\ndone\n";
 
@@ -108,7 +108,7 @@ const REPLACED: &[u8] =
 const FAMILY: &[u8] =
     b"pool\t2\nsize\t2\ncategory\tgender\nvalue\tfemale\t1\t1\nvalue\tmale\t1\t1\nvolunteer\ta\tfemale\nvolunteer\tb\tfemale\nvolunteer\tc\tmale\nvolunteer\td\tmale\nhousehold\ta\th\nhousehold\tc\th\nend\n";
 
-/// Two seats, and a couple of one household alone.
+/// Two seats, and no volunteers except a couple of one household.
 const COUPLE: &[u8] =
     b"pool\t2\nsize\t2\ncategory\tgender\nvalue\tfemale\t0\t2\nvalue\tmale\t0\t2\nvolunteer\ta\tfemale\nvolunteer\tb\tmale\nhousehold\ta\th\nhousehold\tb\th\nend\n";
 
@@ -189,11 +189,11 @@ fn answer_watched<R: Threads + Sync, W: Watch + Sync>(
     Ok(Answer { status, out, errs })
 }
 
-/// How often a held piece looks whether a piece 2 has started.
+/// How many times a held piece checks whether a piece 2 has started.
 const TURNS: u64 = 1_000_000_000;
 
-/// Holds each piece of a pricing but piece 2 until a piece 2 has started, for at most `TURNS` looks. `in_vain` is true if the looks ran out
-/// for some piece.
+/// Holds each piece of a pricing, except piece 2, until a piece 2 has started, for at most `TURNS` checks. `in_vain` becomes true if some
+/// piece used up its checks.
 #[derive(Drop)]
 struct Holding {
     started: AtomicBool,
@@ -308,7 +308,7 @@ const ROWS: &[(&[&str], &[u8], u8, &[u8], &[u8])] = &[
     ),
 ];
 
-/// The same for words that ask for nothing, with the texts of `clap`.
+/// Rows as in `ROWS`, for words that ask for nothing; `errs` gets the texts of `clap`.
 const USAGE_ROWS: &[(&[&str], &[u8], u8, &[u8], &[u8])] = &[
     (
         &[],
@@ -340,7 +340,7 @@ const USAGE_ROWS: &[(&[&str], &[u8], u8, &[u8], &[u8])] = &[
     ),
 ];
 
-/// The same for commands about a bundle. The seals are those that `sha256sum` prints.
+/// Rows as in `ROWS`, for commands about a bundle. The seals are those that `sha256sum` prints.
 const BUNDLE_ROWS: &[(&[&str], &[u8], u8, &[u8], &[u8])] = &[
     (
         &["seal"],
@@ -496,7 +496,7 @@ const BUNDLE_ROWS: &[(&[&str], &[u8], u8, &[u8], &[u8])] = &[
     ),
 ];
 
-/// The same for `check`.
+/// Rows as in `ROWS`, for `check`.
 const CHECK_ROWS: &[(&[&str], &[u8], u8, &[u8], &[u8])] = &[
     (&["check"], FOUR_BUNDLE, 0, b"valid\n", b""),
     (&["check"], PASSED_CAP, 11, b"refused\t1\t8\t0\t3\n", b""),
@@ -513,7 +513,7 @@ const CHECK_ROWS: &[(&[&str], &[u8], u8, &[u8], &[u8])] = &[
     (&["check"], FOUR, 3, b"", b"input\t1\t13\n"),
 ];
 
-/// The same for `verify` and `bundle`.
+/// Rows as in `ROWS`, for `verify` and `bundle`.
 const PROOF_ROWS: &[(&[&str], &[u8], u8, &[u8], &[u8])] = &[
     (&["verify"], FOUR_PROOF, 0, b"valid\n", b""),
     (&["verify"], COUPLE_PROOF, 0, b"valid\tnone\n", b""),
@@ -525,7 +525,7 @@ const PROOF_ROWS: &[(&[&str], &[u8], u8, &[u8], &[u8])] = &[
     (&["bundle"], FOUR, 3, b"", b"input\t1\t21\n"),
 ];
 
-/// The same for `prove`.
+/// Rows as in `ROWS`, for `prove`.
 const PROVE_ROWS: &[(&[&str], &[u8], u8, &[u8], &[u8])] = &[
     (&["prove"], FOUR, 0, FOUR_PROVED, b""),
     (&["prove"], SHORT, 1, SHORT_PROVED, b""),
@@ -551,7 +551,7 @@ const PROVE_ROWS: &[(&[&str], &[u8], u8, &[u8], &[u8])] = &[
     (&["prove"], b"bundle\t3\n", 3, b"", b"input\t1\t13\n"),
 ];
 
-/// The same for `make`, which doesn't read what the source holds.
+/// Rows as in `ROWS`, for `make`, which doesn't read what the source holds.
 const MAKE_ROWS: &[(&[&str], &[u8], u8, &[u8], &[u8])] = &[
     (
         &["make", "--seed", "0", "--volunteers", "1"],
@@ -591,7 +591,7 @@ fn calls_are_answered(rt: HostRuntime) -> Result<(), AllocError> {
     Ok(())
 }
 
-/// A made pool is answered in the same way each time.
+/// Two calls of `make` with the same words print the same text.
 #[test]
 fn made_pools_are_answered_alike(rt: HostRuntime) -> Result<(), AllocError> {
     let alloc = rt.alloc();
@@ -635,7 +635,8 @@ fn the_third_worker_starts_while_two_are_held(rt: HostRuntime) -> Result<(), All
     Ok(())
 }
 
-/// A text that is cut off is faulty in the line after its whole lines, of the kind for a missing end (12). A text above 16 MiB is too long.
+/// A text that is cut off has its fault in the line after its last whole line, of kind 12 (the end is missing). A text above 16 MiB is too
+/// long.
 #[test]
 fn each_cut_is_told(rt: HostRuntime) -> Result<(), AllocError> {
     let alloc = rt.alloc();

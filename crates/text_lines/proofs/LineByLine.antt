@@ -8,7 +8,7 @@ use Rattle.std.specs.List.{position_or_len}
 use Rattle.std.proofs.lemmas.List.Splits.{slice_split_first, slice_split_none}
 use Rattle.define_lines.specs.Lines.{pieces_of}
 
--- at its first LF a text is cut into a line and the rest
+-- If a text has an LF, its pieces are the line before the first LF, and the pieces of the bytes after it.
 pub cut_at : (bytes : List ℕ) (end : ℕ) → position (λ byte. eqb byte 10) bytes ≡ Some end →
     pieces_of bytes ≡ take end bytes ∷ pieces_of (take (length bytes - (end + 1)) (drop (end + 1) bytes))
 cut_at bytes end h =
@@ -24,7 +24,7 @@ cut_at bytes end h =
       | false ↦ λ e k. cc
     ]) refl h
 
--- a text without LF is one piece
+-- If a text has no LF, it is one piece.
 pub no_cut : (bytes : List ℕ) → position (λ byte. eqb byte 10) bytes ≡ None → pieces_of bytes ≡ bytes ∷ []
 no_cut bytes h =
     let n = position_or_len (λ byte. eqb byte 10) bytes in

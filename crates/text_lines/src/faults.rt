@@ -1,5 +1,5 @@
-//! Where a text first goes wrong, and why none was read: for each reader of a text that has no types of its own for these. Contracts compare the
-//! fault with that of `define_lines`, field by field.
+//! Where a text first goes wrong, and why no text was read: for readers without types of their own for this. Contracts compare the fault
+//! with that of `define_lines`, field by field.
 
 use thiserror::Error;
 
@@ -12,10 +12,10 @@ pub struct TextFault {
     pub kind: u8,
 }
 
-/// Why no text was read.
+/// Why a reader returned no text.
 #[derive(Debug, Drop, Error)]
 pub enum TextStop {
-    /// The bytes are not such a text.
+    /// The bytes are no text of this kind.
     #[error("line {}: kind {}", .0.line, .0.kind)]
     Fault(TextFault),
     /// No memory was left.

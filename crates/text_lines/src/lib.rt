@@ -1,9 +1,9 @@
 //! Lines of a text in memory: takes a text apart into lines and a line into fields, reads a field as a number in its one spelling, and
-//! appends lines to a growing text, field by field. Stands on `define_lines` and the kit's `itoa`. Above: `pool_text`,
-//! `bundle_text`, the text of proofs, and the commands, whose lines it writes.
+//! appends lines to a growing text, field by field. Stands on `define_lines` and the kit's `itoa`. Used by `pool_text`, `bundle_text`,
+//! `proof_text`, the commands, whose lines it writes, and the office.
 //!
-//! Promises: each public call does exactly what the definitions say of lines, fields and numbers. `TextFault` and `TextStop` are for
-//! readers that have no types of their own for a fault.
+//! Promises: each public call follows the definitions of lines, fields and numbers exactly. `TextFault` and `TextStop` are for readers that
+//! have no types of their own for a fault.
 #![tactic(auto)]
 
 mod faults;

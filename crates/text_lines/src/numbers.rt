@@ -7,7 +7,7 @@ ghost use Rattle.define_lines.specs.Numbers.{number_up_to, signed_up_to};
 use itoa::Buffer;
 use std::str;
 
-/// Returns the number up to `limit` that the field spells, or None if it spells none.
+/// Returns the number from 0 to `limit` that the field spells, or None if it spells none.
 pub fn number_up_to(limit: usize, field: &[u8]) -> Option<usize>
     ensures { result ≡ number_up_to limit field.now }
 {
@@ -24,7 +24,7 @@ pub fn number_up_to(limit: usize, field: &[u8]) -> Option<usize>
     }
 }
 
-/// True if the field is the number's digits.
+/// True if the field is the decimal digits of `number`.
 fn is_spelled(number: usize, field: &[u8]) -> bool
     ensures { result ≡ bytes_eq (decimal number) field.now }
 {
@@ -49,7 +49,7 @@ pub fn signed_number(field: &[u8]) -> Option<i128>
     }
 }
 
-/// True if the field is the number's digits with its sign.
+/// True if the field is the decimal digits of `number`, with `-` before them if it is below 0.
 fn is_spelled_signed(number: i128, field: &[u8]) -> bool
     ensures { result ≡ bytes_eq (signed_decimal number) field.now }
 {

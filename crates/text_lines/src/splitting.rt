@@ -21,14 +21,14 @@ pub fn next_line(bytes: &[u8]) -> Option<(&[u8], &[u8])>
     }
 }
 
-/// Returns the place of the first LF, if there is one.
+/// Returns the place of the first LF, counted from 0, if there is one.
 fn line_end(bytes: &[u8]) -> Option<usize>
     ensures { result ≡ position (λ byte. byte == 10) bytes.now }
 {
     bytes.iter().position(|byte| *byte == LINE_FEED)
 }
 
-/// Returns the fields of a line, parted by TAB.
+/// Returns the fields of a line, which are separated by TABs. An empty line has one empty field.
 pub fn fields(alloc: Global, line: &[u8]) -> Result<Vec<&[u8]>, AllocError>
     ensures { IfOk result (λ v. map (λ field. field.now) v.items ≡ fields_of line.now) }
 {

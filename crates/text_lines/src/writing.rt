@@ -71,7 +71,7 @@ pub fn end_line(text: &mut Vec<u8>) -> Result<(), AllocError>
     Ok(())
 }
 
-/// Appends a line of a word and fields.
+/// Appends a line: the word, the fields with a TAB before each, and LF.
 pub fn push_line(text: &mut Vec<u8>, word: &[u8], fields: &[&[u8]]) -> Result<(), AllocError>
     ensures whole { OnOk result (text.new.items ≡ text.old.items ++ text_of (line_of (word.now ∷ map (λ field. field.now) fields.now) ∷ [])) }
     ensures kept { OnErr result (StartsWith text.new.items text.old.items) }

@@ -13,7 +13,7 @@ abbrev pub ends_of : ℕ → List ℕ → List ℕ
 ends_of from [] = []
 ends_of from (weight ∷ weights) = (from + weight) ∷ ends_of (from + weight) weights
 
--- the ends with one more weight
+-- appending a weight appends one end: `from` plus the sum of all weights
 pub ends-more : (from : ℕ) (weights : List ℕ) (weight : ℕ) → ends_of from (weights ++ weight ∷ []) ≡ ends_of from weights ++ (from + sum weights + weight) ∷ []
 ends-more from [] weight = ap (λ end. end ∷ []) (let e : from + weight ≡ from + 0 + weight = omega arith in e)
 ends-more from (first ∷ weights) weight =
@@ -24,7 +24,7 @@ pub ends-rise : (from : ℕ) (weights : List ℕ) → Rise from (ends_of from we
 ends-rise from [] = tt
 ends-rise from (weight ∷ weights) = (omega arith, ends-rise (from + weight) weights)
 
--- the weights are the lengths of their ranges
+-- the lengths of the ranges of some weights are the weights
 pub gaps-ends : (from : ℕ) (weights : List ℕ) → gaps from (ends_of from weights) ≡ weights
 gaps-ends from [] = refl
 gaps-ends from (weight ∷ weights) =
@@ -71,7 +71,7 @@ held_at ends i ticket rise h point =
     (λ k d l. leb-true (get_or ends k d) ticket (point.0 k d (omega arith) l))
     (λ k d l m. leb-false (get_or ends k d) ticket (point.1 k d l m)))
 
--- the ends with one more row
+-- the ends of the first `j + 1` weights are those of the first `j`, and then the sum of the first `j` plus weight `j`
 pub end_pushed : (weights : List ℕ) (j weight : ℕ) → j < length weights → get_or weights j 0 ≡ weight → ends_of 0 (take (j + 1) weights) ≡ ends_of 0 (take j weights) ++ (sum (take j weights) + weight) ∷ []
 end_pushed weights j weight l e =
     let more : take (j + 1) weights ≡ take j weights ++ get_or weights j 0 ∷ [] = take_more weights j 0 l in

@@ -45,7 +45,7 @@ some_digits total groups are = omega (arith, are.size, size-some total)
 pub digit_is : (byte : ℕ) → is_ascii_digit byte ≡ true → (digit_value byte ≡ byte - 48) × (48 ≤ byte) × (byte ≤ 57)
 digit_is byte h = (grind (arith, nat_tests), grind (arith, nat_tests), grind (arith, nat_tests))
 
--- the number with one more digit
+-- if `value` is the number of the first `i` digits, that of the first `i + 1` digits is 10 times `value`, plus digit `i`
 pub next_value : (digits : List ℕ) (i value : ℕ) → i < length digits → is_ascii_digit (get_or digits i 0) ≡ true → value ≡ digits_value 10 (take i digits) → value * 10 + (get_or digits i 0 - 48) ≡ digits_value 10 (take (i + 1) digits)
 next_value digits i value l digit is = omega (arith, digits_value_more 10 digits i l, (digit_is (get_or digits i 0) digit).0)
 
@@ -58,7 +58,7 @@ small-power i l = pow-le-pow_right {n = 10} (omega arith) {i = i} {j = 37} (omeg
 
 -- ---- the first group that is accepted
 
--- ---- what digits name
+-- ---- the ticket that digits name
 
 -- if no byte is found that isn't a digit, all are digits
 pub digits_alone : (digits : List ℕ) → position (λ byte. not (is_ascii_digit byte)) digits ≡ None → AreDigits digits
@@ -68,7 +68,7 @@ module _ (total : ℕ) (groups : Groups) (digits : List ℕ) (are : AreGroupsOf 
   abbrev is_accepted_at : ℕ → Bool
   is_accepted_at place = is_accepted total (group_at (group_size total) digits place)
 
-  -- the first accepted group names its ticket
+  -- if the group at `place` is accepted, and none before it is, it names the ticket
   pub names : (place group : ℕ) → place < length digits / groups.size → group ≡ group_at groups.size digits place → group < total * groups.groups_per_ticket →
       ((before : ℕ) → before < place → is_accepted_at before ≡ false) →
       Ok (record { ticket = pos (group / groups.groups_per_ticket); used = (place + 1) * groups.size }) ≡ named_at total digits (first_accepted total digits)
@@ -82,7 +82,7 @@ module _ (total : ℕ) (groups : Groups) (digits : List ℕ) (are : AreGroupsOf 
       let used : (place + 1) * groups.size ≡ (place + 1) * group_size total = ap (λ size. (place + 1) * size) are.size in
       ap₂ (λ (t u : ℕ). let named : Named = record { ticket = pos t; used = u } in Ok named) ticket used ∙ sym (ap (named_at total digits) found)
 
-  -- if no group is accepted, the answer is that more digits are needed
+  -- if no group is accepted, the outcome is that more digits are needed
   pub names_nothing : (places : ℕ) → length digits / groups.size ≤ places → ((place : ℕ) → place < places → is_accepted_at place ≡ false) →
       Err (MoreDigits (length digits)) ≡ named_at total digits (first_accepted total digits)
   names_nothing places l before =

@@ -1,4 +1,4 @@
--- How digits are read in groups. For `dice`.
+-- How digits are read in groups. The contracts of `dice` cite it.
 use Rattle.std.specs.Prelude.{◌≡◌, ℕ, ◌<◌, ◌≤◌, true, List, length, slice_index}
 use Rattle.std.specs.Char.{is_ascii_digit}
 use Rattle.define_draws.specs.Dice.{group_size, groups_per_ticket}

@@ -8,10 +8,10 @@ ghost use Rattle.tickets.specs.Reading.{AreDigits, AreGroupsOf};
 
 use define_draws::{DiceStop, Named};
 
-/// Returns which of `total` tickets the digits name; there are from 1 to 10^38. The digits are read in groups of the least number of
-/// digits for which there are at least as many groups as tickets. Each ticket has the same number of groups; the groups that are left
-/// over are refused, and the first group that isn't refused names the ticket. An unfinished last group isn't read. Fails with
-/// `BadDigit` if a byte is none of `0` to `9`, else with `MoreDigits` if no group names a ticket.
+/// Returns which of `total` tickets the digits name; `total` is from 1 to 10^38. The digits are read in groups of the least size for which
+/// there are at least as many groups as tickets. Each ticket has the same number of groups. The groups that are left over are refused, and
+/// the first group that isn't refused names the ticket. An unfinished last group isn't read. Fails with `BadDigit` if a byte isn't one of
+/// `0` to `9`, else with `MoreDigits` if no group names a ticket.
 pub fn name_ticket(total: i128, digits: &[u8]) -> Result<Named, DiceStop>
     requires some { pos 1 ≤ℤ total }
     requires most { total ≤ℤ pos (10 ^ 38) }

@@ -1,5 +1,5 @@
-//! The tickets of a lottery: a table that finds the row of a ticket by binary search, and which ticket the digits of dice name. Stands on
-//! `define_draws`, and on the lotteries of `pool_model`. Above: `sealed_draw`.
+//! The tickets of a lottery: a table that finds the row of a ticket by binary search, and a call that reads which ticket the digits of dice
+//! name. Stands on `define_draws`, and on the lotteries of `pool_model`. Above: `sealed_draw`.
 //!
 //! Promises: `table` and `pick`, and `name_ticket`, each exactly the definition's.
 #![tactic(auto)]

@@ -8,7 +8,7 @@ use pool_model::Lottery;
 use std::alloc::{AllocError, Global};
 use std::marker::Model;
 
-/// The rows of a lottery with their ranges of tickets. Contracts see it as the list of the rows' weights.
+/// The ranges of tickets of a lottery's rows. Contracts see it as the list of the rows' weights.
 #[derive(Debug, Drop)]
 pub struct TicketTable {
     /// The end of each row's range: the first ticket after it.
@@ -40,7 +40,7 @@ pub fn table(alloc: Global, lottery: &Lottery) -> Result<TicketTable, AllocError
     Ok(TicketTable { ends })
 }
 
-/// Returns the number of the row whose range has a ticket. The ticket is from 0 to the sum of the weights less 1.
+/// Returns the number of the row whose range contains `ticket`, counted from 0. The ticket is from 0 to the sum of the weights less 1.
 pub fn pick(table: &TicketTable, ticket: i128) -> usize
     requires from { pos 0 ≤ℤ ticket }
     requires below { unsigned_abs ticket < sum table.now }

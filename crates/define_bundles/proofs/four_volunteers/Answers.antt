@@ -1,4 +1,4 @@
--- The examples are computed, for which the definition of digits is unfolded.
+-- To compute the examples, the definition of `digits` is unfolded.
 use Rattle.std.proofs.Common.{refl}
 use Rattle.std.specs.Fmt.{digits}
 use Rattle.define_bundles.proofs.four_volunteers.Goals as goal

@@ -1,4 +1,4 @@
--- The examples are computed, for which the definition of digits is unfolded.
+-- The examples compute once the definition of digits is unfolded.
 use Rattle.std.proofs.Common.{refl}
 use Rattle.std.specs.Fmt.{digits}
 use Rattle.define_lines.proofs.worked_numbers.Goals as goal

@@ -1,4 +1,4 @@
--- A panel of the pool's size adds its weight to as many counts as it has members.
+-- The counts sum to the size times the total, since a panel adds its weight to the count of each of its members.
 use Rattle.std.proofs.Common.{◌≡◌, ℕ, ◌*◌, true, ◌&&◌, eqb, ltb, List, length, ap, ◌∙◌, arith}
 use Rattle.std.specs.List.{list_all}
 use Rattle.std.proofs.lemmas.Bool.{and_parts, eqb-true}
@@ -12,7 +12,7 @@ use Rattle.define_pools.proofs.Weights.{Fits, counted, exchange}
 use Rattle.define_pools.proofs.Greatest.{count-is}
 use Rattle.define_pools.proofs.counts_sum.Goals as goal
 
--- a panel of the pool's size: an increasing list of numbers of volunteers, as many as the size
+-- a panel of the pool's size: an increasing list of `size` numbers of volunteers
 record IsOfSize (pool : Pool) (panel : List ℕ) : Type 0 where
   fits : Fits (length pool.volunteers) panel
   size : length panel ≡ pool.size

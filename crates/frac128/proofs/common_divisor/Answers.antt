@@ -7,7 +7,7 @@ use Rattle.frac128.proofs.common_divisor.Goals as goal
 pub loop-smaller-preserved : goal.loop-smaller-preserved
 loop-smaller-preserved c g h = c.loop-smaller.invariant g (IsGcd-from_mod _ _ g h)
 
--- at the last turn the smaller number is 0, so the larger is the greatest common divisor
+-- If the smaller number is 0, the loop ends, and the larger number is the greatest common divisor.
 pub returns : goal.returns
 returns c =
     let value : c.loop-smaller.larger ≡ gcd_of c.args.x c.args.y =

@@ -1,4 +1,4 @@
--- The tests of UTF-8 compute once they are unfolded.
+-- The tests of UTF-8 compute once their definitions are unfolded.
 use Rattle.std.proofs.Common.{arith, refl}
 use Rattle.std.specs.Str.{is_utf8, chars}
 use lib.Utf8.{encode}

@@ -3,6 +3,6 @@ use Rattle.define_offices.specs.Pools.{next_standing}
 use Rattle.rounds.proofs.Restanding.{restood_pool_to}
 use Rattle.rounds.proofs.pool_after.Given as goal
 
--- those whom the loop has passed have their standings of the next round
+-- the volunteers before `number` have their standings of the next round, the others those of the pool
 abbrev pub invariant-loop-number : goal.invariant-loop-number
 invariant-loop-number l = l.next ≡ restood_pool_to (next_standing l.panel l.drops) l.number l.pool

@@ -3,6 +3,6 @@ use Rattle.rounds.specs.Next.{standing_marked}
 use Rattle.rounds.proofs.Restanding.{restood_pool_to}
 use Rattle.rounds.proofs.withdraw.Given as goal
 
--- those whom the loop has passed have their standings after the withdrawals
+-- the volunteers before `number` have their standings after the withdrawals, the others those from before
 abbrev pub invariant-loop-number : goal.invariant-loop-number
 invariant-loop-number l = l.pool ≡ restood_pool_to (standing_marked l.withdrawn) l.number l.fn.pool

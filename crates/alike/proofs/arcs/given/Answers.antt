@@ -6,7 +6,7 @@ use Rattle.define_spreads.specs.Spreading.{is_given}
 use Rattle.alike.proofs.Starts.{first_marks}
 use Rattle.alike.proofs.arcs.given.Goals as goal
 
--- overwriting a whole list leaves only what was written
+-- writing `new` over a list of its length leaves only `new`
 written : (len : ℕ) (new items : List Bool) → len ≡ length new → take len (new ++ drop (length new) items) ≡ new
 written len new items e = ap (λ n. take n (new ++ drop (length new) items)) e ∙ take-append_seam new (drop (length new) items)
 

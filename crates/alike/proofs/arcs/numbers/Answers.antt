@@ -4,13 +4,13 @@ use Rattle.laws_basic.proofs.Lists.{filter_taken, filter_passed}
 use Rattle.alike.proofs.arcs.numbers.Goals as goal
 use Rattle.alike.proofs.arcs.numbers.Goals.{then-is_given+in_ok-push, else-is_given}
 
--- the marked numbers below `number + 1`, if `number` is marked
+-- if `number` is marked, the marked numbers below `number + 1` are those below `number`, and `number`
 with_one : (given : List Bool) (number : ℕ) (before after new : List ℕ) → after ≡ new → new ≡ before ++ number ∷ [] → before ≡ filter (λ i. get_or given i false) (range_with_len 0 number) → get_or given number false ≡ true →
     after ≡ filter (λ i. get_or given i false) (range_with_len 0 (number + 1))
 with_one given number before after new same pushed e marked =
     same ∙ pushed ∙ ap (λ xs. xs ++ number ∷ []) e ∙ sym (filter_taken (λ i. get_or given i false) number marked)
 
--- the marked numbers below `number + 1`, if `number` isn't marked
+-- if `number` isn't marked, the marked numbers below `number + 1` are those below `number`
 without : (given : List Bool) (number : ℕ) (before after : List ℕ) → after ≡ before → before ≡ filter (λ i. get_or given i false) (range_with_len 0 number) → get_or given number false ≡ false →
     after ≡ filter (λ i. get_or given i false) (range_with_len 0 (number + 1))
 without given number before after same e marked =

@@ -8,7 +8,7 @@ use Rattle.alike.proofs.Starts.{passing_numbers}
 use Rattle.alike.proofs.arcs.panel_at.Goals as goal
 use Rattle.alike.proofs.arcs.panel_at.Goals.{After-new}
 
--- the numbers that are marked are the panel, in rising order
+-- the marked numbers, in rising order, are the panel
 module _ (c : After-new) where
   members : c.in_ok-numbers.field-0.items ≡ panel_at c.args.classes.now c.args.counts.now c.args.at
   members =

@@ -9,7 +9,7 @@ use Rattle.define_pools.specs.Lists.{includes}
 use Rattle.define_searches.specs.Classes.{Class}
 use Rattle.alike.proofs.numbers.class_number.Goals as goal
 
--- if no class passes, the answer is the number of classes
+-- `position_or_len` is the place of the first class that passes, or the number of classes if none passes
 past_all : (p : Class → Bool) (xs : List Class) → unwrap_or (cond (ltb (position_or_len p xs) (length xs)) (Some (position_or_len p xs)) None) (length xs) ≡ position_or_len p xs
 past_all p xs = by (ltb (position_or_len p xs) (length xs)) refl
   where

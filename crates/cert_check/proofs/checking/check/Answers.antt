@@ -19,7 +19,7 @@ module _ (pool : Pool) (answer : Answer) (nodes : ℕ) (ranges : IsInRanges pool
   abbrev Holds : Type 0
   Holds = Certifies pool answer.lottery answer.stages
 
-  -- if the check answers a verdict, it is the verdict of the definition
+  -- if the check returns a verdict, it is the verdict of the definition
   verdict_is : (said : Verdict) → check_answer pool answer nodes ≡ Ok said → said ≡ verdict pool answer
   verdict_is said e =
       let P : Result Verdict ℕ → Type 0 = λ given. MatchResult given (λ said. said ≡ verdict pool answer) (λ stage. (first_spent pool nodes [] answer.stages ≡ Some stage) × IsFalse (is_ahead stage (verdict pool answer))) in

@@ -4,7 +4,7 @@ use Rattle.define_bundles.specs.Ranges.{is_stage}
 use Rattle.define_checks.specs.Steps.{answer_from}
 use Rattle.cert_check.proofs.checking.stages_verdict.Given as goal
 
--- the answer about the stages still to come is the answer about all stages
+-- the answer for the stages that are left is the answer for all stages
 abbrev pub invariant-loop-stage : goal.invariant-loop-stage
 invariant-loop-stage l = record {
   pool : l.course.pool ≡ l.initial.course.pool;

@@ -23,7 +23,7 @@ either true false = refl
 either false true = refl
 either false false = refl
 
--- the set of the panels read so far, with the next one
+-- If the set has exactly the panels of the first `j` rows, then with the next panel it has those of the first `j + 1`.
 kept_more : (rows : List LotteryRow) (j : ℕ) (row : LotteryRow) (key : Bor (List ℕ)) (old new : BTreeSet (Bor (List ℕ))) → j < length rows → row ≡ get_or rows j row → key.now ≡ row.panel →
     ((xs : List ℕ) → in_set old xs ≡ came panel_of (take j rows) xs) → Updates (λ x y. slice_cmp nat_cmp x.now y.now) old new key true →
     (xs : List ℕ) → in_set new xs ≡ came panel_of (take (j + 1) rows) xs

@@ -7,14 +7,14 @@ use Rattle.define_pools.specs.Pool.{Category, Volunteer, is_within, members_with
 use Rattle.check_reasons.proofs.Enumerated.{one_fails}
 use Rattle.check_reasons.proofs.quotas.meet_quotas.Goals as goal
 
--- the panel meets the bounds of a category's values
+-- the panel meets the bounds of the values of category `k`
 abbrev met : List Volunteer → List ℕ → ℕ × Category → Bool
 met volunteers members (k, category) = list_all (λ (v, value). is_within value (members_with volunteers members k v)) (enumerate_from 0 category.values)
 
 abbrev none : Category
 none = record { name = []; values = [] }
 
--- the test of category `k`, read from the list at `k`
+-- If `said` is the test of `category`, which is in place `k`, it is the test of the list's element in place `k`.
 at_index : (categories : List Category) (volunteers : List Volunteer) (members : List ℕ) (k : ℕ) (d category : Category) (said : Bool) → k < length categories → category ≡ get_or categories k category →
     said ≡ met volunteers members (k, category) → met volunteers members (k, get_or categories k d) ≡ said
 at_index categories volunteers members k d category said l e is =

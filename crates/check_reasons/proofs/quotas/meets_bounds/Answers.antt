@@ -4,7 +4,7 @@ use Rattle.define_pools.specs.Pool.{BoundedValue, Volunteer, is_within, members_
 use Rattle.check_reasons.proofs.Enumerated.{list_all-enumerated_same}
 use Rattle.check_reasons.proofs.quotas.meets_bounds.Goals as goal
 
--- testing the counted numbers is testing how many members have each value
+-- If the counted numbers are how many members have each value, the test of the counted numbers is the test of the panel.
 tested : (volunteers : List Volunteer) (members : List ℕ) (c : ℕ) (values own : List BoundedValue) (numbers counted : List ℕ) (said : Bool) → values ≡ own → counted ≡ numbers →
     ((v : ℕ) → v < length values → get_or numbers v 0 ≡ members_with volunteers members c v) →
     said ≡ list_all (λ (v, value). is_within value (get_or counted v 0)) (enumerate_from 0 values) →

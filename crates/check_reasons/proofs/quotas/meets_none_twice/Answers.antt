@@ -7,7 +7,7 @@ use Rattle.check_reasons.specs.Households.{none_twice}
 use Rattle.check_reasons.proofs.Twice.{comes_once, comes_twice, marked_more}
 use Rattle.check_reasons.proofs.quotas.meets_none_twice.Goals as goal
 
--- the household of each member has a place among the marks
+-- The number of each member's household is a place in the list of marks.
 met_within : (households members : List ℕ) (first met : List Bool) (j : ℕ) → list_all (λ i. ltb i (length households)) members ≡ true → list_all (λ h. ltb h (length first)) households ≡ true → length met ≡ length first →
     j < length members → get_or households (get_or members j 0) 0 < length met
 met_within households members first met j known within same l =

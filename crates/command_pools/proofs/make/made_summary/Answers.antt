@@ -52,6 +52,6 @@ returns g c =
     let pool = c.in_ok-pool.pool in
     let made = c.args.made.now in
     let same = c.in_ok-pool.ensures ∙ ap (made_pool made.seed) c.number.ensures.value in
-    IfOk-weaker c.stopped.result _ _
+    IfOk-weaker c.stop_answer.result _ _
     (λ answer tells. made_stop_is_right made.seed made.volunteers made.limits pool same c.in-Err.stop c.in-Err.ensures.run (saying answer) tells)
-    c.stopped.ensures
+    c.stop_answer.ensures

@@ -1,4 +1,4 @@
--- The variables are looked at in turn.
+-- If a column may not enter, the first one that may is among the later columns.
 use Rattle.std.proofs.Common.{◌≡◌, [], length, sym, ap, ◌∙◌, arith}
 use Rattle.define_rows.specs.declared.Var.TheVariants.{Column}
 use Rattle.exact_table.specs.Parts.{with_rows}

@@ -1,4 +1,4 @@
--- The variables are looked at in turn.
+-- If a slack may not enter, the first one that may is among the later slacks.
 use Rattle.std.proofs.Common.{◌≡◌, [], length, sym, ap, ◌∙◌, arith}
 use Rattle.define_rows.specs.declared.Var.TheVariants.{Slack}
 use Rattle.exact_table.specs.Parts.{with_rows}

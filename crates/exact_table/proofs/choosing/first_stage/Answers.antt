@@ -1,4 +1,4 @@
--- The variables are looked at in turn.
+-- If a stage variable may not enter, the first one that may is among the later ones.
 use Rattle.std.proofs.Common.{[], length, sym, ◌∙◌, arith}
 use Rattle.define_rows.specs.declared.Var.TheVariants.{Stage}
 use Rattle.exact_table.specs.Parts.{with_rows}

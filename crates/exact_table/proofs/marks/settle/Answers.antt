@@ -6,7 +6,7 @@ use Rattle.std.proofs.lemmas.List.{drop_more, drop_all, take_all, take_more_set,
 use Rattle.exact_table.specs.Marks.{never, settled_marks}
 use Rattle.exact_table.proofs.marks.settle.Goals as goal
 
--- one turn of the loop
+-- one turn of the loop: writing the new mark of class `t` doesn't change what the marks are at the end
 turn : (stage : ℕ) (xs : List ℤ) (marks : List ℕ) (t y : ℕ) → t < length xs → t < length marks →
     y ≡ cond (eqb (get_or marks t 0) never && int_lt (pos 0) (get_or xs t (pos 0))) stage (get_or marks t 0) →
     take (t + 1) (set marks t y) ++ settled_marks stage (drop (t + 1) xs) (drop (t + 1) (set marks t y)) ≡ take t marks ++ settled_marks stage (drop t xs) (drop t marks)

@@ -9,7 +9,7 @@ use Rattle.exact_table.proofs.starting.first_rows.Goals as goal
 row_of : List ℕ → ℕ → Row
 row_of first t = class_row (length first) (t, get_or first t 0)
 
--- the rows by number are the rows of the enumerated counts
+-- the rows that are made class by class are the definition's, which enumerates the counts
 same_rows : (first : List ℕ) → map (λ t. class_row (length first) (t, get_or first t 0)) (range_with_len 0 (length first)) ≡ map (class_row (length first)) (enumerate_from 0 first)
 unfolding row_of
 same_rows first =

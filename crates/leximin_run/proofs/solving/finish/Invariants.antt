@@ -4,7 +4,7 @@ use Rattle.define_runs.specs.Run.{run_limits}
 use Rattle.define_runs.specs.Work.{work_left}
 use Rattle.leximin_run.proofs.solving.finish.Given as goal
 
--- the run has reached its table, over the same classes and under the same limits
+-- the run reaches its table, and its classes and limits are those at the beginning
 abbrev pub invariant-loop-run : goal.invariant-loop-run
 invariant-loop-run g l = record {
   reaches : Reaches l.run.pricer.classes (run_limits l.run.limits) l.run.table l.run.pricer.closed;

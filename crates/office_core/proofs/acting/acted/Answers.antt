@@ -24,7 +24,7 @@ returns-in-Ok-clause-step g c =
     let change = option_map seen_change c.in-Ok.decided.0 in
     let comes = subst (Comes tables command) c.in-Ok.ensures.says c.in-Ok.ensures.comes in
     let told = g.K.Keeper.tables c.args.keeper.now in
-    acts_done told tables command change c.in-Ok.decided.1 (g.K.Keeper.tables c.store.new.keeper) c.in_ok-tables.ensures.loaded comes
+    acts_done told tables command c.facts-2.ensures c.in_ok-tables.ensures.loaded (g.K.Keeper.tables c.store.new.keeper) change c.in-Ok.decided.1 comes
     (c.in_ok-store-in-Ok.ensures.ok ∙ ap (λ kept. changed kept change) c.in_ok-tables.ensures.same)
 
 pub returns-clause-step : goal.returns-clause-step
@@ -33,4 +33,4 @@ returns-clause-step g c =
     let command = seen_command c.args.command.now in
     let after = g.K.Keeper.tables c.load.new.self in
     subst (λ s. ActsOn told command (Err s) after) (sym c.stopped.ensures)
-    (acts_stopped told c.in_ok-tables.tables command c.in-Err.stop after c.in_ok-tables.ensures.loaded c.in-Err.ensures c.in_ok-tables.ensures.same)
+    (acts_stopped told c.in_ok-tables.tables command c.facts-2.ensures c.in_ok-tables.ensures.loaded after c.in-Err.stop c.in-Err.ensures c.in_ok-tables.ensures.same)

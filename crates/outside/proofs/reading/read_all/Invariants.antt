@@ -2,7 +2,7 @@ use Rattle.std.proofs.Common.{◌≡◌, ◌≤◌, vec_len}
 use Rattle.std.specs.Io.KnownBytes.{Consumes}
 use Rattle.outside.proofs.reading.read_all.Given as goal
 
--- each turn so far took at least one byte and counted no fault, and the bytes so far were taken from the front
+-- each turn so far took at least one byte and counted no fault, and the bytes so far are what the source lost from its front
 abbrev pub invariant-loop-turn : goal.invariant-loop-turn
 invariant-loop-turn g l = record {
   turns : l._turn ≤ vec_len l.bytes;

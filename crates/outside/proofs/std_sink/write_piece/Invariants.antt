@@ -2,7 +2,7 @@ use Rattle.std.proofs.Common.{◌-◌, ◌≤◌, length, take}
 use Rattle.std.specs.Io.KnownBytes.{Appends}
 use Rattle.outside.proofs.std_sink.write_piece.Given as goal
 
--- what the writer took so far is the front of the piece
+-- the writer has taken the first `taken` bytes of the piece
 abbrev pub invariant-loop-taken : goal.invariant-loop-taken
 invariant-loop-taken g l = (l.taken ≤ length l.piece) × Appends (g.W.Write.contents l.fn.inner) (g.W.Write.contents l.inner) (take l.taken l.piece)
 

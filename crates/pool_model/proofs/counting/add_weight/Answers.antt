@@ -22,12 +22,12 @@ not_before (x ∷ xs) (suc j) h l =
     let other : eqb x (get_or xs j 0) ≡ false = ne_eqb x (get_or xs j 0) (λ e. omega arith) in
     let rest = not_before xs j parts.1 (omega arith) in rw (other, rest) refl
 
--- the sums after the weight was added at each of the members
+-- `xs` is `before` with `weight` added at each place that is a member
 abbrev AddedTo : List ℤ → List ℤ → List ℕ → ℤ → Type 0
 AddedTo before xs members weight =
     (k : ℕ) → k < length xs → get_or xs k (pos 0) ≡ cond (includes members k) (get_or before k (pos 0) +ℤ weight) (get_or before k (pos 0))
 
--- the next member, at whose number there is a sum
+-- the turn of the loop that adds the weight at member j
 module _ (before xs : List ℤ) (members : List ℕ) (weight : ℤ) (j : ℕ) (up : is_increasing members ≡ true) (inside : j < length members) (added : AddedTo before xs (take j members) weight) where
   abbrev member : ℕ
   member = get_or members j 0
@@ -37,7 +37,7 @@ module _ (before xs : List ℤ) (members : List ℕ) (weight : ℤ) (j : ℕ) (u
       added (get_or members j 0) l
       ∙ ap (λ b. cond b (get_or before (get_or members j 0) (pos 0) +ℤ weight) (get_or before (get_or members j 0) (pos 0))) (not_before members j up inside)
 
-  -- for the other numbers nothing changes
+  -- at other places than member j nothing changes
   pub other_number : (k : ℕ) → k < length xs → (k ≡ member → ⊥) →
       get_or xs k (pos 0) ≡ cond (includes (take (j + 1) members) k) (get_or before k (pos 0) +ℤ weight) (get_or before k (pos 0))
   other_number k l apart =
@@ -54,7 +54,7 @@ module _ (before xs : List ℤ) (members : List ℕ) (weight : ℤ) (j : ℕ) (u
       list_any_more (λ x. eqb x k) members j 0 inside ∙ (ap (λ b. includes (take j members) k || b) e ∙ or-true (includes (take j members) k)) in
       ap (λ b. cond b (get_or before k (pos 0) +ℤ weight) (get_or before k (pos 0))) (sym more)
 
-  -- the weight was added to the sum at the member's number
+  -- after the turn, the weight is added at the first j + 1 members
   pub written : member < length xs → AddedTo before (set xs member (get_or xs member (pos 0) +ℤ weight)) (take (j + 1) members) weight
   written room k l =
       let m = get_or members j 0 in
@@ -66,7 +66,7 @@ module _ (before xs : List ℤ) (members : List ℕ) (weight : ℤ) (j : ℕ) (u
       (λ (apart : k ≡ m → ⊥). get_or-set_other xs m k (get_or xs m (pos 0) +ℤ weight) (pos 0) apart ∙ other_number k (omega (arith, size)) apart)
       (cases_eq k m)
 
--- a number as 128 bits store it
+-- a number after it was stored in 128 bits
 abbrev stored : ℤ → ℤ
 stored z = to_z w128 (of_z w128 z)
 

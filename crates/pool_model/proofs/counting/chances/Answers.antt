@@ -14,7 +14,7 @@ use Rattle.define_pools.proofs.Weights.{counted}
 use Rattle.define_pools.proofs.Greatest.{count-is}
 use Rattle.pool_model.proofs.counting.chances.Goals as goal
 
--- the count over one more row
+-- a count over the first j + 1 rows is the one over the first j, plus the weight of row j if volunteer i is on its panel
 counted_more : (rows : List LotteryRow) (j i : ℕ) (d : LotteryRow) → j < length rows →
     counted (take (j + 1) rows) i ≡ counted (take j rows) i + cond (includes (get_or rows j d).panel i) (get_or rows j d).weight 0
 counted_more [] j i d h = absurd (omega arith)
@@ -23,7 +23,7 @@ counted_more (row ∷ rows) (suc j) i d h =
     let e : suc j + 1 ≡ suc (j + 1) = omega arith in
     let rest = counted_more rows j i d (omega arith) in rw e (omega (arith, rest))
 
--- a count over the first rows, plus the weight of the next one, is at most the sum of all weights
+-- a count over the first j rows, plus the weight of row j, is at most the sum of all weights
 counted_room : (rows : List LotteryRow) (j i : ℕ) (d : LotteryRow) → j < length rows → counted (take j rows) i + (get_or rows j d).weight ≤ total (λ row. row.weight) rows
 counted_room [] j i d h = absurd (omega arith)
 counted_room (row ∷ rows) zero i d h = omega arith
@@ -35,15 +35,15 @@ counted_room (row ∷ rows) (suc j) i d h =
     at_most true w = omega arith
     at_most false w = omega arith
 
--- a weight as 128 bits store it
+-- a weight that fits 128 bits is stored as itself
 stored : (z : ℤ) (n : ℕ) → SFits w128 z → z ≡ pos n → to_z w128 (of_z w128 z) ≡ pos n
 stored z n fits e = to_z-of_z w128 z fits ∙ e
 
--- a natural number that fits
+-- a natural number below 2^127 fits 128 bits with a sign
 fits : (n : ℕ) → n < 2 ^ 127 → SFits w128 (pos n)
 fits n h = record { sfits = h }
 
--- the count with the next row's weight, if the volunteer is on its panel
+-- if x is m and w is n, then x, plus w if `b` holds, is m, plus n if `b` holds
 more : (x w : ℤ) (b : Bool) (m n : ℕ) → x ≡ pos m → w ≡ pos n → cond b (x +ℤ w) x ≡ pos (m + cond b n 0)
 more x w true m n e f = ap (λ z. z +ℤ w) e ∙ ap (λ z. pos m +ℤ z) f
 more x w false m n e f = e ∙ (let g : m ≡ m + 0 = omega arith in ap pos g)

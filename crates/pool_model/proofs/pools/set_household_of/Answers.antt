@@ -3,7 +3,7 @@ use Rattle.define_pools.specs.Pool.{Volunteer}
 use Rattle.define_pools.specs.Building.{with_household}
 use Rattle.pool_model.proofs.pools.set_household_of.Goals as goal
 
--- the household is written at its place
+-- writing the volunteer with the new household at place `number` is `with_household`
 written : (volunteers : List Volunteer) (number : ℕ) (name : List ℕ) (d : Volunteer) → number < length volunteers →
     set volunteers number (record (get_or volunteers number d) { household = Some name }) ≡ with_household volunteers number name
 written [] number name d h = absurd (omega arith)

@@ -4,7 +4,7 @@ use Rattle.define_pools.specs.Pool.{Volunteer}
 use Rattle.define_pools.specs.Building.{with_standing}
 use Rattle.pool_model.proofs.pools.set_standing_of.Goals as goal
 
--- the standing is written at its place
+-- writing the volunteer with the new standing at place `number` is `with_standing`
 written : (volunteers : List Volunteer) (number : ℕ) (standing : Standing) (d : Volunteer) → number < length volunteers →
     set volunteers number (record (get_or volunteers number d) { standing = standing }) ≡ with_standing volunteers number standing
 written [] number standing d h = absurd (omega arith)

@@ -4,7 +4,7 @@ use Rattle.std.proofs.lemmas.List.{length-map}
 use Rattle.define_pool_texts.specs.PoolReading.{OfValue, Unknown, ValueWord, bound_of, entry_of_word}
 use Rattle.pool_text.proofs.entries.value_entry.Goals as goal
 
--- if there aren't three fields, the entry is unknown
+-- if a value line doesn't have three fields after its word, the entry is unknown
 not_three : (fields : List (List ℕ)) → (length fields ≡ 3 → ⊥) → Unknown ≡ entry_of_word ValueWord fields
 not_three [] h = refl
 not_three (name ∷ []) h = refl
@@ -17,7 +17,7 @@ returns-then-rest-ne3 c =
     let same = length-map c.args.rest.now (λ field. field.now) in
     not_three (map (λ field. field.now) c.args.rest.now) (λ e. omega (arith, same))
 
--- three fields are a value
+-- if a value line has three fields after its word, the entry is a value of them
 three : (fields : List (Bor (List ℕ))) (none : Bor (List ℕ)) (lower upper : ℕ) → length fields ≡ 3 →
     lower ≡ bound_of (get_or fields 1 none).now → upper ≡ bound_of (get_or fields 2 none).now →
     OfValue (record { name = (get_or fields 0 none).now; lower = lower; upper = upper }) ≡ entry_of_word ValueWord (map (λ field. field.now) fields)

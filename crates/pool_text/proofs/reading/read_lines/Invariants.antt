@@ -5,7 +5,7 @@ use Rattle.define_pool_texts.specs.PoolReading.{read, reader}
 use Rattle.pool_text.specs.Progress.{seen, line_due}
 use Rattle.pool_text.proofs.reading.read_lines.Given as goal
 
--- reading the rest gives the answer for the whole text
+-- reading `rest` from `progress` has the result of reading the whole text. Line `number` is the first line of `rest`
 abbrev pub invariant-loop-line : goal.invariant-loop-line
 invariant-loop-line l = record {
   same : read_lines reader l.number (seen l.progress) (pieces_of l.rest) ≡ read l.fn.bytes;

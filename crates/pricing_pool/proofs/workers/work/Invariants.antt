@@ -4,7 +4,7 @@ use Rattle.panel_search.specs.Answers.{AnswersWeighed}
 use Rattle.pricing_pool.specs.Outcomes.{Outcome}
 use Rattle.pricing_pool.proofs.workers.work.Given as goal
 
--- `outcomes` are those of the worker's pieces before `place`
+-- `outcomes` are those of the worker's pieces before place `place`
 abbrev pub invariant-loop-place : goal.invariant-loop-place
 invariant-loop-place g l = record {
   place : l.place ≡ l.worker + length l.outcomes.items * l.workers;

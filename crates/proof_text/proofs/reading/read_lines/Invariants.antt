@@ -6,7 +6,7 @@ use Rattle.define_proof_texts.proofs.Spelled.{IsRight}
 use Rattle.proof_text.specs.Progress.{seen}
 use Rattle.proof_text.proofs.reading.read_lines.Given as goal
 
--- reading what is unread returns what reading all bytes does, and the progress is right
+-- reading the unread bytes from this progress returns what reading all bytes returns, and the progress is right
 abbrev pub invariant-loop-line : goal.invariant-loop-line
 invariant-loop-line l = record {
   same : read_lines reader l.number (seen l.progress) (pieces_of l.unread) ≡ read_proof l.fn.bytes;

@@ -12,7 +12,7 @@ charge-charges-requires-clause-narrow c =
     let item = at_item c.multipliers-multiplier-items.result.now leaf.multipliers k m c.multipliers-multiplier-items.ensures c.loop-multiplier-test.true c.multiplier-item.is in
     (narrow_at c.args.problem.now leaf k item.0 m item.1 0 c.requires.near c.requires.leaf).1
 
--- the multiplier that is read, and its charge as it is stored
+-- the multiplier that the loop reads is one of the leaf's, and its charge is stored unchanged
 module _ (c : goal.After-charge-charges) where
   item : (c.loop-multiplier.multiplier-index < length c.args.leaf.now.multipliers) × (c.multiplier-item.result ≡ get_or c.args.leaf.now.multipliers c.loop-multiplier.multiplier-index c.multiplier-item.result)
   item = at_item c.multipliers-multiplier-items.result.now c.args.leaf.now.multipliers c.loop-multiplier.multiplier-index c.multiplier-item.result c.multipliers-multiplier-items.ensures c.loop-multiplier-test.true c.multiplier-item.is

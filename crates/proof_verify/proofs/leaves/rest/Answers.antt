@@ -12,7 +12,7 @@ multiplied-rest-requires-clause-narrow c =
     let item = at_item c.multipliers-multiplier-items.result.now leaf.multipliers k m c.multipliers-multiplier-items.ensures c.loop-multiplier-test.true c.multiplier-item.is in
     (narrow_at c.args.problem.now leaf k item.0 m item.1 c.args.i c.requires.near c.requires.leaf).0
 
--- the multiplier that is read, and its product as it is stored
+-- the multiplier that the loop reads is one of the leaf's, and its product is stored unchanged
 module _ (c : goal.After-multiplied-rest) where
   item : (c.loop-multiplier.multiplier-index < length c.args.leaf.now.multipliers) × (c.multiplier-item.result ≡ get_or c.args.leaf.now.multipliers c.loop-multiplier.multiplier-index c.multiplier-item.result)
   item = at_item c.multipliers-multiplier-items.result.now c.args.leaf.now.multipliers c.loop-multiplier.multiplier-index c.multiplier-item.result c.multipliers-multiplier-items.ensures c.loop-multiplier-test.true c.multiplier-item.is

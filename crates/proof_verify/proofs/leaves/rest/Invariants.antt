@@ -3,6 +3,6 @@ use Rattle.define_additions.specs.LeafSums.{first_multipliers}
 use Rattle.define_additions.specs.Leaves.{rest}
 use Rattle.proof_verify.proofs.leaves.rest.Given as goal
 
--- the rest after the multipliers so far
+-- `rest` is the volunteer's rest after the multipliers read so far
 abbrev pub invariant-loop-multiplier : goal.invariant-loop-multiplier
 invariant-loop-multiplier l = l.rest ≡ rest l.problem (first_multipliers l.multiplier-index l.leaf) l.i

@@ -4,7 +4,7 @@ use Rattle.define_additions.specs.TreeLines.{fault_from, tree_fault}
 use Rattle.proof_verify.specs.Steps.{place}
 use Rattle.proof_verify.proofs.trees.tree_fault.Given as goal
 
--- the first fault of all lines is the first fault of the lines that are left, at the path so far
+-- the first fault of all lines is the first fault of the lines that are left, from the path so far
 abbrev pub invariant-loop-k : goal.invariant-loop-k
 invariant-loop-k l = record {
   pool : l.path.pool ≡ l.pool;

@@ -1,7 +1,7 @@
 use Rattle.std.proofs.Common.{◌≡◌, ℕ, ◌-◌, ◌<◌, ◌≤◌, ◌^◌}
 use Rattle.tickets.proofs.dice.groups_of.Given as goal
 
--- each smaller size has fewer groups than there are tickets
+-- `count` is the number of groups of `size` digits. Each smaller size has fewer groups than there are tickets
 abbrev pub invariant-loop-count : goal.invariant-loop-count
 invariant-loop-count l = record {
   power : l.count ≡ 10 ^ l.size;

@@ -31,7 +31,7 @@ loop-row-preserved c =
       last = ap (λ last. last + end) c.loop-row.invariant.last ∙ sym (sum_pushed weights j end room this);
     }
 
--- all rows were read, so these are the ends of all
+-- if all weights were read, the ends read so far are those of all weights
 all_ends : (weights ends : List ℕ) (j : ℕ) → length weights ≤ j → ends ≡ ends_of 0 (take j weights) → ends ≡ ends_of 0 weights
 all_ends weights ends j l e = e ∙ ap (ends_of 0) (take_all j weights l)
 

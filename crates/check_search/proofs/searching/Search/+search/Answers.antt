@@ -45,7 +45,7 @@ enter-returns-in_err-spend t c =
     steps_err all closed row c.args.depth _ _ self _ c.spend.new.self c.from_residual.ensures.0
     (omega (arith, c.in_err-spend.ensures.err, enter_visits all closed row (drop c.args.depth all.classes) (take c.args.depth self.counts.items)))
 
--- the front that is entered has a next class; its own visit and its children's are due
+-- If the front has no counts for the last classes, entering it takes one visit, and then the visits of its children.
 module _ (t : ℕ) (c : enter-Else-depth-classes t) where
   below : c.args.depth < length c.args.terms.now.classes.classes
   below = omega (arith, c.requires.stands.within, c.if-depth-classes.false, ap length c.classes.ensures)
@@ -105,7 +105,7 @@ enter-returns t c =
           (from_front all depth _ c.go_on.new.self.counts.items _ c.deref-2.ensures.value steps.3.places steps.3.within c.end_class.ensures),
     )
 
--- the next class, and the counts of it that the greatest and the least count rule out
+-- The next class. No child is reachable whose count is above the greatest count or below the least.
 module _ (t : ℕ) (c : go_on-After-least t) where
   stands : Stands c.args.terms.now.classes c.args.depth c.index-classes-depth.result
   stands = stands_there c.args.terms.now.classes c.args.depth _ c.index-classes-depth.result c.requires.below c.classes.ensures c.index-classes-depth.is

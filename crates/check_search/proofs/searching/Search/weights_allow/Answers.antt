@@ -8,7 +8,7 @@ use Rattle.laws_of_fronts.proofs.WeightLaws.{weighs_front}
 use Rattle.check_search.proofs.searching.Search.weights_allow.Goals as goal
 use Rattle.check_search.proofs.searching.Search.weights_allow.Goals.{After-child-reached, After-deref}
 
--- the child's counts are within their classes, as the code reads the front
+-- the child's counts are within their classes, for the front as the code reads it
 within : (c : After-deref) → AreWithin c.args.terms.now.classes (take c.args.depth c.deref.result.now ++ c.args.count ∷ [])
 within c =
     let terms = c.args.terms.now in let depth = c.args.depth in let count = c.args.count in

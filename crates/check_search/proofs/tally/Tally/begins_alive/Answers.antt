@@ -29,7 +29,7 @@ all_within_reach-requires-clause-small_later c =
     let all = c.args.classes.now in
     small_same _ (length all.bounds) _ c.args.self.now.later.items (ap length c.bounds.ensures) c.deref-then-size_allows.ensures.value (few_later all [] 0 (length all.bounds) _ c.facts.ensures refl c.requires)
 
--- the test of the size for `taken + 0` members is that for `taken`
+-- Taking 0 more members doesn't change the test of the size.
 no_more : (taken later size size' : ℕ) → size' ≡ size → (leb taken size && leb size (taken + later)) ≡ (leb (taken + 0) size' && leb size' (taken + 0 + later))
 no_more taken later size size' e =
     let same : taken + 0 ≡ taken = omega arith in

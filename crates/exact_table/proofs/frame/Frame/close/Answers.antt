@@ -27,7 +27,7 @@ kept sizes marks stages columns closed bits row xs in_stage e h l =
       few_bits = h.few_bits;
     }
 
--- a stage is open, so fewer stages are closed than there is room for
+-- if a stage is open and not every class has a closed row, `closed` has a place for the stage's row
 fits : (sizes marks : List ℕ) (stages : ℕ) (columns : List (List ℕ)) (closed : List ℕ) (bits : ℕ) (in_stage : Bool) → in_stage ≡ true →
     IsFrame sizes marks stages columns closed in_stage bits → length (take (closed_count stages in_stage) closed) < length sizes → stages ≤ length closed
 fits sizes marks stages columns closed bits true e h l = omega (arith, length-take (stages - 1) closed, h.room)

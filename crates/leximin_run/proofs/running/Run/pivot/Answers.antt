@@ -10,7 +10,7 @@ use Rattle.define_runs.proofs.Kept.{closed_rows_stay}
 use Rattle.leximin_run.proofs.Turns.{pivot_due, stands_on}
 use Rattle.leximin_run.proofs.running.Run.pivot.Goals as goal
 
--- if one more pivot is allowed, the count of pivots grows by one
+-- If the count of pivots is below its limit, one more pivot adds 1 to it.
 counted_one_more : (n limit : ℕ) → n < limit → limit ≤ 2 ^ 64 - 1 → counted_on n ≡ n + 1
 counted_one_more n limit few most = let t : ltb n (2 ^ 64 - 1) ≡ true = lt-ltb n (2 ^ 64 - 1) (omega arith) in rw t refl
 

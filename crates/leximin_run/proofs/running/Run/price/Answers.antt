@@ -19,11 +19,11 @@ price_by-requires-clause-reach g c = λ lifetimes outlives.
     let run = c.args.self.now in
     ((have_reach run.pricer.classes (run_limits run.limits) run.table c.requires.stands.keeps c.row-row.result.now c.open_row.result c.open_row.ensures.place c.row-row.ensures run.pricer.closed c.requires.stands.closed_are).0, tt)
 
--- what the pricing was asked
+-- before the pricing: the stage is open, no pivot is chosen, and the row is the open row
 asked : (g : Over) (c : After-price_by g) → IsAsked c.args.self.now.pricer.classes (run_limits c.args.self.now.limits) c.args.self.now.table c.args.self.now.pricer.closed c.row-row.result.now
 asked g c = asked_so c.requires.stands c.requires.open c.requires.done refl c.row-row.ensures c.open_row.ensures.row
 
--- the visits of a pricing that was answered are within the budget
+-- If a pricing returns an answer, its visits are within the budget.
 few : (g : Over) (c : In_ok-found g) → pricing_visits c.args.self.now.pricer.classes c.args.self.now.pricer.closed c.row-row.result.now ≤ (run_limits c.args.self.now.limits).pricing
 few g c = omega (arith, visits_are c.args.self.now.pricer.classes c.args.self.now.pricer.closed c.row-row.result.now, c.in_ok-found.ensures.answers.0, c.nodes.ensures.value)
 

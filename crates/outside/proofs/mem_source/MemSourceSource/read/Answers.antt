@@ -3,7 +3,7 @@ use Rattle.std.proofs.lemmas.List.{drop-drop, drop_all, length-drop, take-append
 use Rattle.outside.specs.Memory.{SourceState}
 use Rattle.outside.proofs.mem_source.MemSourceSource.read.Goals as goal
 
--- the bytes copied into the room, and then those that are left, are those that were left before
+-- the bytes copied into the room, followed by those still left, are the bytes that were left before
 front_and_rest : (bytes items room : List ℕ) (at count : ℕ) → bytes ≡ items → take count room ≡ take count (take (length bytes - at) (drop at bytes))
     → drop at items ≡ take count room ++ drop (at + count) items
 front_and_rest bytes items room at count same copied =

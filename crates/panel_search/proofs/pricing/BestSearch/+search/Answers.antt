@@ -39,7 +39,7 @@ enter-returns-in_err-spend t c =
     moves_err all c.args.terms.now.closed.now c.args.terms.now.row.now depth _ _ _ self.nodes _ c.spend.new.self c.from_residual.ensures.0
     (omega (arith, c.in_err-spend.ensures.err, enter_more all c.args.terms.now.closed.now c.args.terms.now.row.now (drop depth all.classes) (take depth self.counts.items) (pricing_of self)))
 
--- the next class of the front that is entered
+-- the class that the code reads at `depth` is the next class of the front that is entered, and has at most 400 members
 module _ (t : ℕ) (c : enter-After-most t) where
   below : c.args.depth < length c.args.terms.now.classes.now.classes
   below = omega (arith, c.requires.stands.within, c.if-depth-classes.false, ap length c.classes.ensures)

@@ -34,7 +34,7 @@ enter-returns-in_err-spend t c =
     let self = c.args.self.now in
     steps_err c.args.classes.now c.args.depth _ _ self _ c.spend.new.self c.from_residual.ensures.0 (omega (arith, c.in_err-spend.ensures.err, enter_visits c.args.classes.now (drop c.args.depth c.args.classes.now.classes) (take c.args.depth self.counts.items)))
 
--- the next class of the front that is entered
+-- the class that the code reads at `depth` is the next class of the front that is entered, and has at most 400 members
 module _ (t : ℕ) (c : enter-After-most t) where
   below : c.args.depth < length c.args.classes.now.classes
   below = omega (arith, c.requires.within, c.if-depth-classes.false, ap length c.classes.ensures)
@@ -45,7 +45,7 @@ module _ (t : ℕ) (c : enter-After-most t) where
   limits : (c.index-classes-depth.result.least ≤ c.index-classes-depth.result.most) × (c.index-classes-depth.result.most ≤ length c.index-classes-depth.result.members) × (length c.index-classes-depth.result.members ≤ 400)
   limits = class_limits c.args.classes.now c.args.depth c.index-classes-depth.result c.facts.ensures stands
 
--- for the front that is entered, the definition says one visit, and the search of its live children
+-- by the definition, entering the front is one visit and then the search of its live children
 module _ (t : ℕ) (c : enter-After-children t) where
   counts : take c.args.depth c.spend.new.self.counts.items ≡ take c.args.depth c.args.self.now.counts.items
   counts = ap (λ counts. take c.args.depth counts.items) c.spend.ensures.counts
