@@ -1,0 +1,3 @@
+pub mod StoreTold
+pub mod StoreOutcomes
+pub mod Steps

@@ -1,0 +1,77 @@
+-- How a call over a store ends, for whatever meaning its answers have. Over StoreTold and the outcomes of the shell. The contract of every
+-- call over a store cites it, up to `office`.
+use Rattle.std.specs.Prelude.{◌≡◌, ℕ, List, Option, Result, Ok, Err, option_map}
+use Rattle.command_shell.specs.Answers.{Prints, Saying, saying}
+use Rattle.command_shell.specs.Lines.{keeper_fault_line, want_of_memory_line}
+use Rattle.command_shell.specs.Outcomes.{IsCutOff, IsStopped, IsTold, IsToldOrCutOff}
+use Rattle.command_shell.specs.Told.{HasFaulted, HasNoFault, IsUntouched, Told}
+use Rattle.command_shell.specs.declared.answer.Answer.{Answer}
+use Rattle.command_shell.specs.declared.status.Printed.{Printed}
+use Rattle.define_offices.specs.Commands.{Change}
+use Rattle.define_offices.specs.Steps.{applied}
+use Rattle.define_offices.specs.Tables.{Tables}
+use Rattle.office_core.specs.Acting.{IsLoaded}
+use Rattle.std.specs.declared.alloc.AllocError.{AllocError}
+use Rattle.office_core.specs.declared.keeper.KeeperStop.{KeeperStop}
+use Rattle.office_core.specs.declared.keeper.KeeperStop.TheVariants.{Failed, OutOfMemory}
+use Rattle.command_stores.specs.StoreTold.{IsAttached, KeepsTables, Keeper, MayBeAttached, StoreTold}
+
+-- which answers are right about tables, with which change of them; None if they stay
+abbrev pub StoreMeaning : Type 1
+StoreMeaning = Tables → Saying → Option Change → Type 0
+
+-- the keeper was attached at `path` and its tables were loaded; the answer is right about them, and its change was stored
+pub record IsAnswered (path : List ℕ) (Means : StoreMeaning) (keeper : Keeper) (answer : Saying) : Type 0 where
+  pub attached : IsAttached path keeper
+  pub tables : Tables
+  pub loaded : IsLoaded keeper.object.before tables
+  pub change : Option Change
+  pub means : Means tables answer change
+  -- the tables that the keeper tells afterwards
+  pub stored : keeper.object.after ≡ option_map (λ kept. applied kept change) keeper.object.before
+  pub no_fault : HasNoFault keeper.object
+
+-- the keeper counted a fault, and its tables are as before
+pub record HasFailed (path : List ℕ) (keeper : Keeper) : Type 0 where
+  pub faulted : HasFaulted keeper.object
+  pub place : MayBeAttached path keeper
+  pub same : KeepsTables keeper
+
+-- nothing was stored, and the keeper counted no fault
+pub record HasStoredNothing (path : List ℕ) (keeper : Keeper) : Type 0 where
+  pub no_fault : HasNoFault keeper.object
+  pub place : MayBeAttached path keeper
+  pub same : KeepsTables keeper
+
+-- what a call over the store at `path` does to the keeper before it tells its answer
+abbrev pub Settles : List ℕ → StoreMeaning → Keeper → Result Answer KeeperStop → Type 0
+Settles path Means keeper (Ok answer) = IsAnswered path Means keeper (saying answer)
+Settles path Means keeper (Err Failed) = HasFailed path keeper
+Settles path Means keeper (Err OutOfMemory) = HasStoredNothing path keeper
+
+-- what a call tells afterwards: the answer, whole or cut off, or why there is none
+abbrev pub TellsSettled : Result Answer KeeperStop → Told → Type 0
+TellsSettled (Ok answer) call = IsToldOrCutOff (saying answer) call
+TellsSettled (Err Failed) call = IsStopped 9 keeper_fault_line call
+TellsSettled (Err OutOfMemory) call = IsStopped 12 want_of_memory_line call
+
+-- the answer, or that memory was wanting for it
+abbrev pub settled_by : Result Answer AllocError → Result Answer KeeperStop
+settled_by (Ok answer) = Ok answer
+settled_by (Err error) = Err OutOfMemory
+
+-- how a call over the store at `path` ends
+pub data StoreOutcome (path : List ℕ) (Means : StoreMeaning) (told : StoreTold) : Type 0 where
+  -- the status of the answer: it was told, and its change is kept
+  Answered : (answer : Saying) → IsAnswered path Means told.keeper answer → IsTold answer told.call → StoreOutcome path Means told
+  -- 8: out counted a fault while the text of the answer was told, and its change is kept
+  WriteFault : (printed : Printed) (text : List ℕ) → IsAnswered path Means told.keeper (Prints printed text) → IsCutOff text told.call → StoreOutcome path Means told
+  -- 9: the keeper counted a fault
+  KeeperFault : HasFailed path told.keeper → IsStopped 9 keeper_fault_line told.call → StoreOutcome path Means told
+  -- 12: memory was wanting, which may come at any time
+  WantOfMemory : HasStoredNothing path told.keeper → IsStopped 12 want_of_memory_line told.call → StoreOutcome path Means told
+
+-- how a call over the store at `path` ends that reads no input: the source is untouched
+pub record SilentStoreOutcome (path : List ℕ) (Means : StoreMeaning) (told : StoreTold) : Type 0 where
+  pub source : IsUntouched told.call.source
+  pub ends : StoreOutcome path Means told

@@ -1,0 +1,39 @@
+-- What one call over a store told of the outside: what a call over a text tells, and the keeper before and after.
+-- Over `Told` of the shell. StoreOutcomes and the contract of `office` cite it.
+use Rattle.std.specs.Prelude.{◌≡◌, ◌⊎◌, ℕ, List, Option}
+use Rattle.command_shell.specs.Told.{HasNoFault, IsUntouched, Object, Told}
+use Rattle.define_offices.specs.Tables.{Tables}
+use Rattle.office_core.specs.Keeping.{Place, at}
+
+-- a keeper before and after the call: its tables, if it tells them, its count of faults, and where it is attached
+pub record Keeper : Type 0 where
+  pub object : Object Tables
+  pub place_before : Place
+  pub place_after : Place
+
+abbrev pub keeper_told : Object Tables → Place → Place → Keeper
+keeper_told object before after = record { object = object; place_before = before; place_after = after }
+
+pub record StoreTold : Type 0 where
+  pub call : Told
+  pub keeper : Keeper
+
+abbrev pub store_told : Told → Keeper → StoreTold
+store_told call keeper = record { call = call; keeper = keeper }
+
+-- the keeper was left alone: its tables, its count of faults and its place are as before
+pub record IsLeftAlone (keeper : Keeper) : Type 0 where
+  pub object : IsUntouched keeper.object
+  pub place : keeper.place_after ≡ keeper.place_before
+
+-- the tables that the keeper tells are as before
+abbrev pub KeepsTables : Keeper → Type 0
+KeepsTables keeper = keeper.object.after ≡ keeper.object.before
+
+-- the keeper was attached at `path`
+abbrev pub IsAttached : List ℕ → Keeper → Type 0
+IsAttached path keeper = keeper.place_after ≡ at keeper.place_before path
+
+-- the keeper was attached at `path`, or is where it was
+abbrev pub MayBeAttached : List ℕ → Keeper → Type 0
+MayBeAttached path keeper = IsAttached path keeper ⊎ (keeper.place_after ≡ keeper.place_before)

@@ -1,0 +1,102 @@
+//! One call of a command of the office over a store.
+
+ghost use Rattle.std.specs.Prelude.{◌≡◌, IfOk};
+ghost use Rattle.command_shell.specs.Told.{Bytes, IsUntouched, object, told};
+ghost use Rattle.command_shell.specs.Answers.{Prints, number_of, saying};
+ghost use Rattle.office_core.specs.Commands.{HasWorkers, seen_command};
+ghost use Rattle.command_stores.specs.StoreOutcomes.{Settles, SilentStoreOutcome};
+ghost use Rattle.command_stores.specs.StoreTold.{keeper_told, store_told};
+ghost use Rattle.command_stores.specs.Steps.{StepMeans, TellsStop};
+ghost use Rattle.define_checks.specs.Reasons.{Refusal, Refused};
+ghost use Rattle.define_runs.specs.Run.{Ending};
+ghost use Rattle.command_meanings.specs.Check.{refused_line as words_of_refused};
+ghost use Rattle.command_shell.specs.declared.status.Printed.TheVariants as printed;
+ghost use Rattle.office_core.specs.Deciding.{IsEnding};
+
+use crate::calling::{answer_or_want, tell_settled};
+use crate::refusals::refusal_answer;
+use command_bundles::refused_line;
+use command_pools::stop_answer;
+use command_shell::{Answer, Printed, Resources, Status, no_panel};
+use leximin_run::Stop;
+use office_core::{ActStop, Command, Keeper, KeeperStop, Reply, act};
+use outside::{Sink, Watch};
+use proof_verify::Verdict;
+use std::alloc::{AllocError, Global};
+use std::thread::Threads;
+
+/// Makes one call of a command of the office over the store at `path`. The answer is the outcome of the command over the store's tables. Its text
+/// is made before the change is stored, so nothing can want memory after that.
+pub fn call_step<R: Threads + Sync, W: Watch + Sync, K: Keeper, O: Sink, E: Sink>(
+    resources: &Resources<'_, R, W>,
+    command: &Command,
+    path: &str,
+    keeper: &mut K,
+    out: &mut O,
+    errs: &mut E,
+) -> Status
+    requires { HasWorkers command.now }
+    ensures { (source : Bytes) → IsUntouched source → SilentStoreOutcome path.now (StepMeans (seen_command command.now)) (store_told
+        (told (number_of result) source
+        (object (O.written out.old) (O.written out.new) (O.faults out.old) (O.faults out.new))
+        (object (E.written errs.old) (E.written errs.new) (E.faults errs.old) (E.faults errs.new)))
+        (keeper_told (object (K.tables keeper.old) (K.tables keeper.new) (K.faults keeper.old) (K.faults keeper.new)) (K.place keeper.old) (K.place keeper.new))) }
+{
+    let settled = settle(resources, command, path, keeper);
+    tell_settled(&settled, out, errs)
+}
+
+/// Attaches the keeper, does the command, and returns its answer.
+fn settle<R: Threads + Sync, W: Watch + Sync, K: Keeper>(
+    resources: &Resources<'_, R, W>,
+    command: &Command,
+    path: &str,
+    keeper: &mut K,
+) -> Result<Answer, KeeperStop>
+    requires { HasWorkers command.now }
+    ensures { Settles path.now (StepMeans (seen_command command.now))
+        (keeper_told (object (K.tables keeper.old) (K.tables keeper.new) (K.faults keeper.old) (K.faults keeper.new)) (K.place keeper.old) (K.place keeper.new)) result }
+{
+    command.facts();
+    let Resources { rt, alloc, watch } = *resources;
+    // Made before the change is stored, since memory may be wanting.
+    let Ok(none) = no_panel(alloc) else {
+        return Err(KeeperStop::OutOfMemory);
+    };
+    keeper.attach(alloc, path)?;
+    match act(rt, alloc, keeper, command, watch) {
+        Ok(Reply::Lines(text)) => Ok(Answer::Prints {
+            printed: Printed::Done,
+            text,
+        }),
+        Ok(Reply::NoPanel) => Ok(none),
+        Err(ActStop::Refused(refusal)) => answer_or_want(refusal_answer(alloc, &refusal)),
+        Err(ActStop::Solve(stop)) => answer_or_want(run_answer(alloc, command, &stop)),
+        Err(ActStop::Unproved(verdict)) => answer_or_want(verdict_answer(alloc, &verdict)),
+        Err(ActStop::KeeperFault) => Err(KeeperStop::Failed),
+        Err(ActStop::OutOfMemory) => Err(KeeperStop::OutOfMemory),
+    }
+}
+
+/// Returns the answer to a run that stops. Only a solve runs.
+fn run_answer(alloc: Global, command: &Command, stop: &Stop) -> Result<Answer, AllocError>
+    ensures { (ending : Ending) → IsEnding stop.now ending → IfOk result (λ answer. TellsStop (seen_command command.now) ending (saying answer)) }
+{
+    match command {
+        Command::Solve { limits, .. } => stop_answer(alloc, *limits, stop),
+        _ => Err(AllocError),
+    }
+}
+
+/// Returns the answer to a proof that is refused.
+fn verdict_answer(alloc: Global, verdict: &Verdict) -> Result<Answer, AllocError>
+    ensures { (refusal : Refusal) → verdict.now ≡ Refused refusal → IfOk result (λ answer. saying answer ≡ Prints printed.Refused (words_of_refused refusal)) }
+{
+    match verdict.refusal() {
+        Some(refusal) => Ok(Answer::Prints {
+            printed: Printed::Refused,
+            text: refused_line(alloc, refusal)?,
+        }),
+        None => Err(AllocError),
+    }
+}

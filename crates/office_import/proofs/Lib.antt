@@ -1,0 +1,4 @@
+pub mod CellLemmas
+pub mod DraftLemmas
+pub mod PoolLemmas
+pub mod StopLemmas

@@ -1,0 +1,21 @@
+use Rattle.std.proofs.Common.{◌∙◌, ◌+◌, ◌*◌, ◌<◌, ap, sym, length, get_or, leb, ◌&&◌}
+use Rattle.std.specs.Char.{digit_value}
+use Rattle.std.specs.List.{list_all}
+use Rattle.std.proofs.lemmas.Bool.{and_parts}
+use Rattle.std.proofs.lemmas.Int.Digits.{digits_value_more}
+use Rattle.laws_basic.proofs.Each.{passes_at}
+use Rattle.define_imports.specs.Rules.{is_digit}
+use Rattle.office_import.proofs.CellLemmas.{digit_in_range, one_more_digit}
+use Rattle.office_import.proofs.rules.number_of.Goals as goal
+
+pub loop-digit-preserved : goal.loop-digit-preserved
+loop-digit-preserved c =
+    let digits = c.args.digits.now in let i = c.loop-digit.digit-index in
+    let all = (and_parts (leb 1 (length digits) && leb (length digits) 9) (list_all is_digit digits) c.requires).1 in
+    let inside : i < length digits = c.loop-digit-test.true in
+    let range = digit_in_range (get_or digits i 0) (passes_at is_digit digits i 0 all inside) in
+    let step = one_more_digit c.loop-digit.number (get_or digits i 0) i range c.loop-digit.invariant.small in
+    record {
+      read = step.0 ∙ (ap (λ n. n * 10 + digit_value (get_or digits i 0)) c.loop-digit.invariant.read ∙ sym (digits_value_more 10 digits i inside));
+      small = step.1;
+    }

@@ -1,0 +1,158 @@
+//! A keeper in a file.
+
+ghost use Rattle.std.specs.Prelude.{◌≡◌, Err, IfOk, None, OnErr, OnOk, Some, option_map};
+ghost use Rattle.office_core.specs.declared.keeper.KeeperStop.TheVariants.{Failed};
+ghost use Rattle.office_core.specs.Keeping.{HasCause, Nowhere, at};
+ghost use Rattle.office_keeper.specs.Counting.{faults_after};
+ghost use Rattle.office_keeper.specs.Places.{place_of};
+
+use crate::sqlite_over::SqliteOver;
+use office_core::{Change, Keeper, KeeperStop, Tables};
+use pool_model::Name;
+use sqlite::{Connection, Error, ErrorCode, File, FileStore};
+use std::alloc::Global;
+
+/// A store in the file of a path, which `attach` opens, and makes if it is missing. It tells where it is attached and no tables. Before it is
+/// attached, each other call fails. From then on until it is dropped nobody else can open the file.
+#[derive(Drop)]
+pub struct SqliteKeeper {
+    rt: HostRuntime,
+    attached: Option<Attached>,
+    faults: u64,
+}
+
+/// The file of a path, and a keeper over it that is attached.
+struct Attached {
+    path: Name,
+    over: SqliteOver<FileStore<File>>,
+}
+
+impl Drop for Attached {
+    fn drop(self) {
+        let Attached { path: _, over } = self;
+        close(over);
+    }
+}
+
+/// Copies the log that is beside the file into it, and closes both. If that fails, the next open reads both.
+fn close(over: SqliteOver<FileStore<File>>) {
+    let _ = over.into_connection().close();
+}
+
+impl SqliteKeeper {
+    /// Returns a keeper that is attached nowhere and has counted no fault.
+    pub fn new(rt: &HostRuntime) -> SqliteKeeper
+        ensures faults { result.faults ≡ 0 }
+        ensures place { ⟦<SqliteKeeper as Keeper>⟧.place result ≡ Nowhere }
+    {
+        SqliteKeeper {
+            rt: *rt,
+            attached: None,
+            faults: 0,
+        }
+    }
+
+    /// Returns how many calls have failed.
+    pub fn faults(&self) -> u64
+        ensures { result ≡ self.now.faults }
+    {
+        self.faults
+    }
+}
+
+/// Goes to a path. A file that is attached already isn't opened again.
+fn go(
+    rt: &HostRuntime,
+    attached: &mut Option<Attached>,
+    alloc: Global,
+    path: &str,
+) -> Result<(), KeeperStop>
+    ensures ok { OnOk result (option_map (λ file. file.path) attached.new ≡ Some path.now) }
+    ensures err { OnErr result (option_map (λ file. file.path) attached.new ≡ option_map (λ file. file.path) attached.old) }
+{
+    match attached {
+        Some(file) if file.path.as_str() == path => file.over.attach(alloc, path),
+        _ => {
+            *attached = Some(open(rt, alloc, path)?);
+            Ok(())
+        }
+    }
+}
+
+/// Opens the file of a path, and makes what it lacks.
+fn open(rt: &HostRuntime, alloc: Global, path: &str) -> Result<Attached, KeeperStop>
+    ensures { IfOk result (λ attached. attached.path ≡ path.now) }
+{
+    let Ok(name) = Name::new(alloc, path) else {
+        return Err(KeeperStop::OutOfMemory);
+    };
+    let mut over = SqliteOver::new(connect(rt, path)?);
+    over.attach(alloc, path)?;
+    Ok(Attached { path: name, over })
+}
+
+/// Opens the file of a path.
+fn connect(rt: &HostRuntime, path: &str) -> Result<Connection<FileStore<File>>, KeeperStop> {
+    match Connection::open(rt, path) {
+        Ok(connection) => Ok(connection),
+        Err(Error::SqliteFailure(ErrorCode::OutOfMemory)) => Err(KeeperStop::OutOfMemory),
+        Err(_) => Err(KeeperStop::Failed),
+    }
+}
+
+/// Counts a fault, if the call ended with one.
+fn count<T>(faults: &mut u64, answer: &Result<T, KeeperStop>)
+    ensures cause { HasCause faults.old faults.new answer.now }
+    ensures counted { faults.new ≡ faults_after faults.old answer.now }
+{
+    if matches!(answer, Err(KeeperStop::Failed)) {
+        *faults = faults.saturating_add(1);
+    }
+}
+
+impl Keeper for SqliteKeeper {
+    ghost tables = { λ _. None };
+
+    ghost place = { λ k. place_of (option_map (λ attached. attached.path) k.attached) };
+
+    ghost faults = { λ k. k.faults };
+
+    fn attach(&mut self, alloc: Global, path: &str) -> Result<(), KeeperStop>
+        ensures place { OnOk result (⟦<SqliteKeeper as Keeper>⟧.place self.new ≡ at (⟦<SqliteKeeper as Keeper>⟧.place self.old) path.now) }
+        ensures stays { OnErr result (⟦<SqliteKeeper as Keeper>⟧.place self.new ≡ ⟦<SqliteKeeper as Keeper>⟧.place self.old) }
+        ensures cause { HasCause self.old.faults self.new.faults result }
+        ensures counted { self.new.faults ≡ faults_after self.old.faults result }
+    {
+        let answer = go(&self.rt, &mut self.attached, alloc, path);
+        count(&mut self.faults, &answer);
+        answer
+    }
+
+    fn load(&mut self, alloc: Global) -> Result<Tables, KeeperStop>
+        ensures place { ⟦<SqliteKeeper as Keeper>⟧.place self.new ≡ ⟦<SqliteKeeper as Keeper>⟧.place self.old }
+        ensures cause { HasCause self.old.faults self.new.faults result }
+        ensures counted { self.new.faults ≡ faults_after self.old.faults result }
+        ensures before { ⟦<SqliteKeeper as Keeper>⟧.place self.old ≡ Nowhere → result ≡ Err Failed }
+    {
+        let answer = match &mut self.attached {
+            Some(attached) => attached.over.load(alloc),
+            None => Err(KeeperStop::Failed),
+        };
+        count(&mut self.faults, &answer);
+        answer
+    }
+
+    fn store(&mut self, alloc: Global, change: &Change) -> Result<(), KeeperStop>
+        ensures place { ⟦<SqliteKeeper as Keeper>⟧.place self.new ≡ ⟦<SqliteKeeper as Keeper>⟧.place self.old }
+        ensures cause { HasCause self.old.faults self.new.faults result }
+        ensures counted { self.new.faults ≡ faults_after self.old.faults result }
+        ensures before { ⟦<SqliteKeeper as Keeper>⟧.place self.old ≡ Nowhere → result ≡ Err Failed }
+    {
+        let answer = match &mut self.attached {
+            Some(attached) => attached.over.store(alloc, change),
+            None => Err(KeeperStop::Failed),
+        };
+        count(&mut self.faults, &answer);
+        answer
+    }
+}
