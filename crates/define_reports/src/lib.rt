@@ -1,0 +1,35 @@
+//! The report of a round of an office: what it is called, how far it has come, its quotas, its lottery with each volunteer's chance, the seal
+//! and the draw. The definitions are in `specs/`. Stands on `define_offices`, and on `define_made_pools` for lines of one field. Above:
+//! `office_reports`, which writes it.
+//!
+//! The functions have no body: their contracts are laws over the definitions, and worked examples.
+#![tactic(auto)]
+
+ghost use Rattle.std.specs.Prelude.{◌≡◌, ◌∷◌, [], ℕ, Err, IsOk, Ok, codes};
+ghost use Rattle.define_pools.specs.Pool.{Pool};
+ghost use Rattle.define_offices.specs.Commands.{Incomplete, NoRound, Refusal};
+ghost use Rattle.define_offices.specs.declared.Part.TheVariants as part;
+ghost use Rattle.define_offices.specs.Pools.{pool_of};
+ghost use Rattle.define_offices.specs.Tables.{Tables, first_tables};
+ghost use Rattle.define_offices.specs.WorkedOffice.{with_rows};
+ghost use Rattle.define_reports.specs.Report.{report_of};
+ghost use Rattle.define_reports.specs.WorkedReports.{drawn_report, drawn_tables, open_report, open_tables};
+
+/// A round has a report if it has a pool. Else its report is refused for what its pool is refused for.
+pub fn reports_need_pools()
+    ensures report { (tables : Tables) (number : ℕ) (pool : Pool) → pool_of tables number ≡ Ok pool → IsOk (report_of tables number) }
+    ensures refused { (tables : Tables) (number : ℕ) (refusal : Refusal) → pool_of tables number ≡ Err refusal → report_of tables number ≡ Err refusal }
+{}
+
+/// The report of the round that the digits `0` drew, and of an open round with two volunteers, of whom one has withdrawn.
+pub fn worked_reports()
+    ensures drawn { report_of drawn_tables 1 ≡ Ok drawn_report }
+    ensures open { report_of open_tables 1 ≡ Ok open_report }
+{}
+
+/// There is no report of a round that isn't there, nor without a charter.
+pub fn worked_refusals()
+    ensures no_round { report_of drawn_tables 2 ≡ Err (NoRound 1) }
+    ensures round_zero { report_of first_tables 0 ≡ Err (NoRound 1) }
+    ensures no_charter { report_of with_rows 1 ≡ Err (Incomplete part.Charter) }
+{}

@@ -1,0 +1,11 @@
+-- Numbers of volunteers, and groups of them. For `report_quotas` and `report_heads`.
+use Rattle.std.specs.Prelude.{ℕ, nat_lt, IsTrue, List}
+use Rattle.std.specs.List.{list_all}
+
+-- each number is below `count`
+abbrev pub AreBelow : ℕ → List ℕ → Type 0
+AreBelow count numbers = IsTrue (list_all (λ i. nat_lt i count) numbers)
+
+-- each number of each group is below `count`
+abbrev pub GroupsAreBelow : ℕ → List (List ℕ) → Type 0
+GroupsAreBelow count groups = IsTrue (list_all (list_all (λ i. nat_lt i count)) groups)
