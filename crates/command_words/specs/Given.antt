@@ -1,4 +1,4 @@
--- What the words of a call give: a command, with a value for each of its options.
+-- What the words of a call give: a command, with a value for each of its options but those that are absent.
 use Rattle.std.specs.Prelude.{ℕ, List, Option, Some, None, find, option_and_then, option_map}
 use Rattle.std.specs.Str.{bytes_eq}
 use Rattle.command_words.specs.declared.given.OptionValue.{OptionValue}
@@ -8,7 +8,7 @@ use Rattle.command_words.specs.declared.words.CommandName.{CommandName}
 
 pub record Given : Type 0 where
   pub command : CommandName
-  -- each option's name with its value
+  -- the name of each option that is not absent, with its value
   pub values : List (List ℕ × Value)
 
 abbrev pub named : OptionValue → List ℕ × Value

@@ -1,11 +1,13 @@
 -- The program of a table of commands, as `clap`'s own definitions describe a program. Over Table. Words and src/program.rt cite it.
-use Rattle.std.specs.Prelude.{true, List, [], ◌∷◌, Option, Some, None, codes, fold, is_none, map}
+use Rattle.std.specs.Prelude.{Bool, true, false, List, [], ◌∷◌, Some, codes, fold, map}
 use Rattle.clap.specs.Words.{App, Rule, new_app, new_rule, with_subcommand}
 use Rattle.clap.specs.Simple.{new_shape, on_top}
 use Rattle.clap.specs.declared.builder.value_parser.ValueParser.{ValueParser}
 use Rattle.clap.specs.declared.builder.value_parser.ValueParser.TheVariants as parser
 use Rattle.command_words.specs.declared.words.Form.{Form}
 use Rattle.command_words.specs.declared.words.Form.TheVariants as form
+use Rattle.command_words.specs.declared.words.Missing.{Missing}
+use Rattle.command_words.specs.declared.words.Missing.TheVariants as missing
 use Rattle.command_words.specs.Table.{CommandEntry, OptionEntry, Text}
 
 -- the parser of `clap` for a value of this form
@@ -13,17 +15,23 @@ abbrev pub form_parser : Form → ValueParser
 form_parser (form.Number least most) = parser.Unsigned least most
 form_parser form.Text = parser.String
 
-abbrev pub default_texts : Option Text → List Text
-default_texts (Some text) = text ∷ []
-default_texts None = []
+abbrev pub default_texts : Missing Text → List Text
+default_texts missing.Refused = []
+default_texts missing.Absent = []
+default_texts (missing.Default text) = text ∷ []
 
--- an option is named by two hyphens and its name, and is required if it has no default
+abbrev pub is_required : Missing Text → Bool
+is_required missing.Refused = true
+is_required missing.Absent = false
+is_required (missing.Default text) = false
+
+-- an option is named by two hyphens and its name, and is required exactly if the words are refused without it
 abbrev pub option_rule : OptionEntry → Rule
 option_rule option = record (new_rule option.name) {
   long = Some option.name;
   parser = Some (form_parser option.form);
-  defaults = default_texts option.default;
-  required = is_none option.default;
+  defaults = default_texts option.missing;
+  required = is_required option.missing;
 }
 
 -- a command of this name, with a rule for each option

@@ -1,9 +1,11 @@
 -- The words of commands and options, with lists of bytes in place of the references that the code has. Over the constants of src/table.rt.
-use Rattle.std.specs.Prelude.{ℕ, List, ◌++◌, map, option_map}
+use Rattle.std.specs.Prelude.{ℕ, List, ◌++◌, map}
 use Rattle.std.specs.Borrow.{Bor}
 use Rattle.command_words.specs.declared.words.CommandWords.{CommandWords}
+use Rattle.command_words.specs.declared.words.Missing.{Missing}
+use Rattle.command_words.specs.declared.words.Missing.TheVariants as missing
 use Rattle.command_words.specs.declared.words.OptionWords.{OptionWords}
-use Rattle.command_words.specs.declared.table.TheConstants.{PROOF_COMMANDS, RUN_COMMANDS}
+use Rattle.command_words.specs.declared.table.TheConstants.{OFFICE_COMMANDS, PROOF_COMMANDS, RUN_COMMANDS}
 
 abbrev pub Text : Type 0
 Text = List ℕ
@@ -14,9 +16,14 @@ OptionEntry = OptionWords Text
 abbrev pub CommandEntry : Type 0
 CommandEntry = CommandWords Text (List OptionEntry)
 
+abbrev pub missing_as : {T : Type 0} → (T → Text) → Missing T → Missing Text
+missing_as text missing.Refused = missing.Refused
+missing_as text missing.Absent = missing.Absent
+missing_as text (missing.Default value) = missing.Default (text value)
+
 abbrev pub option_as : {T : Type 0} → (T → Text) → OptionWords T → OptionEntry
 option_as text option =
-    record { name = text option.name; help = text option.help; form = option.form; default = option_map text option.default }
+    record { name = text option.name; help = text option.help; form = option.form; missing = missing_as text option.missing }
 
 abbrev pub command_as : {T U : Type 0} → (T → Text) → (U → List (OptionWords T)) → CommandWords T U → CommandEntry
 command_as text options command = record {
@@ -35,9 +42,13 @@ option_entry = option_as (λ text. text.now)
 abbrev pub command_entry : CommandWords (Bor Text) (Bor (List (OptionWords (Bor Text)))) → CommandEntry
 command_entry = command_as (λ text. text.now) (λ options. options.now)
 
--- the program's commands about proofs and draws
+-- the program's commands about proofs, seals and draws
 unfoldable pub proof_commands : List CommandEntry
 proof_commands = map (command_as (λ text. text.now) (λ options. options.now)) PROOF_COMMANDS.now
+
+-- the program's commands over a store
+unfoldable pub office_commands : List CommandEntry
+office_commands = map (command_as (λ text. text.now) (λ options. options.now)) OFFICE_COMMANDS.now
 
 -- the program's commands about the stated run
 unfoldable pub run_commands : List CommandEntry
@@ -45,4 +56,4 @@ run_commands = map (command_as (λ text. text.now) (λ options. options.now)) RU
 
 -- the program's own table
 unfoldable pub command_table : List CommandEntry
-command_table = proof_commands ++ run_commands
+command_table = proof_commands ++ office_commands ++ run_commands

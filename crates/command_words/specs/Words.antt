@@ -1,7 +1,7 @@
 -- What the words of a call give: `clap`'s own definitions say how the words of a simple program are parsed, and this file what the parsed
 -- values give by a table of commands. Over Given, Program and Table. The contract of `read_words` cites it, and so does `Asked` of
 -- `sortition`.
-use Rattle.std.specs.Prelude.{◌≡◌, ◌≢◌, ◌^◌, ◌&&◌, ℕ, Bool, List, [], ◌∷◌, Option, Some, None, Result, Ok, Err, length, if◌then◌else◌, find, nat_le, nat_lt, option_and_then, option_map, ⊤}
+use Rattle.std.specs.Prelude.{◌≡◌, ◌≢◌, ◌^◌, ◌&&◌, ℕ, Bool, true, false, List, [], ◌∷◌, Option, Some, None, Result, Ok, Err, length, if◌then◌else◌, find, is_none, nat_le, nat_lt, option_and_then, option_map, ⊤}
 use Rattle.std.specs.List.{list_all}
 use Rattle.std.specs.Char.{digit_value}
 use Rattle.std.specs.Str.{bytes_eq}
@@ -19,6 +19,8 @@ use Rattle.command_words.specs.declared.reading.WordsStop.{WordsStop}
 use Rattle.command_words.specs.declared.reading.WordsStop.TheVariants.{Usage, OutOfMemory}
 use Rattle.command_words.specs.declared.words.Form.{Form}
 use Rattle.command_words.specs.declared.words.Form.TheVariants as form
+use Rattle.command_words.specs.declared.words.Missing.{Missing}
+use Rattle.command_words.specs.declared.words.Missing.TheVariants as missing
 
 -- true if the text has a digit, all of it is decimal digits, and their number is below 2 ^ 64
 abbrev pub is_number : Text → Bool
@@ -49,11 +51,21 @@ form_value form.Text name rows = option_map value.Text (first_of name rows)
 abbrev pub option_value : List Row → OptionEntry → Option Value
 option_value rows option = form_value option.form option.name rows
 
--- each option's name with its value, if all values have their options' forms
+abbrev pub may_be_absent : Missing Text → Bool
+may_be_absent missing.Refused = false
+may_be_absent missing.Absent = true
+may_be_absent (missing.Default text) = false
+
+-- true if the option is absent: it may be, and it has no value
+abbrev pub is_absent : List Row → OptionEntry → Bool
+is_absent rows option = may_be_absent option.missing && is_none (first_of option.name rows)
+
+-- the name of each option that is not absent with its value, if all values have their options' forms
 abbrev pub option_values : List Row → List OptionEntry → Option (List (Text × Value))
 option_values rows [] = Some []
 option_values rows (option ∷ options) =
-    option_and_then (λ value. option_map (λ values. (option.name, value) ∷ values) (option_values rows options)) (option_value rows option)
+    if is_absent rows option then option_values rows options
+    else option_and_then (λ value. option_map (λ values. (option.name, value) ∷ values) (option_values rows options)) (option_value rows option)
 
 abbrev pub command_given : List Row → CommandEntry → Option Given
 command_given rows command =

@@ -18,6 +18,9 @@ GiveNothing words = given_in words ≡ None
 abbrev pub number : List ℕ → ℕ → List ℕ × Value
 number name value = (name, Number value)
 
+abbrev pub text : List ℕ → List ℕ → List ℕ × Value
+text name value = (name, Text value)
+
 -- the budget of the run that makes a proof: pivots up to 10 ^ 9, nodes up to 10 ^ 12
 pub record ProveGives : Type 0 where
   pub defaults : Give (codes "prove" ∷ []) name.Prove (number (codes "pivots") 1000000 ∷ number (codes "nodes") 200000 ∷ [])
@@ -30,12 +33,26 @@ pub record ProveGives : Type 0 where
 pub record PlainGive : Type 0 where
   pub verify : Give (codes "verify" ∷ []) name.Verify []
   pub bundle : Give (codes "bundle" ∷ []) name.Bundle []
-  pub seal : Give (codes "seal" ∷ []) name.Seal []
 
--- `draw` requires both texts, the seal and the digits
+-- `store` may be absent, and rounds are from 0 to 1000, round 1 if none is given; an option may be given once, and with a value
+pub record SealGives : Type 0 where
+  pub absent : Give (codes "seal" ∷ []) name.Seal (number (codes "round") 1 ∷ [])
+  pub store : Give (codes "seal" ∷ codes "--store" ∷ codes "s" ∷ []) name.Seal (text (codes "store") (codes "s") ∷ number (codes "round") 1 ∷ [])
+  pub least : Give (codes "seal" ∷ codes "--round" ∷ codes "0" ∷ []) name.Seal (number (codes "round") 0 ∷ [])
+  pub most : Give (codes "seal" ∷ codes "--round" ∷ codes "1000" ∷ []) name.Seal (number (codes "round") 1000 ∷ [])
+  pub more : GiveNothing (codes "seal" ∷ codes "--round" ∷ codes "1001" ∷ [])
+  pub twice : GiveNothing (codes "seal" ∷ codes "--store" ∷ codes "s" ∷ codes "--store" ∷ codes "t" ∷ [])
+  pub no_value : GiveNothing (codes "seal" ∷ codes "--store" ∷ [])
+
+-- `draw` requires both texts, the seal and the digits; `store` may be absent, and rounds are as in `seal`
 pub record DrawGives : Type 0 where
   pub texts : Give (codes "draw" ∷ codes "--seal" ∷ codes "s" ∷ codes "--digits" ∷ codes "97" ∷ []) name.Draw
-      ((codes "seal", Text (codes "s")) ∷ (codes "digits", Text (codes "97")) ∷ [])
+      (number (codes "round") 1 ∷ text (codes "seal") (codes "s") ∷ text (codes "digits") (codes "97") ∷ [])
+  pub least : Give (codes "draw" ∷ codes "--round" ∷ codes "0" ∷ codes "--seal" ∷ codes "s" ∷ codes "--digits" ∷ codes "97" ∷ []) name.Draw
+      (number (codes "round") 0 ∷ text (codes "seal") (codes "s") ∷ text (codes "digits") (codes "97") ∷ [])
+  pub most : Give (codes "draw" ∷ codes "--store" ∷ codes "t" ∷ codes "--round" ∷ codes "1000" ∷ codes "--seal" ∷ codes "s" ∷ codes "--digits" ∷ codes "97" ∷ []) name.Draw
+      (text (codes "store") (codes "t") ∷ number (codes "round") 1000 ∷ text (codes "seal") (codes "s") ∷ text (codes "digits") (codes "97") ∷ [])
+  pub more : GiveNothing (codes "draw" ∷ codes "--round" ∷ codes "1001" ∷ codes "--seal" ∷ codes "s" ∷ codes "--digits" ∷ codes "97" ∷ [])
   pub no_seal : GiveNothing (codes "draw" ∷ codes "--digits" ∷ codes "97" ∷ [])
   pub no_digits : GiveNothing (codes "draw" ∷ codes "--seal" ∷ codes "s" ∷ [])
 
@@ -50,7 +67,7 @@ pub record SearchesGive : Type 0 where
   pub check_most : Give (codes "check" ∷ codes "--nodes" ∷ codes "1000000000000" ∷ []) name.Check (number (codes "nodes") 1000000000000 ∷ [])
   pub check_more : GiveNothing (codes "check" ∷ codes "--nodes" ∷ codes "1000000000001" ∷ [])
 
--- the limits of `lottery`: the width in bits from 1 to 127, pivots up to 10 ^ 9, visits up to 10 ^ 12; and workers from 1 to 64
+-- the limits of `lottery`: the width in bits from 1 to 127, pivots up to 10 ^ 9, visits up to 10 ^ 12, workers from 1 to 64
 pub record LotteryGives : Type 0 where
   pub defaults : Give (codes "lottery" ∷ []) name.Lottery
       (number (codes "bits") 127 ∷ number (codes "pivots") 100000 ∷ number (codes "nodes") 50000000 ∷ number (codes "workers") 1 ∷ [])
@@ -80,9 +97,45 @@ pub record MakeGives : Type 0 where
   pub too_many : GiveNothing (codes "make" ∷ codes "--seed" ∷ codes "0" ∷ codes "--volunteers" ∷ codes "401" ∷ [])
   pub more_bits : GiveNothing (codes "make" ∷ codes "--seed" ∷ codes "0" ∷ codes "--volunteers" ∷ codes "1" ∷ codes "--bits" ∷ codes "128" ∷ [])
 
--- words that give nothing: no command, a word that is no command, the word `help`, and an option that the command doesn't have
+-- a command over a round of a store, with further words and their values: the store is required, and rounds are from 0 to 1000, round 1 if
+-- none is given
+pub record RoundGives (command : CommandName) (word : List ℕ) (words : List (List ℕ)) (values : List (List ℕ × Value)) : Type 0 where
+  pub defaults : Give (word ∷ codes "--store" ∷ codes "s" ∷ words) command (text (codes "store") (codes "s") ∷ number (codes "round") 1 ∷ values)
+  pub least : Give (word ∷ codes "--store" ∷ codes "s" ∷ codes "--round" ∷ codes "0" ∷ words) command
+      (text (codes "store") (codes "s") ∷ number (codes "round") 0 ∷ values)
+  pub most : Give (word ∷ codes "--store" ∷ codes "s" ∷ codes "--round" ∷ codes "1000" ∷ words) command
+      (text (codes "store") (codes "s") ∷ number (codes "round") 1000 ∷ values)
+  pub more : GiveNothing (word ∷ codes "--store" ∷ codes "s" ∷ codes "--round" ∷ codes "1001" ∷ words)
+  pub no_store : GiveNothing (word ∷ words)
+
+-- the limits of `solve` are those of `lottery`
+pub record SolveGives : Type 0 where
+  pub rounds : RoundGives name.Solve (codes "solve") []
+      (number (codes "bits") 127 ∷ number (codes "pivots") 100000 ∷ number (codes "nodes") 50000000 ∷ number (codes "workers") 1 ∷ [])
+  pub more_bits : GiveNothing (codes "solve" ∷ codes "--store" ∷ codes "s" ∷ codes "--bits" ∷ codes "128" ∷ [])
+
+-- the id of the member who drops out is required
+pub record DropGives : Type 0 where
+  pub rounds : RoundGives name.Drop (codes "drop") (codes "--id" ∷ codes "b" ∷ []) (text (codes "id") (codes "b") ∷ [])
+  pub no_id : GiveNothing (codes "drop" ∷ codes "--store" ∷ codes "s" ∷ [])
+
+-- the store is required, and `after` is from 0 to 1000, and 1 if it is not given
+pub record NextRoundGives : Type 0 where
+  pub defaults : Give (codes "next-round" ∷ codes "--store" ∷ codes "s" ∷ []) name.NextRound (text (codes "store") (codes "s") ∷ number (codes "after") 1 ∷ [])
+  pub least : Give (codes "next-round" ∷ codes "--store" ∷ codes "s" ∷ codes "--after" ∷ codes "0" ∷ []) name.NextRound
+      (text (codes "store") (codes "s") ∷ number (codes "after") 0 ∷ [])
+  pub most : Give (codes "next-round" ∷ codes "--store" ∷ codes "s" ∷ codes "--after" ∷ codes "1000" ∷ []) name.NextRound
+      (text (codes "store") (codes "s") ∷ number (codes "after") 1000 ∷ [])
+  pub more : GiveNothing (codes "next-round" ∷ codes "--store" ∷ codes "s" ∷ codes "--after" ∷ codes "1001" ∷ [])
+  pub no_store : GiveNothing (codes "next-round" ∷ [])
+
+pub record ShownRoundsGive : Type 0 where
+  pub show : RoundGives name.Show (codes "show") [] []
+  pub pool : RoundGives name.Pool (codes "pool") [] []
+
+-- no command, a word that is no command, the word `help`, and an option that the command doesn't have
 pub record OthersGive : Type 0 where
   pub none : GiveNothing []
-  pub another : GiveNothing (codes "solve" ∷ [])
+  pub another : GiveNothing (codes "sort" ∷ [])
   pub help : GiveNothing (codes "help" ∷ [])
-  pub option : GiveNothing (codes "seal" ∷ codes "--round" ∷ codes "1" ∷ [])
+  pub option : GiveNothing (codes "verify" ∷ codes "--round" ∷ codes "1" ∷ [])

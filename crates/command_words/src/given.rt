@@ -1,4 +1,4 @@
-//! What the words of a call give: a command, with a value for each of its options.
+//! What the words of a call give: a command, with a value for each of its options but those that are absent.
 
 ghost use Rattle.std.specs.Prelude.{◌≡◌, find, map, option_map};
 ghost use Rattle.std.specs.Str.{bytes_eq};
@@ -53,7 +53,7 @@ pub(crate) struct OptionValue<'a> {
     pub(crate) value: Value<'a>,
 }
 
-/// A command, with a value for each of its options. Contracts see the record `Given` of `specs/Given.antt`.
+/// A command, with a value for each of its options but those that are absent. Contracts see the record `Given` of `specs/Given.antt`.
 #[derive(Debug, Drop)]
 pub struct Given<'a> {
     command: CommandName,
@@ -84,7 +84,7 @@ impl<'a> Given<'a> {
         self.command
     }
 
-    /// Returns the number that the option `name` has, or None if there is no such option or its value is a text.
+    /// Returns the number that the option `name` has, or None if there is no such option, it is absent, or its value is a text.
     pub fn number(&self, name: &str) -> Option<u64>
         ensures { result ≡ number_of name.now self.now }
     {
@@ -94,7 +94,7 @@ impl<'a> Given<'a> {
         }
     }
 
-    /// Returns the text that the option `name` has, or None if there is no such option or its value is a number.
+    /// Returns the text that the option `name` has, or None if there is no such option, it is absent, or its value is a number.
     pub fn text(&self, name: &str) -> Option<Word<'a>>
         ensures { result ≡ text_of name.now self.now }
     {

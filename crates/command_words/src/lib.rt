@@ -1,4 +1,4 @@
-//! The words of a call of the program, read by `clap`: which command they ask for, with a value for each of its options.
+//! The words of a call of the program, read by `clap`: which command they ask for, with the values of its options.
 //!
 //! The commands are a table (`table.rt`), and a command's words are one entry of it. Building the program for `clap` (`program.rt`),
 //! reading the values of its options (`values.rt`) and the rule that says what words give (`specs/Words.antt`) are proved once for every

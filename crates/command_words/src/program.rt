@@ -12,7 +12,7 @@ ghost use Rattle.command_words.specs.Program.{
   program_app,
 };
 
-use crate::words::{Form, TableCommand, TableOption};
+use crate::words::{Form, Missing, TableCommand, TableOption};
 use clap::builder::ValueParser;
 use clap::{Arg, Command};
 use std::alloc::{AllocError, Global};
@@ -70,9 +70,10 @@ fn option_of<'a>(alloc: Global, words: &TableOption) -> Arg<'a>
         .long(words.name)
         .help(words.help)
         .value_parser(parser_of(words.form));
-    match words.default {
-        Some(text) => option.default_value(text),
-        None => option.required(true),
+    match words.missing {
+        Missing::Refused => option.required(true),
+        Missing::Absent => option,
+        Missing::Default(text) => option.default_value(text),
     }
 }
 

@@ -6,11 +6,14 @@ ghost use Rattle.std.specs.Prelude.{◌≡◌, IfOk, map};
 ghost use Rattle.command_words.specs.Table.{
   command_entry,
   command_table as words_of_command_table,
+  office_commands as words_of_office_commands,
   proof_commands as words_of_proof_commands,
   run_commands as words_of_run_commands,
 };
 
-use crate::words::{CommandName, CommandWords, Form, OptionWords, TableCommand, TableOption};
+use crate::words::{
+    CommandName, CommandWords, Form, Missing, OptionWords, TableCommand, TableOption,
+};
 use std::alloc::{AllocError, Global};
 
 /// Returns the commands of the program.
@@ -19,15 +22,23 @@ pub(crate) fn command_table(alloc: Global) -> Result<Vec<TableCommand>, AllocErr
 {
     let mut table = Vec::new(alloc);
     table.extend_from_slice(proof_commands())?;
+    table.extend_from_slice(office_commands())?;
     table.extend_from_slice(run_commands())?;
     Ok(table)
 }
 
-/// Returns the commands about proofs and draws.
+/// Returns the commands about proofs, seals and draws.
 fn proof_commands() -> &'static [TableCommand]
     ensures { map command_entry result.now ≡ words_of_proof_commands }
 {
     PROOF_COMMANDS
+}
+
+/// Returns the commands over a store.
+fn office_commands() -> &'static [TableCommand]
+    ensures { map command_entry result.now ≡ words_of_office_commands }
+{
+    OFFICE_COMMANDS
 }
 
 /// Returns the commands about the stated run.
@@ -51,7 +62,7 @@ const PROOF_COMMANDS: &[TableCommand] = &[
                     least: 0,
                     most: MOST_PIVOTS,
                 },
-                default: Some("1000000"),
+                missing: Missing::Default("1000000"),
             },
             OptionWords {
                 name: "nodes",
@@ -60,7 +71,7 @@ const PROOF_COMMANDS: &[TableCommand] = &[
                     least: 0,
                     most: MOST_NODES,
                 },
-                default: Some("200000"),
+                missing: Missing::Default("200000"),
             },
         ],
     },
@@ -81,29 +92,89 @@ const PROOF_COMMANDS: &[TableCommand] = &[
     CommandWords {
         command: CommandName::Seal,
         name: "seal",
-        help: "Prints the seal of the bundle on standard input",
+        help: "Prints the seal of the bundle on standard input, or of a round of the store",
         example: "Example: sortition seal < city.bundle",
-        options: &[],
+        options: &[STORE_IF_ANY, ROUND],
     },
     CommandWords {
         command: CommandName::Draw,
         name: "draw",
-        help: "Prints the panel that dice draw from the bundle on standard input",
+        help: "Prints the panel that dice draw from the bundle on standard input, or in a round of the store",
         example: "Example: sortition draw --seal SEAL --digits 9957 < city.bundle",
         options: &[
+            STORE_IF_ANY,
+            ROUND,
             OptionWords {
                 name: "seal",
                 help: "The seal of the bundle, as it was published",
                 form: Form::Text,
-                default: None,
+                missing: Missing::Refused,
             },
             OptionWords {
                 name: "digits",
                 help: "The digits of ten-sided dice, in the order of the throws",
                 form: Form::Text,
-                default: None,
+                missing: Missing::Refused,
             },
         ],
+    },
+];
+
+const OFFICE_COMMANDS: &[TableCommand] = &[
+    CommandWords {
+        command: CommandName::Solve,
+        name: "solve",
+        help: "Answers an open round of the store by the stated run",
+        example: "Example: sortition solve --store city.store",
+        options: &[STORE, ROUND, BITS, PIVOTS, NODES, WORKERS],
+    },
+    CommandWords {
+        command: CommandName::Drop,
+        name: "drop",
+        help: "Notes that a member of a round's drawn panel drops out",
+        example: "Example: sortition drop --store city.store --id p07",
+        options: &[
+            STORE,
+            ROUND,
+            OptionWords {
+                name: "id",
+                help: "The id of the member who drops out",
+                form: Form::Text,
+                missing: Missing::Refused,
+            },
+        ],
+    },
+    CommandWords {
+        command: CommandName::NextRound,
+        name: "next-round",
+        help: "Begins the round after one with a dropout",
+        example: "Example: sortition next-round --store city.store --after 1",
+        options: &[
+            STORE,
+            OptionWords {
+                name: "after",
+                help: "The number of the round with a dropout, up to 1000",
+                form: Form::Number {
+                    least: 0,
+                    most: MOST_ROUND,
+                },
+                missing: Missing::Default("1"),
+            },
+        ],
+    },
+    CommandWords {
+        command: CommandName::Show,
+        name: "show",
+        help: "Prints the bundle of a round",
+        example: "Example: sortition show --store city.store > city.bundle",
+        options: &[STORE, ROUND],
+    },
+    CommandWords {
+        command: CommandName::Pool,
+        name: "pool",
+        help: "Prints the pool of a round",
+        example: "Example: sortition pool --store city.store > city.pool",
+        options: &[STORE, ROUND],
     },
 ];
 
@@ -142,7 +213,7 @@ const RUN_COMMANDS: &[TableCommand] = &[
                     least: 0,
                     most: 9_223_372_036_854_775_807,
                 },
-                default: None,
+                missing: Missing::Refused,
             },
             OptionWords {
                 name: "volunteers",
@@ -151,7 +222,7 @@ const RUN_COMMANDS: &[TableCommand] = &[
                     least: 1,
                     most: 400,
                 },
-                default: None,
+                missing: Missing::Refused,
             },
             BITS,
             PIVOTS,
@@ -161,9 +232,35 @@ const RUN_COMMANDS: &[TableCommand] = &[
     },
 ];
 
+const MOST_ROUND: u64 = 1000;
+
 const MOST_PIVOTS: u64 = 1_000_000_000;
 
 const MOST_NODES: u64 = 1_000_000_000_000;
+
+const STORE: TableOption = OptionWords {
+    name: "store",
+    help: "The file of the store",
+    form: Form::Text,
+    missing: Missing::Refused,
+};
+
+const STORE_IF_ANY: TableOption = OptionWords {
+    name: "store",
+    help: "The file of the store, if the bundle is in one",
+    form: Form::Text,
+    missing: Missing::Absent,
+};
+
+const ROUND: TableOption = OptionWords {
+    name: "round",
+    help: "The number of the round, up to 1000",
+    form: Form::Number {
+        least: 0,
+        most: MOST_ROUND,
+    },
+    missing: Missing::Default("1"),
+};
 
 const BITS: TableOption = OptionWords {
     name: "bits",
@@ -172,7 +269,7 @@ const BITS: TableOption = OptionWords {
         least: 1,
         most: 127,
     },
-    default: Some("127"),
+    missing: Missing::Default("127"),
 };
 
 const PIVOTS: TableOption = OptionWords {
@@ -182,7 +279,7 @@ const PIVOTS: TableOption = OptionWords {
         least: 0,
         most: MOST_PIVOTS,
     },
-    default: Some("100000"),
+    missing: Missing::Default("100000"),
 };
 
 const NODES: TableOption = OptionWords {
@@ -192,12 +289,12 @@ const NODES: TableOption = OptionWords {
         least: 0,
         most: MOST_NODES,
     },
-    default: Some("50000000"),
+    missing: Missing::Default("50000000"),
 };
 
 const WORKERS: TableOption = OptionWords {
     name: "workers",
     help: "How many workers price, on threads, 1 to 64",
     form: Form::Number { least: 1, most: 64 },
-    default: Some("1"),
+    missing: Missing::Default("1"),
 };

@@ -1,4 +1,5 @@
-//! Reads the values of the subcommand that `clap` found. Each must have the form of its option, else the words give nothing.
+//! Reads the values of the subcommand that `clap` found. Each must have the form of its option, else the words give nothing. An option is
+//! absent if it may be and wasn't given; then it adds no value.
 
 ghost use Rattle.std.specs.Prelude.{◌≡◌, find, IfOk, map, option_map};
 ghost use Rattle.std.specs.Str.{bytes_eq};
@@ -8,6 +9,7 @@ ghost use Rattle.command_words.specs.Table.{command_entry, option_entry};
 ghost use Rattle.command_words.specs.Words.{
   command_given as words_command_given,
   given_of as words_given_of,
+  is_absent as words_is_absent,
   named_given as words_named_given,
   number_at as number_said,
   number_within as number_said_within,
@@ -16,7 +18,7 @@ ghost use Rattle.command_words.specs.Words.{
 };
 
 use crate::given::{Given, OptionValue, Value, Word};
-use crate::words::{Form, TableCommand, TableOption};
+use crate::words::{Form, Missing, TableCommand, TableOption};
 use clap::ArgMatches;
 use std::alloc::{AllocError, Global};
 
@@ -56,7 +58,7 @@ fn command_named<'w>(commands: &'w [TableCommand], name: &str) -> Option<&'w Tab
     commands.iter().find(|words| words.name == name)
 }
 
-/// Returns the command with the values of its options, or None if a value doesn't have its option's form.
+/// Returns the command with the values of its options that are not absent, or None if a value doesn't have its option's form.
 fn command_given<'a>(
     alloc: Global,
     words: &TableCommand,
@@ -71,7 +73,7 @@ fn command_given<'a>(
     }
 }
 
-/// Returns the value of each option, or None if a value doesn't have its option's form.
+/// Returns the value of each option that is not absent, or None if a value doesn't have its option's form.
 fn values_of<'a>(
     alloc: Global,
     options: &[TableOption],
@@ -82,6 +84,9 @@ fn values_of<'a>(
 {
     let mut values = Vec::new(alloc);
     for option in options {
+        if is_absent(option, matches) {
+            continue;
+        }
         let Some(value) = value_of(option, matches) else {
             return Ok(None);
         };
@@ -91,6 +96,16 @@ fn values_of<'a>(
         })?;
     }
     Ok(Some(values))
+}
+
+/// Returns true if the option is absent: it may be, and it has no value.
+fn is_absent(option: &TableOption, matches: &ArgMatches) -> bool
+    ensures { result ≡ words_is_absent (rows_of (found_of matches.now)) (option_entry option.now) }
+{
+    match option.missing {
+        Missing::Absent => text_at(matches, option.name).is_none(),
+        Missing::Refused | Missing::Default(_) => false,
+    }
 }
 
 /// Returns the value of an option, or None if it doesn't have the option's form.

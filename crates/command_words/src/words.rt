@@ -21,6 +21,16 @@ pub enum CommandName {
     Check,
     /// The summary of the run over a made pool.
     Make,
+    /// An open round of a store, answered by the stated run.
+    Solve,
+    /// A member of a round's drawn panel who drops out.
+    Drop,
+    /// The round after one with a dropout.
+    NextRound,
+    /// The bundle of a round.
+    Show,
+    /// The pool of a round.
+    Pool,
 }
 
 /// The form that an option's value must have.
@@ -37,6 +47,17 @@ pub enum Form {
     Text,
 }
 
+/// What it means that an option isn't given.
+#[derive(Clone, Copy, Debug)]
+pub enum Missing<Text> {
+    /// The words are refused: the option is required.
+    Refused,
+    /// The option is absent: it has no value.
+    Absent,
+    /// The option has this value.
+    Default(Text),
+}
+
 /// The words of an option. `Text` is a parameter, since definitions can't name a constant of a struct with reference fields. The
 /// definitions put a list of bytes in its place.
 #[derive(Clone, Copy, Debug)]
@@ -47,8 +68,8 @@ pub struct OptionWords<Text> {
     pub help: Text,
     /// The form that its value must have.
     pub form: Form,
-    /// The value of an option that isn't given. None if the option is required.
-    pub default: Option<Text>,
+    /// What it means that the option isn't given.
+    pub missing: Missing<Text>,
 }
 
 /// The words of a command.

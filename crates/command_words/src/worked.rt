@@ -1,12 +1,30 @@
 //! Worked words: what some lists of words give by the program's own table. The one function has an empty body, and its contract is the law.
 
-ghost use Rattle.command_words.specs.WorkedWords.{DrawGives, LotteryGives, MakeGives, OthersGive, PlainGive, ProveGives, SearchesGive};
+ghost use Rattle.command_words.specs.WorkedWords.{
+  DrawGives,
+  DropGives,
+  LotteryGives,
+  MakeGives,
+  NextRoundGives,
+  OthersGive,
+  PlainGive,
+  ProveGives,
+  SealGives,
+  SearchesGive,
+  ShownRoundsGive,
+  SolveGives,
+};
 
 /// The names of the commands, their defaults and the ends of their ranges are those of `specs/WorkedWords.antt`.
 pub fn words_are_worked()
     ensures prove { ProveGives }
     ensures plain { PlainGive }
+    ensures seal { SealGives }
     ensures draw { DrawGives }
+    ensures solve { SolveGives }
+    ensures drop { DropGives }
+    ensures next_round { NextRoundGives }
+    ensures shown { ShownRoundsGive }
     ensures searches { SearchesGive }
     ensures lottery { LotteryGives }
     ensures make { MakeGives }

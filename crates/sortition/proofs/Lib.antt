@@ -5,3 +5,5 @@ pub mod Promises
 pub mod Checkers
 pub mod Workers
 pub mod Kept
+pub mod SolvedRounds
+pub mod StorePromises

@@ -22,17 +22,17 @@ use Rattle.command_meanings.specs.Check.{CheckMeans}
 use Rattle.command_meanings.specs.Draw.{DrawMeans}
 use Rattle.command_meanings.specs.ItsBundle.{BundleMeans}
 use Rattle.command_meanings.specs.Lottery.{LotteryMeans}
-use Rattle.command_meanings.specs.Make.{MakeMeans, sizes_of}
+use Rattle.command_meanings.specs.Make.{MakeMeans}
 use Rattle.command_meanings.specs.Panel.{PanelMeans}
 use Rattle.command_meanings.specs.Prove.{IsGiven, ProvesWithin, given_in, pool_in}
 use Rattle.command_meanings.specs.Seal.{SealMeans}
 use Rattle.command_meanings.specs.Verify.{Shows, VerifyMeans}
 use Rattle.sortition.specs.declared.asked.Asked.{Asked}
 use Rattle.sortition.specs.declared.asked.Asked.TheVariants as asks
-use Rattle.sortition.specs.Headline.{BudgetSpent, CheckFailed, HeldBundle, HeldEither, HeldNoText, HeldPool, HeldProof, NumberPassed, RuleBroken, IsShown, TellsBundle, TellsDone, TellsDrawn, TellsItsBundle, TellsNone, TellsPanel, TellsProof, TellsSeal, TellsShown, TellsSummary, TellsValid, TextIsWrong, is_status}
-use Rattle.sortition.specs.Office.{Answers, AnswersRightly}
+use Rattle.sortition.specs.Headline.{SpentAlone, FailedAlone, HeldBundle, HeldEither, HeldNoText, HeldPool, HeldProof, PassedAlone, BrokenAlone, IsShown, TellsBundle, DoneAlone, TellsDrawn, TellsItsBundle, NoneAlone, TellsPanel, TellsProof, TellsSeal, TellsShown, TellsSummary, TellsValid, TextIsWrong, is_status}
+use Rattle.sortition.specs.Office.{Answers, AnswersAlone}
 use Rattle.sortition.proofs.Leximin.{leximin}
-use Rattle.sortition.proofs.Reading.{IsInput, Long, NoText, OfValue, about_done, about_input, about_no_panel, about_refused, about_rule, about_spent, about_wide, is_done, is_input, is_no_panel, is_refused, is_rule, is_spent, is_wide, outcome_is_status, outcome_not_seven, outcome_not_two, reads_not, said_at, text_is_status, text_not_two, text_writes_not, writes_not}
+use Rattle.sortition.proofs.Reading.{IsInput, Long, NoText, OfValue, about_done, about_input, about_no_panel, about_refused, about_rule, about_spent, about_wide, is_done, is_input, is_no_panel, is_refused, is_rule, is_spent, is_wide, outcome_is_status, outcome_not_nine, outcome_not_seven, outcome_not_two, reads_not, said_at, text_is_status, text_not_nine, text_not_two, text_writes_not, writes_not}
 
 -- the answer is the one right answer about the value
 abbrev one : {Value : Type 0} → (Value → Meaning) → Value → Saying → Type 0
@@ -115,16 +115,17 @@ module _ (told : Told) where
         leximin = leximin (pool_in is.value) prints.its.lottery prints.greatest.greatest;
       }
 
-  summary_told : (seed volunteers : ℕ) (limits : Limits) → Outcome (IsTheAnswer (MakeMeans seed volunteers limits)) told → told.status ≡ 0 → TellsSummary (made_pool seed volunteers) told
+  summary_told : (seed volunteers : ℕ) (limits : Limits) → Outcome (IsTheAnswer (MakeMeans seed volunteers limits)) told → told.status ≡ 0 → TellsSummary limits (made_pool seed volunteers) told
   summary_told seed volunteers limits outcome s =
       let at = said_at told 0 (λ e. absurd (cc)) (λ e. absurd (cc)) s outcome in
       let is = is_done at.0 at.1 in
       told_so is.0 (subst (IsTheAnswer (MakeMeans seed volunteers limits)) is.1 at.2.right) (subst (λ said. IsTold said told) is.1 at.2.is_told)
     where
-      told_so : (text : List ℕ) → IsTheAnswer (MakeMeans seed volunteers limits) (Prints Done text) → IsTold (Prints Done text) told → TellsSummary (made_pool seed volunteers) told
+      told_so : (text : List ℕ) → IsTheAnswer (MakeMeans seed volunteers limits) (Prints Done text) → IsTold (Prints Done text) told → TellsSummary limits (made_pool seed volunteers) told
       told_so text right is = record {
         answer = right.right.answer;
-        sizes = sizes_of right.right.last;
+        last = right.right.last;
+        ends = right.right.ends;
         out = subst (Gains told.out) right.right.summary is.out;
         leximin = leximin (made_pool seed volunteers) right.right.answer.lottery right.right.finds.greatest;
       }
@@ -165,7 +166,7 @@ module _ (told : Told) where
       record { pool = pool; answer = its; trees = trees; held = held_proof (OfLottery pool its trees) bytes held is; out = subst (Gains told.out) right out }
   its_bundle (OfNoPanel pool lines) bytes text held is out right = absurd right
 
-  pub done : (it : Option Asked) → AnswersRightly it told → told.status ≡ 0 → TellsDone it told
+  pub done : (it : Option Asked) → AnswersAlone it told → told.status ≡ 0 → DoneAlone it told
   done None right s = absurd (cc (right.stopped.status, s))
   done (Some (asks.Prove it)) right s = proof_told it.pivots it.nodes right s
   done (Some (asks.Verify it)) right s = shown_told right s
@@ -183,10 +184,12 @@ module _ (told : Told) where
   done (Some (asks.Lottery it)) right s = lottery_told it.limits right s
   done (Some (asks.Check it)) right s = valid_told it.nodes right s
   done (Some (asks.Make it)) right s = summary_told it.seed it.volunteers it.limits right.ends s
+  done (Some (asks.Step store step)) right s = absurd right
+  done (Some (asks.Pool store round)) right s = absurd right
 
   -- ---- no panel is answered
 
-  pub no_panel : (it : Option Asked) → AnswersRightly it told → told.status ≡ 1 → TellsNone it told
+  pub no_panel : (it : Option Asked) → AnswersAlone it told → told.status ≡ 1 → NoneAlone it told
   no_panel None right s = absurd (cc (right.stopped.status, s))
   no_panel (Some (asks.Prove it)) right s =
       let is = (about_no_panel pool_or_bundle_format (ProvesWithin it.pivots it.nodes) told right s).1 in
@@ -207,10 +210,12 @@ module _ (told : Told) where
       let at = said_at told 1 (λ e. absurd (cc)) (λ e. absurd (cc)) s right.ends in
       let is = is_no_panel at.0 at.1 in
       (subst (IsTheAnswer (MakeMeans it.seed it.volunteers it.limits)) is.1 at.2.right).right.finds.none
+  no_panel (Some (asks.Step store step)) right s = absurd right
+  no_panel (Some (asks.Pool store round)) right s = absurd right
 
   -- ---- refusals
 
-  pub usage : (it : Option Asked) → AnswersRightly it told → told.status ≡ 2 → it ≡ None
+  pub usage : (it : Option Asked) → AnswersAlone it told → told.status ≡ 2 → it ≡ None
   usage None right s = refl
   usage (Some (asks.Prove it)) right s = absurd (text_not_two told right s)
   usage (Some (asks.Verify it)) right s = absurd (text_not_two told right s)
@@ -221,6 +226,8 @@ module _ (told : Told) where
   usage (Some (asks.Lottery it)) right s = absurd (text_not_two told right s)
   usage (Some (asks.Check it)) right s = absurd (text_not_two told right s)
   usage (Some (asks.Make it)) right s = absurd (outcome_not_two told right.ends s)
+  usage (Some (asks.Step store step)) right s = absurd right
+  usage (Some (asks.Pool store round)) right s = absurd right
 
   -- if no answer of a command about a value has status 3, then status 3 comes only if the input is outside the format or too long
   no_text : {Value : Type 0} (format : Format Value) (Means : Value → Saying → Type 0) → ((value : Value) (line : List ℕ) → Means value (Stops Input line) → ⊥) →
@@ -234,7 +241,7 @@ module _ (told : Told) where
   no_draw seal digits (Long held) = inl (inr held)
   no_draw seal digits (OfValue line is) = inr (is.value, held_bundle is.value is.bytes is.held is.spells, is.means.right.total)
 
-  pub text : (it : Option Asked) → AnswersRightly it told → told.status ≡ 3 → TextIsWrong it told
+  pub text : (it : Option Asked) → AnswersAlone it told → told.status ≡ 3 → TextIsWrong it told
   text None right s = absurd (cc (right.stopped.status, s))
   text (Some (asks.Prove it)) right s = no_text pool_or_bundle_format (ProvesWithin it.pivots it.nodes) (λ value line means. means.right) (about_input pool_or_bundle_format (ProvesWithin it.pivots it.nodes) told right s)
   text (Some (asks.Verify it)) right s = no_text proof_format (one VerifyMeans) (λ value line means. means.right) (about_input proof_format (one VerifyMeans) told right s)
@@ -248,8 +255,10 @@ module _ (told : Told) where
       let at = said_at told 3 (λ e. absurd (cc)) (λ e. absurd (cc)) s right.ends in
       let is = is_input at.0 at.1 in
       (subst (IsTheAnswer (MakeMeans it.seed it.volunteers it.limits)) is.1 at.2.right).right
+  text (Some (asks.Step store step)) right s = absurd right
+  text (Some (asks.Pool store round)) right s = absurd right
 
-  pub number : (it : Option Asked) → AnswersRightly it told → told.status ≡ 4 → NumberPassed it told
+  pub number : (it : Option Asked) → AnswersAlone it told → told.status ≡ 4 → PassedAlone it told
   number None right s = absurd (cc (right.stopped.status, s))
   number (Some (asks.Prove it)) right s =
       let at = about_wide pool_or_bundle_format (ProvesWithin it.pivots it.nodes) told right s in (at.0, at.1.is_told.errs, at.1.means.right)
@@ -266,8 +275,10 @@ module _ (told : Told) where
       let at = said_at told 4 (λ e. absurd (cc)) (λ e. absurd (cc)) s right.ends in
       let is = is_wide at.0 at.1 in
       (is.0, (subst (λ said. IsTold said told) is.1 at.2.is_told).errs, (subst (IsTheAnswer (MakeMeans it.seed it.volunteers it.limits)) is.1 at.2.right).right)
+  number (Some (asks.Step store step)) right s = absurd right
+  number (Some (asks.Pool store round)) right s = absurd right
 
-  pub budget : (it : Option Asked) → AnswersRightly it told → told.status ≡ 5 → BudgetSpent it told
+  pub budget : (it : Option Asked) → AnswersAlone it told → told.status ≡ 5 → SpentAlone it told
   budget None right s = absurd (cc (right.stopped.status, s))
   budget (Some (asks.Prove it)) right s =
       let at = about_spent pool_or_bundle_format (ProvesWithin it.pivots it.nodes) told right s in (at.1.means.left, at.1.means.spends, at.0, at.1.is_told.errs, at.1.means.right)
@@ -288,14 +299,16 @@ module _ (told : Told) where
       let at = said_at told 5 (λ e. absurd (cc)) (λ e. absurd (cc)) s right.ends in
       let is = is_spent at.0 at.1 in
       (is.0, (subst (λ said. IsTold said told) is.1 at.2.is_told).errs, (subst (IsTheAnswer (MakeMeans it.seed it.volunteers it.limits)) is.1 at.2.right).right)
+  budget (Some (asks.Step store step)) right s = absurd right
+  budget (Some (asks.Pool store round)) right s = absurd right
 
   -- if `bundle` refuses the proof that the source held, this proof is one that there is no quota panel
   no_lottery : (proof : Proof) (bytes line : List ℕ) → HeldAll told.source bytes → IsProofText proof bytes → GainsLine told.errs line → IsRight (BundleMeans proof) (Stops Rule line) →
-      RuleBroken (Some (asks.Bundle (record {}))) told
+      BrokenAlone (Some (asks.Bundle (record {}))) told
   no_lottery (OfLottery pool its trees) bytes line held is gained right = absurd right
   no_lottery (OfNoPanel pool lines) bytes line held is gained right = (pool, lines, held_proof (OfNoPanel pool lines) bytes held is, subst (GainsLine told.errs) right gained)
 
-  pub rule : (it : Option Asked) → AnswersRightly it told → told.status ≡ 6 → RuleBroken it told
+  pub rule : (it : Option Asked) → AnswersAlone it told → told.status ≡ 6 → BrokenAlone it told
   rule None right s = absurd (cc (right.stopped.status, s))
   rule (Some (asks.Prove it)) right s = absurd ((about_rule pool_or_bundle_format (ProvesWithin it.pivots it.nodes) told right s).1.means.right)
   rule (Some (asks.Verify it)) right s = absurd ((about_rule proof_format (one VerifyMeans) told right s).1.means.right)
@@ -312,8 +325,10 @@ module _ (told : Told) where
       let at = said_at told 6 (λ e. absurd (cc)) (λ e. absurd (cc)) s right.ends in
       let is = is_rule at.0 at.1 in
       (subst (IsTheAnswer (MakeMeans it.seed it.volunteers it.limits)) is.1 at.2.right).right
+  rule (Some (asks.Step store step)) right s = absurd right
+  rule (Some (asks.Pool store round)) right s = absurd right
 
-  pub read_fault : (it : Option Asked) → AnswersRightly it told → told.status ≡ 7 → HasFaulted told.source
+  pub read_fault : (it : Option Asked) → AnswersAlone it told → told.status ≡ 7 → HasFaulted told.source
   read_fault None right s = absurd (cc (right.stopped.status, s))
   read_fault (Some (asks.Prove it)) right s = reads_not told right s
   read_fault (Some (asks.Verify it)) right s = reads_not told right s
@@ -324,8 +339,10 @@ module _ (told : Told) where
   read_fault (Some (asks.Lottery it)) right s = reads_not told right s
   read_fault (Some (asks.Check it)) right s = reads_not told right s
   read_fault (Some (asks.Make it)) right s = absurd (outcome_not_seven told right.ends s)
+  read_fault (Some (asks.Step store step)) right s = absurd right
+  read_fault (Some (asks.Pool store round)) right s = absurd right
 
-  pub write_fault : (it : Option Asked) → AnswersRightly it told → told.status ≡ 8 → HasFaulted told.out
+  pub write_fault : (it : Option Asked) → AnswersAlone it told → told.status ≡ 8 → HasFaulted told.out
   write_fault None right s = absurd (cc (right.stopped.status, s))
   write_fault (Some (asks.Prove it)) right s = text_writes_not told right s
   write_fault (Some (asks.Verify it)) right s = text_writes_not told right s
@@ -336,10 +353,12 @@ module _ (told : Told) where
   write_fault (Some (asks.Lottery it)) right s = text_writes_not told right s
   write_fault (Some (asks.Check it)) right s = text_writes_not told right s
   write_fault (Some (asks.Make it)) right s = writes_not told right.ends s
+  write_fault (Some (asks.Step store step)) right s = absurd right
+  write_fault (Some (asks.Pool store round)) right s = absurd right
 
   -- if `prove` prints a refusal, the source held a bundle, and with some trees this bundle is a refused proof
   given_fails : (about : PoolOrBundle) (bytes : List ℕ) → HeldAll told.source bytes → IsTextOfEither about bytes → (pivots nodes : ℕ) (text : List ℕ) → Gains told.out text →
-      ProvesWithin pivots nodes about (Prints Rejected text) → CheckFailed (Some (asks.Prove (record { pivots = pivots; nodes = nodes }))) told
+      ProvesWithin pivots nodes about (Prints Rejected text) → FailedAlone (Some (asks.Prove (record { pivots = pivots; nodes = nodes }))) told
   given_fails (either.Pool pool) bytes held is pivots nodes text out means = absurd (cc (means.right.is_given))
   given_fails (either.Bundle bundle) bytes held is pivots nodes text out means =
       let same : means.right.its ≡ bundle.answer = cc (means.right.is_given) in (
@@ -352,7 +371,7 @@ module _ (told : Told) where
         subst (Gains told.out) means.right.line out,
       )
 
-  pub check : (it : Option Asked) → AnswersRightly it told → told.status ≡ 11 → CheckFailed it told
+  pub check : (it : Option Asked) → AnswersAlone it told → told.status ≡ 11 → FailedAlone it told
   check None right s = absurd (cc (right.stopped.status, s))
   check (Some (asks.Prove it)) right s =
       let at = about_refused pool_or_bundle_format (ProvesWithin it.pivots it.nodes) told right s in
@@ -372,8 +391,10 @@ module _ (told : Told) where
       let at = said_at told 11 (λ e. absurd (cc)) (λ e. absurd (cc)) s right.ends in
       let is = is_refused at.0 at.1 in
       (subst (IsTheAnswer (MakeMeans it.seed it.volunteers it.limits)) is.1 at.2.right).right
+  check (Some (asks.Step store step)) right s = absurd right
+  check (Some (asks.Pool store round)) right s = absurd right
 
-  pub statuses : (it : Option Asked) → AnswersRightly it told → is_status told.status ≡ true
+  pub statuses : (it : Option Asked) → AnswersAlone it told → is_status told.status ≡ true
   statuses None right = ap is_status right.stopped.status
   statuses (Some (asks.Prove it)) right = text_is_status told right
   statuses (Some (asks.Verify it)) right = text_is_status told right
@@ -384,3 +405,20 @@ module _ (told : Told) where
   statuses (Some (asks.Lottery it)) right = text_is_status told right
   statuses (Some (asks.Check it)) right = text_is_status told right
   statuses (Some (asks.Make it)) right = outcome_is_status told right.ends
+  statuses (Some (asks.Step store step)) right = absurd right
+  statuses (Some (asks.Pool store round)) right = absurd right
+
+  -- without a store no status is that of a keeper's fault
+  pub not_nine : (it : Option Asked) → AnswersAlone it told → told.status ≡ 9 → ⊥
+  not_nine None right s = cc (right.stopped.status, s)
+  not_nine (Some (asks.Prove it)) right s = text_not_nine told right s
+  not_nine (Some (asks.Verify it)) right s = text_not_nine told right s
+  not_nine (Some (asks.Bundle it)) right s = text_not_nine told right s
+  not_nine (Some (asks.Seal it)) right s = text_not_nine told right s
+  not_nine (Some (asks.Draw seal digits)) right s = text_not_nine told right s
+  not_nine (Some (asks.Panel it)) right s = text_not_nine told right s
+  not_nine (Some (asks.Lottery it)) right s = text_not_nine told right s
+  not_nine (Some (asks.Check it)) right s = text_not_nine told right s
+  not_nine (Some (asks.Make it)) right s = outcome_not_nine told right.ends s
+  not_nine (Some (asks.Step store step)) right s = right
+  not_nine (Some (asks.Pool store round)) right s = right

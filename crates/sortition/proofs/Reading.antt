@@ -162,7 +162,7 @@ text_writes_not told (TooLong long) s = absurd (cc (long.stopped.status, s))
 text_writes_not told (ReadFault fault) s = absurd (cc (fault.stopped.status, s))
 
 -- the status of an answer is one of the program's statuses
-said_is_status : (answer : Saying) → is_status (status_of answer) ≡ true
+pub said_is_status : (answer : Saying) → is_status (status_of answer) ≡ true
 said_is_status (Prints Done text) = refl
 said_is_status (Prints NoPanel text) = refl
 said_is_status (Prints Refused text) = refl
@@ -199,6 +199,25 @@ said_not_seven (Stops Input text) s = cc
 said_not_seven (Stops Wide text) s = cc
 said_not_seven (Stops Spent text) s = cc
 said_not_seven (Stops Rule text) s = cc
+
+said_not_nine : (answer : Saying) → status_of answer ≡ 9 → ⊥
+said_not_nine (Prints Done text) s = cc
+said_not_nine (Prints NoPanel text) s = cc
+said_not_nine (Prints Refused text) s = cc
+said_not_nine (Stops Input text) s = cc
+said_not_nine (Stops Wide text) s = cc
+said_not_nine (Stops Spent text) s = cc
+said_not_nine (Stops Rule text) s = cc
+
+pub outcome_not_nine : {Right : Saying → Type 0} (told : Told) → Outcome Right told → told.status ≡ 9 → ⊥
+outcome_not_nine told (Answered answer right is) s = said_not_nine answer (sym (its_status answer told is) ∙ s)
+outcome_not_nine told (WriteFault printed text right cut) s = cc (cut.status, s)
+outcome_not_nine told (WantOfMemory want) s = cc (want.status, s)
+
+pub text_not_nine : {Means : List ℕ → Saying → Type 0} (told : Told) → TextOutcome Means told → told.status ≡ 9 → ⊥
+text_not_nine told (Ends ends) s = outcome_not_nine told ends s
+text_not_nine told (TooLong long) s = cc (long.stopped.status, s)
+text_not_nine told (ReadFault fault) s = cc (fault.stopped.status, s)
 
 pub outcome_not_seven : {Right : Saying → Type 0} (told : Told) → Outcome Right told → told.status ≡ 7 → ⊥
 outcome_not_seven told (Answered answer right is) s = said_not_seven answer (sym (its_status answer told is) ∙ s)

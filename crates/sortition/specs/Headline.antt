@@ -6,24 +6,18 @@
 -- Most promises say what holds if a call has some status; only those on `check` and `verify` also say when the status is 0. When the other
 -- statuses come is said by the contract of `office` (Office). That out is untouched at status 2 to 7 and 12, and errs at 0, 1 and 11, is
 -- said only by `IsStopped` and `IsPrinted` (command_shell/specs/Outcomes.antt).
-use Rattle.std.specs.Prelude.{◌≡◌, ◌≢◌, ◌↔◌, ◌⊎◌, ◌≤◌, ◌==◌, ℕ, nat_lt, Bool, IsTrue, IsFalse, List, [], ◌∷◌, length, Option, Some, None, Err}
 use Rattle.std.specs.List.{list_all, list_any}
-use Rattle.define_additions.specs.ProofVerdict.{OfLottery, OfNoPanel, Proof, verdict}
-use Rattle.define_additions.specs.TreeLines.{TreeLine}
-use Rattle.define_bundles.specs.BundleText.{Bundle, IsBundle, bundle_spelling, bundle_text}
-use Rattle.define_additions.specs.Refusals.{RefusalMeans}
-use Rattle.define_checks.specs.Reasons.{Refusal, Refused, Valid}
-use Rattle.define_lines.specs.Lines.{Fault}
-use Rattle.define_made_pools.specs.MadePools.{made_pool}
-use Rattle.define_made_pools.specs.Summary.{Sizes, summary_text}
-use Rattle.define_pools.specs.Certificate.{Answer, Certifies}
-use Rattle.define_pools.specs.Lottery.{IsLottery, Lottery, TotalAgrees, is_above}
-use Rattle.define_pools.specs.Pool.{IsPool, Pool, is_of_size, keeps_households, keeps_standings, meets_quotas, panels}
-use Rattle.define_proof_texts.specs.ProofText.{IsProof, proof_spelling}
-use Rattle.proof_limits.specs.Budgets.{Left, SpendsOn, unspent}
-use Rattle.define_runs.specs.Run.{Limits}
-use Rattle.define_pool_texts.specs.PoolText.{spelling}
+use Rattle.std.specs.Prelude.{◌≡◌, ◌≢◌, ◌↔◌, ◌⊎◌, ◌≤◌, ◌==◌, ℕ, nat_lt, Bool, IsTrue, IsFalse, List, [], ◌∷◌, length, Option, Some, None, Ok, Err, option_map}
 use Rattle.command_bundles.specs.declared.check.Check.{Check}
+use Rattle.command_meanings.specs.Check.{SpendsStage, refused_line, valid_line}
+use Rattle.command_meanings.specs.Draw.{PrintsDrawn, RefusesDraw}
+use Rattle.command_meanings.specs.ItsBundle.{no_lottery_line}
+use Rattle.command_meanings.specs.Lottery.{PassesWidth, SpendsBudget}
+use Rattle.command_meanings.specs.Make.{sizes_of}
+use Rattle.command_meanings.specs.Panel.{PrintsFirstPanel, SpendsVisits}
+use Rattle.command_meanings.specs.Prove.{PassesProofWidth, SpendsProofBudget}
+use Rattle.command_meanings.specs.Seal.{seal_line}
+use Rattle.command_meanings.specs.Verify.{shown_line}
 use Rattle.command_proofs.specs.declared.verify.Verify.{Verify}
 use Rattle.command_shell.specs.Answers.{Saying}
 use Rattle.command_shell.specs.Formats.{bundle_format, pool_format, pool_or_bundle_format, proof_format}
@@ -31,18 +25,38 @@ use Rattle.command_shell.specs.Lines.{input_limit}
 use Rattle.command_shell.specs.Outcomes.{IsTold, IsTooLong}
 use Rattle.command_shell.specs.Subjects.{Format}
 use Rattle.command_shell.specs.Told.{Bytes, Told, Gains, GainsLine, HasFaulted, HeldAll, HeldMore}
-use Rattle.command_meanings.specs.Check.{SpendsStage, refused_line, valid_line}
-use Rattle.command_meanings.specs.Draw.{PrintsDrawn, RefusesDraw}
-use Rattle.command_meanings.specs.ItsBundle.{no_lottery_line}
-use Rattle.command_meanings.specs.Lottery.{PassesWidth, SpendsBudget}
-use Rattle.command_meanings.specs.Panel.{PrintsFirstPanel, SpendsVisits}
-use Rattle.command_meanings.specs.Prove.{PassesProofWidth, SpendsProofBudget}
-use Rattle.command_meanings.specs.Seal.{seal_line}
-use Rattle.command_meanings.specs.Verify.{shown_line}
+use Rattle.command_stores.specs.StoreTold.{KeepsTables, StoreTold}
+use Rattle.define_additions.specs.ProofVerdict.{OfLottery, OfNoPanel, Proof, verdict}
+use Rattle.define_additions.specs.Refusals.{RefusalMeans}
+use Rattle.define_additions.specs.TreeLines.{TreeLine}
+use Rattle.define_bundles.specs.BundleText.{Bundle, IsBundle, bundle_spelling, bundle_text}
+use Rattle.define_checks.specs.Reasons.{Refused, Valid}
+use Rattle.define_checks.specs.Reasons as reasons
+use Rattle.define_lines.specs.Lines.{Fault}
+use Rattle.define_lines.specs.Lines.{text_of}
+use Rattle.define_made_pools.specs.MadePools.{made_pool}
+use Rattle.define_made_pools.specs.Summary.{summary_text}
+use Rattle.define_offices.specs.Commands.{Change, Command, Lines, NoPanel, Refusal, Refuses, Replies, Solve, SolvedWith, Unproved}
+use Rattle.define_offices.specs.Lines.{rule_line}
+use Rattle.define_offices.specs.Pools.{pool_of}
+use Rattle.define_offices.specs.Steps.{Comes, applied}
+use Rattle.define_offices.specs.Tables.{Open, Round, Tables, bundle_of, named_round}
+use Rattle.define_pool_texts.specs.PoolText.{spelling}
+use Rattle.define_pools.specs.Certificate.{Answer, Certifies}
+use Rattle.define_pools.specs.Lottery.{IsLottery, Lottery, TotalAgrees, is_above}
+use Rattle.define_pools.specs.Pool.{IsPool, Pool, is_of_size, keeps_households, keeps_standings, meets_quotas, panels}
+use Rattle.define_proof_texts.specs.ProofText.{IsProof, proof_spelling}
+use Rattle.define_rows.specs.Table.{Table}
+use Rattle.define_runs.specs.Run.{Ending, Limits, RunEnds}
+use Rattle.office_core.specs.Acting.{IsLoaded}
+use Rattle.proof_limits.specs.Budgets.{Left, SpendsOn, unspent}
 use Rattle.sortition.specs.Asked.{asked}
 use Rattle.sortition.specs.Office.{OfficeIsRight}
+use Rattle.sortition.specs.Steps.{step_command}
 use Rattle.sortition.specs.declared.asked.Asked.{Asked}
 use Rattle.sortition.specs.declared.asked.Asked.TheVariants as asks
+use Rattle.sortition.specs.declared.steps.Step.{Step}
+use Rattle.sortition.specs.declared.steps.Step.TheVariants as steps
 
 -- ---- what is promised of a lottery over the quota panels of a pool
 
@@ -107,10 +121,12 @@ pub record TellsProof (told : Told) : Type 0 where
   pub leximin : IsLeximin pool answer.lottery
 
 -- `make` printed the summary of a leximin greatest lottery over the made pool
-pub record TellsSummary (pool : Pool) (told : Told) : Type 0 where
+pub record TellsSummary (limits : Limits) (pool : Pool) (told : Told) : Type 0 where
   pub answer : Answer
-  pub sizes : Sizes
-  pub out : Gains told.out (summary_text pool answer sizes)
+  -- the last table of the stated run, whose sizes are printed
+  pub last : Table
+  pub ends : RunEnds pool limits (Ending.Found last answer)
+  pub out : Gains told.out (summary_text pool answer (sizes_of last))
   pub leximin : IsLeximin pool answer.lottery
 
 -- ---- what status 0 means, command by command
@@ -166,28 +182,30 @@ pub record TellsPanel (nodes : ℕ) (told : Told) : Type 0 where
   pub out : Gains told.out text
   pub panel : PrintsFirstPanel nodes pool text
 
-abbrev pub TellsDone : Option Asked → Told → Type 0
-TellsDone None told = ⊥
-TellsDone (Some (asks.Prove it)) told = TellsProof told
-TellsDone (Some (asks.Verify it)) told = TellsShown told
-TellsDone (Some (asks.Bundle it)) told = TellsItsBundle told
-TellsDone (Some (asks.Seal it)) told = TellsSeal told
-TellsDone (Some (asks.Draw seal digits)) told = TellsDrawn seal digits told
-TellsDone (Some (asks.Panel it)) told = TellsPanel it.nodes told
-TellsDone (Some (asks.Lottery it)) told = TellsBundle told
-TellsDone (Some (asks.Check it)) told = TellsValid told
-TellsDone (Some (asks.Make it)) told = TellsSummary (made_pool it.seed it.volunteers) told
+abbrev pub DoneAlone : Option Asked → Told → Type 0
+DoneAlone None told = ⊥
+DoneAlone (Some (asks.Prove it)) told = TellsProof told
+DoneAlone (Some (asks.Verify it)) told = TellsShown told
+DoneAlone (Some (asks.Bundle it)) told = TellsItsBundle told
+DoneAlone (Some (asks.Seal it)) told = TellsSeal told
+DoneAlone (Some (asks.Draw seal digits)) told = TellsDrawn seal digits told
+DoneAlone (Some (asks.Panel it)) told = TellsPanel it.nodes told
+DoneAlone (Some (asks.Lottery it)) told = TellsBundle told
+DoneAlone (Some (asks.Check it)) told = TellsValid told
+DoneAlone (Some (asks.Make it)) told = TellsSummary it.limits (made_pool it.seed it.volunteers) told
+DoneAlone (Some (asks.Step store step)) told = ⊥
+DoneAlone (Some (asks.Pool store round)) told = ⊥
 
 -- ---- status 1: there is no quota panel
 
 -- what status 1 means for each command: the pool that the source held, or the made pool, has no quota panel
-abbrev pub TellsNone : Option Asked → Told → Type 0
-TellsNone (Some (asks.Lottery it)) told = (pool : Pool) × HeldPool told.source pool × (panels pool ≡ [])
-TellsNone (Some (asks.Panel it)) told = (pool : Pool) × HeldPool told.source pool × (panels pool ≡ [])
-TellsNone (Some (asks.Prove it)) told = (pool : Pool) × HeldEither told.source pool × (panels pool ≡ [])
-TellsNone (Some (asks.Make it)) told = panels (made_pool it.seed it.volunteers) ≡ []
+abbrev pub NoneAlone : Option Asked → Told → Type 0
+NoneAlone (Some (asks.Lottery it)) told = (pool : Pool) × HeldPool told.source pool × (panels pool ≡ [])
+NoneAlone (Some (asks.Panel it)) told = (pool : Pool) × HeldPool told.source pool × (panels pool ≡ [])
+NoneAlone (Some (asks.Prove it)) told = (pool : Pool) × HeldEither told.source pool × (panels pool ≡ [])
+NoneAlone (Some (asks.Make it)) told = panels (made_pool it.seed it.volunteers) ≡ []
 -- no other command has status 1
-TellsNone other told = ⊥
+NoneAlone other told = ⊥
 
 -- ---- every other answer is a refusal whose cause holds
 
@@ -211,43 +229,45 @@ TextIsWrong (Some (asks.Panel it)) told = HeldNoText pool_format told
 TextIsWrong (Some (asks.Lottery it)) told = HeldNoText pool_format told
 TextIsWrong (Some (asks.Check it)) told = HeldNoText bundle_format told
 TextIsWrong (Some (asks.Make it)) told = ⊥
+TextIsWrong (Some (asks.Step store step)) told = ⊥
+TextIsWrong (Some (asks.Pool store round)) told = ⊥
 TextIsWrong None told = ⊥
 
 -- status 4: an operation or a total passed its limit, and errs gained the line that says which. For `prove` the line may name any operation
 -- whose result is too great, not only one of the run
-abbrev pub NumberPassed : Option Asked → Told → Type 0
-NumberPassed (Some (asks.Lottery it)) told = (pool : Pool) × HeldPool told.source pool × (line : List ℕ) × GainsLine told.errs line × PassesWidth it.limits pool line
-NumberPassed (Some (asks.Make it)) told = (line : List ℕ) × GainsLine told.errs line × PassesWidth it.limits (made_pool it.seed it.volunteers) line
-NumberPassed (Some (asks.Prove it)) told = (line : List ℕ) × GainsLine told.errs line × PassesProofWidth line
-NumberPassed other told = ⊥
+abbrev pub PassedAlone : Option Asked → Told → Type 0
+PassedAlone (Some (asks.Lottery it)) told = (pool : Pool) × HeldPool told.source pool × (line : List ℕ) × GainsLine told.errs line × PassesWidth it.limits pool line
+PassedAlone (Some (asks.Make it)) told = (line : List ℕ) × GainsLine told.errs line × PassesWidth it.limits (made_pool it.seed it.volunteers) line
+PassedAlone (Some (asks.Prove it)) told = (line : List ℕ) × GainsLine told.errs line × PassesProofWidth line
+PassedAlone other told = ⊥
 
 -- status 5: a budget was spent, and errs gained the line that says which. For `prove` the lines of spent turns of peeling and of a lost
 -- step have no condition
-abbrev pub BudgetSpent : Option Asked → Told → Type 0
-BudgetSpent (Some (asks.Panel it)) told = (pool : Pool) × HeldPool told.source pool × (line : List ℕ) × GainsLine told.errs line × SpendsVisits it.nodes pool line
-BudgetSpent (Some (asks.Lottery it)) told = (pool : Pool) × HeldPool told.source pool × (line : List ℕ) × GainsLine told.errs line × SpendsBudget it.limits pool line
-BudgetSpent (Some (asks.Make it)) told = (line : List ℕ) × GainsLine told.errs line × SpendsBudget it.limits (made_pool it.seed it.volunteers) line
-BudgetSpent (Some (asks.Check it)) told = (bundle : Bundle) × HeldBundle told.source bundle × (line : List ℕ) × GainsLine told.errs line × SpendsStage it.nodes bundle line
-BudgetSpent (Some (asks.Prove it)) told = (left : Left) × SpendsOn (unspent it.pivots it.nodes) left × (line : List ℕ) × GainsLine told.errs line × SpendsProofBudget left line
-BudgetSpent other told = ⊥
+abbrev pub SpentAlone : Option Asked → Told → Type 0
+SpentAlone (Some (asks.Panel it)) told = (pool : Pool) × HeldPool told.source pool × (line : List ℕ) × GainsLine told.errs line × SpendsVisits it.nodes pool line
+SpentAlone (Some (asks.Lottery it)) told = (pool : Pool) × HeldPool told.source pool × (line : List ℕ) × GainsLine told.errs line × SpendsBudget it.limits pool line
+SpentAlone (Some (asks.Make it)) told = (line : List ℕ) × GainsLine told.errs line × SpendsBudget it.limits (made_pool it.seed it.volunteers) line
+SpentAlone (Some (asks.Check it)) told = (bundle : Bundle) × HeldBundle told.source bundle × (line : List ℕ) × GainsLine told.errs line × SpendsStage it.nodes bundle line
+SpentAlone (Some (asks.Prove it)) told = (left : Left) × SpendsOn (unspent it.pivots it.nodes) left × (line : List ℕ) × GainsLine told.errs line × SpendsProofBudget left line
+SpentAlone other told = ⊥
 
 -- status 6: a rule was broken, and errs gained the line that says which
-abbrev pub RuleBroken : Option Asked → Told → Type 0
-RuleBroken (Some (asks.Draw seal digits)) told = (bundle : Bundle) × HeldBundle told.source bundle × (line : List ℕ) × GainsLine told.errs line × RefusesDraw seal digits bundle line
-RuleBroken (Some (asks.Bundle it)) told = (pool : Pool) × (lines : List TreeLine) × HeldProof told.source (OfNoPanel pool lines) × GainsLine told.errs no_lottery_line
-RuleBroken other told = ⊥
+abbrev pub BrokenAlone : Option Asked → Told → Type 0
+BrokenAlone (Some (asks.Draw seal digits)) told = (bundle : Bundle) × HeldBundle told.source bundle × (line : List ℕ) × GainsLine told.errs line × RefusesDraw seal digits bundle line
+BrokenAlone (Some (asks.Bundle it)) told = (pool : Pool) × (lines : List TreeLine) × HeldProof told.source (OfNoPanel pool lines) × GainsLine told.errs no_lottery_line
+BrokenAlone other told = ⊥
 
 -- status 11: the certificate or the proof doesn't hold. For `prove`: with some trees, the bundle is a proof that is refused for the printed
 -- reason. If the reason's number is below 11, the certificate doesn't hold. The reasons from 11 on concern the trees alone, and say nothing
 -- of the certificate
-abbrev pub CheckFailed : Option Asked → Told → Type 0
-CheckFailed (Some (asks.Check it)) told =
+abbrev pub FailedAlone : Option Asked → Told → Type 0
+FailedAlone (Some (asks.Check it)) told =
     (bundle : Bundle) × HeldBundle told.source bundle × (Certifies bundle.pool bundle.answer.lottery bundle.answer.stages → ⊥)
-CheckFailed (Some (asks.Verify it)) told = (proof : Proof) × HeldProof told.source proof × (verdict proof ≢ Valid)
-CheckFailed (Some (asks.Prove it)) told =
-    (bundle : Bundle) × HeldBundle told.source bundle × (trees : List (List TreeLine)) × (refusal : Refusal) × (verdict (OfLottery bundle.pool bundle.answer trees) ≡ Refused refusal) ×
+FailedAlone (Some (asks.Verify it)) told = (proof : Proof) × HeldProof told.source proof × (verdict proof ≢ Valid)
+FailedAlone (Some (asks.Prove it)) told =
+    (bundle : Bundle) × HeldBundle told.source bundle × (trees : List (List TreeLine)) × (refusal : reasons.Refusal) × (verdict (OfLottery bundle.pool bundle.answer trees) ≡ Refused refusal) ×
     RefusalMeans (OfLottery bundle.pool bundle.answer trees) refusal × Gains told.out (refused_line refusal)
-CheckFailed other told = ⊥
+FailedAlone other told = ⊥
 
 -- ---- a text that `check` or `verify` reads
 
@@ -257,46 +277,137 @@ pub record ToldText (source : Bytes) (text : List ℕ) : Type 0 where
   pub within : length text ≤ input_limit
   pub no_fault : HasFaulted source → ⊥
 
+-- ---- commands over a store. `tables` are those that were loaded; if the keeper tells its tables, they are these
+
+-- a command of the office replied with a text; its change, if there is one, is kept
+pub record TellsReply (command : Command) (told : StoreTold) : Type 0 where
+  pub tables : Tables
+  pub loaded : IsLoaded told.keeper.object.before tables
+  pub change : Option Change
+  pub text : List ℕ
+  pub comes : Comes tables command (Replies change (Lines text))
+  pub out : Gains told.call.out text
+  pub kept : told.keeper.object.after ≡ option_map (λ kept. applied kept change) told.keeper.object.before
+
+-- what a solve did to a round of these tables. An open round got a bundle whose lottery is leximin greatest over the quota panels of the
+-- round's pool. A round past open has its bundle, and stays
+pub data SolvesRound (round : ℕ) (tables : Tables) (change : Option Change) : Type 0 where
+  Opened : (pool : Pool) (answer : Answer) → named_round tables.rounds round ≡ Some Open → pool_of tables round ≡ Ok pool →
+      Certifies pool answer.lottery answer.stages → IsLeximin pool answer.lottery → change ≡ Some (SolvedWith round (record { pool = pool; answer = answer })) →
+      SolvesRound round tables change
+  HadBundle : (it : Round) (bundle : Bundle) → named_round tables.rounds round ≡ Some it → bundle_of it ≡ Some bundle → change ≡ None → SolvesRound round tables change
+
+abbrev pub TellsStep : Step → StoreTold → Type 0
+TellsStep (steps.Solve round limits workers) told = (reply : TellsReply (Solve round limits) told) × SolvesRound round reply.tables reply.change
+TellsStep other told = TellsReply (step_command other) told
+
+-- the pool of a round was printed, and the tables stay
+pub record TellsPool (round : ℕ) (told : StoreTold) : Type 0 where
+  pub tables : Tables
+  pub loaded : IsLoaded told.keeper.object.before tables
+  pub pool : Pool
+  pub is : pool_of tables round ≡ Ok pool
+  pub out : Gains told.call.out (spelling pool)
+  pub kept : told.keeper.object.after ≡ told.keeper.object.before
+
+-- what status 0 means, for each command
+abbrev pub TellsDone : Option Asked → StoreTold → Type 0
+TellsDone (Some (asks.Step store step)) told = TellsStep step told
+TellsDone (Some (asks.Pool store round)) told = TellsPool round told
+TellsDone other told = DoneAlone other told.call
+
+-- the pool of this round of the tables that were loaded
+pub record IsRoundPool (round : ℕ) (told : StoreTold) (pool : Pool) : Type 0 where
+  pub tables : Tables
+  pub loaded : IsLoaded told.keeper.object.before tables
+  pub open_now : named_round tables.rounds round ≡ Some Open
+  pub is : pool_of tables round ≡ Ok pool
+
+-- status 1: the pool has no quota panel. Of the office only a solve has it
+abbrev pub TellsNone : Option Asked → StoreTold → Type 0
+TellsNone (Some (asks.Step store (steps.Solve round limits workers))) told = (pool : Pool) × IsRoundPool round told pool × (panels pool ≡ [])
+TellsNone (Some (asks.Step store other)) told = (tables : Tables) × (change : Option Change) × IsLoaded told.keeper.object.before tables × Comes tables (step_command other) (Replies change NoPanel)
+TellsNone (Some (asks.Pool store round)) told = ⊥
+TellsNone other told = NoneAlone other told.call
+
+-- status 4: a number passed its limit
+abbrev pub NumberPassed : Option Asked → StoreTold → Type 0
+NumberPassed (Some (asks.Step store (steps.Solve round limits workers))) told =
+    (pool : Pool) × IsRoundPool round told pool × (line : List ℕ) × GainsLine told.call.errs line × PassesWidth limits pool line
+NumberPassed (Some (asks.Step store other)) told = ⊥
+NumberPassed (Some (asks.Pool store round)) told = ⊥
+NumberPassed other told = PassedAlone other told.call
+
+-- status 5: a budget was spent
+abbrev pub BudgetSpent : Option Asked → StoreTold → Type 0
+BudgetSpent (Some (asks.Step store (steps.Solve round limits workers))) told =
+    (pool : Pool) × IsRoundPool round told pool × (line : List ℕ) × GainsLine told.call.errs line × SpendsBudget limits pool line
+BudgetSpent (Some (asks.Step store other)) told = ⊥
+BudgetSpent (Some (asks.Pool store round)) told = ⊥
+BudgetSpent other told = SpentAlone other told.call
+
+-- status 6: a rule refused, and errs gained the line that says which
+abbrev pub RuleBroken : Option Asked → StoreTold → Type 0
+RuleBroken (Some (asks.Step store step)) told = (tables : Tables) × (refusal : Refusal) × IsLoaded told.keeper.object.before tables ×
+    Comes tables (step_command step) (Refuses refusal) × GainsLine told.call.errs (text_of (rule_line refusal ∷ []))
+RuleBroken (Some (asks.Pool store round)) told = (tables : Tables) × (refusal : Refusal) × IsLoaded told.keeper.object.before tables ×
+    (pool_of tables round ≡ Err refusal) × GainsLine told.call.errs (text_of (rule_line refusal ∷ []))
+RuleBroken other told = BrokenAlone other told.call
+
+-- status 11: a certificate or a proof doesn't hold
+abbrev pub CheckFailed : Option Asked → StoreTold → Type 0
+CheckFailed (Some (asks.Step store step)) told = (tables : Tables) × (refusal : reasons.Refusal) × IsLoaded told.keeper.object.before tables ×
+    Comes tables (step_command step) (Unproved refusal) × Gains told.call.out (refused_line refusal)
+CheckFailed (Some (asks.Pool store round)) told = ⊥
+CheckFailed other told = FailedAlone other told.call
+
 -- ---- the promises
 
 -- `number` is one of the program's statuses
 abbrev pub is_status : ℕ → Bool
-is_status number = list_any (λ status. number == status) (0 ∷ 1 ∷ 2 ∷ 3 ∷ 4 ∷ 5 ∷ 6 ∷ 7 ∷ 8 ∷ 11 ∷ 12 ∷ [])
+is_status number = list_any (λ status. number == status) (0 ∷ 1 ∷ 2 ∷ 3 ∷ 4 ∷ 5 ∷ 6 ∷ 7 ∷ 8 ∷ 9 ∷ 11 ∷ 12 ∷ [])
 
--- the promises, for every call with these words
-pub record Headline (words : List (List ℕ)) (told : Told) : Type 0 where
+-- the promises of a call whose words ask for `it`, or for nothing
+pub record Keeps (it : Option Asked) (told : StoreTold) : Type 0 where
   -- status 0: an answered lottery is leximin greatest over the quota panels of its pool. `TellsDone` says for each command what status 0
   -- means
-  pub done : told.status ≡ 0 → TellsDone (asked words) told
+  pub done : told.call.status ≡ 0 → TellsDone it told
   -- status 1, 'no panel', comes only if the pool has no quota panel
-  pub no_panel : told.status ≡ 1 → TellsNone (asked words) told
+  pub no_panel : told.call.status ≡ 1 → TellsNone it told
   -- status 2 comes only if the words ask for nothing: they are outside their form, or ask for help. (That such words have status 2, unless
   -- memory is wanting, is said in Office, not here.)
-  pub usage : told.status ≡ 2 → asked words ≡ None
+  pub usage : told.call.status ≡ 2 → it ≡ None
   -- status 3 comes only if the input is outside its format or too long, or is a bundle that `draw` refuses for its total
-  pub text : told.status ≡ 3 → TextIsWrong (asked words) told
+  pub text : told.call.status ≡ 3 → TextIsWrong it told.call
   -- status 4 comes only if a number passed its limit
-  pub number : told.status ≡ 4 → NumberPassed (asked words) told
-  -- status 5 comes only if a budget was spent; see `BudgetSpent` for `prove`
-  pub budget : told.status ≡ 5 → BudgetSpent (asked words) told
+  pub number : told.call.status ≡ 4 → NumberPassed it told
+  -- status 5 comes only if a budget was spent; see `SpentAlone` for `prove`
+  pub budget : told.call.status ≡ 5 → BudgetSpent it told
   -- status 6 comes only if a rule was broken
-  pub rule : told.status ≡ 6 → RuleBroken (asked words) told
+  pub rule : told.call.status ≡ 6 → RuleBroken it told
   -- status 7 comes only if the source counted a fault
-  pub read_fault : told.status ≡ 7 → HasFaulted told.source
-  -- status 8 comes only if out counted a fault
-  pub write_fault : told.status ≡ 8 → HasFaulted told.out
-  -- status 11 comes only if a certificate or a proof doesn't hold; see `CheckFailed` for `prove`
-  pub check : told.status ≡ 11 → CheckFailed (asked words) told
-  -- status 12, want of memory, may come in any call. There is no other status. The run of `prove` has no definition, so nothing says which
-  -- of its refusals comes
-  pub statuses : IsTrue (is_status told.status)
+  pub read_fault : told.call.status ≡ 7 → HasFaulted told.call.source
+  -- status 8 comes only if out counted a fault. A change of a store is kept then
+  pub write_fault : told.call.status ≡ 8 → HasFaulted told.call.out
+  -- status 9 comes only if the keeper of the store counted a fault. Its tables are as before
+  pub keeper_fault : told.call.status ≡ 9 → HasFaulted told.keeper.object × KeepsTables told.keeper
+  -- status 11 comes only if a certificate or a proof doesn't hold; see `FailedAlone` for `prove`
+  pub check : told.call.status ≡ 11 → CheckFailed it told
+  -- status 12, want of memory, may come in any call; the tables of a store are then as before. There is no other status. The run of `prove`
+  -- has no definition, so nothing says which of its refusals comes
+  pub want : told.call.status ≡ 12 → KeepsTables told.keeper
+  pub statuses : IsTrue (is_status told.call.status)
   -- if the source told the text of a bundle, and the status is none of 5, 8 and 12, then `check` has status 0 exactly if the certificate
   -- holds
-  pub certificate : (it : Check) → asked words ≡ Some (asks.Check it) → (bundle : Bundle) → IsBundle bundle → ToldText told.source (bundle_spelling bundle) →
-      told.status ≢ 5 → told.status ≢ 8 → told.status ≢ 12 → told.status ≡ 0 ↔ Certifies bundle.pool bundle.answer.lottery bundle.answer.stages
+  pub certificate : (check : Check) → it ≡ Some (asks.Check check) → (bundle : Bundle) → IsBundle bundle → ToldText told.call.source (bundle_spelling bundle) →
+      told.call.status ≢ 5 → told.call.status ≢ 8 → told.call.status ≢ 12 → told.call.status ≡ 0 ↔ Certifies bundle.pool bundle.answer.lottery bundle.answer.stages
   -- if the source told the text of a proof, and the status is neither 8 nor 12, then `verify` has status 0 exactly if the proof is valid
-  pub proof : (it : Verify) → asked words ≡ Some (asks.Verify it) → (proof : Proof) → IsProof proof → ToldText told.source (proof_spelling proof) →
-      told.status ≢ 8 → told.status ≢ 12 → told.status ≡ 0 ↔ verdict proof ≡ Valid
+  pub proof : (verify : Verify) → it ≡ Some (asks.Verify verify) → (proof : Proof) → IsProof proof → ToldText told.call.source (proof_spelling proof) →
+      told.call.status ≢ 8 → told.call.status ≢ 12 → told.call.status ≡ 0 ↔ verdict proof ≡ Valid
+
+-- the promises, for every call with these words
+abbrev pub Headline : List (List ℕ) → StoreTold → Type 0
+Headline words told = Keeps (asked words) told
 
 -- both calls told the same answer, or both told that the input is too long
 abbrev pub TellTheSame : Told → Told → Type 0
@@ -307,8 +418,8 @@ TellTheSame first second = ((answer : Saying) × IsTold answer first × IsTold a
 -- right there, so they change nothing
 abbrev pub WorkersChangeNothing : Type 0
 WorkersChangeNothing =
-    (words other_words : List (List ℕ)) (first second : Told) → OfficeIsRight words first → OfficeIsRight other_words second →
+    (words other_words : List (List ℕ)) (first second : StoreTold) → OfficeIsRight words first → OfficeIsRight other_words second →
     (limits : Limits) (workers others : ℕ) → asked words ≡ Some (asks.Lottery (record { limits = limits; workers = workers })) →
     asked other_words ≡ Some (asks.Lottery (record { limits = limits; workers = others })) →
-    (text : List ℕ) → first.source.before ≡ Some text → second.source.before ≡ Some text → (HasFaulted first.source → ⊥) → (HasFaulted second.source → ⊥) →
-    first.status ≢ 8 → first.status ≢ 12 → second.status ≢ 8 → second.status ≢ 12 → TellTheSame first second
+    (text : List ℕ) → first.call.source.before ≡ Some text → second.call.source.before ≡ Some text → (HasFaulted first.call.source → ⊥) → (HasFaulted second.call.source → ⊥) →
+    first.call.status ≢ 8 → first.call.status ≢ 12 → second.call.status ≢ 8 → second.call.status ≢ 12 → TellTheSame first.call second.call

@@ -3,14 +3,8 @@
 -- shell (`command_shell/specs`): faults of source, out and errs, want of memory, a text that is too long, and which of out and errs stay
 -- untouched (`Outcomes`); and a text outside its format (`Subjects`).
 use Rattle.std.specs.Prelude.{◌≡◌, ℕ, List, [], ◌∷◌, codes, Option, Some, None}
-use Rattle.command_shell.specs.Answers.{IsTheAnswer, Meaning}
-use Rattle.command_shell.specs.Lines.{line, want_of_memory_line}
-use Rattle.command_shell.specs.Outcomes.{IsStopped, SilentOutcome, TextOutcome}
-use Rattle.command_shell.specs.Subjects.{About, Format}
-use Rattle.command_shell.specs.Told.{Told, IsUntouched}
 use Rattle.command_meanings.specs.Check.{CheckMeans}
 use Rattle.command_meanings.specs.Draw.{DrawMeans}
-use Rattle.command_shell.specs.Formats.{bundle_format, pool_format, pool_or_bundle_format, proof_format}
 use Rattle.command_meanings.specs.ItsBundle.{BundleMeans}
 use Rattle.command_meanings.specs.Lottery.{LotteryMeans}
 use Rattle.command_meanings.specs.Make.{MakeMeans}
@@ -18,7 +12,17 @@ use Rattle.command_meanings.specs.Panel.{PanelMeans}
 use Rattle.command_meanings.specs.Prove.{ProvesWithin}
 use Rattle.command_meanings.specs.Seal.{SealMeans}
 use Rattle.command_meanings.specs.Verify.{VerifyMeans}
+use Rattle.command_shell.specs.Answers.{IsTheAnswer, Meaning}
+use Rattle.command_shell.specs.Formats.{bundle_format, pool_format, pool_or_bundle_format, proof_format}
+use Rattle.command_shell.specs.Lines.{line, want_of_memory_line}
+use Rattle.command_shell.specs.Outcomes.{IsStopped, SilentOutcome, TextOutcome}
+use Rattle.command_shell.specs.Subjects.{About, Format}
+use Rattle.command_shell.specs.Told.{Told, IsUntouched}
+use Rattle.command_stores.specs.Steps.{PoolMeans, StepMeans}
+use Rattle.command_stores.specs.StoreOutcomes.{SilentStoreOutcome}
+use Rattle.command_stores.specs.StoreTold.{IsLeftAlone, StoreTold}
 use Rattle.sortition.specs.Asked.{asked}
+use Rattle.sortition.specs.Steps.{step_command}
 use Rattle.sortition.specs.declared.asked.Asked.{Asked}
 use Rattle.sortition.specs.declared.asked.Asked.TheVariants as asks
 
@@ -34,20 +38,35 @@ pub record IsUsage (told : Told) : Type 0 where
   pub text : List ℕ
   pub stopped : IsStopped 2 text told
 
--- the outcomes that a call may have if its words ask for this command, or for nothing
-abbrev pub AnswersRightly : Option Asked → Told → Type 0
-AnswersRightly None told = IsUsage told
+-- the outcomes that a call may have whose words ask for nothing, or for a command that uses no store
+abbrev pub AnswersAlone : Option Asked → Told → Type 0
+AnswersAlone None told = IsUsage told
 -- the run that makes a proof has no definition, so nothing says which of the statuses 0, 1, 4, 5 and 11 comes
-AnswersRightly (Some (asks.Prove it)) told = TextOutcome (About pool_or_bundle_format (ProvesWithin it.pivots it.nodes)) told
-AnswersRightly (Some (asks.Verify it)) told = Answers proof_format VerifyMeans told
-AnswersRightly (Some (asks.Bundle it)) told = Answers proof_format BundleMeans told
-AnswersRightly (Some (asks.Seal it)) told = Answers bundle_format SealMeans told
-AnswersRightly (Some (asks.Draw seal digits)) told = Answers bundle_format (DrawMeans seal digits) told
-AnswersRightly (Some (asks.Panel it)) told = Answers pool_format (PanelMeans it.nodes) told
--- no meaning names the number of workers, neither here nor for `make`, so it changes nothing that is told
-AnswersRightly (Some (asks.Lottery it)) told = Answers pool_format (LotteryMeans it.limits) told
-AnswersRightly (Some (asks.Check it)) told = Answers bundle_format (CheckMeans it.nodes) told
-AnswersRightly (Some (asks.Make it)) told = SilentOutcome (IsTheAnswer (MakeMeans it.seed it.volunteers it.limits)) told
+AnswersAlone (Some (asks.Prove it)) told = TextOutcome (About pool_or_bundle_format (ProvesWithin it.pivots it.nodes)) told
+AnswersAlone (Some (asks.Verify it)) told = Answers proof_format VerifyMeans told
+AnswersAlone (Some (asks.Bundle it)) told = Answers proof_format BundleMeans told
+AnswersAlone (Some (asks.Seal it)) told = Answers bundle_format SealMeans told
+AnswersAlone (Some (asks.Draw seal digits)) told = Answers bundle_format (DrawMeans seal digits) told
+AnswersAlone (Some (asks.Panel it)) told = Answers pool_format (PanelMeans it.nodes) told
+-- no meaning names the number of workers, neither here nor for `make` nor for a solve over a store, so it changes nothing that is told
+AnswersAlone (Some (asks.Lottery it)) told = Answers pool_format (LotteryMeans it.limits) told
+AnswersAlone (Some (asks.Check it)) told = Answers bundle_format (CheckMeans it.nodes) told
+AnswersAlone (Some (asks.Make it)) told = SilentOutcome (IsTheAnswer (MakeMeans it.seed it.volunteers it.limits)) told
+AnswersAlone (Some (asks.Step store step)) told = ⊥
+AnswersAlone (Some (asks.Pool store round)) told = ⊥
+
+-- a call that uses no store leaves the keeper alone
+pub record LeavesStore (Right : Told → Type 0) (told : StoreTold) : Type 0 where
+  pub keeper : IsLeftAlone told.keeper
+  pub call : Right told.call
+
+-- the outcomes that a call may have if its words ask for this command, or for nothing
+abbrev pub AnswersRightly : Option Asked → StoreTold → Type 0
+-- one line for every command of the office: the answer is the outcome of the command over the store's tables. At most one answer is right
+-- (`steps_answer_once` of `command_stores`)
+AnswersRightly (Some (asks.Step store step)) told = SilentStoreOutcome store (StepMeans (step_command step)) told
+AnswersRightly (Some (asks.Pool store round)) told = SilentStoreOutcome store (PoolMeans round) told
+AnswersRightly other told = LeavesStore (AnswersAlone other) told
 
 -- status 12: memory was wanting while the words were read, so the source is untouched
 pub record WantsMemory (told : Told) : Type 0 where
@@ -55,9 +74,9 @@ pub record WantsMemory (told : Told) : Type 0 where
   pub stopped : IsStopped 12 want_of_memory_line told
 
 -- the outcomes that a call with these words may have
-pub data OfficeIsRight (words : List (List ℕ)) (told : Told) : Type 0 where
+pub data OfficeIsRight (words : List (List ℕ)) (told : StoreTold) : Type 0 where
   Asks : AnswersRightly (asked words) told → OfficeIsRight words told
-  NoMemory : WantsMemory told → OfficeIsRight words told
+  NoMemory : LeavesStore WantsMemory told → OfficeIsRight words told
 
 -- the line that errs gets if a word isn't UTF-8. `office` isn't called then, since its words are strings
 abbrev pub words_not_utf8_line : List ℕ

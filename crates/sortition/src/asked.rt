@@ -1,18 +1,24 @@
 //! The commands of the program with their arguments, as the words of a call give them. `read_asked` is the only call that others use.
 
-ghost use Rattle.std.specs.Prelude.{◌≡◌, map, string_bytes};
+ghost use Rattle.std.specs.Prelude.{◌≡◌, codes, map, string_bytes};
+ghost use Rattle.command_words.specs.Given.{number_of};
 ghost use Rattle.command_words.specs.Words.{Says};
 ghost use Rattle.sortition.specs.Asked.{
   asked,
   asked_by as words_of_asked,
+  draw_asked as words_of_draw,
+  draw_round_asked as words_of_draw_round,
   limits_from as words_of_limits,
   limits_in,
   make_asked as words_of_make,
+  seal_round_asked as words_of_seal_round,
+  solve_asked as words_of_solve,
   volunteers_in,
   workers_from as words_of_workers,
   workers_in,
 };
 
+use crate::steps::Step;
 use command_bundles::{Check, Seal};
 use command_pools::{FirstPanel, Lottery, Make, Volunteers};
 use command_proofs::{ItsBundle, Prove, Verify};
@@ -49,6 +55,20 @@ pub(crate) enum Asked<'a> {
     Check(Check),
     /// The summary of the run over a made pool.
     Make(Make),
+    /// A command of the office, over a store.
+    Step {
+        /// The path of the store.
+        store: Word<'a>,
+        /// The command.
+        step: Step<'a>,
+    },
+    /// The pool of a round of a store.
+    Pool {
+        /// The path of the store.
+        store: Word<'a>,
+        /// The round's number, counted from 1.
+        round: usize,
+    },
 }
 
 /// Returns the command that the words ask for. `words` don't include the program's name. Fails with `Usage` if they ask for nothing, or if
@@ -78,12 +98,11 @@ fn asked_by<'a>(given: &Given<'a>) -> Option<Asked<'a>>
         }
         CommandName::Verify => Some(Asked::Verify(Verify)),
         CommandName::Bundle => Some(Asked::Bundle(ItsBundle)),
-        CommandName::Seal => Some(Asked::Seal(Seal)),
-        CommandName::Draw => {
-            let seal = given.text("seal")?;
-            let digits = given.text("digits")?;
-            Some(Asked::Draw { seal, digits })
-        }
+        CommandName::Seal => match given.text("store") {
+            Some(store) => seal_round(given, store),
+            None => Some(Asked::Seal(Seal)),
+        },
+        CommandName::Draw => draw_of(given),
         CommandName::Panel => {
             let nodes = given.number("nodes")?;
             Some(Asked::Panel(FirstPanel { nodes }))
@@ -98,7 +117,91 @@ fn asked_by<'a>(given: &Given<'a>) -> Option<Asked<'a>>
             Some(Asked::Check(Check { nodes }))
         }
         CommandName::Make => make_of(given),
+        CommandName::Solve => solve_of(given),
+        CommandName::Drop => {
+            let store = given.text("store")?;
+            let round = round_of(given)?;
+            let id = given.text("id")?;
+            let step = Step::Drop { round, id };
+            Some(Asked::Step { store, step })
+        }
+        CommandName::NextRound => {
+            let store = given.text("store")?;
+            let after = given.number("after")? as usize;
+            let step = Step::NextRound { after };
+            Some(Asked::Step { store, step })
+        }
+        CommandName::Show => {
+            let store = given.text("store")?;
+            let round = round_of(given)?;
+            let step = Step::Show { round };
+            Some(Asked::Step { store, step })
+        }
+        CommandName::Pool => {
+            let store = given.text("store")?;
+            let round = round_of(given)?;
+            Some(Asked::Pool { store, round })
+        }
     }
+}
+
+/// Returns the draw from a bundle, or from a round of a store if the words name one.
+fn draw_of<'a>(given: &Given<'a>) -> Option<Asked<'a>>
+    ensures { result ≡ words_of_draw given.now }
+{
+    let seal = given.text("seal")?;
+    let digits = given.text("digits")?;
+    match given.text("store") {
+        Some(store) => draw_round(given, store, seal, digits),
+        None => Some(Asked::Draw { seal, digits }),
+    }
+}
+
+fn draw_round<'a>(
+    given: &Given<'a>,
+    store: Word<'a>,
+    seal: Word<'a>,
+    digits: Word<'a>,
+) -> Option<Asked<'a>>
+    ensures { result ≡ words_of_draw_round given.now store.entry seal.entry digits.entry }
+{
+    let round = round_of(given)?;
+    let step = Step::Draw {
+        round,
+        seal,
+        digits,
+    };
+    Some(Asked::Step { store, step })
+}
+
+fn seal_round<'a>(given: &Given<'a>, store: Word<'a>) -> Option<Asked<'a>>
+    ensures { result ≡ words_of_seal_round given.now store.entry }
+{
+    let round = round_of(given)?;
+    let step = Step::Seal { round };
+    Some(Asked::Step { store, step })
+}
+
+fn solve_of<'a>(given: &Given<'a>) -> Option<Asked<'a>>
+    ensures { result ≡ words_of_solve given.now }
+{
+    let store = given.text("store")?;
+    let round = round_of(given)?;
+    let limits = limits_of(given)?;
+    let workers = workers_of(given)?;
+    let step = Step::Solve {
+        round,
+        limits,
+        workers,
+    };
+    Some(Asked::Step { store, step })
+}
+
+/// Returns the number of a round.
+fn round_of(given: &Given<'_>) -> Option<usize>
+    ensures { result ≡ number_of (codes "round") given.now }
+{
+    Some(given.number("round")? as usize)
 }
 
 fn make_of<'a>(given: &Given<'a>) -> Option<Asked<'a>>

@@ -3,13 +3,17 @@
 ghost use Rattle.std.specs.Prelude.{map, string_bytes, Some};
 ghost use Rattle.command_shell.specs.Told.{object, told};
 ghost use Rattle.command_shell.specs.Answers.{number_of};
+ghost use Rattle.command_stores.specs.StoreTold.{keeper_told, store_told};
 ghost use Rattle.sortition.specs.Office.{AnswersRightly, OfficeIsRight};
 
 use crate::asked::{Asked, read_asked};
+use crate::steps::command_of;
 use command_bundles::Draw;
 use command_pools::{call_lottery, call_make};
 use command_shell::{Resources, Status, call, refuse_words, want_memory};
+use command_stores::{call_pool, call_step};
 use command_words::WordsStop;
+use office_core::Keeper;
 use outside::{Sink, Source, Watch};
 use std::alloc::Global;
 use std::thread::Threads;
@@ -20,24 +24,27 @@ use std::thread::Threads;
 ///
 /// For `lottery` and `make`, workers search the pieces of a pricing on threads, and `watch` is told of each piece as it starts. No answer
 /// depends on the workers or the watch.
-pub fn office<R: Threads + Sync, S: Source, O: Sink, E: Sink, W: Watch + Sync>(
+pub fn office<R: Threads + Sync, S: Source, O: Sink, E: Sink, K: Keeper, W: Watch + Sync>(
     rt: &R,
     alloc: Global,
     words: &[String],
     source: &mut S,
     out: &mut O,
     errs: &mut E,
+    keeper: &mut K,
     watch: &W,
 ) -> u8
-    ensures { OfficeIsRight (map string_bytes words.now) (told result
+    ensures { OfficeIsRight (map string_bytes words.now) (store_told
+        (told result
         (object (S.left source.old) (S.left source.new) (S.faults source.old) (S.faults source.new))
         (object (O.written out.old) (O.written out.new) (O.faults out.old) (O.faults out.new))
-        (object (E.written errs.old) (E.written errs.new) (E.faults errs.old) (E.faults errs.new))) }
+        (object (E.written errs.old) (E.written errs.new) (E.faults errs.old) (E.faults errs.new)))
+        (keeper_told (object (K.tables keeper.old) (K.tables keeper.new) (K.faults keeper.old) (K.faults keeper.new)) (K.place keeper.old) (K.place keeper.new))) }
 {
     match read_asked(alloc, words) {
         Ok(asked) => {
             let resources = Resources { rt, alloc, watch };
-            run(&resources, asked, source, out, errs).number()
+            run(&resources, asked, source, out, errs, keeper).number()
         }
         Err(WordsStop::Usage(text)) => refuse_words(errs, text.as_bytes()).number(),
         Err(WordsStop::OutOfMemory) => want_memory(errs).number(),
@@ -45,17 +52,20 @@ pub fn office<R: Threads + Sync, S: Source, O: Sink, E: Sink, W: Watch + Sync>(
 }
 
 /// Makes one call of the command that the words ask for.
-fn run<R: Threads + Sync, W: Watch + Sync, S: Source, O: Sink, E: Sink>(
+fn run<R: Threads + Sync, W: Watch + Sync, S: Source, O: Sink, E: Sink, K: Keeper>(
     resources: &Resources<'_, R, W>,
     asked: Asked<'_>,
     source: &mut S,
     out: &mut O,
     errs: &mut E,
+    keeper: &mut K,
 ) -> Status
-    ensures { AnswersRightly (Some asked.entry) (told (number_of result)
+    ensures { AnswersRightly (Some asked.entry) (store_told
+        (told (number_of result)
         (object (S.left source.old) (S.left source.new) (S.faults source.old) (S.faults source.new))
         (object (O.written out.old) (O.written out.new) (O.faults out.old) (O.faults out.new))
-        (object (E.written errs.old) (E.written errs.new) (E.faults errs.old) (E.faults errs.new))) }
+        (object (E.written errs.old) (E.written errs.new) (E.faults errs.old) (E.faults errs.new)))
+        (keeper_told (object (K.tables keeper.old) (K.tables keeper.new) (K.faults keeper.old) (K.faults keeper.new)) (K.place keeper.old) (K.place keeper.new))) }
 {
     let alloc = resources.alloc;
     match asked {
@@ -74,5 +84,10 @@ fn run<R: Threads + Sync, W: Watch + Sync, S: Source, O: Sink, E: Sink>(
         Asked::Lottery(lottery) => call_lottery(resources, &lottery, source, out, errs),
         Asked::Check(check) => call(alloc, &check, source, out, errs),
         Asked::Make(make) => call_make(resources, &make, out, errs),
+        Asked::Step { store, step } => match command_of(alloc, &step) {
+            Ok(command) => call_step(resources, &command, store.as_str(), keeper, out, errs),
+            Err(_) => want_memory(errs),
+        },
+        Asked::Pool { store, round } => call_pool(alloc, round, store.as_str(), keeper, out, errs),
     }
 }

@@ -2,6 +2,7 @@
 
 use crate::given::no_words;
 use crate::office::office;
+use office_keeper::MapKeeper;
 use outside::{MemSink, MemSource, NoWatch, Watch};
 use std::alloc::{AllocError, Global};
 use std::io;
@@ -185,7 +186,17 @@ fn answer_watched<R: Threads + Sync, W: Watch + Sync>(
     let mut source = MemSource::new(alloc, call.text, call.reads)?;
     let mut out = MemSink::new(alloc, call.room, call.puts)?;
     let mut errs = MemSink::new(alloc, 1000, call.lines)?;
-    let status = office(rt, alloc, &words, &mut source, &mut out, &mut errs, watch);
+    let mut keeper = MapKeeper::new(alloc, &[])?;
+    let status = office(
+        rt,
+        alloc,
+        &words,
+        &mut source,
+        &mut out,
+        &mut errs,
+        &mut keeper,
+        watch,
+    );
     Ok(Answer { status, out, errs })
 }
 
@@ -315,7 +326,7 @@ const USAGE_ROWS: &[(&[&str], &[u8], u8, &[u8], &[u8])] = &[
         FOUR,
         2,
         b"",
-        b"error: 'sortition' requires a subcommand but one was not provided\n  [subcommands: prove, verify, bundle, seal, draw, panel, lottery, check, make, help]\n\nUsage: sortition <COMMAND>\n\nFor more information, try '--help'.\n",
+        b"error: 'sortition' requires a subcommand but one was not provided\n  [subcommands: prove, verify, bundle, seal, draw, solve, drop, next-round, show, pool, panel, lottery, check, make, help]\n\nUsage: sortition <COMMAND>\n\nFor more information, try '--help'.\n",
     ),
     (
         &["panel", "--nodes", "x"],
