@@ -12,7 +12,7 @@ use Rattle.define_searches.specs.Classes.{classes_of}
 use Rattle.define_searches.specs.Compositions.{first_panel}
 use Rattle.command_shell.specs.declared.status.Printed.TheVariants.{Done, NoPanel, Refused as Rejected}
 use Rattle.command_shell.specs.declared.status.Cause.TheVariants.{Input, Wide, Spent, Rule}
-use Rattle.command_shell.specs.Answers.{HasOneAnswer, IsRight, Meaning, Saying, Prints, Stops}
+use Rattle.command_shell.specs.Answers.{HasOneAnswer, IsRight, RightAnswers, Saying, Prints, Stops}
 use Rattle.command_meanings.specs.Check.{CheckMeans, refused_line, valid_line, visits_spent_line}
 use Rattle.command_meanings.specs.Draw.{DrawMeans, drawn_lines, refused_draw_line}
 use Rattle.command_meanings.specs.ItsBundle.{BundleMeans, no_lottery_line}
@@ -22,7 +22,7 @@ use Rattle.command_meanings.specs.Seal.{SealMeans, bundle_seal, seal_line}
 use Rattle.command_meanings.specs.Verify.{VerifyMeans, shown_line}
 
 -- if each right answer equals `due`, at most one answer is right
-pub one_by : (meaning : Meaning) (due : Saying) → ((answer : Saying) → IsRight meaning answer → answer ≡ due) → HasOneAnswer meaning
+pub one_by : (meaning : RightAnswers) (due : Saying) → ((answer : Saying) → IsRight meaning answer → answer ≡ due) → HasOneAnswer meaning
 one_by meaning due is first second a b = is first a ∙ sym (is second b)
 
 -- ---- seal, check, verify, bundle: the answer is computed

@@ -6,7 +6,7 @@ use Rattle.define_pools.specs.Lottery.{LeximinGreatest}
 use Rattle.define_bundles.specs.BundleText.{Bundle}
 use Rattle.define_checks.specs.Reasons.{Refusal, Refused, Valid}
 use Rattle.define_checks.specs.Visits.{check_answer}
-use Rattle.command_shell.specs.Answers.{Meaning, no_answer}
+use Rattle.command_shell.specs.Answers.{RightAnswers, no_answer}
 use Rattle.command_shell.specs.Lines.{line}
 
 abbrev pub valid_line : List ℕ
@@ -44,7 +44,7 @@ pub record PrintsRefusal (nodes : ℕ) (bundle : Bundle) (text : List ℕ) : Typ
   pub fails : Certifies bundle.pool bundle.answer.lottery bundle.answer.stages → ⊥
   pub line : text ≡ refused_line refusal
 
-abbrev pub CheckMeans : ℕ → Bundle → Meaning
+abbrev pub CheckMeans : ℕ → Bundle → RightAnswers
 CheckMeans nodes bundle = record no_answer {
   -- status 0
   done = PrintsValid nodes bundle;

@@ -6,7 +6,7 @@ use Rattle.define_pools.specs.Lottery.{TotalAgrees}
 use Rattle.define_bundles.specs.BundleText.{Bundle}
 use Rattle.define_draws.specs.declared.DiceStop.TheVariants.{BadDigit, MoreDigits}
 use Rattle.define_draws.specs.Draw.{Drawn, Refused, draw}
-use Rattle.command_shell.specs.Answers.{Meaning, no_answer}
+use Rattle.command_shell.specs.Answers.{RightAnswers, no_answer}
 use Rattle.command_shell.specs.Lines.{input_line, line}
 use Rattle.command_meanings.specs.Lines.{panel_line}
 use Rattle.command_meanings.specs.Seal.{bundle_seal}
@@ -48,7 +48,7 @@ pub record RefusesDraw (given digits : List ℕ) (bundle : Bundle) (text : List 
   pub draws : draw bundle.answer.lottery (bundle_seal bundle) given digits ≡ Err refused
   pub line : text ≡ refused_draw_line given (bundle_seal bundle) refused
 
-abbrev pub DrawMeans : List ℕ → List ℕ → Bundle → Meaning
+abbrev pub DrawMeans : List ℕ → List ℕ → Bundle → RightAnswers
 DrawMeans given digits bundle = record no_answer {
   -- status 0
   done = PrintsDrawn given digits bundle;

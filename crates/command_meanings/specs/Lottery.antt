@@ -8,7 +8,7 @@ use Rattle.define_rows.specs.Table.{Table}
 use Rattle.define_searches.specs.Classes.{classes_of}
 use Rattle.define_searches.specs.Visits.{first_search}
 use Rattle.define_runs.specs.Run.{Ending, Limits, RunEnds, RunFinds}
-use Rattle.command_shell.specs.Answers.{Meaning, no_answer}
+use Rattle.command_shell.specs.Answers.{RightAnswers, no_answer}
 use Rattle.command_shell.specs.Lines.{no_panel_line}
 use Rattle.command_meanings.specs.Lines.{nodes_spent_line, pivots_spent_line, total_line, wide_line}
 
@@ -59,7 +59,7 @@ pub record SpendsBudget (limits : Limits) (pool : Pool) (line : List ℕ) : Type
   pub ends : RunEnds pool limits ending
   pub tells : TellsBudget limits ending line
 
-abbrev pub LotteryMeans : Limits → Pool → Meaning
+abbrev pub LotteryMeans : Limits → Pool → RightAnswers
 LotteryMeans limits pool = record no_answer {
   -- status 0
   done = PrintsBundle limits pool;

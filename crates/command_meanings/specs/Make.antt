@@ -8,7 +8,7 @@ use Rattle.define_pools.specs.Lottery.{LeximinGreatest}
 use Rattle.define_pools.specs.Pool.{Pool}
 use Rattle.define_rows.specs.Table.{Table}
 use Rattle.define_runs.specs.Run.{Ending, Limits, RunEnds}
-use Rattle.command_shell.specs.Answers.{Meaning}
+use Rattle.command_shell.specs.Answers.{RightAnswers}
 use Rattle.command_meanings.specs.Lottery.{FindsGreatest, LotteryMeans}
 
 -- how many classes, columns and pivots a run had, from its last table
@@ -25,7 +25,7 @@ pub record PrintsSummary (limits : Limits) (pool : Pool) (text : List ℕ) : Typ
   pub summary : text ≡ summary_text pool answer (sizes_of last)
 
 -- status 0 is a summary instead of a bundle. All else is as `lottery` answers about the made pool
-abbrev pub MakeMeans : ℕ → ℕ → Limits → Meaning
+abbrev pub MakeMeans : ℕ → ℕ → Limits → RightAnswers
 MakeMeans seed volunteers limits = record (LotteryMeans limits (made_pool seed volunteers)) {
   -- status 0
   done = PrintsSummary limits (made_pool seed volunteers);

@@ -4,7 +4,7 @@ use Rattle.define_pools.specs.Pool.{Pool, is_quota_panel, panels}
 use Rattle.define_searches.specs.Classes.{classes_of}
 use Rattle.define_searches.specs.Compositions.{first_composition, first_panel}
 use Rattle.define_searches.specs.Visits.{first_search}
-use Rattle.command_shell.specs.Answers.{Meaning, no_answer}
+use Rattle.command_shell.specs.Answers.{RightAnswers, no_answer}
 use Rattle.command_shell.specs.Lines.{no_panel_line}
 use Rattle.command_meanings.specs.Lines.{panel_line, nodes_spent_line}
 
@@ -37,7 +37,7 @@ pub record SpendsVisits (nodes : ℕ) (pool : Pool) (text : List ℕ) : Type 0 w
   pub more : nodes < visits_of pool
   pub line : text ≡ nodes_spent_line nodes None
 
-abbrev pub PanelMeans : ℕ → Pool → Meaning
+abbrev pub PanelMeans : ℕ → Pool → RightAnswers
 PanelMeans nodes pool = record no_answer {
   -- status 0
   done = PrintsFirstPanel nodes pool;

@@ -16,7 +16,7 @@ use Rattle.proof_limits.specs.Budgets.{Left, SpendsOn, unspent}
 use Rattle.proof_limits.specs.declared.passes.Op.{Op}
 use Rattle.proof_limits.specs.declared.passes.Op.TheVariants.{Mul, Add, Sub, Div}
 use Rattle.proof_limits.specs.Operations.{Operation, Passes}
-use Rattle.command_shell.specs.Answers.{Meaning, Saying, IsRight, no_answer}
+use Rattle.command_shell.specs.Answers.{RightAnswers, Saying, IsRight, no_answer}
 use Rattle.command_shell.specs.Lines.{line}
 use Rattle.command_shell.specs.declared.formats.PoolOrBundle.{PoolOrBundle}
 use Rattle.command_shell.specs.declared.formats.PoolOrBundle.TheVariants as either
@@ -106,7 +106,7 @@ pub record PrintsGivenRefusal (about : PoolOrBundle) (text : List ℕ) : Type 0 
   pub line : text ≡ refused_line refusal
 
 -- what is right to answer, if the run leaves `left` of its budget
-abbrev pub ProveMeans : Left → PoolOrBundle → Meaning
+abbrev pub ProveMeans : Left → PoolOrBundle → RightAnswers
 ProveMeans left about = record no_answer {
   -- status 0
   done = PrintsProof about;

@@ -2,7 +2,7 @@
 use Rattle.std.specs.Prelude.{◌≡◌, ℕ, List, [], ◌∷◌, codes}
 use Rattle.define_bundles.specs.BundleText.{Bundle, bundle_spelling}
 use Rattle.define_draws.specs.Seal.{seal_of}
-use Rattle.command_shell.specs.Answers.{Meaning, no_answer}
+use Rattle.command_shell.specs.Answers.{RightAnswers, no_answer}
 use Rattle.command_shell.specs.Lines.{line}
 
 -- the seal of the bundle's text
@@ -12,7 +12,7 @@ bundle_seal bundle = seal_of (bundle_spelling bundle)
 abbrev pub seal_line : Bundle → List ℕ
 seal_line bundle = line (codes "seal" ∷ bundle_seal bundle ∷ [])
 
-abbrev pub SealMeans : Bundle → Meaning
+abbrev pub SealMeans : Bundle → RightAnswers
 SealMeans bundle = record no_answer {
   -- status 0
   done = λ text. text ≡ seal_line bundle;

@@ -5,7 +5,7 @@ use Rattle.define_pools.specs.Pool.{Pool, panels}
 use Rattle.define_checks.specs.Reasons.{Refusal, Refused, Valid}
 use Rattle.define_additions.specs.ProofVerdict.{OfLottery, OfNoPanel, Proof, verdict}
 use Rattle.define_additions.specs.Refusals.{RefusalMeans}
-use Rattle.command_shell.specs.Answers.{Meaning, no_answer}
+use Rattle.command_shell.specs.Answers.{RightAnswers, no_answer}
 use Rattle.command_shell.specs.Lines.{line}
 use Rattle.command_meanings.specs.Check.{IsGreatest, refused_line, valid_line}
 
@@ -36,7 +36,7 @@ pub record PrintsProofRefusal (proof : Proof) (text : List ℕ) : Type 0 where
   pub means : RefusalMeans proof refusal
   pub line : text ≡ refused_line refusal
 
-abbrev pub VerifyMeans : Proof → Meaning
+abbrev pub VerifyMeans : Proof → RightAnswers
 VerifyMeans proof = record no_answer {
   -- status 0
   done = PrintsShown proof;

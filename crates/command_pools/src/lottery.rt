@@ -2,7 +2,7 @@
 
 ghost use Rattle.std.specs.Prelude.{IfOk};
 ghost use Rattle.std.specs.Thread.{IsSync};
-ghost use Rattle.command_shell.specs.Answers.{IsRight, IsTheAnswer, number_of, saying};
+ghost use Rattle.command_shell.specs.Answers.{IsRight, IsTheAnswer, status_number, saying};
 ghost use Rattle.command_shell.specs.Formats.{pool_format};
 ghost use Rattle.command_shell.specs.Outcomes.{TextOutcome};
 ghost use Rattle.command_shell.specs.Subjects.{About};
@@ -50,7 +50,7 @@ pub fn call_lottery<R: Threads + Sync, W: Watch + Sync, S: Source, O: Sink, E: S
     out: &mut O,
     errs: &mut E,
 ) -> Status
-    ensures { TextOutcome (About pool_format (λ pool. IsTheAnswer (LotteryMeans command.now.limits pool))) (told (number_of result)
+    ensures { TextOutcome (About pool_format (λ pool. IsTheAnswer (LotteryMeans command.now.limits pool))) (told (status_number result)
         (object (S.left source.old) (S.left source.new) (S.faults source.old) (S.faults source.new))
         (object (O.written out.old) (O.written out.new) (O.faults out.old) (O.faults out.new))
         (object (E.written errs.old) (E.written errs.new) (E.faults errs.old) (E.faults errs.new))) }

@@ -2,7 +2,7 @@
 
 ghost use Rattle.std.specs.Prelude.{◌≡◌, ◌≤◌, ◌&&◌, ℕ, if◌then◌else◌, nat_le, None, Some, IfOk};
 ghost use Rattle.std.specs.Thread.{IsSync};
-ghost use Rattle.command_shell.specs.Answers.{IsRight, IsTheAnswer, number_of, saying};
+ghost use Rattle.command_shell.specs.Answers.{IsRight, IsTheAnswer, status_number, saying};
 ghost use Rattle.command_shell.specs.Outcomes.{SilentOutcome};
 ghost use Rattle.command_shell.specs.Told.{Bytes, IsUntouched, object, told};
 ghost use Rattle.command_meanings.specs.Make.{MakeMeans};
@@ -94,7 +94,7 @@ pub fn call_make<R: Threads + Sync, W: Watch + Sync, O: Sink, E: Sink>(
     out: &mut O,
     errs: &mut E,
 ) -> Status
-    ensures { (source : Bytes) → IsUntouched source → SilentOutcome (IsTheAnswer (MakeMeans command.now.seed command.now.volunteers command.now.limits)) (told (number_of result) source
+    ensures { (source : Bytes) → IsUntouched source → SilentOutcome (IsTheAnswer (MakeMeans command.now.seed command.now.volunteers command.now.limits)) (told (status_number result) source
         (object (O.written out.old) (O.written out.new) (O.faults out.old) (O.faults out.new))
         (object (E.written errs.old) (E.written errs.new) (E.faults errs.old) (E.faults errs.new))) }
 {

@@ -31,14 +31,14 @@ cause_number Wide = 4
 cause_number Spent = 5
 cause_number Rule = 6
 
-abbrev pub number_of : Status → ℕ
-number_of (status.Printed printed) = printed_number printed
-number_of status.Usage = 2
-number_of (status.Stopped cause) = cause_number cause
-number_of status.ReadFault = 7
-number_of status.WriteFault = 8
-number_of status.KeeperFault = 9
-number_of status.WantOfMemory = 12
+abbrev pub status_number : Status → ℕ
+status_number (status.Printed printed) = printed_number printed
+status_number status.Usage = 2
+status_number (status.Stopped cause) = cause_number cause
+status_number status.ReadFault = 7
+status_number status.WriteFault = 8
+status_number status.KeeperFault = 9
+status_number status.WantOfMemory = 12
 
 -- the number of the status with which an answer is told
 abbrev pub status_of : Saying → ℕ
@@ -51,7 +51,7 @@ bytes_of (Prints printed text) = text
 bytes_of (Stops cause line) = line
 
 -- What the answers of a command mean: for each status, which text for out, or which line for errs, is right.
-pub record Meaning : Type 1 where
+pub record RightAnswers : Type 1 where
   -- status 0: the text that the command was called for
   pub done : List ℕ → Type 0
   -- status 1: no quota panel exists
@@ -74,11 +74,11 @@ abbrev pub never : List ℕ → Type 0
 never text = ⊥
 
 -- a meaning by which no answer is right. The meaning of a command starts from it and names the statuses that the command has
-abbrev pub no_answer : Meaning
+abbrev pub no_answer : RightAnswers
 no_answer = record { done = never; no_panel = never; input = never; wide = never; spent = never; rule = never; refused = never }
 
 -- the answer is right by this meaning
-abbrev pub IsRight : Meaning → Saying → Type 0
+abbrev pub IsRight : RightAnswers → Saying → Type 0
 IsRight meaning (Prints Done text) = meaning.done text
 IsRight meaning (Prints NoPanel text) = meaning.no_panel text
 IsRight meaning (Prints Refused text) = meaning.refused text
@@ -88,10 +88,10 @@ IsRight meaning (Stops Spent line) = meaning.spent line
 IsRight meaning (Stops Rule line) = meaning.rule line
 
 -- at most one answer is right by this meaning
-abbrev pub HasOneAnswer : Meaning → Type 0
+abbrev pub HasOneAnswer : RightAnswers → Type 0
 HasOneAnswer meaning = (first second : Saying) → IsRight meaning first → IsRight meaning second → first ≡ second
 
 -- the answer is right by this meaning, and no other is
-pub record IsTheAnswer (meaning : Meaning) (answer : Saying) : Type 0 where
+pub record IsTheAnswer (meaning : RightAnswers) (answer : Saying) : Type 0 where
   pub right : IsRight meaning answer
   pub only : (other : Saying) → IsRight meaning other → other ≡ answer

@@ -4,6 +4,8 @@
 use Rattle.std.specs.Prelude.{◌≡◌, ◌⊎◌, ◌≤◌, ℕ, List, length}
 use Rattle.command_shell.specs.declared.status.Printed.{Printed}
 use Rattle.command_shell.specs.Told.{Bytes, Told, Gains, GainsLine, GainsPart, HasFaulted, HasNoFault, HeldAll, HeldMore, IsUntouched}
+use Rattle.outside.specs.declared.reading.ReadStop.{ReadStop}
+use Rattle.outside.specs.declared.reading.ReadStop.TheVariants as unread
 use Rattle.command_shell.specs.Answers.{Saying, Prints, Stops, cause_number, printed_number}
 use Rattle.command_shell.specs.Lines.{input_limit, read_fault_line, too_long_line, want_of_memory_line, write_fault_line}
 
@@ -68,6 +70,24 @@ pub record IsTooLong (told : Told) : Type 0 where
 pub record IsReadFault (told : Told) : Type 0 where
   pub faulted : HasFaulted told.source
   pub stopped : IsStopped 7 read_fault_line told
+
+-- all that the source held was read without a fault, and it has no more bytes than an input may have
+pub record IsInput (source : Bytes) (bytes : List ℕ) : Type 0 where
+  pub held : HeldAll source bytes
+  pub within : length bytes ≤ input_limit
+  pub no_fault : HasNoFault source
+
+-- why a source gave no input
+abbrev pub HasNoInput : ReadStop → Bytes → Type 0
+HasNoInput unread.TooLong source = HeldMore source input_limit × HasNoFault source
+HasNoInput unread.Fault source = HasFaulted source
+HasNoInput unread.OutOfMemory source = HasNoFault source
+
+-- the status and the line of a call whose source gave no input
+abbrev pub TellsNoInput : ReadStop → Told → Type 0
+TellsNoInput unread.TooLong told = IsStopped 3 too_long_line told
+TellsNoInput unread.Fault told = IsStopped 7 read_fault_line told
+TellsNoInput unread.OutOfMemory told = IsStopped 12 want_of_memory_line told
 
 -- how a call that reads its source ends. `Means` says for each text which answers are right
 pub data TextOutcome (Means : List ℕ → Saying → Type 0) (told : Told) : Type 0 where

@@ -7,13 +7,13 @@ use Rattle.outside.specs.Content.{AppendsPart, LosesMore, ReadsAll}
 
 -- a source or sink before and after the call: its content, if it tells it, and its count of faults. A source's content is the bytes that
 -- are not yet read, a sink's the bytes written
-pub record Object (Meaning : Type 0) : Type 0 where
-  pub before : Option Meaning
-  pub after : Option Meaning
+pub record Object (Content : Type 0) : Type 0 where
+  pub before : Option Content
+  pub after : Option Content
   pub faults_before : ℕ
   pub faults_after : ℕ
 
-abbrev pub object : {Meaning : Type 0} → Option Meaning → Option Meaning → ℕ → ℕ → Object Meaning
+abbrev pub object : {Content : Type 0} → Option Content → Option Content → ℕ → ℕ → Object Content
 object before after faults_before faults_after = record { before = before; after = after; faults_before = faults_before; faults_after = faults_after }
 
 -- an object that tells bytes
@@ -31,15 +31,15 @@ abbrev pub told : ℕ → Bytes → Bytes → Bytes → Told
 told status source out errs = record { status = status; source = source; out = out; errs = errs }
 
 -- the object counted a fault in this call; a count at its last value, 2^64 - 1, can't rise and is taken as risen in each call
-abbrev pub HasFaulted : {Meaning : Type 0} → Object Meaning → Type 0
+abbrev pub HasFaulted : {Content : Type 0} → Object Content → Type 0
 HasFaulted object = Rose object.faults_before object.faults_after
 
 -- the count of faults is as it was
-abbrev pub HasNoFault : {Meaning : Type 0} → Object Meaning → Type 0
+abbrev pub HasNoFault : {Content : Type 0} → Object Content → Type 0
 HasNoFault object = object.faults_after ≡ object.faults_before
 
 -- the object's content, as far as it tells it, and its count of faults are as before the call
-pub record IsUntouched {Meaning : Type 0} (object : Object Meaning) : Type 0 where
+pub record IsUntouched {Content : Type 0} (object : Object Content) : Type 0 where
   pub same : object.after ≡ object.before
   pub no_fault : HasNoFault object
 

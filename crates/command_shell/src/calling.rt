@@ -4,7 +4,7 @@ ghost use Rattle.std.specs.Fn.{FnOnceReturns, FnOnceReturnsAt};
 ghost use Rattle.std.specs.Prelude.{◌≡◌, IfOk};
 ghost use Rattle.command_shell.specs.Told.{Bytes, IsUntouched, object, told};
 ghost use Rattle.command_shell.specs.declared.status.Cause.TheVariants.{Input};
-ghost use Rattle.command_shell.specs.Answers.{Stops, number_of, saying};
+ghost use Rattle.command_shell.specs.Answers.{Stops, status_number, saying};
 ghost use Rattle.command_shell.specs.Lines.{input_line as words_of_input};
 ghost use Rattle.command_shell.specs.Outcomes.{SilentOutcome, TextOutcome};
 ghost use Rattle.command_shell.specs.Subjects.{About, no_input};
@@ -12,15 +12,13 @@ ghost use Rattle.command_shell.specs.Subjects.{About, no_input};
 use crate::answer::Answer;
 use crate::command::{Command, Meaning};
 use crate::lines::input_line;
+use crate::reading::{read_input, refuse_input};
 use crate::status::{Cause, Status};
 use crate::subject::{Nothing, Subject};
-use crate::telling::{read_fault, tell, too_long, want_memory};
-use outside::{ReadStop, Sink, Source, read_all};
+use crate::telling::{tell, want_memory};
+use outside::{Sink, Source};
 use std::alloc::{AllocError, Global};
 use text_lines::{TextFault, TextStop};
-
-/// The most bytes that an input may have.
-const INPUT_LIMIT: usize = 16_777_216;
 
 /// Makes one call of a command that reads the source and starts no threads. The source is read to its end, or past the limit, before the
 /// command is asked about its bytes. The answer is told once it is whole.
@@ -31,19 +29,17 @@ pub fn call<C: Command, S: Source, O: Sink, E: Sink>(
     out: &mut O,
     errs: &mut E,
 ) -> Status
-    ensures { TextOutcome (About C.About.format (C.means command.now)) (told (number_of result)
+    ensures { TextOutcome (About C.About.format (C.means command.now)) (told (status_number result)
         (object (S.left source.old) (S.left source.new) (S.faults source.old) (S.faults source.new))
         (object (O.written out.old) (O.written out.new) (O.faults out.old) (O.faults out.new))
         (object (E.written errs.old) (E.written errs.new) (E.faults errs.old) (E.faults errs.new))) }
 {
-    match read_all(alloc, source, INPUT_LIMIT) {
+    match read_input(alloc, source) {
         Ok(bytes) => match answer_about(alloc, command, &bytes) {
             Ok(answer) => tell(out, errs, &answer),
             Err(AllocError) => want_memory(errs),
         },
-        Err(ReadStop::TooLong) => too_long(errs),
-        Err(ReadStop::Fault) => read_fault(errs),
-        Err(ReadStop::OutOfMemory) => want_memory(errs),
+        Err(stop) => refuse_input(errs, stop),
     }
 }
 
@@ -58,19 +54,17 @@ pub fn call_answered_by<
 >(alloc: Global, command: &C, answer: F, source: &mut S, out: &mut O, errs: &mut E) -> Status
     requires callable { F.IsAlwaysCallable answer }
     requires right { (about : _) (answered : _) → FnOnceReturnsAt F.FnOnce answer about answered → IfOk answered (λ it. C.means command.now about (saying it)) }
-    ensures { TextOutcome (About C.About.format (C.means command.now)) (told (number_of result)
+    ensures { TextOutcome (About C.About.format (C.means command.now)) (told (status_number result)
         (object (S.left source.old) (S.left source.new) (S.faults source.old) (S.faults source.new))
         (object (O.written out.old) (O.written out.new) (O.faults out.old) (O.faults out.new))
         (object (E.written errs.old) (E.written errs.new) (E.faults errs.old) (E.faults errs.new))) }
 {
-    match read_all(alloc, source, INPUT_LIMIT) {
+    match read_input(alloc, source) {
         Ok(bytes) => match answer_by(alloc, command, answer, &bytes) {
             Ok(answer) => tell(out, errs, &answer),
             Err(AllocError) => want_memory(errs),
         },
-        Err(ReadStop::TooLong) => too_long(errs),
-        Err(ReadStop::Fault) => read_fault(errs),
-        Err(ReadStop::OutOfMemory) => want_memory(errs),
+        Err(stop) => refuse_input(errs, stop),
     }
 }
 
@@ -83,7 +77,7 @@ pub fn call_silent<
 >(command: &C, answer: F, out: &mut O, errs: &mut E) -> Status
     requires callable { F.IsAlwaysCallable answer }
     requires right { (answered : _) → FnOnceReturns F.FnOnce answer tt answered → IfOk answered (λ it. C.means command.now no_input (saying it)) }
-    ensures { (source : Bytes) → IsUntouched source → SilentOutcome (C.means command.now no_input) (told (number_of result) source
+    ensures { (source : Bytes) → IsUntouched source → SilentOutcome (C.means command.now no_input) (told (status_number result) source
         (object (O.written out.old) (O.written out.new) (O.faults out.old) (O.faults out.new))
         (object (E.written errs.old) (E.written errs.new) (E.faults errs.old) (E.faults errs.new))) }
 {

@@ -1,7 +1,7 @@
 //! How a call of the program ends.
 
 ghost use Rattle.std.specs.Prelude.{◌≡◌};
-ghost use Rattle.command_shell.specs.Answers.{cause_number, number_of, printed_number};
+ghost use Rattle.command_shell.specs.Answers.{cause_number, status_number, printed_number};
 
 /// How a command ends if its answer is a text for `out`.
 #[derive(Clone, Copy, Debug, PartialEq, Eq)]
@@ -49,7 +49,7 @@ pub enum Status {
 impl Status {
     /// Returns the number of the status, with which the program ends.
     pub fn number(self) -> u8
-        ensures { result ≡ number_of self }
+        ensures { result ≡ status_number self }
     {
         match self {
             Status::Printed(printed) => printed.number(),

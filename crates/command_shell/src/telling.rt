@@ -5,7 +5,7 @@ ghost use Rattle.std.specs.Io.KnownBytes.{Appends};
 ghost use Rattle.outside.specs.Content.{AppendsPart};
 ghost use Rattle.outside.specs.Faults.{Rose};
 ghost use Rattle.command_shell.specs.Told.{Bytes, object, told, GainsLine};
-ghost use Rattle.command_shell.specs.Answers.{number_of, saying};
+ghost use Rattle.command_shell.specs.Answers.{status_number, saying};
 ghost use Rattle.command_shell.specs.Lines.{keeper_fault_line, read_fault_line, too_long_line, want_of_memory_line, write_fault_line};
 ghost use Rattle.command_shell.specs.Outcomes.{IsToldOrCutOff};
 
@@ -28,7 +28,7 @@ const WANT_OF_MEMORY_LINE: &[u8] = b"want of memory\n";
 /// Writes an answer: its text to `out`, or its line to `errs`. If `out` fails on the way, the status is that of a write fault, and `errs`
 /// gets the line for it.
 pub fn tell<O: Sink, E: Sink>(out: &mut O, errs: &mut E, answer: &Answer) -> Status
-    ensures { (source : Bytes) → IsToldOrCutOff (saying answer.now) (told (number_of result) source
+    ensures { (source : Bytes) → IsToldOrCutOff (saying answer.now) (told (status_number result) source
         (object (O.written out.old) (O.written out.new) (O.faults out.old) (O.faults out.new))
         (object (E.written errs.old) (E.written errs.new) (E.faults errs.old) (E.faults errs.new))) }
 {
@@ -81,7 +81,7 @@ fn complain<E: Sink>(errs: &mut E, line: &[u8])
 
 /// Writes to `errs` why the words ask for no command. The status is 2.
 pub fn refuse_words<E: Sink>(errs: &mut E, text: &[u8]) -> Status
-    ensures status { number_of result ≡ 2 }
+    ensures status { status_number result ≡ 2 }
     ensures line { GainsLine (object (E.written errs.old) (E.written errs.new) (E.faults errs.old) (E.faults errs.new)) text.now }
 {
     complain(errs, text);
@@ -90,7 +90,7 @@ pub fn refuse_words<E: Sink>(errs: &mut E, text: &[u8]) -> Status
 
 /// Writes to `errs` that the input is too long. The status is 3.
 pub(crate) fn too_long<E: Sink>(errs: &mut E) -> Status
-    ensures status { number_of result ≡ 3 }
+    ensures status { status_number result ≡ 3 }
     ensures line { GainsLine (object (E.written errs.old) (E.written errs.new) (E.faults errs.old) (E.faults errs.new)) too_long_line }
 {
     complain(errs, TOO_LONG_LINE);
@@ -99,7 +99,7 @@ pub(crate) fn too_long<E: Sink>(errs: &mut E) -> Status
 
 /// Writes to `errs` that the source counted a fault. The status is 7.
 pub(crate) fn read_fault<E: Sink>(errs: &mut E) -> Status
-    ensures status { number_of result ≡ 7 }
+    ensures status { status_number result ≡ 7 }
     ensures line { GainsLine (object (E.written errs.old) (E.written errs.new) (E.faults errs.old) (E.faults errs.new)) read_fault_line }
 {
     complain(errs, READ_FAULT_LINE);
@@ -108,7 +108,7 @@ pub(crate) fn read_fault<E: Sink>(errs: &mut E) -> Status
 
 /// Writes to `errs` that `out` counted a fault. The status is 8.
 fn write_fault<E: Sink>(errs: &mut E) -> Status
-    ensures status { number_of result ≡ 8 }
+    ensures status { status_number result ≡ 8 }
     ensures line { GainsLine (object (E.written errs.old) (E.written errs.new) (E.faults errs.old) (E.faults errs.new)) write_fault_line }
 {
     complain(errs, WRITE_FAULT_LINE);
@@ -117,7 +117,7 @@ fn write_fault<E: Sink>(errs: &mut E) -> Status
 
 /// Writes to `errs` that the keeper of the store counted a fault. The status is 9.
 pub fn keeper_fault<E: Sink>(errs: &mut E) -> Status
-    ensures status { number_of result ≡ 9 }
+    ensures status { status_number result ≡ 9 }
     ensures line { GainsLine (object (E.written errs.old) (E.written errs.new) (E.faults errs.old) (E.faults errs.new)) keeper_fault_line }
 {
     complain(errs, KEEPER_FAULT_LINE);
@@ -126,7 +126,7 @@ pub fn keeper_fault<E: Sink>(errs: &mut E) -> Status
 
 /// Writes to `errs` that no memory was left. The status is 12.
 pub fn want_memory<E: Sink>(errs: &mut E) -> Status
-    ensures status { number_of result ≡ 12 }
+    ensures status { status_number result ≡ 12 }
     ensures line { GainsLine (object (E.written errs.old) (E.written errs.new) (E.faults errs.old) (E.faults errs.new)) want_of_memory_line }
 {
     complain(errs, WANT_OF_MEMORY_LINE);

@@ -1,3 +1,5 @@
 pub mod StoreTold
 pub mod StoreOutcomes
 pub mod Steps
+pub mod Imports
+pub mod ReadFiles

@@ -18,6 +18,9 @@ use Rattle.define_offices.specs.Lines.{rule_line}
 use Rattle.define_offices.specs.Pools.{pool_of}
 use Rattle.define_offices.specs.Steps.{Comes}
 use Rattle.define_offices.specs.Tables.{Tables}
+use Rattle.define_reports.specs.Report.{report_of}
+use Rattle.command_stores.specs.declared.texts.StoreText.{StoreText}
+use Rattle.command_stores.specs.declared.texts.StoreText.TheVariants as text
 use Rattle.office_pools.specs.declared.PoolStop.{PoolStop}
 use Rattle.office_pools.specs.declared.PoolStop.TheVariants as stop
 
@@ -85,12 +88,17 @@ abbrev pub pool_text : Result Pool Refusal → Result (List ℕ) Refusal
 pool_text (Ok pool) = Ok (spelling pool)
 pool_text (Err refusal) = Err refusal
 
--- the answer is the text of the pool of this round, and the tables stay
-pub record PoolMeans (round : ℕ) (tables : Tables) (answer : Saying) (change : Option Change) : Type 0 where
-  pub is : answer ≡ text_or_refusal (pool_text (pool_of tables round))
+-- the text that is made of the tables, or why there is none
+abbrev pub stored_text : StoreText → Tables → Result (List ℕ) Refusal
+stored_text (text.Report round) tables = report_of tables round
+stored_text (text.Pool round) tables = pool_text (pool_of tables round)
+
+-- the answer is this text of the tables, and the tables stay
+pub record TextMeans (it : StoreText) (tables : Tables) (answer : Saying) (change : Option Change) : Type 0 where
+  pub is : answer ≡ text_or_refusal (stored_text it tables)
   pub stays : change ≡ None
 
--- why there is no pool, but for want of memory
+-- why there is no such text, but for want of memory
 abbrev pub refusal_of : PoolStop → Option Refusal
 refusal_of (stop.NoRound last) = Some (NoRound last)
 refusal_of (stop.Incomplete what) = Some (Incomplete what)

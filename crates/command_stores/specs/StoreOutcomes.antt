@@ -3,8 +3,8 @@
 use Rattle.std.specs.Prelude.{◌≡◌, ℕ, List, Option, Result, Ok, Err, option_map}
 use Rattle.command_shell.specs.Answers.{Prints, Saying, saying}
 use Rattle.command_shell.specs.Lines.{keeper_fault_line, want_of_memory_line}
-use Rattle.command_shell.specs.Outcomes.{IsCutOff, IsStopped, IsTold, IsToldOrCutOff}
-use Rattle.command_shell.specs.Told.{HasFaulted, HasNoFault, IsUntouched, Told}
+use Rattle.command_shell.specs.Outcomes.{IsCutOff, IsInput, IsReadFault, IsStopped, IsTold, IsToldOrCutOff, IsTooLong}
+use Rattle.command_shell.specs.Told.{HasFaulted, HasNoFault, IsUntouched, Object, Told}
 use Rattle.command_shell.specs.declared.answer.Answer.{Answer}
 use Rattle.command_shell.specs.declared.status.Printed.{Printed}
 use Rattle.define_offices.specs.Commands.{Change}
@@ -43,6 +43,25 @@ pub record HasStoredNothing (path : List ℕ) (keeper : Keeper) : Type 0 where
   pub place : MayBeAttached path keeper
   pub same : KeepsTables keeper
 
+-- the answer is right, and its change was stored
+pub record IsKept (Means : Saying → Option Change → Type 0) (object : Object Tables) (answer : Saying) : Type 0 where
+  pub change : Option Change
+  pub means : Means answer change
+  pub stored : object.after ≡ option_map (λ kept. applied kept change) object.before
+  pub no_fault : HasNoFault object
+
+-- what is done to a keeper whose tables were loaded. `Means` says which answers are right about them
+abbrev pub SettlesLoaded : (Saying → Option Change → Type 0) → Object Tables → Result Answer KeeperStop → Type 0
+SettlesLoaded Means object (Ok answer) = IsKept Means object (saying answer)
+SettlesLoaded Means object (Err Failed) = HasFaulted object × (object.after ≡ object.before)
+SettlesLoaded Means object (Err OutOfMemory) = HasNoFault object × (object.after ≡ object.before)
+
+-- the same, where the tables are loaded first
+abbrev pub SettlesAttached : StoreMeaning → Object Tables → Result Answer KeeperStop → Type 0
+SettlesAttached Means object (Ok answer) = (tables : Tables) × IsLoaded object.before tables × IsKept (Means tables) object (saying answer)
+SettlesAttached Means object (Err Failed) = HasFaulted object × (object.after ≡ object.before)
+SettlesAttached Means object (Err OutOfMemory) = HasNoFault object × (object.after ≡ object.before)
+
 -- what a call over the store at `path` does to the keeper before it tells its answer
 abbrev pub Settles : List ℕ → StoreMeaning → Keeper → Result Answer KeeperStop → Type 0
 Settles path Means keeper (Ok answer) = IsAnswered path Means keeper (saying answer)
@@ -70,6 +89,26 @@ pub data StoreOutcome (path : List ℕ) (Means : StoreMeaning) (told : StoreTold
   KeeperFault : HasFailed path told.keeper → IsStopped 9 keeper_fault_line told.call → StoreOutcome path Means told
   -- 12: memory was wanting, which may come at any time
   WantOfMemory : HasStoredNothing path told.keeper → IsStopped 12 want_of_memory_line told.call → StoreOutcome path Means told
+
+-- the keeper was attached at `path`, its tables are as before, and it counted no fault
+pub record IsOnlyAttached (path : List ℕ) (keeper : Keeper) : Type 0 where
+  pub attached : IsAttached path keeper
+  pub same : KeepsTables keeper
+  pub no_fault : HasNoFault keeper.object
+
+-- how a call over the store at `path` ends that reads its source. `Means` says for each text which answers are right. The keeper is attached
+-- before the source is read, and the tables are loaded after it
+pub data TextStoreOutcome (path : List ℕ) (Means : List ℕ → StoreMeaning) (told : StoreTold) : Type 0 where
+  -- the text was read, and the call ends as one that reads nothing
+  Read : (bytes : List ℕ) → IsInput told.call.source bytes → StoreOutcome path (Means bytes) told → TextStoreOutcome path Means told
+  -- 3: the source held more bytes than an input may have
+  TooLong : IsOnlyAttached path told.keeper → IsTooLong told.call → TextStoreOutcome path Means told
+  -- 7: the source counted a fault
+  ReadFault : IsOnlyAttached path told.keeper → IsReadFault told.call → TextStoreOutcome path Means told
+  -- 9: the keeper counted a fault when it was attached, before the source was read
+  NotAttached : IsUntouched told.call.source → HasFailed path told.keeper → IsStopped 9 keeper_fault_line told.call → TextStoreOutcome path Means told
+  -- 12: memory was wanting before the text was read whole
+  NoMemory : HasStoredNothing path told.keeper → IsStopped 12 want_of_memory_line told.call → TextStoreOutcome path Means told
 
 -- how a call over the store at `path` ends that reads no input: the source is untouched
 pub record SilentStoreOutcome (path : List ℕ) (Means : StoreMeaning) (told : StoreTold) : Type 0 where

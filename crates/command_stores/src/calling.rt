@@ -1,14 +1,45 @@
-//! What every call over a store does at its end: it tells the answer, or why there is none.
+//! What every call over a store does at its beginning and at its end: it loads the tables, and it tells the answer or why there is none.
 
-ghost use Rattle.std.specs.Prelude.{◌≡◌};
+ghost use Rattle.std.specs.Prelude.{◌≡◌, IfOk, OnOk};
 ghost use Rattle.command_shell.specs.Told.{Bytes, object, told};
-ghost use Rattle.command_shell.specs.Answers.{number_of};
+ghost use Rattle.command_shell.specs.Answers.{status_number};
 ghost use Rattle.command_stores.specs.StoreOutcomes.{TellsSettled, settled_by};
+ghost use Rattle.command_stores.specs.StoreTold.{MayBeAttached, keeper_told};
+ghost use Rattle.office_core.specs.Acting.{IsLoaded};
+ghost use Rattle.office_core.specs.Keeping.{HasCause, at};
 
 use command_shell::{Answer, Status, keeper_fault, tell, want_memory};
-use office_core::KeeperStop;
+use office_core::{Keeper, KeeperStop, Tables};
 use outside::Sink;
-use std::alloc::AllocError;
+use std::alloc::{AllocError, Global};
+
+/// Attaches the keeper, and returns its tables.
+pub(crate) fn load_at<K: Keeper>(
+    alloc: Global,
+    path: &str,
+    keeper: &mut K,
+) -> Result<Tables, KeeperStop>
+    ensures loaded { IfOk result (λ tables. IsLoaded (K.tables keeper.old) tables) }
+    ensures attached { OnOk result (K.place keeper.new ≡ at (K.place keeper.old) path.now) }
+    ensures place { MayBeAttached path.now (keeper_told (object (K.tables keeper.old) (K.tables keeper.new) (K.faults keeper.old) (K.faults keeper.new)) (K.place keeper.old) (K.place keeper.new)) }
+    ensures same { K.tables keeper.new ≡ K.tables keeper.old }
+    ensures cause { HasCause (K.faults keeper.old) (K.faults keeper.new) result }
+{
+    keeper.attach(alloc, path)?;
+    load(alloc, keeper)
+}
+
+/// Returns the tables of a keeper that is attached.
+pub(crate) fn load<K: Keeper>(alloc: Global, keeper: &mut K) -> Result<Tables, KeeperStop>
+    ensures loaded { IfOk result (λ tables. IsLoaded (K.tables keeper.old) tables) }
+    ensures place { K.place keeper.new ≡ K.place keeper.old }
+    ensures same { K.tables keeper.new ≡ K.tables keeper.old }
+    ensures cause { HasCause (K.faults keeper.old) (K.faults keeper.new) result }
+{
+    let tables = keeper.load(alloc)?;
+    tables.facts();
+    Ok(tables)
+}
 
 /// Tells an answer, or that the keeper failed or no memory was left.
 pub(crate) fn tell_settled<O: Sink, E: Sink>(
@@ -16,7 +47,7 @@ pub(crate) fn tell_settled<O: Sink, E: Sink>(
     out: &mut O,
     errs: &mut E,
 ) -> Status
-    ensures { (source : Bytes) → TellsSettled settled.now (told (number_of result) source
+    ensures { (source : Bytes) → TellsSettled settled.now (told (status_number result) source
         (object (O.written out.old) (O.written out.new) (O.faults out.old) (O.faults out.new))
         (object (E.written errs.old) (E.written errs.new) (E.faults errs.old) (E.faults errs.new))) }
 {

@@ -1,16 +1,19 @@
-//! The shell of commands over a store. `call_step` makes one call of any command of the office: it attaches the keeper, lets `act` load,
-//! decide and store, and tells the answer. `call_pool` prints a text that are made of the tables. Stands on `office_core`,
-//! on the shell of commands, and on the lines of the commands that answer alike. Above: `sortition`.
+//! The shell of commands over a store. `call_step` makes one call of any command of the office: it attaches the keeper, loads the tables, lets
+//! `act_over` decide and store, and tells the answer. `call_import` does so for a command that is read from a file, and `call_text` prints a
+//! text that is made of the tables. Stands on `office_core`, `office_import` and `round_reports`, on the shell of commands, and on the lines of
+//! the commands that answer alike. Above: `sortition`.
 //!
-//! Promises: `call_step`, `call_report`, `call_pool`, and the law that a command has at most one answer.
+//! Promises: `call_step`, `call_import`, `call_text`, and the laws that a command and an import have at most one answer.
 #![tactic(auto)]
 
 mod calling;
+mod imports;
 mod laws;
 mod refusals;
 mod steps;
 mod texts;
 
-pub use laws::steps_answer_once;
+pub use imports::{Import, call_import};
+pub use laws::{imports_answer_once, steps_answer_once};
 pub use steps::call_step;
-pub use texts::call_pool;
+pub use texts::{StoreText, call_text};

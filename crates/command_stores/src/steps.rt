@@ -1,10 +1,10 @@
 //! One call of a command of the office over a store.
 
-ghost use Rattle.std.specs.Prelude.{◌≡◌, IfOk};
+ghost use Rattle.std.specs.Prelude.{◌≡◌, IfOk, IfSome};
 ghost use Rattle.command_shell.specs.Told.{Bytes, IsUntouched, object, told};
-ghost use Rattle.command_shell.specs.Answers.{Prints, number_of, saying};
+ghost use Rattle.command_shell.specs.Answers.{Prints, status_number, saying};
 ghost use Rattle.office_core.specs.Commands.{HasWorkers, seen_command};
-ghost use Rattle.command_stores.specs.StoreOutcomes.{Settles, SilentStoreOutcome};
+ghost use Rattle.command_stores.specs.StoreOutcomes.{Settles, SettlesLoaded, SilentStoreOutcome};
 ghost use Rattle.command_stores.specs.StoreTold.{keeper_told, store_told};
 ghost use Rattle.command_stores.specs.Steps.{StepMeans, TellsStop};
 ghost use Rattle.define_checks.specs.Reasons.{Refusal, Refused};
@@ -13,13 +13,13 @@ ghost use Rattle.command_meanings.specs.Check.{refused_line as words_of_refused}
 ghost use Rattle.command_shell.specs.declared.status.Printed.TheVariants as printed;
 ghost use Rattle.office_core.specs.Deciding.{IsEnding};
 
-use crate::calling::{answer_or_want, tell_settled};
+use crate::calling::{answer_or_want, load_at, tell_settled};
 use crate::refusals::refusal_answer;
 use command_bundles::refused_line;
 use command_pools::stop_answer;
 use command_shell::{Answer, Printed, Resources, Status, no_panel};
 use leximin_run::Stop;
-use office_core::{ActStop, Command, Keeper, KeeperStop, Reply, act};
+use office_core::{ActStop, Command, Keeper, KeeperStop, Reply, Tables, act_over};
 use outside::{Sink, Watch};
 use proof_verify::Verdict;
 use std::alloc::{AllocError, Global};
@@ -37,7 +37,7 @@ pub fn call_step<R: Threads + Sync, W: Watch + Sync, K: Keeper, O: Sink, E: Sink
 ) -> Status
     requires { HasWorkers command.now }
     ensures { (source : Bytes) → IsUntouched source → SilentStoreOutcome path.now (StepMeans (seen_command command.now)) (store_told
-        (told (number_of result) source
+        (told (status_number result) source
         (object (O.written out.old) (O.written out.new) (O.faults out.old) (O.faults out.new))
         (object (E.written errs.old) (E.written errs.new) (E.faults errs.old) (E.faults errs.new)))
         (keeper_told (object (K.tables keeper.old) (K.tables keeper.new) (K.faults keeper.old) (K.faults keeper.new)) (K.place keeper.old) (K.place keeper.new))) }
@@ -46,7 +46,7 @@ pub fn call_step<R: Threads + Sync, W: Watch + Sync, K: Keeper, O: Sink, E: Sink
     tell_settled(&settled, out, errs)
 }
 
-/// Attaches the keeper, does the command, and returns its answer.
+/// Attaches the keeper, does the command over its tables, and returns its answer.
 fn settle<R: Threads + Sync, W: Watch + Sync, K: Keeper>(
     resources: &Resources<'_, R, W>,
     command: &Command,
@@ -57,14 +57,30 @@ fn settle<R: Threads + Sync, W: Watch + Sync, K: Keeper>(
     ensures { Settles path.now (StepMeans (seen_command command.now))
         (keeper_told (object (K.tables keeper.old) (K.tables keeper.new) (K.faults keeper.old) (K.faults keeper.new)) (K.place keeper.old) (K.place keeper.new)) result }
 {
+    let tables = load_at(resources.alloc, path, keeper)?;
+    settle_over(resources, &tables, command, keeper)
+}
+
+/// Does the command over tables that were loaded from the keeper, and returns its answer.
+pub(crate) fn settle_over<R: Threads + Sync, W: Watch + Sync, K: Keeper>(
+    resources: &Resources<'_, R, W>,
+    tables: &Tables,
+    command: &Command,
+    keeper: &mut K,
+) -> Result<Answer, KeeperStop>
+    requires workers { HasWorkers command.now }
+    requires loaded { IfSome (K.tables keeper.old) (λ kept. tables.now ≡ kept) }
+    ensures settles { SettlesLoaded (StepMeans (seen_command command.now) tables.now)
+        (object (K.tables keeper.old) (K.tables keeper.new) (K.faults keeper.old) (K.faults keeper.new)) result }
+    ensures place { K.place keeper.new ≡ K.place keeper.old }
+{
     command.facts();
     let Resources { rt, alloc, watch } = *resources;
     // Made before the change is stored, since memory may be wanting.
     let Ok(none) = no_panel(alloc) else {
         return Err(KeeperStop::OutOfMemory);
     };
-    keeper.attach(alloc, path)?;
-    match act(rt, alloc, keeper, command, watch) {
+    match act_over(rt, alloc, keeper, tables, command, watch) {
         Ok(Reply::Lines(text)) => Ok(Answer::Prints {
             printed: Printed::Done,
             text,

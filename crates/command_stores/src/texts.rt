@@ -2,67 +2,99 @@
 
 ghost use Rattle.std.specs.Prelude.{◌≡◌, IfOk, IfSome, OnOk};
 ghost use Rattle.command_shell.specs.Told.{Bytes, IsUntouched, object, told};
-ghost use Rattle.command_shell.specs.Answers.{number_of, saying};
+ghost use Rattle.command_shell.specs.Answers.{status_number, saying};
 ghost use Rattle.office_pools.specs.declared.PoolStop.TheVariants.{OutOfMemory};
+ghost use Rattle.round_reports.specs.Rounds.{TellsReport};
 ghost use Rattle.define_offices.specs.Pools.{pool_of as pool_of_round};
 ghost use Rattle.command_stores.specs.StoreOutcomes.{Settles, SilentStoreOutcome};
 ghost use Rattle.command_stores.specs.StoreTold.{keeper_told, store_told};
-ghost use Rattle.command_stores.specs.Steps.{PoolMeans, pool_text, refusal_of, refused_by, text_or_refusal};
+ghost use Rattle.command_stores.specs.Steps.{TextMeans, pool_text, refusal_of, refused_by, stored_text, text_or_refusal};
 
-use crate::calling::{answer_or_want, tell_settled};
+use crate::calling::{answer_or_want, load_at, tell_settled};
 use crate::refusals::refusal_answer;
 use command_shell::{Answer, Printed, Status};
 use office_core::{Keeper, KeeperStop, PoolStop, Refusal, Tables, pool_of};
 use outside::Sink;
 use pool_text::write_pool;
+use round_reports::round_report;
 use std::alloc::{AllocError, Global};
 
-/// Makes one call that prints the text of a round's pool, over the store at `path`.
-pub fn call_pool<K: Keeper, O: Sink, E: Sink>(
+/// A text that is made of the tables of a store. Rounds are named by their numbers, counted from 1.
+#[derive(Clone, Copy, Debug)]
+pub enum StoreText {
+    /// The report of a round.
+    Report {
+        /// The round's number.
+        round: usize,
+    },
+    /// The pool of a round.
+    Pool {
+        /// The round's number.
+        round: usize,
+    },
+}
+
+/// Makes one call that prints a text made of the tables of the store at `path`.
+pub fn call_text<K: Keeper, O: Sink, E: Sink>(
     alloc: Global,
-    round: usize,
+    text: StoreText,
     path: &str,
     keeper: &mut K,
     out: &mut O,
     errs: &mut E,
 ) -> Status
-    ensures { (source : Bytes) → IsUntouched source → SilentStoreOutcome path.now (PoolMeans round) (store_told
-        (told (number_of result) source
+    ensures { (source : Bytes) → IsUntouched source → SilentStoreOutcome path.now (TextMeans text) (store_told
+        (told (status_number result) source
         (object (O.written out.old) (O.written out.new) (O.faults out.old) (O.faults out.new))
         (object (E.written errs.old) (E.written errs.new) (E.faults errs.old) (E.faults errs.new)))
         (keeper_told (object (K.tables keeper.old) (K.tables keeper.new) (K.faults keeper.old) (K.faults keeper.new)) (K.place keeper.old) (K.place keeper.new))) }
 {
-    let settled = settle_pool(alloc, round, path, keeper);
+    let settled = settle_text(alloc, text, path, keeper);
     tell_settled(&settled, out, errs)
 }
 
-/// Loads the tables, and returns the answer about a round's pool.
-fn settle_pool<K: Keeper>(
+/// Loads the tables, and returns the answer about them.
+fn settle_text<K: Keeper>(
     alloc: Global,
-    round: usize,
+    text: StoreText,
     path: &str,
     keeper: &mut K,
 ) -> Result<Answer, KeeperStop>
-    ensures { Settles path.now (PoolMeans round)
+    ensures { Settles path.now (TextMeans text)
         (keeper_told (object (K.tables keeper.old) (K.tables keeper.new) (K.faults keeper.old) (K.faults keeper.new)) (K.place keeper.old) (K.place keeper.new)) result }
 {
-    keeper.attach(alloc, path)?;
-    let tables = keeper.load(alloc)?;
-    tables.facts();
-    answer_or_want(answer_pool(alloc, &tables, round))
+    let tables = load_at(alloc, path, keeper)?;
+    answer_or_want(answer_text(alloc, &tables, text))
 }
 
-/// Returns the text of a round's pool, or the refusal without one.
-fn answer_pool(alloc: Global, tables: &Tables, round: usize) -> Result<Answer, AllocError>
-    ensures { IfOk result (λ answer. saying answer ≡ text_or_refusal (pool_text (pool_of_round tables.now round))) }
+/// Returns the text as an answer, or the refusal without one.
+fn answer_text(alloc: Global, tables: &Tables, text: StoreText) -> Result<Answer, AllocError>
+    ensures { IfOk result (λ answer. saying answer ≡ text_or_refusal (stored_text text tables.now)) }
 {
-    match pool_of(alloc, tables, round) {
-        Ok(pool) => Ok(Answer::Prints {
+    match text_in(alloc, tables, text) {
+        Ok(text) => Ok(Answer::Prints {
             printed: Printed::Done,
-            text: write_pool(alloc, &pool)?,
+            text,
         }),
         Err(stop) => stop_answer(alloc, stop),
     }
+}
+
+fn text_in(alloc: Global, tables: &Tables, text: StoreText) -> Result<Vec<u8>, PoolStop>
+    ensures { TellsReport (stored_text text tables.now) result }
+{
+    match text {
+        StoreText::Report { round } => round_report(alloc, tables, round),
+        StoreText::Pool { round } => round_pool(alloc, tables, round),
+    }
+}
+
+/// Returns the text of a round's pool.
+fn round_pool(alloc: Global, tables: &Tables, round: usize) -> Result<Vec<u8>, PoolStop>
+    ensures { TellsReport (pool_text (pool_of_round tables.now round)) result }
+{
+    let pool = pool_of(alloc, tables, round)?;
+    Ok(write_pool(alloc, &pool)?)
 }
 
 /// Returns the answer to a round without a pool.

@@ -131,7 +131,19 @@ pub record NextRoundGives : Type 0 where
 
 pub record ShownRoundsGive : Type 0 where
   pub show : RoundGives name.Show (codes "show") [] []
+  pub report : RoundGives name.Report (codes "report") [] []
   pub pool : RoundGives name.Pool (codes "pool") [] []
+
+-- an import requires the store, and has no other option
+pub record ImportGives (command : CommandName) (word : List ℕ) : Type 0 where
+  pub store : Give (word ∷ codes "--store" ∷ codes "s" ∷ []) command (text (codes "store") (codes "s") ∷ [])
+  pub no_store : GiveNothing (word ∷ [])
+  pub another : GiveNothing (word ∷ codes "--store" ∷ codes "s" ∷ codes "--round" ∷ codes "1" ∷ [])
+
+pub record ImportsGive : Type 0 where
+  pub charter : ImportGives name.ImportCharter (codes "import-charter")
+  pub rules : ImportGives name.ImportRules (codes "import-rules")
+  pub register : ImportGives name.ImportRegister (codes "import-register")
 
 -- no command, a word that is no command, the word `help`, and an option that the command doesn't have
 pub record OthersGive : Type 0 where

@@ -122,6 +122,27 @@ const PROOF_COMMANDS: &[TableCommand] = &[
 
 const OFFICE_COMMANDS: &[TableCommand] = &[
     CommandWords {
+        command: CommandName::ImportCharter,
+        name: "import-charter",
+        help: "Sets title and panel size of the store by the TOML file on standard input",
+        example: "Example: sortition import-charter --store city.store < charter.toml",
+        options: &[STORE],
+    },
+    CommandWords {
+        command: CommandName::ImportRules,
+        name: "import-rules",
+        help: "Sets the rules of the store by the CSV file on standard input",
+        example: "Example: sortition import-rules --store city.store < rules.csv",
+        options: &[STORE],
+    },
+    CommandWords {
+        command: CommandName::ImportRegister,
+        name: "import-register",
+        help: "Adds the volunteers in the CSV file on standard input to the store",
+        example: "Example: sortition import-register --store city.store < register.csv",
+        options: &[STORE],
+    },
+    CommandWords {
         command: CommandName::Solve,
         name: "solve",
         help: "Answers an open round of the store by the stated run",
@@ -167,6 +188,13 @@ const OFFICE_COMMANDS: &[TableCommand] = &[
         name: "show",
         help: "Prints the bundle of a round",
         example: "Example: sortition show --store city.store > city.bundle",
+        options: &[STORE, ROUND],
+    },
+    CommandWords {
+        command: CommandName::Report,
+        name: "report",
+        help: "Prints the report of a round, for the public",
+        example: "Example: sortition report --store city.store",
         options: &[STORE, ROUND],
     },
     CommandWords {

@@ -29,8 +29,16 @@ pub enum CommandName {
     NextRound,
     /// The bundle of a round.
     Show,
+    /// The report of a round.
+    Report,
     /// The pool of a round.
     Pool,
+    /// The charter of an assembly, from a file.
+    ImportCharter,
+    /// The rules of an assembly, from a file.
+    ImportRules,
+    /// Volunteers for the register, from a file.
+    ImportRegister,
 }
 
 /// The form that an option's value must have.

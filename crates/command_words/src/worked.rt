@@ -3,6 +3,7 @@
 ghost use Rattle.command_words.specs.WorkedWords.{
   DrawGives,
   DropGives,
+  ImportsGive,
   LotteryGives,
   MakeGives,
   NextRoundGives,
@@ -25,6 +26,7 @@ pub fn words_are_worked()
     ensures drop { DropGives }
     ensures next_round { NextRoundGives }
     ensures shown { ShownRoundsGive }
+    ensures imports { ImportsGive }
     ensures searches { SearchesGive }
     ensures lottery { LotteryGives }
     ensures make { MakeGives }

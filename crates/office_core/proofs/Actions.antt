@@ -9,7 +9,7 @@ use Rattle.define_offices.specs.Tables.{Tables}
 use Rattle.laws_of_offices.proofs.Steps.{comes_keeps, folds_grow}
 use Rattle.office_steps.specs.Replies.{seen_refusal, seen_reply}
 use Rattle.office_steps.specs.declared.replies.Reply.{Reply}
-use Rattle.office_core.specs.Acting.{ActsOn, GoesOn, HasFault, HasOutcome, IsDone, stop_of_decision, stop_of_keeper}
+use Rattle.office_core.specs.Acting.{ActsOn, ActsOver, GoesOn, HasFault, HasOutcome, HasOutcomeOver, IsDone, IsLoaded, stop_of_decision, stop_of_keeper}
 use Rattle.office_core.specs.Deciding.{Decides}
 use Rattle.office_core.specs.Keeping.{HasCause, changed}
 use Rattle.office_core.specs.declared.keeper.KeeperStop.{KeeperStop}
@@ -21,24 +21,19 @@ use Rattle.office_core.specs.declared.stops.DecideStop.TheVariants as decide
 
 -- ---- the tables after a call
 
-module _ (told : Option Tables) (loaded : Tables) (command : Command) (is : IsTables loaded) (same : IfSome told (λ kept. loaded ≡ kept)) (after : Option Tables) where
+module _ (told : Option Tables) (loaded : Tables) (command : Command) (after : Option Tables) where
   -- an outcome that leaves the tables
-  stays_so : (outcome : Outcome) → ((tables : Tables) → tables_after tables outcome ≡ tables) → Comes loaded command outcome → after ≡ told → HasOutcome told command outcome after
-  stays_so outcome stays comes unchanged = record {
-    tables = loaded;
-    loaded = record { is = is; same = same };
-    comes = comes;
-    leaves = unchanged ∙ kept told;
-  }
+  stays_so : (outcome : Outcome) → ((tables : Tables) → tables_after tables outcome ≡ tables) → Comes loaded command outcome → after ≡ told → HasOutcomeOver loaded told command outcome after
+  stays_so outcome stays comes unchanged = record { comes = comes; leaves = unchanged ∙ kept told }
     where
       kept : (tables : Option Tables) → tables ≡ option_map (λ t. tables_after t outcome) tables
       kept None = refl
       kept (Some t) = ap Some (sym (stays t))
 
-  pub acts_done : (change : Option office.Change) (reply : Reply) → Comes loaded command (Replies change (seen_reply reply)) → after ≡ changed told change → ActsOn told command (Ok reply) after
-  acts_done change reply comes leaves = (change, record { tables = loaded; loaded = record { is = is; same = same }; comes = comes; leaves = leaves })
+  pub acts_done : (change : Option office.Change) (reply : Reply) → Comes loaded command (Replies change (seen_reply reply)) → after ≡ changed told change → ActsOver loaded told command (Ok reply) after
+  acts_done change reply comes leaves = (change, record { comes = comes; leaves = leaves })
 
-  pub acts_stopped : (stop : DecideStop) → Decides loaded command (Err stop) → after ≡ told → ActsOn told command (Err (stop_of_decision stop)) after
+  pub acts_stopped : (stop : DecideStop) → Decides loaded command (Err stop) → after ≡ told → ActsOver loaded told command (Err (stop_of_decision stop)) after
   acts_stopped (decide.Refused refusal) decides unchanged =
       stays_so (Refuses (seen_refusal refusal)) (λ t. refl) (subst (Comes loaded command) decides.says decides.comes) unchanged
   acts_stopped (decide.Solve stopped) decides unchanged =
@@ -48,6 +43,22 @@ module _ (told : Option Tables) (loaded : Tables) (command : Command) (is : IsTa
       let (refusal, is_it, equal) = decides.says in
       (refusal, is_it, stays_so (office.Unproved refusal) (λ t. refl) (subst (Comes loaded command) equal decides.comes) unchanged)
   acts_stopped decide.OutOfMemory decides unchanged = unchanged
+
+  pub over_failed : (stop : KeeperStop) → after ≡ told → ActsOver loaded told command (Err (stop_of_keeper stop)) after
+  over_failed keeper.Failed is = is
+  over_failed keeper.OutOfMemory is = is
+
+  has_outcome : (outcome : Outcome) → IsLoaded told loaded → HasOutcomeOver loaded told command outcome after → HasOutcome told command outcome after
+  has_outcome outcome is has = record { tables = loaded; loaded = is; comes = has.comes; leaves = has.leaves }
+
+  -- What is done over the tables that were loaded is done over the keeper.
+  pub acts_on : (result : Result Reply ActStop) → IsLoaded told loaded → ActsOver loaded told command result after → ActsOn told command result after
+  acts_on (Ok reply) is (change, has) = (change, has_outcome (Replies change (seen_reply reply)) is has)
+  acts_on (Err (act.Refused refusal)) is has = has_outcome (Refuses (seen_refusal refusal)) is has
+  acts_on (Err (act.Solve stopped)) is (ending, ends, has) = (ending, ends, has_outcome (Stops ending) is has)
+  acts_on (Err (act.Unproved verdict)) is (refusal, says, has) = (refusal, says, has_outcome (office.Unproved refusal) is has)
+  acts_on (Err act.KeeperFault) is same = same
+  acts_on (Err act.OutOfMemory) is same = same
 
 pub acts_failed : (told : Option Tables) (command : Command) (stop : KeeperStop) (after : Option Tables) → after ≡ told → ActsOn told command (Err (stop_of_keeper stop)) after
 acts_failed told command keeper.Failed after is = is

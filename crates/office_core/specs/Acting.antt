@@ -34,8 +34,25 @@ pub record HasOutcome (before : Option Tables) (command : office.Command) (outco
   pub comes : Comes tables command outcome
   pub leaves : after ≡ option_map (λ told. tables_after told outcome) before
 
--- a reply or a refusal is that of the command's outcome over the tables that were loaded. After a fault of the keeper, and if memory runs out,
--- the tables are as before
+-- the outcome of the command over these tables. If the keeper tells its tables, they are changed as the outcome says
+pub record HasOutcomeOver (tables : Tables) (before : Option Tables) (command : office.Command) (outcome : Outcome) (after : Option Tables) : Type 0 where
+  pub comes : Comes tables command outcome
+  pub leaves : after ≡ option_map (λ told. tables_after told outcome) before
+
+-- a reply or a refusal is that of the command's outcome over these tables. After a fault of the keeper, and if memory runs out, the tables
+-- that the keeper tells are as before
+abbrev pub ActsOver : Tables → Option Tables → office.Command → Result Reply ActStop → Option Tables → Type 0
+ActsOver tables before command (Ok reply) after =
+    (change : Option office.Change) × HasOutcomeOver tables before command (Replies change (seen_reply reply)) after
+ActsOver tables before command (Err (Refused refusal)) after = HasOutcomeOver tables before command (Refuses (seen_refusal refusal)) after
+ActsOver tables before command (Err (Solve stopped)) after =
+    (ending : Ending) × IsEnding stopped ending × HasOutcomeOver tables before command (Stops ending) after
+ActsOver tables before command (Err (Unproved verdict)) after =
+    (refusal : reasons.Refusal) × (verdict ≡ reasons.Refused refusal) × HasOutcomeOver tables before command (office.Unproved refusal) after
+ActsOver tables before command (Err KeeperFault) after = after ≡ before
+ActsOver tables before command (Err OutOfMemory) after = after ≡ before
+
+-- the same over the tables that were loaded
 abbrev pub ActsOn : Option Tables → office.Command → Result Reply ActStop → Option Tables → Type 0
 ActsOn before command (Ok reply) after = (change : Option office.Change) × HasOutcome before command (Replies change (seen_reply reply)) after
 ActsOn before command (Err (Refused refusal)) after = HasOutcome before command (Refuses (seen_refusal refusal)) after

@@ -4,7 +4,7 @@ ghost use Rattle.std.specs.Prelude.{◌≡◌, IfSome, OnErr, OnOk, option_map};
 ghost use Rattle.define_offices.specs.Facts.{IsTables};
 ghost use Rattle.define_offices.specs.Steps.{applied};
 ghost use Rattle.office_tables.specs.Changes.{seen_change};
-ghost use Rattle.office_core.specs.Acting.{ActsOn, GoesOn, HasFault, stop_of_decision};
+ghost use Rattle.office_core.specs.Acting.{ActsOn, ActsOver, GoesOn, HasFault, stop_of_decision};
 ghost use Rattle.office_core.specs.Commands.{HasWorkers, seen_command};
 ghost use Rattle.office_core.specs.Keeping.{HasCause, changed};
 
@@ -13,7 +13,7 @@ use crate::deciding::decide;
 use crate::keeper::{Keeper, KeeperStop};
 use crate::stops::{ActStop, DecideStop};
 use office_steps::Reply;
-use office_tables::Change;
+use office_tables::{Change, Tables};
 use outside::Watch;
 use std::alloc::Global;
 use std::thread::Threads;
@@ -50,10 +50,29 @@ fn acted<K: Keeper, R: Threads + Sync, W: Watch + Sync>(
     ensures place { K.place keeper.new ≡ K.place keeper.old }
     ensures fault { HasFault (K.faults keeper.old) (K.faults keeper.new) result }
 {
-    command.facts();
     let tables = keeper.load(alloc)?;
     tables.facts();
-    match decide(rt, alloc, &tables, command, watch) {
+    act_over(rt, alloc, keeper, &tables, command, watch)
+}
+
+/// Does a command over tables that were loaded from the keeper, as `act` does over those that it loads itself.
+pub fn act_over<K: Keeper, R: Threads + Sync, W: Watch + Sync>(
+    rt: &R,
+    alloc: Global,
+    keeper: &mut K,
+    tables: &Tables,
+    command: &Command,
+    watch: &W,
+) -> Result<Reply, ActStop>
+    requires workers { HasWorkers command.now }
+    requires loaded { IfSome (K.tables keeper.old) (λ kept. tables.now ≡ kept) }
+    ensures step { ActsOver tables.now (K.tables keeper.old) (seen_command command.now) result (K.tables keeper.new) }
+    ensures place { K.place keeper.new ≡ K.place keeper.old }
+    ensures fault { HasFault (K.faults keeper.old) (K.faults keeper.new) result }
+{
+    command.facts();
+    tables.facts();
+    match decide(rt, alloc, tables, command, watch) {
         Ok(decided) => {
             let (change, reply) = decided;
             store(alloc, keeper, &change)?;

@@ -1,5 +1,5 @@
 //! The report of a round of an office: what anybody may know of it. Stands on `define_reports`, which says what the report is, and on the
-//! tables and pools of an office (`office_tables`, `office_pools`). No crate stands on it yet; the command `report` will.
+//! tables and pools of an office (`office_tables`, `office_pools`). `command_stores` stands on it.
 //!
 //! Promise: `round_report`, which returns exactly the text of the definition, or why there is none.
 #![tactic(auto)]

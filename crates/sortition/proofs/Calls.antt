@@ -3,8 +3,11 @@ use Rattle.std.proofs.Common.{◌≡◌, ℕ, List, Option, Some, refl, subst, s
 use Rattle.command_meanings.specs.Draw.{DrawMeans}
 use Rattle.command_shell.specs.Formats.{bundle_format}
 use Rattle.command_shell.specs.Told.{Told, object}
-use Rattle.command_stores.specs.Steps.{PoolMeans, StepMeans}
-use Rattle.command_stores.specs.StoreOutcomes.{SilentStoreOutcome}
+use Rattle.command_stores.specs.Imports.{ImportMeans}
+use Rattle.command_stores.specs.Steps.{StepMeans, TextMeans}
+use Rattle.command_stores.specs.StoreOutcomes.{SilentStoreOutcome, TextStoreOutcome}
+use Rattle.command_stores.specs.declared.imports.Import.{Import}
+use Rattle.command_stores.specs.declared.texts.StoreText.{StoreText}
 use Rattle.define_offices.specs.Commands.{Command}
 use Rattle.command_stores.specs.StoreTold.{StoreTold, keeper_told, store_told}
 use Rattle.define_offices.specs.Tables.{Tables}
@@ -24,8 +27,11 @@ pub steps_so : (path store : List ℕ) (one other : Command) (told : StoreTold) 
 steps_so path store one other told same equal right =
     subst (λ it. SilentStoreOutcome store (StepMeans it) told) equal (subst (λ p. SilentStoreOutcome p (StepMeans one) told) same right)
 
-pub pools_so : (path store : List ℕ) (round : ℕ) (told : StoreTold) → path ≡ store → SilentStoreOutcome path (PoolMeans round) told → SilentStoreOutcome store (PoolMeans round) told
-pools_so path store round told same right = subst (λ p. SilentStoreOutcome p (PoolMeans round) told) same right
+pub imports_so : (path store : List ℕ) (import : Import) (told : StoreTold) → path ≡ store → TextStoreOutcome path (ImportMeans import) told → TextStoreOutcome store (ImportMeans import) told
+imports_so path store import told same right = subst (λ p. TextStoreOutcome p (ImportMeans import) told) same right
+
+pub texts_so : (path store : List ℕ) (text : StoreText) (told : StoreTold) → path ≡ store → SilentStoreOutcome path (TextMeans text) told → SilentStoreOutcome store (TextMeans text) told
+texts_so path store text told same right = subst (λ p. SilentStoreOutcome p (TextMeans text) told) same right
 
 -- an outcome that is right for a draw is right for a draw with an equal seal and equal digits
 pub draws_so : (seal digits given_seal given_digits : List ℕ) (told : Told) → seal ≡ given_seal → digits ≡ given_digits →

@@ -12,7 +12,7 @@ use Rattle.define_proof_texts.specs.ProofText.{IsProof, proof_spelling}
 use Rattle.define_proof_texts.proofs.ReadAgain.{spelled_is_read as proof_is_read}
 use Rattle.command_shell.specs.declared.status.Cause.TheVariants.{Input, Spent}
 use Rattle.command_shell.specs.declared.status.Printed.TheVariants.{Done, Refused as Rejected}
-use Rattle.command_shell.specs.Answers.{IsRight, IsTheAnswer, Meaning, Saying, Prints, Stops, status_of}
+use Rattle.command_shell.specs.Answers.{IsRight, IsTheAnswer, RightAnswers, Saying, Prints, Stops, status_of}
 use Rattle.command_shell.specs.Formats.{bundle_format, proof_format}
 use Rattle.command_shell.specs.Lines.{input_limit}
 use Rattle.command_shell.specs.Outcomes.{Answered, Ends, IsAboutSource, IsTold, ReadFault, TooLong, WantOfMemory, WriteFault}
@@ -40,7 +40,7 @@ not_longer (Some left) (Some rest) text limit told within loses =
     let more = loses.1 in
     absurd (omega arith)
 
-module _ {Value : Type 0} (format : Format Value) (Means : Value → Meaning) (told : Told) where
+module _ {Value : Type 0} (format : Format Value) (Means : Value → RightAnswers) (told : Told) where
   -- there is a right answer about `value` with the status of the call
   pub record IsDue (value : Value) : Type 0 where
     pub answer : Saying

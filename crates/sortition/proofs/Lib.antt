@@ -5,5 +5,6 @@ pub mod Promises
 pub mod Checkers
 pub mod Workers
 pub mod Kept
+pub mod Plain
 pub mod SolvedRounds
 pub mod StorePromises

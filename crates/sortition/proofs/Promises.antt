@@ -11,11 +11,11 @@ use Rattle.define_pools.specs.Pool.{Pool}
 use Rattle.define_runs.specs.Run.{Limits}
 use Rattle.command_shell.specs.declared.status.Cause.TheVariants.{Input, Wide, Spent, Rule}
 use Rattle.command_shell.specs.declared.status.Printed.TheVariants.{Done, NoPanel, Refused as Rejected}
-use Rattle.command_shell.specs.Answers.{IsRight, IsTheAnswer, Meaning, Saying, Prints, Stops}
+use Rattle.command_shell.specs.Answers.{IsRight, IsTheAnswer, RightAnswers, Saying, Prints, Stops}
 use Rattle.command_shell.specs.Formats.{IsBundleText, IsPoolText, IsProofText, IsTextOfEither, bundle_format, pool_format, pool_or_bundle_format, proof_format}
 use Rattle.command_shell.specs.declared.formats.PoolOrBundle.{PoolOrBundle}
 use Rattle.command_shell.specs.declared.formats.PoolOrBundle.TheVariants as either
-use Rattle.command_shell.specs.Outcomes.{IsTold, Outcome, TextOutcome}
+use Rattle.command_shell.specs.Outcomes.{IsTold, Outcome, SilentOutcome, TextOutcome}
 use Rattle.command_shell.specs.Subjects.{About, Format}
 use Rattle.command_shell.specs.Told.{Told, Gains, GainsLine, HasFaulted, HeldAll}
 use Rattle.command_meanings.specs.Check.{CheckMeans}
@@ -29,13 +29,13 @@ use Rattle.command_meanings.specs.Seal.{SealMeans}
 use Rattle.command_meanings.specs.Verify.{Shows, VerifyMeans}
 use Rattle.sortition.specs.declared.asked.Asked.{Asked}
 use Rattle.sortition.specs.declared.asked.Asked.TheVariants as asks
-use Rattle.sortition.specs.Headline.{SpentAlone, FailedAlone, HeldBundle, HeldEither, HeldNoText, HeldPool, HeldProof, PassedAlone, BrokenAlone, IsShown, TellsBundle, DoneAlone, TellsDrawn, TellsItsBundle, NoneAlone, TellsPanel, TellsProof, TellsSeal, TellsShown, TellsSummary, TellsValid, TextIsWrong, is_status}
-use Rattle.sortition.specs.Office.{Answers, AnswersAlone}
+use Rattle.sortition.specs.Headline.{SpentAlone, CheckFailed, HeldBundle, HeldEither, HeldNoText, HeldPool, HeldProof, PassedAlone, BrokenAlone, IsShown, TellsBundle, DoneAlone, TellsDrawn, TellsItsBundle, NoneAlone, TellsPanel, TellsProof, TellsSeal, TellsShown, TellsSummary, TellsValid, WrongAlone, is_status}
+use Rattle.sortition.specs.Office.{Answers, AnswersAlone, IsUsage}
 use Rattle.sortition.proofs.Leximin.{leximin}
 use Rattle.sortition.proofs.Reading.{IsInput, Long, NoText, OfValue, about_done, about_input, about_no_panel, about_refused, about_rule, about_spent, about_wide, is_done, is_input, is_no_panel, is_refused, is_rule, is_spent, is_wide, outcome_is_status, outcome_not_nine, outcome_not_seven, outcome_not_two, reads_not, said_at, text_is_status, text_not_nine, text_not_two, text_writes_not, writes_not}
 
 -- the answer is the one right answer about the value
-abbrev one : {Value : Type 0} → (Value → Meaning) → Value → Saying → Type 0
+abbrev one : {Value : Type 0} → (Value → RightAnswers) → Value → Saying → Type 0
 one Means value = IsTheAnswer (Means value)
 
 bundle_not_no_panel : (proof : Proof) (text : List ℕ) → IsRight (BundleMeans proof) (Prints NoPanel text) → ⊥
@@ -184,8 +184,7 @@ module _ (told : Told) where
   done (Some (asks.Lottery it)) right s = lottery_told it.limits right s
   done (Some (asks.Check it)) right s = valid_told it.nodes right s
   done (Some (asks.Make it)) right s = summary_told it.seed it.volunteers it.limits right.ends s
-  done (Some (asks.Step store step)) right s = absurd right
-  done (Some (asks.Pool store round)) right s = absurd right
+  done other right s = absurd right
 
   -- ---- no panel is answered
 
@@ -210,24 +209,31 @@ module _ (told : Told) where
       let at = said_at told 1 (λ e. absurd (cc)) (λ e. absurd (cc)) s right.ends in
       let is = is_no_panel at.0 at.1 in
       (subst (IsTheAnswer (MakeMeans it.seed it.volunteers it.limits)) is.1 at.2.right).right.finds.none
-  no_panel (Some (asks.Step store step)) right s = absurd right
-  no_panel (Some (asks.Pool store round)) right s = absurd right
+  no_panel other right s = absurd right
 
   -- ---- refusals
 
+  -- how a call ends whose words ask for `it`: they ask for nothing, or for a command that reads the source, or for one that reads nothing
+  data HowItEnds (it : Option Asked) : Type 1 where
+    ByWords : it ≡ None → IsUsage told → HowItEnds it
+    ByText : (Means : List ℕ → Saying → Type 0) → TextOutcome Means told → HowItEnds it
+    InSilence : (Right : Saying → Type 0) → SilentOutcome Right told → HowItEnds it
+
+  how_it_ends : (it : Option Asked) → AnswersAlone it told → HowItEnds it
+  how_it_ends None right = ByWords refl right
+  how_it_ends (Some (asks.Make it)) right = InSilence _ right
+  how_it_ends (Some (asks.Step store step)) right = absurd right
+  how_it_ends (Some (asks.Import store import)) right = absurd right
+  how_it_ends (Some (asks.Text store text)) right = absurd right
+  how_it_ends other right = ByText _ right
+
+  usage_so : (it : Option Asked) → HowItEnds it → told.status ≡ 2 → it ≡ None
+  usage_so it (ByWords none usage) s = none
+  usage_so it (ByText Means ends) s = absurd (text_not_two told ends s)
+  usage_so it (InSilence Right silent) s = absurd (outcome_not_two told silent.ends s)
+
   pub usage : (it : Option Asked) → AnswersAlone it told → told.status ≡ 2 → it ≡ None
-  usage None right s = refl
-  usage (Some (asks.Prove it)) right s = absurd (text_not_two told right s)
-  usage (Some (asks.Verify it)) right s = absurd (text_not_two told right s)
-  usage (Some (asks.Bundle it)) right s = absurd (text_not_two told right s)
-  usage (Some (asks.Seal it)) right s = absurd (text_not_two told right s)
-  usage (Some (asks.Draw seal digits)) right s = absurd (text_not_two told right s)
-  usage (Some (asks.Panel it)) right s = absurd (text_not_two told right s)
-  usage (Some (asks.Lottery it)) right s = absurd (text_not_two told right s)
-  usage (Some (asks.Check it)) right s = absurd (text_not_two told right s)
-  usage (Some (asks.Make it)) right s = absurd (outcome_not_two told right.ends s)
-  usage (Some (asks.Step store step)) right s = absurd right
-  usage (Some (asks.Pool store round)) right s = absurd right
+  usage it right s = usage_so it (how_it_ends it right) s
 
   -- if no answer of a command about a value has status 3, then status 3 comes only if the input is outside the format or too long
   no_text : {Value : Type 0} (format : Format Value) (Means : Value → Saying → Type 0) → ((value : Value) (line : List ℕ) → Means value (Stops Input line) → ⊥) →
@@ -236,12 +242,12 @@ module _ (told : Told) where
   no_text format Means never (Long held) = inr held
   no_text format Means never (OfValue line is) = absurd (never is.value line is.means)
 
-  no_draw : (seal digits : List ℕ) → IsInput bundle_format (one (DrawMeans seal digits)) told → TextIsWrong (Some (asks.Draw seal digits)) told
+  no_draw : (seal digits : List ℕ) → IsInput bundle_format (one (DrawMeans seal digits)) told → WrongAlone (Some (asks.Draw seal digits)) told
   no_draw seal digits (NoText bytes fault held fails) = inl (inl (bytes, fault, held, fails))
   no_draw seal digits (Long held) = inl (inr held)
   no_draw seal digits (OfValue line is) = inr (is.value, held_bundle is.value is.bytes is.held is.spells, is.means.right.total)
 
-  pub text : (it : Option Asked) → AnswersAlone it told → told.status ≡ 3 → TextIsWrong it told
+  pub text : (it : Option Asked) → AnswersAlone it told → told.status ≡ 3 → WrongAlone it told
   text None right s = absurd (cc (right.stopped.status, s))
   text (Some (asks.Prove it)) right s = no_text pool_or_bundle_format (ProvesWithin it.pivots it.nodes) (λ value line means. means.right) (about_input pool_or_bundle_format (ProvesWithin it.pivots it.nodes) told right s)
   text (Some (asks.Verify it)) right s = no_text proof_format (one VerifyMeans) (λ value line means. means.right) (about_input proof_format (one VerifyMeans) told right s)
@@ -255,8 +261,7 @@ module _ (told : Told) where
       let at = said_at told 3 (λ e. absurd (cc)) (λ e. absurd (cc)) s right.ends in
       let is = is_input at.0 at.1 in
       (subst (IsTheAnswer (MakeMeans it.seed it.volunteers it.limits)) is.1 at.2.right).right
-  text (Some (asks.Step store step)) right s = absurd right
-  text (Some (asks.Pool store round)) right s = absurd right
+  text other right s = absurd right
 
   pub number : (it : Option Asked) → AnswersAlone it told → told.status ≡ 4 → PassedAlone it told
   number None right s = absurd (cc (right.stopped.status, s))
@@ -275,8 +280,7 @@ module _ (told : Told) where
       let at = said_at told 4 (λ e. absurd (cc)) (λ e. absurd (cc)) s right.ends in
       let is = is_wide at.0 at.1 in
       (is.0, (subst (λ said. IsTold said told) is.1 at.2.is_told).errs, (subst (IsTheAnswer (MakeMeans it.seed it.volunteers it.limits)) is.1 at.2.right).right)
-  number (Some (asks.Step store step)) right s = absurd right
-  number (Some (asks.Pool store round)) right s = absurd right
+  number other right s = absurd right
 
   pub budget : (it : Option Asked) → AnswersAlone it told → told.status ≡ 5 → SpentAlone it told
   budget None right s = absurd (cc (right.stopped.status, s))
@@ -299,8 +303,7 @@ module _ (told : Told) where
       let at = said_at told 5 (λ e. absurd (cc)) (λ e. absurd (cc)) s right.ends in
       let is = is_spent at.0 at.1 in
       (is.0, (subst (λ said. IsTold said told) is.1 at.2.is_told).errs, (subst (IsTheAnswer (MakeMeans it.seed it.volunteers it.limits)) is.1 at.2.right).right)
-  budget (Some (asks.Step store step)) right s = absurd right
-  budget (Some (asks.Pool store round)) right s = absurd right
+  budget other right s = absurd right
 
   -- if `bundle` refuses the proof that the source held, this proof is one that there is no quota panel
   no_lottery : (proof : Proof) (bytes line : List ℕ) → HeldAll told.source bytes → IsProofText proof bytes → GainsLine told.errs line → IsRight (BundleMeans proof) (Stops Rule line) →
@@ -325,40 +328,27 @@ module _ (told : Told) where
       let at = said_at told 6 (λ e. absurd (cc)) (λ e. absurd (cc)) s right.ends in
       let is = is_rule at.0 at.1 in
       (subst (IsTheAnswer (MakeMeans it.seed it.volunteers it.limits)) is.1 at.2.right).right
-  rule (Some (asks.Step store step)) right s = absurd right
-  rule (Some (asks.Pool store round)) right s = absurd right
+  rule other right s = absurd right
+
+  read_fault_so : (it : Option Asked) → HowItEnds it → told.status ≡ 7 → HasFaulted told.source
+  read_fault_so it (ByWords none usage) s = absurd (cc (usage.stopped.status, s))
+  read_fault_so it (ByText Means ends) s = reads_not told ends s
+  read_fault_so it (InSilence Right silent) s = absurd (outcome_not_seven told silent.ends s)
 
   pub read_fault : (it : Option Asked) → AnswersAlone it told → told.status ≡ 7 → HasFaulted told.source
-  read_fault None right s = absurd (cc (right.stopped.status, s))
-  read_fault (Some (asks.Prove it)) right s = reads_not told right s
-  read_fault (Some (asks.Verify it)) right s = reads_not told right s
-  read_fault (Some (asks.Bundle it)) right s = reads_not told right s
-  read_fault (Some (asks.Seal it)) right s = reads_not told right s
-  read_fault (Some (asks.Draw seal digits)) right s = reads_not told right s
-  read_fault (Some (asks.Panel it)) right s = reads_not told right s
-  read_fault (Some (asks.Lottery it)) right s = reads_not told right s
-  read_fault (Some (asks.Check it)) right s = reads_not told right s
-  read_fault (Some (asks.Make it)) right s = absurd (outcome_not_seven told right.ends s)
-  read_fault (Some (asks.Step store step)) right s = absurd right
-  read_fault (Some (asks.Pool store round)) right s = absurd right
+  read_fault it right s = read_fault_so it (how_it_ends it right) s
+
+  write_fault_so : (it : Option Asked) → HowItEnds it → told.status ≡ 8 → HasFaulted told.out
+  write_fault_so it (ByWords none usage) s = absurd (cc (usage.stopped.status, s))
+  write_fault_so it (ByText Means ends) s = text_writes_not told ends s
+  write_fault_so it (InSilence Right silent) s = writes_not told silent.ends s
 
   pub write_fault : (it : Option Asked) → AnswersAlone it told → told.status ≡ 8 → HasFaulted told.out
-  write_fault None right s = absurd (cc (right.stopped.status, s))
-  write_fault (Some (asks.Prove it)) right s = text_writes_not told right s
-  write_fault (Some (asks.Verify it)) right s = text_writes_not told right s
-  write_fault (Some (asks.Bundle it)) right s = text_writes_not told right s
-  write_fault (Some (asks.Seal it)) right s = text_writes_not told right s
-  write_fault (Some (asks.Draw seal digits)) right s = text_writes_not told right s
-  write_fault (Some (asks.Panel it)) right s = text_writes_not told right s
-  write_fault (Some (asks.Lottery it)) right s = text_writes_not told right s
-  write_fault (Some (asks.Check it)) right s = text_writes_not told right s
-  write_fault (Some (asks.Make it)) right s = writes_not told right.ends s
-  write_fault (Some (asks.Step store step)) right s = absurd right
-  write_fault (Some (asks.Pool store round)) right s = absurd right
+  write_fault it right s = write_fault_so it (how_it_ends it right) s
 
   -- if `prove` prints a refusal, the source held a bundle, and with some trees this bundle is a refused proof
   given_fails : (about : PoolOrBundle) (bytes : List ℕ) → HeldAll told.source bytes → IsTextOfEither about bytes → (pivots nodes : ℕ) (text : List ℕ) → Gains told.out text →
-      ProvesWithin pivots nodes about (Prints Rejected text) → FailedAlone (Some (asks.Prove (record { pivots = pivots; nodes = nodes }))) told
+      ProvesWithin pivots nodes about (Prints Rejected text) → CheckFailed (Some (asks.Prove (record { pivots = pivots; nodes = nodes }))) told
   given_fails (either.Pool pool) bytes held is pivots nodes text out means = absurd (cc (means.right.is_given))
   given_fails (either.Bundle bundle) bytes held is pivots nodes text out means =
       let same : means.right.its ≡ bundle.answer = cc (means.right.is_given) in (
@@ -371,7 +361,7 @@ module _ (told : Told) where
         subst (Gains told.out) means.right.line out,
       )
 
-  pub check : (it : Option Asked) → AnswersAlone it told → told.status ≡ 11 → FailedAlone it told
+  pub check : (it : Option Asked) → AnswersAlone it told → told.status ≡ 11 → CheckFailed it told
   check None right s = absurd (cc (right.stopped.status, s))
   check (Some (asks.Prove it)) right s =
       let at = about_refused pool_or_bundle_format (ProvesWithin it.pivots it.nodes) told right s in
@@ -391,34 +381,21 @@ module _ (told : Told) where
       let at = said_at told 11 (λ e. absurd (cc)) (λ e. absurd (cc)) s right.ends in
       let is = is_refused at.0 at.1 in
       (subst (IsTheAnswer (MakeMeans it.seed it.volunteers it.limits)) is.1 at.2.right).right
-  check (Some (asks.Step store step)) right s = absurd right
-  check (Some (asks.Pool store round)) right s = absurd right
+  check other right s = absurd right
+
+  statuses_so : (it : Option Asked) → HowItEnds it → is_status told.status ≡ true
+  statuses_so it (ByWords none usage) = ap is_status usage.stopped.status
+  statuses_so it (ByText Means ends) = text_is_status told ends
+  statuses_so it (InSilence Right silent) = outcome_is_status told silent.ends
 
   pub statuses : (it : Option Asked) → AnswersAlone it told → is_status told.status ≡ true
-  statuses None right = ap is_status right.stopped.status
-  statuses (Some (asks.Prove it)) right = text_is_status told right
-  statuses (Some (asks.Verify it)) right = text_is_status told right
-  statuses (Some (asks.Bundle it)) right = text_is_status told right
-  statuses (Some (asks.Seal it)) right = text_is_status told right
-  statuses (Some (asks.Draw seal digits)) right = text_is_status told right
-  statuses (Some (asks.Panel it)) right = text_is_status told right
-  statuses (Some (asks.Lottery it)) right = text_is_status told right
-  statuses (Some (asks.Check it)) right = text_is_status told right
-  statuses (Some (asks.Make it)) right = outcome_is_status told right.ends
-  statuses (Some (asks.Step store step)) right = absurd right
-  statuses (Some (asks.Pool store round)) right = absurd right
+  statuses it right = statuses_so it (how_it_ends it right)
+
+  not_nine_so : (it : Option Asked) → HowItEnds it → told.status ≡ 9 → ⊥
+  not_nine_so it (ByWords none usage) s = cc (usage.stopped.status, s)
+  not_nine_so it (ByText Means ends) s = text_not_nine told ends s
+  not_nine_so it (InSilence Right silent) s = outcome_not_nine told silent.ends s
 
   -- without a store no status is that of a keeper's fault
   pub not_nine : (it : Option Asked) → AnswersAlone it told → told.status ≡ 9 → ⊥
-  not_nine None right s = cc (right.stopped.status, s)
-  not_nine (Some (asks.Prove it)) right s = text_not_nine told right s
-  not_nine (Some (asks.Verify it)) right s = text_not_nine told right s
-  not_nine (Some (asks.Bundle it)) right s = text_not_nine told right s
-  not_nine (Some (asks.Seal it)) right s = text_not_nine told right s
-  not_nine (Some (asks.Draw seal digits)) right s = text_not_nine told right s
-  not_nine (Some (asks.Panel it)) right s = text_not_nine told right s
-  not_nine (Some (asks.Lottery it)) right s = text_not_nine told right s
-  not_nine (Some (asks.Check it)) right s = text_not_nine told right s
-  not_nine (Some (asks.Make it)) right s = outcome_not_nine told right.ends s
-  not_nine (Some (asks.Step store step)) right s = right
-  not_nine (Some (asks.Pool store round)) right s = right
+  not_nine it right s = not_nine_so it (how_it_ends it right) s

@@ -1,5 +1,6 @@
 -- The outcomes of a solve, by the round and the end of the run.
 use Rattle.std.proofs.Common.{◌≡◌, ◌∙◌, ℕ, List, [], Option, Some, None, Result, Ok, Err, refl, sym, subst}
+use Rattle.std.proofs.lemmas.Bool.{false≢true}
 use Rattle.define_pools.specs.Certificate.{Answer}
 use Rattle.define_pools.specs.Pool.{Pool, panels}
 use Rattle.define_pools.proofs.Greatest.{greatest_from_Certifies}
@@ -9,7 +10,8 @@ use Rattle.define_runs.specs.Run.{Ending, Limits, RunEnds, run_limits}
 use Rattle.define_searches.specs.Classes.{are_alike}
 use Rattle.define_searches.proofs.AlikeClasses.{alike_makes}
 use Rattle.laws_of_runs.proofs.NoPanels.{none_where_no_panel}
-use Rattle.define_offices.specs.Commands.{Change, Command, Lines, NoPanel, Outcome, Refusal, Replies, Reply, Solve, SolvedWith, Stops}
+use Rattle.define_checks.specs.Reasons as reasons
+use Rattle.define_offices.specs.Commands.{Change, Command, Lines, NoPanel, Outcome, Refusal, Replies, Reply, Solve, SolvedWith, Stops, Unproved}
 use Rattle.define_offices.specs.Deciding.{Finds, FindsNone, IsDecided, NeedsRun, asked, asked_over, solve_in, solved}
 use Rattle.define_offices.specs.Facts.{IsTables}
 use Rattle.define_offices.specs.Pools.{pool_of}
@@ -18,6 +20,7 @@ use Rattle.define_offices.specs.Tables.{Round, Open, Solved, Sealed, Drawn, Tabl
 use Rattle.laws_of_offices.proofs.Steps.{Answers, Leaves, Settles, Stays, solve_settles}
 use Rattle.sortition.specs.Headline.{HadBundle, Opened, SolvesRound}
 use Rattle.sortition.proofs.Leximin.{leximin}
+use Rattle.sortition.proofs.Plain.{solve_plain}
 
 module _ (tables : Tables) (number : ℕ) (limits : Limits) where
   -- the round is open and has this pool, and the run over it ends so
@@ -44,17 +47,6 @@ module _ (tables : Tables) (number : ℕ) (limits : Limits) where
 
   -- ---- a run that stops
 
-  stops_over : (result : Result Pool Refusal) (ending : Ending) → asked_over result ≡ IsDecided (Stops ending) → ⊥
-  stops_over (Ok pool) ending h = cc
-  stops_over (Err refusal) ending h = cc
-
-  stops_at_once : (found : Option Round) (ending : Ending) → solve_in tables number found ≡ IsDecided (Stops ending) → ⊥
-  stops_at_once None ending h = cc
-  stops_at_once (Some Open) ending h = stops_over (pool_of tables number) ending h
-  stops_at_once (Some (Solved bundle)) ending h = cc
-  stops_at_once (Some (Sealed bundle)) ending h = cc
-  stops_at_once (Some (Drawn bundle digits dropped)) ending h = cc
-
   same_stop : (n : ℕ) (pool : Pool) (own ending : Ending) → Stops ending ≡ solved n pool own → own ≡ ending
   same_stop n pool (run.Found last answer) ending h = absurd (cc)
   same_stop n pool run.NoPanel ending h = absurd (cc)
@@ -65,25 +57,17 @@ module _ (tables : Tables) (number : ℕ) (limits : Limits) where
 
   -- If the outcome of a solve is that the run stops, the run over the round's pool ends so.
   pub solve_stops : (ending : Ending) → Comes tables (Solve number limits) (Stops ending) → Ran ending
-  solve_stops ending (AtOnce h) = absurd (stops_at_once (named_round tables.rounds number) ending h)
+  solve_stops ending (AtOnce h) = absurd (false≢true (solve_plain tables number (named_round tables.rounds number) (Stops ending) h))
   solve_stops ending (ByRun n l pool own same needs ends comes) = subst Ran (same_stop n pool own ending comes) (ran n l pool own same needs ends)
 
   -- ---- no panel
 
-  none_over : (result : Result Pool Refusal) (change : Option Change) → asked_over result ≡ IsDecided (Replies change NoPanel) → ⊥
-  none_over (Ok pool) change h = cc
-  none_over (Err refusal) change h = cc
+  none_at_once : (change : Option Change) → solve_in tables number (named_round tables.rounds number) ≡ IsDecided (Replies change NoPanel) → ⊥
+  none_at_once change h = false≢true (solve_plain tables number (named_round tables.rounds number) (Replies change NoPanel) h)
 
-  none_at_once : (found : Option Round) (change : Option Change) → solve_in tables number found ≡ IsDecided (Replies change NoPanel) → ⊥
-  none_at_once None change h = cc
-  none_at_once (Some Open) change h = none_over (pool_of tables number) change h
-  none_at_once (Some (Solved bundle)) change h = cc
-  none_at_once (Some (Sealed bundle)) change h = cc
-  none_at_once (Some (Drawn bundle digits dropped)) change h = cc
-
-  none_run : (n : ℕ) (pool : Pool) (ending : Ending) (change : Option Change) → Replies change NoPanel ≡ solved n pool ending → ending ≡ run.NoPanel
+  none_run : (n : ℕ) (pool : Pool) (ending : Ending) (change : Option Change) → Replies change NoPanel ≡ solved n pool ending → (ending ≡ run.NoPanel) × (change ≡ None)
   none_run n pool (run.Found last answer) change h = absurd (cc)
-  none_run n pool run.NoPanel change h = refl
+  none_run n pool run.NoPanel change h = (refl, cc)
   none_run n pool (run.TooWide stood pass) change h = absurd (cc)
   none_run n pool (run.TotalPasses stood pass) change h = absurd (cc)
   none_run n pool (run.PivotsSpent stood) change h = absurd (cc)
@@ -91,10 +75,30 @@ module _ (tables : Tables) (number : ℕ) (limits : Limits) where
 
   -- If a solve replies that there is no panel, the round is open and its pool has no quota panel.
   pub solve_none : (change : Option Change) → Comes tables (Solve number limits) (Replies change NoPanel) → (it : Ran run.NoPanel) × (panels it.pool ≡ [])
-  solve_none change (AtOnce h) = absurd (none_at_once (named_round tables.rounds number) change h)
+  solve_none change (AtOnce h) = absurd (none_at_once change h)
   solve_none change (ByRun n l pool own same needs ends comes) =
-      let it = subst Ran (none_run n pool own change comes) (ran n l pool own same needs ends) in
+      let it = subst Ran (none_run n pool own change comes).0 (ran n l pool own same needs ends) in
       (it, none_where_no_panel it.pool (are_alike it.pool) (alike_makes it.pool) (run_limits limits) it.ends)
+
+  -- A solve that replies that there is no panel changes nothing.
+  pub none_stays : (change : Option Change) → Comes tables (Solve number limits) (Replies change NoPanel) → change ≡ None
+  none_stays change (AtOnce h) = absurd (none_at_once change h)
+  none_stays change (ByRun n l pool own same needs ends comes) = (none_run n pool own change comes).1
+
+  -- ---- no refused proof
+
+  check_run : (n : ℕ) (pool : Pool) (ending : Ending) (refusal : reasons.Refusal) → Unproved refusal ≡ solved n pool ending → ⊥
+  check_run n pool (run.Found last answer) refusal h = cc
+  check_run n pool run.NoPanel refusal h = cc
+  check_run n pool (run.TooWide stood pass) refusal h = cc
+  check_run n pool (run.TotalPasses stood pass) refusal h = cc
+  check_run n pool (run.PivotsSpent stood) refusal h = cc
+  check_run n pool (run.NodesSpent stood) refusal h = cc
+
+  -- No solve ends with a refused proof.
+  pub solve_checks_none : (refusal : reasons.Refusal) → Comes tables (Solve number limits) (Unproved refusal) → ⊥
+  solve_checks_none refusal (AtOnce h) = false≢true (solve_plain tables number (named_round tables.rounds number) (Unproved refusal) h)
+  solve_checks_none refusal (ByRun n l pool own same needs ends comes) = check_run n pool own refusal comes
 
   -- ---- a round that is answered
 

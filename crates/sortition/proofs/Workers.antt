@@ -2,7 +2,7 @@
 -- nothing.
 use Rattle.std.proofs.Common.{◌≡◌, ◌≤◌, ℕ, List, length, Some, sym, subst, inl, inr}
 use Rattle.std.specs.Prelude.{◌≢◌}
-use Rattle.command_shell.specs.Answers.{IsRight, IsTheAnswer, Meaning, Saying}
+use Rattle.command_shell.specs.Answers.{IsRight, IsTheAnswer, RightAnswers, Saying}
 use Rattle.command_shell.specs.Lines.{input_limit}
 use Rattle.command_shell.specs.Outcomes.{Answered, Ends, IsAboutSource, IsTold, ReadFault, TooLong, WantOfMemory, WriteFault}
 use Rattle.command_shell.specs.Subjects.{About, AboutFault, AboutValue, Format}
@@ -11,7 +11,7 @@ use Rattle.sortition.specs.Headline.{TellTheSame}
 use Rattle.sortition.specs.Office.{Answers}
 use Rattle.sortition.proofs.Checkers.{not_longer, same_text}
 
-module _ {Value : Type 0} (format : Format Value) (Means : Value → Meaning) where
+module _ {Value : Type 0} (format : Format Value) (Means : Value → RightAnswers) where
   abbrev OneAbout : List ℕ → Saying → Type 0
   OneAbout = About format (λ value. IsTheAnswer (Means value))
 

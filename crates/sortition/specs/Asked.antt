@@ -1,6 +1,10 @@
 -- What the words of a call ask for: a command with its arguments. `given_in` (command_words) matches the words to the program's table of
 -- commands and options; this file tests the ranges of the numbers and makes the command. The contract of `office` cites it.
 use Rattle.std.specs.Prelude.{◌&&◌, ℕ, List, Option, Some, None, codes, if◌then◌else◌, nat_le, option_and_then, option_map}
+use Rattle.command_stores.specs.declared.imports.Import.{Import}
+use Rattle.command_stores.specs.declared.imports.Import.TheVariants as imports
+use Rattle.command_stores.specs.declared.texts.StoreText.{StoreText}
+use Rattle.command_stores.specs.declared.texts.StoreText.TheVariants as texts
 use Rattle.command_words.specs.Given.{Given, number_of, text_of}
 use Rattle.command_words.specs.Words.{given_in}
 use Rattle.command_words.specs.declared.words.CommandName.{CommandName}
@@ -8,6 +12,7 @@ use Rattle.command_words.specs.declared.words.CommandName.TheVariants as name
 use Rattle.define_runs.specs.Run.{Limits}
 use Rattle.sortition.specs.declared.asked.Asked.{Asked}
 use Rattle.sortition.specs.declared.asked.Asked.TheVariants as asks
+use Rattle.sortition.specs.declared.steps.Step.{Step}
 use Rattle.sortition.specs.declared.steps.Step.TheVariants as steps
 
 abbrev pub limits_from : ℕ → ℕ → ℕ → Option Limits
@@ -49,15 +54,21 @@ make_asked given =
 abbrev pub round_in : Given → Option ℕ
 round_in given = number_of (codes "round") given
 
-abbrev pub seal_round_asked : Given → List ℕ → Option Asked
-seal_round_asked given store = option_map (λ round. asks.Step store (steps.Seal round)) (round_in given)
+-- a command of the office over the store that the words name
+abbrev pub step_asked : Step → Given → Option Asked
+step_asked step given = option_map (λ store. asks.Step store step) (text_of (codes "store") given)
 
-abbrev pub draw_round_asked : Given → List ℕ → List ℕ → List ℕ → Option Asked
-draw_round_asked given store seal digits = option_map (λ round. asks.Step store (steps.Draw round seal digits)) (round_in given)
+-- an import into the store that the words name
+abbrev pub import_asked : Import → Given → Option Asked
+import_asked import given = option_map (λ store. asks.Import store import) (text_of (codes "store") given)
+
+-- a text that is made of the tables of the store that the words name
+abbrev pub text_asked : StoreText → Given → Option Asked
+text_asked text given = option_map (λ store. asks.Text store text) (text_of (codes "store") given)
 
 -- without a store a draw is from a bundle
 abbrev pub draw_from : Given → List ℕ → List ℕ → Option (List ℕ) → Option Asked
-draw_from given seal digits (Some store) = draw_round_asked given store seal digits
+draw_from given seal digits (Some store) = option_and_then (λ round. step_asked (steps.Draw round seal digits) given) (round_in given)
 draw_from given seal digits None = Some (asks.Draw seal digits)
 
 abbrev pub draw_asked : Given → Option Asked
@@ -67,28 +78,18 @@ draw_asked given =
 
 -- without a store a seal is that of a bundle
 abbrev pub seal_from : Given → Option (List ℕ) → Option Asked
-seal_from given (Some store) = seal_round_asked given store
+seal_from given (Some store) = option_and_then (λ round. step_asked (steps.Seal round) given) (round_in given)
 seal_from given None = Some (asks.Seal (record {}))
 
 abbrev pub solve_asked : Given → Option Asked
 solve_asked given =
-    option_and_then (λ store.
     option_and_then (λ round.
-    option_and_then (λ limits. option_map (λ workers. asks.Step store (steps.Solve round limits workers)) (workers_in given)) (limits_in given))
-    (round_in given)) (text_of (codes "store") given)
-
--- a command about a round of the store that the words name
-abbrev pub round_asked : Given → (List ℕ → ℕ → Asked) → Option Asked
-round_asked given command = option_and_then (λ store. option_map (command store) (round_in given)) (text_of (codes "store") given)
+    option_and_then (λ limits. option_and_then (λ workers. step_asked (steps.Solve round limits workers) given) (workers_in given)) (limits_in given))
+    (round_in given)
 
 abbrev pub drop_asked : Given → Option Asked
 drop_asked given =
-    option_and_then (λ store. option_and_then (λ round. option_map (λ id. asks.Step store (steps.Drop round id)) (text_of (codes "id") given)) (round_in given))
-    (text_of (codes "store") given)
-
-abbrev pub next_asked : Given → Option Asked
-next_asked given =
-    option_and_then (λ store. option_map (λ after. asks.Step store (steps.NextRound after)) (number_of (codes "after") given)) (text_of (codes "store") given)
+    option_and_then (λ round. option_and_then (λ id. step_asked (steps.Drop round id) given) (text_of (codes "id") given)) (round_in given)
 
 abbrev pub command_asked : CommandName → Given → Option Asked
 command_asked name.Prove given =
@@ -105,9 +106,13 @@ command_asked name.Check given = option_map (λ nodes. asks.Check (record { node
 command_asked name.Make given = make_asked given
 command_asked name.Solve given = solve_asked given
 command_asked name.Drop given = drop_asked given
-command_asked name.NextRound given = next_asked given
-command_asked name.Show given = round_asked given (λ store round. asks.Step store (steps.Show round))
-command_asked name.Pool given = round_asked given asks.Pool
+command_asked name.NextRound given = option_and_then (λ after. step_asked (steps.NextRound after) given) (number_of (codes "after") given)
+command_asked name.Show given = option_and_then (λ round. step_asked (steps.Show round) given) (round_in given)
+command_asked name.Report given = option_and_then (λ round. text_asked (texts.Report round) given) (round_in given)
+command_asked name.Pool given = option_and_then (λ round. text_asked (texts.Pool round) given) (round_in given)
+command_asked name.ImportCharter given = import_asked imports.Charter given
+command_asked name.ImportRules given = import_asked imports.Rules given
+command_asked name.ImportRegister given = import_asked imports.Register given
 
 -- the command with its arguments, or None if a value is missing or out of its range
 abbrev pub asked_by : Given → Option Asked

@@ -21,22 +21,29 @@ use Rattle.command_meanings.specs.Verify.{shown_line}
 use Rattle.command_proofs.specs.declared.verify.Verify.{Verify}
 use Rattle.command_shell.specs.Answers.{Saying}
 use Rattle.command_shell.specs.Formats.{bundle_format, pool_format, pool_or_bundle_format, proof_format}
-use Rattle.command_shell.specs.Lines.{input_limit}
+use Rattle.command_shell.specs.Lines.{input_limit, input_line}
 use Rattle.command_shell.specs.Outcomes.{IsTold, IsTooLong}
 use Rattle.command_shell.specs.Subjects.{Format}
 use Rattle.command_shell.specs.Told.{Bytes, Told, Gains, GainsLine, HasFaulted, HeldAll, HeldMore}
+use Rattle.command_stores.specs.Imports.{ReadsFile}
+use Rattle.command_stores.specs.Steps.{stored_text}
 use Rattle.command_stores.specs.StoreTold.{KeepsTables, StoreTold}
+use Rattle.command_stores.specs.declared.imports.Import.{Import}
+use Rattle.command_stores.specs.declared.imports.Import.TheVariants.{Register}
+use Rattle.command_stores.specs.declared.texts.StoreText.{StoreText}
 use Rattle.define_additions.specs.ProofVerdict.{OfLottery, OfNoPanel, Proof, verdict}
 use Rattle.define_additions.specs.Refusals.{RefusalMeans}
 use Rattle.define_additions.specs.TreeLines.{TreeLine}
 use Rattle.define_bundles.specs.BundleText.{Bundle, IsBundle, bundle_spelling, bundle_text}
 use Rattle.define_checks.specs.Reasons.{Refused, Valid}
 use Rattle.define_checks.specs.Reasons as reasons
+use Rattle.define_imports.specs.Cells as imports
 use Rattle.define_lines.specs.Lines.{Fault}
 use Rattle.define_lines.specs.Lines.{text_of}
 use Rattle.define_made_pools.specs.MadePools.{made_pool}
 use Rattle.define_made_pools.specs.Summary.{summary_text}
-use Rattle.define_offices.specs.Commands.{Change, Command, Lines, NoPanel, Refusal, Refuses, Replies, Solve, SolvedWith, Unproved}
+use Rattle.define_offices.specs.Commands.{Change, Command, Incomplete, Lines, Refusal, Refuses, Replies, Solve, SolvedWith}
+use Rattle.define_offices.specs.declared.Part.TheVariants as part
 use Rattle.define_offices.specs.Lines.{rule_line}
 use Rattle.define_offices.specs.Pools.{pool_of}
 use Rattle.define_offices.specs.Steps.{Comes, applied}
@@ -183,7 +190,6 @@ pub record TellsPanel (nodes : ℕ) (told : Told) : Type 0 where
   pub panel : PrintsFirstPanel nodes pool text
 
 abbrev pub DoneAlone : Option Asked → Told → Type 0
-DoneAlone None told = ⊥
 DoneAlone (Some (asks.Prove it)) told = TellsProof told
 DoneAlone (Some (asks.Verify it)) told = TellsShown told
 DoneAlone (Some (asks.Bundle it)) told = TellsItsBundle told
@@ -193,8 +199,8 @@ DoneAlone (Some (asks.Panel it)) told = TellsPanel it.nodes told
 DoneAlone (Some (asks.Lottery it)) told = TellsBundle told
 DoneAlone (Some (asks.Check it)) told = TellsValid told
 DoneAlone (Some (asks.Make it)) told = TellsSummary it.limits (made_pool it.seed it.volunteers) told
-DoneAlone (Some (asks.Step store step)) told = ⊥
-DoneAlone (Some (asks.Pool store round)) told = ⊥
+-- commands over a store are spoken of below
+DoneAlone other told = ⊥
 
 -- ---- status 1: there is no quota panel
 
@@ -216,22 +222,20 @@ abbrev pub HeldNoText : {Value : Type 0} → Format Value → Told → Type 0
 HeldNoText format told =
     ((bytes : List ℕ) × (fault : Fault) × HeldAll told.source bytes × (format.read bytes ≡ Err fault)) ⊎ HeldMore told.source input_limit
 
--- status 3: the input is outside its format, or too long. `make` reads nothing, so it never has status 3
-abbrev pub TextIsWrong : Option Asked → Told → Type 0
-TextIsWrong (Some (asks.Prove it)) told = HeldNoText pool_or_bundle_format told
-TextIsWrong (Some (asks.Verify it)) told = HeldNoText proof_format told
-TextIsWrong (Some (asks.Bundle it)) told = HeldNoText proof_format told
-TextIsWrong (Some (asks.Seal it)) told = HeldNoText bundle_format told
+-- status 3: the input is outside its format, or too long
+abbrev pub WrongAlone : Option Asked → Told → Type 0
+WrongAlone (Some (asks.Prove it)) told = HeldNoText pool_or_bundle_format told
+WrongAlone (Some (asks.Verify it)) told = HeldNoText proof_format told
+WrongAlone (Some (asks.Bundle it)) told = HeldNoText proof_format told
+WrongAlone (Some (asks.Seal it)) told = HeldNoText bundle_format told
 -- for `draw` also a bundle whose weights don't sum to its total
-TextIsWrong (Some (asks.Draw seal digits)) told =
+WrongAlone (Some (asks.Draw seal digits)) told =
     HeldNoText bundle_format told ⊎ ((bundle : Bundle) × HeldBundle told.source bundle × (TotalAgrees bundle.answer.lottery → ⊥))
-TextIsWrong (Some (asks.Panel it)) told = HeldNoText pool_format told
-TextIsWrong (Some (asks.Lottery it)) told = HeldNoText pool_format told
-TextIsWrong (Some (asks.Check it)) told = HeldNoText bundle_format told
-TextIsWrong (Some (asks.Make it)) told = ⊥
-TextIsWrong (Some (asks.Step store step)) told = ⊥
-TextIsWrong (Some (asks.Pool store round)) told = ⊥
-TextIsWrong None told = ⊥
+WrongAlone (Some (asks.Panel it)) told = HeldNoText pool_format told
+WrongAlone (Some (asks.Lottery it)) told = HeldNoText pool_format told
+WrongAlone (Some (asks.Check it)) told = HeldNoText bundle_format told
+-- `make` reads nothing
+WrongAlone other told = ⊥
 
 -- status 4: an operation or a total passed its limit, and errs gained the line that says which. For `prove` the line may name any operation
 -- whose result is too great, not only one of the run
@@ -260,14 +264,14 @@ BrokenAlone other told = ⊥
 -- status 11: the certificate or the proof doesn't hold. For `prove`: with some trees, the bundle is a proof that is refused for the printed
 -- reason. If the reason's number is below 11, the certificate doesn't hold. The reasons from 11 on concern the trees alone, and say nothing
 -- of the certificate
-abbrev pub FailedAlone : Option Asked → Told → Type 0
-FailedAlone (Some (asks.Check it)) told =
+abbrev pub CheckFailed : Option Asked → Told → Type 0
+CheckFailed (Some (asks.Check it)) told =
     (bundle : Bundle) × HeldBundle told.source bundle × (Certifies bundle.pool bundle.answer.lottery bundle.answer.stages → ⊥)
-FailedAlone (Some (asks.Verify it)) told = (proof : Proof) × HeldProof told.source proof × (verdict proof ≢ Valid)
-FailedAlone (Some (asks.Prove it)) told =
+CheckFailed (Some (asks.Verify it)) told = (proof : Proof) × HeldProof told.source proof × (verdict proof ≢ Valid)
+CheckFailed (Some (asks.Prove it)) told =
     (bundle : Bundle) × HeldBundle told.source bundle × (trees : List (List TreeLine)) × (refusal : reasons.Refusal) × (verdict (OfLottery bundle.pool bundle.answer trees) ≡ Refused refusal) ×
     RefusalMeans (OfLottery bundle.pool bundle.answer trees) refusal × Gains told.out (refused_line refusal)
-FailedAlone other told = ⊥
+CheckFailed other told = ⊥
 
 -- ---- a text that `check` or `verify` reads
 
@@ -301,65 +305,89 @@ abbrev pub TellsStep : Step → StoreTold → Type 0
 TellsStep (steps.Solve round limits workers) told = (reply : TellsReply (Solve round limits) told) × SolvesRound round reply.tables reply.change
 TellsStep other told = TellsReply (step_command other) told
 
--- the pool of a round was printed, and the tables stay
-pub record TellsPool (round : ℕ) (told : StoreTold) : Type 0 where
+-- the file that the source held is read as a command of the office, which replied with a text
+pub record TellsImport (import : Import) (told : StoreTold) : Type 0 where
+  pub bytes : List ℕ
+  pub held : HeldAll told.call.source bytes
+  pub command : Command
+  pub reply : TellsReply command told
+  pub reads : ReadsFile import reply.tables bytes (Ok command)
+
+-- a text that is made of the tables was printed, and the tables stay
+pub record TellsText (text : StoreText) (told : StoreTold) : Type 0 where
   pub tables : Tables
   pub loaded : IsLoaded told.keeper.object.before tables
-  pub pool : Pool
-  pub is : pool_of tables round ≡ Ok pool
-  pub out : Gains told.call.out (spelling pool)
-  pub kept : told.keeper.object.after ≡ told.keeper.object.before
+  pub bytes : List ℕ
+  pub is : stored_text text tables ≡ Ok bytes
+  pub out : Gains told.call.out bytes
+  pub kept : KeepsTables told.keeper
 
 -- what status 0 means, for each command
 abbrev pub TellsDone : Option Asked → StoreTold → Type 0
 TellsDone (Some (asks.Step store step)) told = TellsStep step told
-TellsDone (Some (asks.Pool store round)) told = TellsPool round told
+TellsDone (Some (asks.Import store import)) told = TellsImport import told
+TellsDone (Some (asks.Text store text)) told = TellsText text told
 TellsDone other told = DoneAlone other told.call
 
--- the pool of this round of the tables that were loaded
+-- the pool of this round of the tables that were loaded. The round is open
 pub record IsRoundPool (round : ℕ) (told : StoreTold) (pool : Pool) : Type 0 where
   pub tables : Tables
   pub loaded : IsLoaded told.keeper.object.before tables
   pub open_now : named_round tables.rounds round ≡ Some Open
   pub is : pool_of tables round ≡ Ok pool
 
--- status 1: the pool has no quota panel. Of the office only a solve has it
+-- status 1: the pool has no quota panel. Over a store only a solve has it
 abbrev pub TellsNone : Option Asked → StoreTold → Type 0
 TellsNone (Some (asks.Step store (steps.Solve round limits workers))) told = (pool : Pool) × IsRoundPool round told pool × (panels pool ≡ [])
-TellsNone (Some (asks.Step store other)) told = (tables : Tables) × (change : Option Change) × IsLoaded told.keeper.object.before tables × Comes tables (step_command other) (Replies change NoPanel)
-TellsNone (Some (asks.Pool store round)) told = ⊥
 TellsNone other told = NoneAlone other told.call
 
--- status 4: a number passed its limit
+-- the file that the source held has this first fault, and errs gained the line that says so
+pub record HeldFault (import : Import) (told : StoreTold) : Type 0 where
+  pub bytes : List ℕ
+  pub held : HeldAll told.call.source bytes
+  pub tables : Tables
+  pub loaded : IsLoaded told.keeper.object.before tables
+  pub fault : imports.Fault
+  pub reads : ReadsFile import tables bytes (Err fault)
+  pub errs : GainsLine told.call.errs (input_line (record { line = fault.place; kind = fault.kind }))
+
+-- status 3: the input is outside its format, or too long. Over a store only an import has it
+abbrev pub TextIsWrong : Option Asked → StoreTold → Type 0
+TextIsWrong (Some (asks.Import store import)) told = HeldFault import told ⊎ HeldMore told.call.source input_limit
+TextIsWrong other told = WrongAlone other told.call
+
+-- status 4: a number passed its limit. Over a store only a solve of an open round has it
 abbrev pub NumberPassed : Option Asked → StoreTold → Type 0
 NumberPassed (Some (asks.Step store (steps.Solve round limits workers))) told =
     (pool : Pool) × IsRoundPool round told pool × (line : List ℕ) × GainsLine told.call.errs line × PassesWidth limits pool line
-NumberPassed (Some (asks.Step store other)) told = ⊥
-NumberPassed (Some (asks.Pool store round)) told = ⊥
 NumberPassed other told = PassedAlone other told.call
 
--- status 5: a budget was spent
+-- status 5: a budget was spent. Over a store only a solve of an open round has it
 abbrev pub BudgetSpent : Option Asked → StoreTold → Type 0
 BudgetSpent (Some (asks.Step store (steps.Solve round limits workers))) told =
     (pool : Pool) × IsRoundPool round told pool × (line : List ℕ) × GainsLine told.call.errs line × SpendsBudget limits pool line
-BudgetSpent (Some (asks.Step store other)) told = ⊥
-BudgetSpent (Some (asks.Pool store round)) told = ⊥
 BudgetSpent other told = SpentAlone other told.call
 
--- status 6: a rule refused, and errs gained the line that says which
-abbrev pub RuleBroken : Option Asked → StoreTold → Type 0
-RuleBroken (Some (asks.Step store step)) told = (tables : Tables) × (refusal : Refusal) × IsLoaded told.keeper.object.before tables ×
-    Comes tables (step_command step) (Refuses refusal) × GainsLine told.call.errs (text_of (rule_line refusal ∷ []))
-RuleBroken (Some (asks.Pool store round)) told = (tables : Tables) × (refusal : Refusal) × IsLoaded told.keeper.object.before tables ×
-    (pool_of tables round ≡ Err refusal) × GainsLine told.call.errs (text_of (rule_line refusal ∷ []))
-RuleBroken other told = BrokenAlone other told.call
+-- why an import is refused: by the office, if the file is read as a command; or the file is a register, and there are no rules
+pub data RefusesImport (import : Import) (source : Bytes) (tables : Tables) (refusal : Refusal) : Type 0 where
+  ByOffice : (bytes : List ℕ) (command : Command) → HeldAll source bytes → ReadsFile import tables bytes (Ok command) → Comes tables command (Refuses refusal) →
+      RefusesImport import source tables refusal
+  NoRules : import ≡ Register → tables.rules ≡ None → refusal ≡ Incomplete part.Rules → RefusesImport import source tables refusal
 
--- status 11: a certificate or a proof doesn't hold
-abbrev pub CheckFailed : Option Asked → StoreTold → Type 0
-CheckFailed (Some (asks.Step store step)) told = (tables : Tables) × (refusal : reasons.Refusal) × IsLoaded told.keeper.object.before tables ×
-    Comes tables (step_command step) (Unproved refusal) × Gains told.call.out (refused_line refusal)
-CheckFailed (Some (asks.Pool store round)) told = ⊥
-CheckFailed other told = FailedAlone other told.call
+-- there was a refusal over the tables, and errs gained the line that says which
+pub record TellsRefusal (Refused : Tables → Refusal → Type 0) (told : StoreTold) : Type 0 where
+  pub tables : Tables
+  pub loaded : IsLoaded told.keeper.object.before tables
+  pub refusal : Refusal
+  pub refused : Refused tables refusal
+  pub errs : GainsLine told.call.errs (text_of (rule_line refusal ∷ []))
+
+-- status 6: a rule refused
+abbrev pub RuleBroken : Option Asked → StoreTold → Type 0
+RuleBroken (Some (asks.Step store step)) told = TellsRefusal (λ tables refusal. Comes tables (step_command step) (Refuses refusal)) told
+RuleBroken (Some (asks.Import store import)) told = TellsRefusal (RefusesImport import told.call.source) told
+RuleBroken (Some (asks.Text store text)) told = TellsRefusal (λ tables refusal. stored_text text tables ≡ Err refusal) told
+RuleBroken other told = BrokenAlone other told.call
 
 -- ---- the promises
 
@@ -378,7 +406,7 @@ pub record Keeps (it : Option Asked) (told : StoreTold) : Type 0 where
   -- memory is wanting, is said in Office, not here.)
   pub usage : told.call.status ≡ 2 → it ≡ None
   -- status 3 comes only if the input is outside its format or too long, or is a bundle that `draw` refuses for its total
-  pub text : told.call.status ≡ 3 → TextIsWrong it told.call
+  pub text : told.call.status ≡ 3 → TextIsWrong it told
   -- status 4 comes only if a number passed its limit
   pub number : told.call.status ≡ 4 → NumberPassed it told
   -- status 5 comes only if a budget was spent; see `SpentAlone` for `prove`
@@ -389,14 +417,15 @@ pub record Keeps (it : Option Asked) (told : StoreTold) : Type 0 where
   pub read_fault : told.call.status ≡ 7 → HasFaulted told.call.source
   -- status 8 comes only if out counted a fault. A change of a store is kept then
   pub write_fault : told.call.status ≡ 8 → HasFaulted told.call.out
-  -- status 9 comes only if the keeper of the store counted a fault. Its tables are as before
-  pub keeper_fault : told.call.status ≡ 9 → HasFaulted told.keeper.object × KeepsTables told.keeper
-  -- status 11 comes only if a certificate or a proof doesn't hold; see `FailedAlone` for `prove`
-  pub check : told.call.status ≡ 11 → CheckFailed it told
-  -- status 12, want of memory, may come in any call; the tables of a store are then as before. There is no other status. The run of `prove`
-  -- has no definition, so nothing says which of its refusals comes
-  pub want : told.call.status ≡ 12 → KeepsTables told.keeper
+  -- status 9 comes only if the keeper of the store counted a fault
+  pub keeper_fault : told.call.status ≡ 9 → HasFaulted told.keeper.object
+  -- status 11 comes only if a certificate or a proof doesn't hold; see `CheckFailed` for `prove`
+  pub check : told.call.status ≡ 11 → CheckFailed it told.call
+  -- status 12, want of memory, may come in any call. There is no other status. The run of `prove` has no definition, so nothing says which
+  -- of its refusals comes
   pub statuses : IsTrue (is_status told.call.status)
+  -- unless the status is 0 or 8, the tables of the store are as before
+  pub stays : told.call.status ≢ 0 → told.call.status ≢ 8 → KeepsTables told.keeper
   -- if the source told the text of a bundle, and the status is none of 5, 8 and 12, then `check` has status 0 exactly if the certificate
   -- holds
   pub certificate : (check : Check) → it ≡ Some (asks.Check check) → (bundle : Bundle) → IsBundle bundle → ToldText told.call.source (bundle_spelling bundle) →

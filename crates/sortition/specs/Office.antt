@@ -12,14 +12,15 @@ use Rattle.command_meanings.specs.Panel.{PanelMeans}
 use Rattle.command_meanings.specs.Prove.{ProvesWithin}
 use Rattle.command_meanings.specs.Seal.{SealMeans}
 use Rattle.command_meanings.specs.Verify.{VerifyMeans}
-use Rattle.command_shell.specs.Answers.{IsTheAnswer, Meaning}
+use Rattle.command_shell.specs.Answers.{IsTheAnswer, RightAnswers}
 use Rattle.command_shell.specs.Formats.{bundle_format, pool_format, pool_or_bundle_format, proof_format}
 use Rattle.command_shell.specs.Lines.{line, want_of_memory_line}
 use Rattle.command_shell.specs.Outcomes.{IsStopped, SilentOutcome, TextOutcome}
 use Rattle.command_shell.specs.Subjects.{About, Format}
 use Rattle.command_shell.specs.Told.{Told, IsUntouched}
-use Rattle.command_stores.specs.Steps.{PoolMeans, StepMeans}
-use Rattle.command_stores.specs.StoreOutcomes.{SilentStoreOutcome}
+use Rattle.command_stores.specs.Imports.{ImportMeans}
+use Rattle.command_stores.specs.Steps.{StepMeans, TextMeans}
+use Rattle.command_stores.specs.StoreOutcomes.{SilentStoreOutcome, TextStoreOutcome}
 use Rattle.command_stores.specs.StoreTold.{IsLeftAlone, StoreTold}
 use Rattle.sortition.specs.Asked.{asked}
 use Rattle.sortition.specs.Steps.{step_command}
@@ -28,7 +29,7 @@ use Rattle.sortition.specs.declared.asked.Asked.TheVariants as asks
 
 -- the call told the one answer that is right about what the source held, whole or cut off by a fault of out; or the source held too much or
 -- counted a fault; or memory was wanting
-abbrev pub Answers : {Value : Type 0} → Format Value → (Value → Meaning) → Told → Type 0
+abbrev pub Answers : {Value : Type 0} → Format Value → (Value → RightAnswers) → Told → Type 0
 Answers format Means told = TextOutcome (About format (λ value. IsTheAnswer (Means value))) told
 
 -- the outcome of words that ask for nothing: they are not of the forms, or ask for help
@@ -52,8 +53,7 @@ AnswersAlone (Some (asks.Panel it)) told = Answers pool_format (PanelMeans it.no
 AnswersAlone (Some (asks.Lottery it)) told = Answers pool_format (LotteryMeans it.limits) told
 AnswersAlone (Some (asks.Check it)) told = Answers bundle_format (CheckMeans it.nodes) told
 AnswersAlone (Some (asks.Make it)) told = SilentOutcome (IsTheAnswer (MakeMeans it.seed it.volunteers it.limits)) told
-AnswersAlone (Some (asks.Step store step)) told = ⊥
-AnswersAlone (Some (asks.Pool store round)) told = ⊥
+AnswersAlone other told = ⊥
 
 -- a call that uses no store leaves the keeper alone
 pub record LeavesStore (Right : Told → Type 0) (told : StoreTold) : Type 0 where
@@ -65,7 +65,10 @@ abbrev pub AnswersRightly : Option Asked → StoreTold → Type 0
 -- one line for every command of the office: the answer is the outcome of the command over the store's tables. At most one answer is right
 -- (`steps_answer_once` of `command_stores`)
 AnswersRightly (Some (asks.Step store step)) told = SilentStoreOutcome store (StepMeans (step_command step)) told
-AnswersRightly (Some (asks.Pool store round)) told = SilentStoreOutcome store (PoolMeans round) told
+-- one line for every import, about the file that the source held; at most one answer is right (`imports_answer_once`)
+AnswersRightly (Some (asks.Import store import)) told = TextStoreOutcome store (ImportMeans import) told
+-- one line for every text that is made of the store's tables
+AnswersRightly (Some (asks.Text store text)) told = SilentStoreOutcome store (TextMeans text) told
 AnswersRightly other told = LeavesStore (AnswersAlone other) told
 
 -- status 12: memory was wanting while the words were read, so the source is untouched

@@ -7,12 +7,15 @@ ghost use Rattle.sortition.specs.Asked.{
   asked,
   asked_by as words_of_asked,
   draw_asked as words_of_draw,
-  draw_round_asked as words_of_draw_round,
+  draw_from as words_of_draw_from,
+  import_asked as words_of_import,
   limits_from as words_of_limits,
   limits_in,
   make_asked as words_of_make,
-  seal_round_asked as words_of_seal_round,
+  seal_from as words_of_seal_from,
   solve_asked as words_of_solve,
+  step_asked as words_of_step,
+  text_asked as words_of_text,
   volunteers_in,
   workers_from as words_of_workers,
   workers_in,
@@ -22,6 +25,7 @@ use crate::steps::Step;
 use command_bundles::{Check, Seal};
 use command_pools::{FirstPanel, Lottery, Make, Volunteers};
 use command_proofs::{ItsBundle, Prove, Verify};
+use command_stores::{Import, StoreText};
 use command_words::{CommandName, Given, Word, WordsStop, read_words};
 use define_runs::{Limits, Workers};
 use std::alloc::Global;
@@ -62,12 +66,19 @@ pub(crate) enum Asked<'a> {
         /// The command.
         step: Step<'a>,
     },
-    /// The pool of a round of a store.
-    Pool {
+    /// An import of a file into a store.
+    Import {
         /// The path of the store.
         store: Word<'a>,
-        /// The round's number, counted from 1.
-        round: usize,
+        /// What is imported.
+        import: Import,
+    },
+    /// A text that is made of the tables of a store.
+    Text {
+        /// The path of the store.
+        store: Word<'a>,
+        /// The text.
+        text: StoreText,
     },
 }
 
@@ -98,10 +109,7 @@ fn asked_by<'a>(given: &Given<'a>) -> Option<Asked<'a>>
         }
         CommandName::Verify => Some(Asked::Verify(Verify)),
         CommandName::Bundle => Some(Asked::Bundle(ItsBundle)),
-        CommandName::Seal => match given.text("store") {
-            Some(store) => seal_round(given, store),
-            None => Some(Asked::Seal(Seal)),
-        },
+        CommandName::Seal => seal_from(given, given.text("store")),
         CommandName::Draw => draw_of(given),
         CommandName::Panel => {
             let nodes = given.number("nodes")?;
@@ -119,30 +127,54 @@ fn asked_by<'a>(given: &Given<'a>) -> Option<Asked<'a>>
         CommandName::Make => make_of(given),
         CommandName::Solve => solve_of(given),
         CommandName::Drop => {
-            let store = given.text("store")?;
             let round = round_of(given)?;
             let id = given.text("id")?;
-            let step = Step::Drop { round, id };
-            Some(Asked::Step { store, step })
+            step_of(given, Step::Drop { round, id })
         }
         CommandName::NextRound => {
-            let store = given.text("store")?;
             let after = given.number("after")? as usize;
-            let step = Step::NextRound { after };
-            Some(Asked::Step { store, step })
+            step_of(given, Step::NextRound { after })
         }
         CommandName::Show => {
-            let store = given.text("store")?;
             let round = round_of(given)?;
-            let step = Step::Show { round };
-            Some(Asked::Step { store, step })
+            step_of(given, Step::Show { round })
+        }
+        CommandName::Report => {
+            let round = round_of(given)?;
+            text_of(given, StoreText::Report { round })
         }
         CommandName::Pool => {
-            let store = given.text("store")?;
             let round = round_of(given)?;
-            Some(Asked::Pool { store, round })
+            text_of(given, StoreText::Pool { round })
         }
+        CommandName::ImportCharter => import_of(given, Import::Charter),
+        CommandName::ImportRules => import_of(given, Import::Rules),
+        CommandName::ImportRegister => import_of(given, Import::Register),
     }
+}
+
+/// Returns a command of the office over the store that the words name.
+fn step_of<'a>(given: &Given<'a>, step: Step<'a>) -> Option<Asked<'a>>
+    ensures { result ≡ words_of_step step.entry given.now }
+{
+    let store = given.text("store")?;
+    Some(Asked::Step { store, step })
+}
+
+/// Returns an import into the store that the words name.
+fn import_of<'a>(given: &Given<'a>, import: Import) -> Option<Asked<'a>>
+    ensures { result ≡ words_of_import import given.now }
+{
+    let store = given.text("store")?;
+    Some(Asked::Import { store, import })
+}
+
+/// Returns a text of the store that the words name.
+fn text_of<'a>(given: &Given<'a>, text: StoreText) -> Option<Asked<'a>>
+    ensures { result ≡ words_of_text text given.now }
+{
+    let store = given.text("store")?;
+    Some(Asked::Text { store, text })
 }
 
 /// Returns the draw from a bundle, or from a round of a store if the words name one.
@@ -151,41 +183,47 @@ fn draw_of<'a>(given: &Given<'a>) -> Option<Asked<'a>>
 {
     let seal = given.text("seal")?;
     let digits = given.text("digits")?;
-    match given.text("store") {
-        Some(store) => draw_round(given, store, seal, digits),
+    draw_from(given, seal, digits, given.text("store"))
+}
+
+fn draw_from<'a>(
+    given: &Given<'a>,
+    seal: Word<'a>,
+    digits: Word<'a>,
+    store: Option<Word<'a>>,
+) -> Option<Asked<'a>>
+    ensures { result ≡ words_of_draw_from given.now seal.entry digits.entry store.entry }
+{
+    match store {
+        Some(_) => {
+            let round = round_of(given)?;
+            let step = Step::Draw {
+                round,
+                seal,
+                digits,
+            };
+            step_of(given, step)
+        }
         None => Some(Asked::Draw { seal, digits }),
     }
 }
 
-fn draw_round<'a>(
-    given: &Given<'a>,
-    store: Word<'a>,
-    seal: Word<'a>,
-    digits: Word<'a>,
-) -> Option<Asked<'a>>
-    ensures { result ≡ words_of_draw_round given.now store.entry seal.entry digits.entry }
+/// Returns the seal of a bundle, or of a round of a store if the words name one.
+fn seal_from<'a>(given: &Given<'a>, store: Option<Word<'a>>) -> Option<Asked<'a>>
+    ensures { result ≡ words_of_seal_from given.now store.entry }
 {
-    let round = round_of(given)?;
-    let step = Step::Draw {
-        round,
-        seal,
-        digits,
-    };
-    Some(Asked::Step { store, step })
-}
-
-fn seal_round<'a>(given: &Given<'a>, store: Word<'a>) -> Option<Asked<'a>>
-    ensures { result ≡ words_of_seal_round given.now store.entry }
-{
-    let round = round_of(given)?;
-    let step = Step::Seal { round };
-    Some(Asked::Step { store, step })
+    match store {
+        Some(_) => {
+            let round = round_of(given)?;
+            step_of(given, Step::Seal { round })
+        }
+        None => Some(Asked::Seal(Seal)),
+    }
 }
 
 fn solve_of<'a>(given: &Given<'a>) -> Option<Asked<'a>>
     ensures { result ≡ words_of_solve given.now }
 {
-    let store = given.text("store")?;
     let round = round_of(given)?;
     let limits = limits_of(given)?;
     let workers = workers_of(given)?;
@@ -194,7 +232,7 @@ fn solve_of<'a>(given: &Given<'a>) -> Option<Asked<'a>>
         limits,
         workers,
     };
-    Some(Asked::Step { store, step })
+    step_of(given, step)
 }
 
 /// Returns the number of a round.

@@ -3,7 +3,7 @@
 ghost use Rattle.std.specs.Prelude.{◌≡◌, ◌≢◌};
 ghost use Rattle.std.specs.declared.io.ErrorKind.TheVariants.{InvalidData};
 ghost use Rattle.command_shell.specs.Told.{object, GainsLine};
-ghost use Rattle.command_shell.specs.Answers.{number_of};
+ghost use Rattle.command_shell.specs.Answers.{status_number};
 ghost use Rattle.command_shell.specs.Lines.{want_of_memory_line};
 ghost use Rattle.sortition.specs.Office.{words_not_utf8_line};
 
@@ -21,9 +21,9 @@ pub(crate) fn given_words(rt: &HostRuntime) -> io::Result<Vec<String>> {
 
 /// Writes to `errs` why the words could not be read: one of them isn't UTF-8, or no memory was left.
 pub(crate) fn no_words<E: Sink>(errs: &mut E, kind: io::ErrorKind) -> Status
-    ensures not_utf8 { kind ≡ InvalidData → (number_of result ≡ 2)
+    ensures not_utf8 { kind ≡ InvalidData → (status_number result ≡ 2)
         × GainsLine (object (E.written errs.old) (E.written errs.new) (E.faults errs.old) (E.faults errs.new)) words_not_utf8_line }
-    ensures want { kind ≢ InvalidData → (number_of result ≡ 12)
+    ensures want { kind ≢ InvalidData → (status_number result ≡ 12)
         × GainsLine (object (E.written errs.old) (E.written errs.new) (E.faults errs.old) (E.faults errs.new)) want_of_memory_line }
 {
     match kind {

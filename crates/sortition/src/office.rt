@@ -2,7 +2,7 @@
 
 ghost use Rattle.std.specs.Prelude.{map, string_bytes, Some};
 ghost use Rattle.command_shell.specs.Told.{object, told};
-ghost use Rattle.command_shell.specs.Answers.{number_of};
+ghost use Rattle.command_shell.specs.Answers.{status_number};
 ghost use Rattle.command_stores.specs.StoreTold.{keeper_told, store_told};
 ghost use Rattle.sortition.specs.Office.{AnswersRightly, OfficeIsRight};
 
@@ -11,7 +11,7 @@ use crate::steps::command_of;
 use command_bundles::Draw;
 use command_pools::{call_lottery, call_make};
 use command_shell::{Resources, Status, call, refuse_words, want_memory};
-use command_stores::{call_pool, call_step};
+use command_stores::{call_import, call_step, call_text};
 use command_words::WordsStop;
 use office_core::Keeper;
 use outside::{Sink, Source, Watch};
@@ -61,7 +61,7 @@ fn run<R: Threads + Sync, W: Watch + Sync, S: Source, O: Sink, E: Sink, K: Keepe
     keeper: &mut K,
 ) -> Status
     ensures { AnswersRightly (Some asked.entry) (store_told
-        (told (number_of result)
+        (told (status_number result)
         (object (S.left source.old) (S.left source.new) (S.faults source.old) (S.faults source.new))
         (object (O.written out.old) (O.written out.new) (O.faults out.old) (O.faults out.new))
         (object (E.written errs.old) (E.written errs.new) (E.faults errs.old) (E.faults errs.new)))
@@ -88,6 +88,10 @@ fn run<R: Threads + Sync, W: Watch + Sync, S: Source, O: Sink, E: Sink, K: Keepe
             Ok(command) => call_step(resources, &command, store.as_str(), keeper, out, errs),
             Err(_) => want_memory(errs),
         },
-        Asked::Pool { store, round } => call_pool(alloc, round, store.as_str(), keeper, out, errs),
+        Asked::Import { store, import } => {
+            let path = store.as_str();
+            call_import(resources, import, path, source, keeper, out, errs)
+        }
+        Asked::Text { store, text } => call_text(alloc, text, store.as_str(), keeper, out, errs),
     }
 }

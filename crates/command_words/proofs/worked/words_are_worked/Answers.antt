@@ -36,7 +36,16 @@ pub returns-clause-shown : goal.returns-clause-shown
 unfolding given_in command_table proof_commands office_commands run_commands clap_on_literals
 returns-clause-shown c = record {
   show = record { defaults = refl; least = refl; most = refl; more = refl; no_store = refl };
+  report = record { defaults = refl; least = refl; most = refl; more = refl; no_store = refl };
   pool = record { defaults = refl; least = refl; most = refl; more = refl; no_store = refl };
+}
+
+pub returns-clause-imports : goal.returns-clause-imports
+unfolding given_in command_table proof_commands office_commands run_commands clap_on_literals
+returns-clause-imports c = record {
+  charter = record { store = refl; no_store = refl; another = refl };
+  rules = record { store = refl; no_store = refl; another = refl };
+  register = record { store = refl; no_store = refl; another = refl };
 }
 
 pub returns-clause-searches : goal.returns-clause-searches

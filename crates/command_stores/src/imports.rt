@@ -1,0 +1,142 @@
+//! Imports: a file from the source is read as a command of the office, and the command is done over the store.
+
+ghost use Rattle.std.specs.Prelude.{◌≡◌, IfOk};
+ghost use Rattle.command_shell.specs.Answers.{status_number, saying};
+ghost use Rattle.command_shell.specs.Told.{object, told};
+ghost use Rattle.office_import.specs.Answers.{fault_of};
+ghost use Rattle.command_stores.specs.Imports.{ImportMeans, fault_answer as words_of_fault};
+ghost use Rattle.command_stores.specs.ReadFiles.{IsReadAs};
+ghost use Rattle.command_stores.specs.StoreOutcomes.{SettlesAttached, TextStoreOutcome};
+ghost use Rattle.command_stores.specs.StoreTold.{keeper_told, store_told};
+ghost use Rattle.office_core.specs.Commands.{HasWorkers};
+
+use crate::calling::{answer_or_want, load, tell_settled};
+use crate::refusals::refusal_answer;
+use crate::steps::settle_over;
+use command_shell::{Answer, Cause, Resources, Status, input_line, read_input, refuse_input};
+use office_core::{Command, Keeper, KeeperStop, Part, Refusal, Tables};
+use office_import::{ImportFault, ImportStop, read_charter, read_register, read_rules};
+use outside::{Sink, Source, Watch};
+use std::alloc::{AllocError, Global};
+use std::thread::Threads;
+
+/// What is imported.
+#[derive(Clone, Copy, Debug)]
+pub enum Import {
+    /// What the assembly is called, and how many members its panel has.
+    Charter,
+    /// The categories, with their values and bounds.
+    Rules,
+    /// Volunteers.
+    Register,
+}
+
+/// Why a file isn't read as a command.
+#[derive(Debug, Drop)]
+pub(crate) enum FileStop {
+    /// The file has a fault.
+    Fault(ImportFault),
+    /// It is a register, and there are no rules.
+    NoRules,
+    /// No memory was left.
+    OutOfMemory,
+}
+
+/// Makes one call of an import over the store at `path`. The keeper is attached, the file is read from the source, the tables are loaded, and
+/// then the file is judged.
+pub fn call_import<R: Threads + Sync, W: Watch + Sync, K: Keeper, S: Source, O: Sink, E: Sink>(
+    resources: &Resources<'_, R, W>,
+    import: Import,
+    path: &str,
+    source: &mut S,
+    keeper: &mut K,
+    out: &mut O,
+    errs: &mut E,
+) -> Status
+    ensures { TextStoreOutcome path.now (ImportMeans import) (store_told
+        (told (status_number result)
+        (object (S.left source.old) (S.left source.new) (S.faults source.old) (S.faults source.new))
+        (object (O.written out.old) (O.written out.new) (O.faults out.old) (O.faults out.new))
+        (object (E.written errs.old) (E.written errs.new) (E.faults errs.old) (E.faults errs.new)))
+        (keeper_told (object (K.tables keeper.old) (K.tables keeper.new) (K.faults keeper.old) (K.faults keeper.new)) (K.place keeper.old) (K.place keeper.new))) }
+{
+    let alloc = resources.alloc;
+    if let Err(stop) = keeper.attach(alloc, path) {
+        return tell_settled(&Err(stop), out, errs);
+    }
+    match read_input(alloc, source) {
+        Ok(bytes) => {
+            let settled = settle_import(resources, import, &bytes, keeper);
+            tell_settled(&settled, out, errs)
+        }
+        Err(stop) => refuse_input(errs, stop),
+    }
+}
+
+/// Loads the tables of a keeper that is attached, imports the file, and returns the answer.
+fn settle_import<R: Threads + Sync, W: Watch + Sync, K: Keeper>(
+    resources: &Resources<'_, R, W>,
+    import: Import,
+    bytes: &[u8],
+    keeper: &mut K,
+) -> Result<Answer, KeeperStop>
+    ensures settles { SettlesAttached (ImportMeans import bytes.now)
+        (object (K.tables keeper.old) (K.tables keeper.new) (K.faults keeper.old) (K.faults keeper.new)) result }
+    ensures place { K.place keeper.new ≡ K.place keeper.old }
+{
+    let alloc = resources.alloc;
+    let tables = load(alloc, keeper)?;
+    match read_file(alloc, import, bytes, &tables) {
+        Ok(command) => settle_over(resources, &tables, &command, keeper),
+        Err(FileStop::Fault(fault)) => answer_or_want(fault_answer(alloc, fault)),
+        Err(FileStop::NoRules) => {
+            let what = Part::Rules;
+            answer_or_want(refusal_answer(alloc, &Refusal::Incomplete { what }))
+        }
+        Err(FileStop::OutOfMemory) => Err(KeeperStop::OutOfMemory),
+    }
+}
+
+/// Reads a file as a command of the office. A register is read by the rules of the tables.
+fn read_file(
+    alloc: Global,
+    import: Import,
+    bytes: &[u8],
+    tables: &Tables,
+) -> Result<Command, FileStop>
+    ensures read { IsReadAs import tables.now bytes.now result }
+    ensures workers { IfOk result HasWorkers }
+{
+    match import {
+        Import::Charter => Ok(Command::Charter(read_charter(alloc, bytes)?)),
+        Import::Rules => Ok(Command::Rules(read_rules(alloc, bytes)?)),
+        Import::Register => match tables.rules() {
+            Some(rules) => Ok(Command::Register(read_register(alloc, bytes, rules)?)),
+            None => Err(FileStop::NoRules),
+        },
+    }
+}
+
+impl From<ImportStop> for FileStop {
+    ghost use Rattle.std.specs.Prelude.{◌≡◌};
+    ghost use Rattle.command_stores.specs.ReadFiles.{stop_of_import};
+
+    ghost from_gives = { λ stop e. e ≡ stop_of_import stop };
+
+    fn from(stop: ImportStop) -> FileStop {
+        match stop {
+            ImportStop::Fault(fault) => FileStop::Fault(fault),
+            ImportStop::OutOfMemory => FileStop::OutOfMemory,
+        }
+    }
+}
+
+/// Returns the answer to a faulty file, with status 3.
+fn fault_answer(alloc: Global, fault: ImportFault) -> Result<Answer, AllocError>
+    ensures { IfOk result (λ answer. saying answer ≡ words_of_fault (fault_of fault)) }
+{
+    Ok(Answer::Stops {
+        cause: Cause::Input,
+        line: input_line(alloc, fault.place, fault.kind)?,
+    })
+}
