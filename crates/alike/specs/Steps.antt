@@ -1,4 +1,4 @@
--- What the helpers of spreading require of one part, and which marks they set.
+-- What the helpers of spreading require of the total of one part, the row of an arc, and which places of a list are marked.
 use Rattle.std.specs.Prelude.{◌≡◌, ℕ, ◌*◌, ◌/◌, ◌<◌, ◌≤◌, Bool, false, ◌||◌, List, length, slice_index_or}
 use Rattle.std.specs.Int.{◌∣◌}
 use Rattle.frac128.specs.Fractions.{Fraction}

@@ -30,7 +30,7 @@ const VERSION: u8 = 13;
 /// The kind of fault if the line after the pool isn't a total line.
 const TOTAL: u8 = 14;
 
-/// The kind of fault of a line after the total and before any stage line.
+/// The kind of fault of a line that follows the total or a panel line, if `STAGE` doesn't apply.
 const ROW: u8 = 15;
 
 /// The kind of fault of a line after a stage line, and of a faulty stage line after a panel line.
@@ -110,7 +110,7 @@ fn pool_line(second: bool) -> &'static [u8]
     if second { SECOND_POOL } else { FIRST_POOL }
 }
 
-/// Returns the progress after a line that comes after the total and before any stage line.
+/// Returns the progress after a line that follows the total or a panel line.
 fn after_row(
     alloc: Global,
     pool: Pool,

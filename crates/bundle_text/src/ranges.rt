@@ -1,4 +1,4 @@
-//! Tests whether the numbers of an answer are in the ranges in which it has a text. `Bundle::new` calls it.
+//! Tests whether the numbers of an answer are in the ranges of a bundle. `Bundle::new` calls `is_in_ranges`.
 
 ghost use Rattle.std.specs.Prelude.{◌≡◌, ◌≤ℤ◌, ◌↔◌, ◌-◌, ◌^◌, pos, unsigned_abs, nat_lt, nat_le, length, IsTrue};
 ghost use Rattle.std.specs.List.{list_all};

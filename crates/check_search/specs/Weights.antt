@@ -10,7 +10,7 @@ use Rattle.check_search.specs.declared.weighing.Weights.{Weights}
 abbrev pub table_of : Sums → List ℤ
 table_of sums = sums.cells.items
 
--- the weights of a front and of each of its beginnings, indexed by length
+-- the weights of a front's prefixes: the entry at k is the weight of the first k counts
 abbrev pub weights_of : Weights → List ℤ
 weights_of weights = weights.by_length.items
 
@@ -22,10 +22,10 @@ IsSummed all row sums = laws.IsSummed all row (table_of sums)
 abbrev pub SumEach : Classes → List Row → List Sums → Type 0
 SumEach = laws.SumEach table_of
 
--- the weights are those of the front and of each of its beginnings in the row
+-- `weights` are the weights in `row` of `front` and of each shorter prefix
 abbrev pub Weighs : Classes → Row → List ℕ → Weights → Type 0
 Weighs all row front weights = laws.Weighs all row front (weights_of weights)
 
--- each row has its weights, in order: those of the front and of each of its beginnings in that row
+-- each row has its weights, in the rows' order: those of `front` and of each shorter prefix in that row
 abbrev pub WeighEach : Classes → List Row → List ℕ → List Weights → Type 0
 WeighEach = laws.WeighEach weights_of

@@ -13,7 +13,7 @@ use crate::groups::Classes;
 use crate::rows::StageRow;
 use std::alloc::{AllocError, Global};
 
-// The weights of a front and of each of its beginnings in a row, indexed by length.
+// The weights in a row of a front and of its prefixes: the entry at k is the weight of the first k counts.
 #[derive(Debug, Drop)]
 pub(crate) struct Weights {
     by_length: Vec<i128>,

@@ -1,6 +1,6 @@
 //! The commands about a bundle: `seal`, `draw` and `check`. Each is a struct of its arguments that answers about a bundle;
 //! `command_meanings` defines which answers are right. Stands on `sealed_draw`, the checker, and the texts of bundles. Used by
-//! `command_proofs`, for `valid_line` and `refused_line`, and by `sortition`. Promises: the three commands, and these two lines.
+//! `command_proofs`, for `valid_line` and `refused_line`, and by `command_office`. Promises: the three commands, and these two lines.
 #![tactic(auto)]
 
 mod check;

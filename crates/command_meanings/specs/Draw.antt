@@ -19,7 +19,7 @@ ticket_line drawn = line (codes "ticket" ∷ decimal drawn.ticket ∷ decimal dr
 abbrev pub drawn_lines : Bundle → Drawn → List ℕ
 drawn_lines bundle drawn = ticket_line drawn ++ panel_line bundle.pool drawn.panel
 
--- the line for a bundle whose weights don't sum to its total: fault 14 in line 0
+-- the line for a bundle whose weights don't sum to its total: a fault of kind 14 in line 0
 abbrev pub wrong_total_line : List ℕ
 wrong_total_line = input_line (record { line = 0; kind = 14 })
 

@@ -1,5 +1,5 @@
 //! What each command answers: which text or line is right at which status. Each command has a file in `specs/`. Stands on `command_shell`
-//! and the definitions of pools, checks, runs, draws and proofs. Used by the crates of commands and by `sortition`, whose `office`
+//! and the definitions of pools, checks, runs, draws and proofs. Used by the crates of commands and by `command_office`, whose `office`
 //! promises these answers. Promises: the laws in `laws.rt`.
 #![tactic(auto)]
 

@@ -8,17 +8,18 @@ ghost use Rattle.command_meanings.specs.Prove.{ProveMeans, ProvesWithin};
 ghost use Rattle.define_pools.specs.Pool.{Pool as SeenPool};
 ghost use Rattle.proof_limits.specs.Budgets.{Left, SpendsOn};
 ghost use Rattle.proof_model.specs.Parts.{seen};
-ghost use Rattle.proof_run.specs.Made.{IsOfBundle, IsOfPool};
-ghost use Rattle.command_proofs.specs.Proved.{TellsOfBundle, TellsOfPool, ending, proof_said};
+ghost use Rattle.proof_run.specs.Made.{IsOfBundle};
+ghost use Rattle.command_proofs.specs.Proved.{IsValidOf, TellsOfBundle, ending, proof_said};
 
-use crate::proving_lines::{lost, stopped};
+use crate::making::{Made, proof_within};
+use crate::proving_lines::stopped;
 use bundle_text::Bundle;
 use command_bundles::refused_line;
 use command_shell::{Answer, Command, Meaning, PoolOrBundle, Printed};
 use pool_model::Pool;
 use proof_limits::Budget;
 use proof_model::{Parts, Proof};
-use proof_run::{make_proof, prove_bundle};
+use proof_run::prove_bundle;
 use proof_text::write_proof;
 use proof_verify::{Verdict, verify};
 use std::alloc::{AllocError, Global};
@@ -88,9 +89,9 @@ fn about_pool(alloc: Global, budget: &mut Budget, pool: &Pool) -> Result<Answer,
     ensures right { IfOk result (λ answer. IsRight (ProveMeans budget.new (either.Pool pool.now)) (saying answer)) }
     ensures spends { SpendsOn budget.old budget.new }
 {
-    match make_proof(alloc, pool, budget) {
-        Ok(proof) => told_of_pool(alloc, &proof),
-        Err(stop) => stopped(alloc, budget, &stop),
+    match proof_within(alloc, budget, pool)? {
+        Made::Valid(proof) => valid_proof(alloc, &proof),
+        Made::Stopped(answer) => Ok(answer),
     }
 }
 
@@ -105,12 +106,12 @@ fn about_bundle(alloc: Global, budget: &mut Budget, bundle: &Bundle) -> Result<A
     }
 }
 
-/// Verifies a proof of a pool, and returns the answer for the verdict.
-fn told_of_pool(alloc: Global, proof: &Proof) -> Result<Answer, AllocError>
-    ensures { IfOk result (λ answer. (left : Left) (pool : SeenPool) → IsOfPool pool proof.now → IsRight (ProveMeans left (either.Pool pool)) (saying answer)) }
+/// Returns the answer for a valid proof of a pool.
+fn valid_proof(alloc: Global, proof: &Proof) -> Result<Answer, AllocError>
+    ensures { IfOk result (λ answer. (left : Left) (pool : SeenPool) → IsValidOf pool proof.now → IsRight (ProveMeans left (either.Pool pool)) (saying answer)) }
 {
-    let verdict = verify(alloc, proof)?;
-    proof_or_lost(alloc, proof, &verdict)
+    proof.facts();
+    proof_text(alloc, proof)
 }
 
 /// Verifies a proof of a bundle, and returns the answer for the verdict.
@@ -119,16 +120,6 @@ fn told_of_bundle(alloc: Global, proof: &Proof) -> Result<Answer, AllocError>
 {
     let verdict = verify(alloc, proof)?;
     proof_or_refusal(alloc, proof, &verdict)
-}
-
-/// Returns the text of a valid proof, else the answer that a step of the run was lost.
-fn proof_or_lost(alloc: Global, proof: &Proof, verdict: &Verdict) -> Result<Answer, AllocError>
-    ensures { IfOk result (λ answer. TellsOfPool proof.now verdict.now (saying answer)) }
-{
-    match verdict.refusal() {
-        None => proof_text(alloc, proof),
-        Some(_) => lost(alloc),
-    }
 }
 
 /// Returns the text of a valid proof, else the answer why it is refused.

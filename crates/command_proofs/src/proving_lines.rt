@@ -1,12 +1,12 @@
-//! The answers of `prove` if no proof is made. `proving` returns them.
+//! The answers of `prove` if no proof is made. `making` and `proving` return them.
 
 ghost use Rattle.std.specs.Prelude.{◌≡◌, codes, IfOk};
 ghost use Rattle.command_shell.specs.declared.status.Cause.TheVariants as cause;
 ghost use Rattle.command_shell.specs.Answers.{IsRight, Stops, saying};
-ghost use Rattle.command_shell.specs.declared.formats.PoolOrBundle.{PoolOrBundle};
-ghost use Rattle.command_meanings.specs.Prove.{ProveMeans, proof_operation, proof_spent_line, proof_wide_line};
+ghost use Rattle.command_meanings.specs.Prove.{proof_operation, proof_spent_line, proof_wide_line};
 ghost use Rattle.proof_limits.specs.Operations.{Passes};
 ghost use Rattle.proof_run.specs.Made.{StopsSo};
+ghost use Rattle.command_proofs.specs.Proved.{NoProofMeans};
 
 use command_shell::{Answer, Cause};
 use proof_limits::{Budget, Limit, Op, Pass, ProveStop};
@@ -20,7 +20,7 @@ const LOTTERY_TRIES: u64 = 168;
 /// Returns the answer for a run that stops and leaves `left` of its budget. Want of memory is `Err`.
 pub(crate) fn stopped(alloc: Global, left: &Budget, stop: &ProveStop) -> Result<Answer, AllocError>
     requires { StopsSo left.now stop.now }
-    ensures { IfOk result (λ answer. (about : PoolOrBundle) → IsRight (ProveMeans left.now about) (saying answer)) }
+    ensures { IfOk result (λ answer. IsRight (NoProofMeans left.now) (saying answer)) }
 {
     match stop {
         ProveStop::Wide(pass) => wide(alloc, pass),

@@ -38,6 +38,7 @@ status_number (status.Stopped cause) = cause_number cause
 status_number status.ReadFault = 7
 status_number status.WriteFault = 8
 status_number status.KeeperFault = 9
+status_number status.DoorFault = 10
 status_number status.WantOfMemory = 12
 
 -- the number of the status with which an answer is told

@@ -31,5 +31,8 @@ write_fault_line = line (codes "write fault" ∷ [])
 abbrev pub keeper_fault_line : List ℕ
 keeper_fault_line = line (codes "keeper fault" ∷ [])
 
+abbrev pub door_fault_line : List ℕ
+door_fault_line = line (codes "door fault" ∷ [])
+
 abbrev pub want_of_memory_line : List ℕ
 want_of_memory_line = line (codes "want of memory" ∷ [])

@@ -1,6 +1,6 @@
 -- How a call of a command ends. `Right` says which answers are right. The status is computed from the answer that was told. Only this file
--- says which of out and errs stays untouched: out at 2 to 7 and at 12 (`IsStopped`), errs at 0, 1 and 11 (`IsPrinted`). Over Told, Answers
--- and Lines. The contract of every call cites it, up to `office`.
+-- says at which status out or errs stays untouched: out at 2 to 7, 9, 10 and 12 (`IsStopped`), errs at 0, 1 and 11 (`IsPrinted`). Over Told,
+-- Answers and Lines. The contract of every call cites it, up to `office`.
 use Rattle.std.specs.Prelude.{◌≡◌, ◌⊎◌, ◌≤◌, ℕ, List, length}
 use Rattle.command_shell.specs.declared.status.Printed.{Printed}
 use Rattle.command_shell.specs.Told.{Bytes, Told, Gains, GainsLine, GainsPart, HasFaulted, HasNoFault, HeldAll, HeldMore, IsUntouched}
@@ -18,7 +18,7 @@ pub record IsPrinted (number : ℕ) (text : List ℕ) (told : Told) : Type 0 whe
   pub no_fault : HasNoFault told.out
   pub errs : IsUntouched told.errs
 
--- status 2 to 7, or 12: errs got the line, and out is untouched
+-- status 2 to 7, 9, 10 or 12: errs got the line, and out is untouched
 pub record IsStopped (number : ℕ) (line : List ℕ) (told : Told) : Type 0 where
   pub status : told.status ≡ number
   pub out : IsUntouched told.out

@@ -23,7 +23,7 @@ pub enum Cause {
     Wide,
     /// A budget is spent.
     Spent,
-    /// A rule of `draw` or of `bundle` refuses.
+    /// A rule of `draw`, of `bundle` or of the office refuses.
     Rule,
 }
 
@@ -42,6 +42,8 @@ pub enum Status {
     WriteFault,
     /// The keeper of the store counted a fault.
     KeeperFault,
+    /// The door of the desk counted a fault.
+    DoorFault,
     /// No memory was left.
     WantOfMemory,
 }
@@ -58,6 +60,7 @@ impl Status {
             Status::ReadFault => 7,
             Status::WriteFault => 8,
             Status::KeeperFault => 9,
+            Status::DoorFault => 10,
             Status::WantOfMemory => 12,
         }
     }

@@ -6,7 +6,7 @@ ghost use Rattle.outside.specs.Content.{AppendsPart};
 ghost use Rattle.outside.specs.Faults.{Rose};
 ghost use Rattle.command_shell.specs.Told.{Bytes, object, told, GainsLine};
 ghost use Rattle.command_shell.specs.Answers.{status_number, saying};
-ghost use Rattle.command_shell.specs.Lines.{keeper_fault_line, read_fault_line, too_long_line, want_of_memory_line, write_fault_line};
+ghost use Rattle.command_shell.specs.Lines.{door_fault_line, keeper_fault_line, read_fault_line, too_long_line, want_of_memory_line, write_fault_line};
 ghost use Rattle.command_shell.specs.Outcomes.{IsToldOrCutOff};
 
 use crate::answer::Answer;
@@ -22,6 +22,8 @@ const READ_FAULT_LINE: &[u8] = b"read fault\n";
 const WRITE_FAULT_LINE: &[u8] = b"write fault\n";
 
 const KEEPER_FAULT_LINE: &[u8] = b"keeper fault\n";
+
+const DOOR_FAULT_LINE: &[u8] = b"door fault\n";
 
 const WANT_OF_MEMORY_LINE: &[u8] = b"want of memory\n";
 
@@ -122,6 +124,15 @@ pub fn keeper_fault<E: Sink>(errs: &mut E) -> Status
 {
     complain(errs, KEEPER_FAULT_LINE);
     Status::KeeperFault
+}
+
+/// Writes to `errs` that the door of the desk counted a fault. The status is 10.
+pub fn door_fault<E: Sink>(errs: &mut E) -> Status
+    ensures status { status_number result ≡ 10 }
+    ensures line { GainsLine (object (E.written errs.old) (E.written errs.new) (E.faults errs.old) (E.faults errs.new)) door_fault_line }
+{
+    complain(errs, DOOR_FAULT_LINE);
+    Status::DoorFault
 }
 
 /// Writes to `errs` that no memory was left. The status is 12.

@@ -1,5 +1,5 @@
 -- From what a call does to the keeper, and what it tells, to how it ends.
-use Rattle.std.proofs.Common.{◌≡◌, ◌≤◌, ◌∙◌, ◌⊎◌, inl, inr, ℕ, List, [], ◌∷◌, Option, Some, None, Result, Ok, Err, Vec, Global, refl, sym, ap, subst}
+use Rattle.std.proofs.Common.{◌≡◌, ◌∙◌, inl, inr, ℕ, List, Option, Some, None, Result, Ok, Err, Vec, Global, refl, sym, ap, subst}
 use Rattle.std.specs.Prelude.{IfOk, IfSome, OnOk, option_map}
 use Rattle.std.specs.declared.alloc.AllocError.{AllocError}
 use Rattle.define_checks.specs.Reasons as reasons

@@ -19,7 +19,7 @@ use Rattle.command_shell.specs.declared.answer.Answer.{Answer}
 use Rattle.command_stores.specs.Imports.{Does, HasFault, ImportMeans, ReadsFile, fault_answer}
 use Rattle.command_stores.specs.declared.imports.Import.{Import}
 use Rattle.command_stores.specs.Steps.{StepMeans}
-use Rattle.command_stores.specs.StoreOutcomes.{HasStoredNothing, IsOnlyAttached, NoMemory, NotAttached, Read, ReadFault, Settles, SettlesAttached, SettlesLoaded, StoreMeaning, TellsSettled, TextStoreOutcome, TooLong, settled_by}
+use Rattle.command_stores.specs.StoreOutcomes.{NoMemory, NotAttached, Read, ReadFault, SettlesAttached, SettlesLoaded, StoreMeaning, TellsSettled, TextStoreOutcome, TooLong, settled_by}
 use Rattle.command_stores.specs.StoreTold.{Keeper, keeper_told, store_told}
 use Rattle.command_stores.proofs.Answering.{ends, settles_attached, unchanged}
 

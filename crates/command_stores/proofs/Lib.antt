@@ -1,3 +1,4 @@
 mod Answering
 mod Once
 mod Importing
+mod RoundProofs

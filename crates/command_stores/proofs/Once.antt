@@ -1,5 +1,5 @@
 -- A command has at most one answer over each tables.
-use Rattle.std.proofs.Common.{◌≡◌, ◌∙◌, ℕ, List, Option, Some, None, Result, Ok, Err, refl, sym, ap, subst}
+use Rattle.std.proofs.Common.{◌≡◌, ◌∙◌, ℕ, List, Option, Some, None, Result, Ok, Err, sym, ap, subst}
 use Rattle.command_shell.specs.Answers.{Saying}
 use Rattle.define_runs.specs.Run as run
 use Rattle.define_runs.specs.Run.{Ending, Limits}
@@ -59,6 +59,7 @@ module _ (one_rules : (bytes : List ℕ) (first second : Result (List Category) 
   -- A file is read over the tables as one command, or as one fault.
   one_file : (it : Import) (tables : Tables) (bytes : List ℕ) (first second : Result Command Fault) → ReadsFile it tables bytes first → ReadsFile it tables bytes second → first ≡ second
   one_file import.Charter tables bytes first second one two = one ∙ sym two
+  one_file (import.Proof round) tables bytes first second one two = one ∙ sym two
   one_file import.Rules tables bytes first second (said, reads, is) (other, reads_other, is_other) =
       is ∙ (ap (as_command SetRules) (one_rules bytes said other reads reads_other) ∙ sym is_other)
   one_file import.Register tables bytes first second one two = one_register tables.rules bytes first second one two

@@ -4,14 +4,17 @@ use Rattle.std.specs.Prelude.{◌≡◌, ℕ, List, Option, Some, None, Result, 
 use Rattle.command_shell.specs.Answers.{Saying, Stops as StopsBy}
 use Rattle.command_shell.specs.Lines.{input_line}
 use Rattle.command_shell.specs.declared.status.Cause.TheVariants.{Input}
+use Rattle.define_additions.specs.ProofVerdict.{Proof}
 use Rattle.define_imports.specs.Cells.{Fault}
 use Rattle.define_imports.specs.Charters.{read_charter}
 use Rattle.define_imports.specs.Registers.{ReadsRows}
 use Rattle.define_imports.specs.Rules.{ReadsRules}
-use Rattle.define_offices.specs.Commands.{Change, Command, Given, Incomplete, Register, SetCharter, SetRules}
+use Rattle.define_offices.specs.Commands.{Change, Command, Given, Incomplete, Keep, Register, SetCharter, SetRules}
+use Rattle.define_lines.specs.Lines as lines
 use Rattle.define_offices.specs.declared.Part.TheVariants as part
-use Rattle.define_offices.specs.Tables.{Charter, Tables}
+use Rattle.define_offices.specs.Tables.{Tables}
 use Rattle.define_pools.specs.Pool.{Category}
+use Rattle.define_proof_texts.specs.ProofReading.{read_proof}
 use Rattle.command_stores.specs.declared.imports.Import.{Import}
 use Rattle.command_stores.specs.declared.imports.Import.TheVariants as import
 use Rattle.command_stores.specs.Steps.{StepMeans, refused_by}
@@ -26,11 +29,17 @@ abbrev pub ReadsRegister : Option (List Category) → List ℕ → Result Comman
 ReadsRegister None bytes read = ⊥
 ReadsRegister (Some rules) bytes read = (said : Result (List Given) Fault) × ReadsRows rules bytes said × (read ≡ as_command Register said)
 
+-- a text is read as this proof, which is kept for the round, or has the same fault. The place of a fault is its line
+abbrev pub keeping : ℕ → Result Proof lines.Fault → Result Command Fault
+keeping round (Ok proof) = Ok (Keep round proof)
+keeping round (Err fault) = Err (record { place = fault.line; kind = fault.kind })
+
 -- the file is read as this command of the office, or has this first fault
 abbrev pub ReadsFile : Import → Tables → List ℕ → Result Command Fault → Type 0
 ReadsFile import.Charter tables bytes read = read ≡ as_command SetCharter (read_charter bytes)
 ReadsFile import.Rules tables bytes read = (said : Result (List Category) Fault) × ReadsRules bytes said × (read ≡ as_command SetRules said)
 ReadsFile import.Register tables bytes read = ReadsRegister tables.rules bytes read
+ReadsFile (import.Proof round) tables bytes read = read ≡ keeping round (read_proof bytes)
 
 -- the answer to a faulty file: the line `input`, the record and the kind of fault
 abbrev pub fault_answer : Fault → Saying

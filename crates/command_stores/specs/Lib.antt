@@ -3,3 +3,4 @@ pub mod StoreOutcomes
 pub mod Steps
 pub mod Imports
 pub mod ReadFiles
+pub mod ProvedRounds

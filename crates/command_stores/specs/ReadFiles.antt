@@ -1,6 +1,8 @@
 -- What the code returns for a file that is imported. For src/imports.rt.
 use Rattle.std.specs.Prelude.{◌≡◌, ℕ, List, None, Result, Ok, Err, ⊤}
+use Rattle.define_additions.specs.ProofVerdict.{Proof}
 use Rattle.define_offices.specs.Tables.{Tables}
+use Rattle.define_proof_texts.specs.ProofReading.{read_proof}
 use Rattle.office_core.specs.Commands.{seen_command}
 use Rattle.office_core.specs.declared.commands.Command.{Command}
 use Rattle.office_import.specs.Answers.{fault_of}
@@ -18,6 +20,12 @@ IsReadAs it tables bytes (Ok command) = ReadsFile it tables bytes (Ok (seen_comm
 IsReadAs it tables bytes (Err (Fault fault)) = ReadsFile it tables bytes (Err (fault_of fault))
 IsReadAs it tables bytes (Err NoRules) = (it ≡ Register) × (tables.rules ≡ None)
 IsReadAs it tables bytes (Err OutOfMemory) = ⊤
+
+-- what the code may return for the text of a proof
+abbrev pub IsProofRead : List ℕ → Result Proof ImportStop → Type 0
+IsProofRead bytes (Ok proof) = read_proof bytes ≡ Ok proof
+IsProofRead bytes (Err (read.Fault fault)) = read_proof bytes ≡ Err (record { line = fault.place; kind = fault.kind })
+IsProofRead bytes (Err read.OutOfMemory) = ⊤
 
 -- the stop for one of a reader of files
 abbrev pub stop_of_import : ImportStop → FileStop

@@ -2,7 +2,7 @@
 -- with one line for all of them.
 use Rattle.std.specs.Prelude.{◌≡◌, ℕ, List, [], ◌∷◌, Option, Some, None, Result, Ok, Err}
 use Rattle.command_shell.specs.Answers.{Prints, Saying, Stops as StopsBy}
-use Rattle.command_shell.specs.Lines.{line, no_panel_line}
+use Rattle.command_shell.specs.Lines.{no_panel_line}
 use Rattle.command_shell.specs.declared.status.Cause.TheVariants.{Rule, Spent, Wide}
 use Rattle.command_shell.specs.declared.status.Printed.TheVariants as printed
 use Rattle.command_meanings.specs.Check.{refused_line}

@@ -56,7 +56,7 @@ SettlesLoaded Means object (Ok answer) = IsKept Means object (saying answer)
 SettlesLoaded Means object (Err Failed) = HasFaulted object × (object.after ≡ object.before)
 SettlesLoaded Means object (Err OutOfMemory) = HasNoFault object × (object.after ≡ object.before)
 
--- the same, where the tables are loaded first
+-- as `SettlesLoaded`, for a call that loads the tables first
 abbrev pub SettlesAttached : StoreMeaning → Object Tables → Result Answer KeeperStop → Type 0
 SettlesAttached Means object (Ok answer) = (tables : Tables) × IsLoaded object.before tables × IsKept (Means tables) object (saying answer)
 SettlesAttached Means object (Err Failed) = HasFaulted object × (object.after ≡ object.before)

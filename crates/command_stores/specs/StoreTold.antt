@@ -1,7 +1,7 @@
 -- What one call over a store told of the outside: what a call over a text tells, and the keeper before and after.
 -- Over `Told` of the shell. StoreOutcomes and the contract of `office` cite it.
-use Rattle.std.specs.Prelude.{◌≡◌, ◌⊎◌, ℕ, List, Option}
-use Rattle.command_shell.specs.Told.{HasNoFault, IsUntouched, Object, Told}
+use Rattle.std.specs.Prelude.{◌≡◌, ◌⊎◌, ℕ, List}
+use Rattle.command_shell.specs.Told.{IsUntouched, Object, Told}
 use Rattle.define_offices.specs.Tables.{Tables}
 use Rattle.office_core.specs.Keeping.{Place, at}
 

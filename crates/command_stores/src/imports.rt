@@ -5,7 +5,7 @@ ghost use Rattle.command_shell.specs.Answers.{status_number, saying};
 ghost use Rattle.command_shell.specs.Told.{object, told};
 ghost use Rattle.office_import.specs.Answers.{fault_of};
 ghost use Rattle.command_stores.specs.Imports.{ImportMeans, fault_answer as words_of_fault};
-ghost use Rattle.command_stores.specs.ReadFiles.{IsReadAs};
+ghost use Rattle.command_stores.specs.ReadFiles.{IsProofRead, IsReadAs};
 ghost use Rattle.command_stores.specs.StoreOutcomes.{SettlesAttached, TextStoreOutcome};
 ghost use Rattle.command_stores.specs.StoreTold.{keeper_told, store_told};
 ghost use Rattle.office_core.specs.Commands.{HasWorkers};
@@ -17,8 +17,11 @@ use command_shell::{Answer, Cause, Resources, Status, input_line, read_input, re
 use office_core::{Command, Keeper, KeeperStop, Part, Refusal, Tables};
 use office_import::{ImportFault, ImportStop, read_charter, read_register, read_rules};
 use outside::{Sink, Source, Watch};
+use proof_model::Proof;
+use proof_text::read_proof;
 use std::alloc::{AllocError, Global};
 use std::thread::Threads;
+use text_lines::TextStop;
 
 /// What is imported.
 #[derive(Clone, Copy, Debug)]
@@ -29,6 +32,11 @@ pub enum Import {
     Rules,
     /// Volunteers.
     Register,
+    /// A proof of a lottery over the pool of an open round, or that there is no quota panel.
+    Proof {
+        /// The round's number, counted from 1.
+        round: usize,
+    },
 }
 
 /// Why a file isn't read as a command.
@@ -114,6 +122,24 @@ fn read_file(
             Some(rules) => Ok(Command::Register(read_register(alloc, bytes, rules)?)),
             None => Err(FileStop::NoRules),
         },
+        Import::Proof { round } => Ok(Command::Keep {
+            round,
+            proof: proof_of(alloc, bytes)?,
+        }),
+    }
+}
+
+/// Reads a file as a proof.
+fn proof_of(alloc: Global, bytes: &[u8]) -> Result<Proof, ImportStop>
+    ensures { IsProofRead bytes.now result }
+{
+    match read_proof(alloc, bytes) {
+        Ok(proof) => Ok(proof),
+        Err(TextStop::Fault(fault)) => Err(ImportStop::Fault(ImportFault {
+            place: fault.line,
+            kind: fault.kind,
+        })),
+        Err(TextStop::OutOfMemory) => Err(ImportStop::OutOfMemory),
     }
 }
 

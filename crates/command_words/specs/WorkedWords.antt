@@ -21,18 +21,26 @@ number name value = (name, Number value)
 abbrev pub text : List ℕ → List ℕ → List ℕ × Value
 text name value = (name, Text value)
 
--- the budget of the run that makes a proof: pivots up to 10 ^ 9, nodes up to 10 ^ 12
+-- the budget of the run that makes a proof: pivots up to 10 ^ 9, nodes up to 10 ^ 12. `store` may be absent, and rounds are from 0 to 1000,
+-- round 1 if none is given
 pub record ProveGives : Type 0 where
-  pub defaults : Give (codes "prove" ∷ []) name.Prove (number (codes "pivots") 1000000 ∷ number (codes "nodes") 200000 ∷ [])
-  pub least : Give (codes "prove" ∷ codes "--pivots" ∷ codes "0" ∷ codes "--nodes" ∷ codes "0" ∷ []) name.Prove (number (codes "pivots") 0 ∷ number (codes "nodes") 0 ∷ [])
+  pub defaults : Give (codes "prove" ∷ []) name.Prove (number (codes "round") 1 ∷ number (codes "pivots") 1000000 ∷ number (codes "nodes") 200000 ∷ [])
+  pub least : Give (codes "prove" ∷ codes "--pivots" ∷ codes "0" ∷ codes "--nodes" ∷ codes "0" ∷ []) name.Prove
+      (number (codes "round") 1 ∷ number (codes "pivots") 0 ∷ number (codes "nodes") 0 ∷ [])
   pub most : Give (codes "prove" ∷ codes "--pivots" ∷ codes "1000000000" ∷ codes "--nodes" ∷ codes "1000000000000" ∷ []) name.Prove
-      (number (codes "pivots") 1000000000 ∷ number (codes "nodes") 1000000000000 ∷ [])
+      (number (codes "round") 1 ∷ number (codes "pivots") 1000000000 ∷ number (codes "nodes") 1000000000000 ∷ [])
   pub pivots : GiveNothing (codes "prove" ∷ codes "--pivots" ∷ codes "1000000001" ∷ [])
   pub nodes : GiveNothing (codes "prove" ∷ codes "--nodes" ∷ codes "1000000000001" ∷ [])
+  pub store : Give (codes "prove" ∷ codes "--store" ∷ codes "s" ∷ codes "--round" ∷ codes "1000" ∷ []) name.Prove
+      (text (codes "store") (codes "s") ∷ number (codes "round") 1000 ∷ number (codes "pivots") 1000000 ∷ number (codes "nodes") 200000 ∷ [])
+  pub more : GiveNothing (codes "prove" ∷ codes "--store" ∷ codes "s" ∷ codes "--round" ∷ codes "1001" ∷ [])
 
 pub record PlainGive : Type 0 where
   pub verify : Give (codes "verify" ∷ []) name.Verify []
   pub bundle : Give (codes "bundle" ∷ []) name.Bundle []
+  pub dice : Give (codes "dice" ∷ []) name.Dice []
+  pub tickets : Give (codes "tickets" ∷ []) name.Tickets []
+  pub chances : Give (codes "chances" ∷ []) name.Chances []
 
 -- `store` may be absent, and rounds are from 0 to 1000, round 1 if none is given; an option may be given once, and with a value
 pub record SealGives : Type 0 where
@@ -107,6 +115,10 @@ pub record RoundGives (command : CommandName) (word : List ℕ) (words : List (L
       (text (codes "store") (codes "s") ∷ number (codes "round") 1000 ∷ values)
   pub more : GiveNothing (word ∷ codes "--store" ∷ codes "s" ∷ codes "--round" ∷ codes "1001" ∷ words)
   pub no_store : GiveNothing (word ∷ words)
+
+pub record KeepGives : Type 0 where
+  pub rounds : RoundGives name.Keep (codes "keep") [] []
+  pub another : GiveNothing (codes "keep" ∷ codes "--store" ∷ codes "s" ∷ codes "--nodes" ∷ codes "1" ∷ [])
 
 -- the limits of `solve` are those of `lottery`
 pub record SolveGives : Type 0 where

@@ -4,7 +4,7 @@
 //! reading the values of its options (`values.rt`) and the rule that says what words give (`specs/Words.antt`) are proved once for every
 //! table.
 //!
-//! Stands on `clap` alone. Above: `sortition`, which makes a command with typed arguments of a `Given`. Promises: `read_words`, and the
+//! Stands on `clap` alone. Above: `command_office`, which makes a command with typed arguments of a `Given`. Promises: `read_words` and the
 //! calls of `Given` and `Word`.
 #![tactic(auto)]
 

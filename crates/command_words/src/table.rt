@@ -52,9 +52,16 @@ const PROOF_COMMANDS: &[TableCommand] = &[
     CommandWords {
         command: CommandName::Prove,
         name: "prove",
-        help: "Prints the lottery of the pool or of the bundle on standard input, with a proof",
+        help: "Prints the lottery of the pool or of the bundle on standard input, with a proof; or answers an open round of the store",
         example: "Example: sortition prove < city.pool > city.proof",
         options: &[
+            OptionWords {
+                name: "store",
+                help: "The file of the store, if an open round of it is answered",
+                form: Form::Text,
+                missing: Missing::Absent,
+            },
+            ROUND,
             OptionWords {
                 name: "pivots",
                 help: "The most pivots that the run may make, up to 1000000000",
@@ -74,6 +81,13 @@ const PROOF_COMMANDS: &[TableCommand] = &[
                 missing: Missing::Default("200000"),
             },
         ],
+    },
+    CommandWords {
+        command: CommandName::Keep,
+        name: "keep",
+        help: "Answers an open round of the store by the proof on standard input, whoever made it",
+        example: "Example: sortition keep --store city.store < city.proof",
+        options: &[STORE, ROUND],
     },
     CommandWords {
         command: CommandName::Verify,
@@ -97,6 +111,20 @@ const PROOF_COMMANDS: &[TableCommand] = &[
         options: &[STORE_IF_ANY, ROUND],
     },
     CommandWords {
+        command: CommandName::Dice,
+        name: "dice",
+        help: "Prints how dice draw from the bundle on standard input",
+        example: "Example: sortition dice < city.bundle",
+        options: &[],
+    },
+    CommandWords {
+        command: CommandName::Tickets,
+        name: "tickets",
+        help: "Prints a table of the tickets of the bundle on standard input",
+        example: "Example: sortition tickets < city.bundle",
+        options: &[],
+    },
+    CommandWords {
         command: CommandName::Draw,
         name: "draw",
         help: "Prints the panel that dice draw from the bundle on standard input, or in a round of the store",
@@ -117,6 +145,13 @@ const PROOF_COMMANDS: &[TableCommand] = &[
                 missing: Missing::Refused,
             },
         ],
+    },
+    CommandWords {
+        command: CommandName::Chances,
+        name: "chances",
+        help: "Prints the volunteers' chances in the bundle on standard input",
+        example: "Example: sortition chances < city.bundle",
+        options: &[],
     },
 ];
 

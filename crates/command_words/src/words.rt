@@ -3,8 +3,10 @@
 /// A command of the program.
 #[derive(Clone, Copy, Debug)]
 pub enum CommandName {
-    /// The lottery of a pool or of a bundle, with its proof.
+    /// The lottery of a pool or of a bundle, with its proof; or an open round of a store, answered by a proof that is made.
     Prove,
+    /// An open round of a store, answered by a given proof.
+    Keep,
     /// The verdict on a proof.
     Verify,
     /// The bundle of a proof.
@@ -13,6 +15,12 @@ pub enum CommandName {
     Seal,
     /// The panel that dice draw from a bundle.
     Draw,
+    /// How dice draw from a bundle.
+    Dice,
+    /// The table of a bundle's tickets.
+    Tickets,
+    /// The volunteers' chances in a bundle.
+    Chances,
     /// The first quota panel of a pool.
     Panel,
     /// The lottery of a pool by the stated run.

@@ -4,6 +4,7 @@ ghost use Rattle.command_words.specs.WorkedWords.{
   DrawGives,
   DropGives,
   ImportsGive,
+  KeepGives,
   LotteryGives,
   MakeGives,
   NextRoundGives,
@@ -19,6 +20,7 @@ ghost use Rattle.command_words.specs.WorkedWords.{
 /// The names of the commands, their defaults and the ends of their ranges are those of `specs/WorkedWords.antt`.
 pub fn words_are_worked()
     ensures prove { ProveGives }
+    ensures keep { KeepGives }
     ensures plain { PlainGive }
     ensures seal { SealGives }
     ensures draw { DrawGives }

@@ -73,6 +73,6 @@ has_constraints problem leaf = list_all (λ multiplier. nat_lt multiplier.number
 abbrev pub is_below : Problem → List Standing → Leaf → Bool
 is_below problem standings leaf = int_lt (total_charge problem standings leaf) (pos leaf.scale *ℤ (problem.stage.cap +ℤ pos 1))
 
--- a leaf shows the cap for panels that keep `standings` and meet the constraints: none of them weighs more
+-- a leaf shows the cap for panels that keep `standings` and meet the constraints: each multiplier names a constraint, and `is_below` holds
 abbrev pub leaf_shows : Problem → List Standing → Leaf → Bool
 leaf_shows problem standings leaf = has_constraints problem leaf && is_below problem standings leaf

@@ -112,7 +112,7 @@ pool_kinds second (pools.Versioned version) line = pools.line_kinds (pools.Versi
 pool_kinds second (pools.Inside pool passed) line = pools.line_kinds (pools.Inside pool passed) line
 pool_kinds second (pools.Ended pool) line = (14, not (is_some (total_of (fields_of line)))) ∷ []
 
--- the kind of fault of a line before any stage line, given whether there was a panel line. 15: neither a right panel line nor, after a
+-- the kind of fault of a line that follows the total or, if `behind` holds, a panel line. 15: neither a right panel line nor, after a
 -- panel line, a line that begins with `stage`; 16: after a panel line, a faulty stage line
 abbrev pub row_kinds : Bool → AnswerLine → List (ℕ × Bool)
 row_kinds behind (OfRow row) = []
@@ -153,7 +153,7 @@ after_pool second (pools.Versioned version) line = InPool second (pools.after_li
 after_pool second (pools.Inside pool passed) line = InPool second (pools.after_line (pools.Inside pool passed) line)
 after_pool second (pools.Ended pool) line = InRows pool (record { total = unwrap_or (total_of (fields_of line)) 0; rows = [] })
 
--- the progress after a right line before any stage line
+-- the progress after a right line that follows the total or a panel line
 abbrev pub after_row : Pool → Lottery → AnswerLine → Progress
 after_row pool lottery (OfRow row) = InRows pool (record lottery { rows = lottery.rows ++ row ∷ [] })
 after_row pool lottery (OfStage stage) = InStages pool (record { lottery = lottery; stages = stage ∷ [] })

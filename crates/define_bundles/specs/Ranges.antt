@@ -1,4 +1,4 @@
--- The ranges that the numbers of an answer must keep to have a text. `bundle_text` tests them. They keep the sums of the run and of the
+-- The ranges of the numbers of an answer in a bundle. `bundle_text` tests them. They keep the sums of the run and of the
 -- checks within 128 bits.
 use Rattle.std.specs.Prelude.{ℕ, ◌+◌, ◌-◌, ◌^◌, ◌==◌, nat_lt, nat_le, Bool, ◌&&◌, IsTrue, List, length, sum_by, unsigned_abs}
 use Rattle.std.specs.List.{list_all}

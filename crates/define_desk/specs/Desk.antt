@@ -1,5 +1,5 @@
--- The desk: what it replies to the bytes of a connection over the tables of an office, and the tables afterwards. A refusal comes before
--- another in the order 413, 400, 404, 405, 401, 409.
+-- The desk: what it replies to the bytes of a connection over the tables of an office, and the tables afterwards. If several refusals
+-- apply, it replies the first one of 413, 400, 404, 405, 401, 409.
 use Rattle.std.specs.Prelude.{◌≡◌, ℕ, ◌+◌, ◌++◌, nat_lt, nat_le, if◌then◌else◌, Bool, ◌&&◌, List, [], ◌∷◌, length, map, take, drop, bytes_eq, codes, Option, Some, None, option_map}
 use Rattle.std.specs.Char.{is_ascii_digit}
 use Rattle.std.specs.Fmt.{decimal}

@@ -201,7 +201,7 @@ rules_are_right header first later categories h =
           are = and_from (leb 1 (length cs) && filled) free (and_from (leb 1 (length cs)) filled (le-leb 1 (length cs) some) drafts.filled) drafts.free;
         }
 
--- the same, of rows that are seen as records
+-- as `rules_are_right`, for at least one row of any type, of which `fields` gives the fields
 pub rows_give_rules : {R : Type 0} (header : List (List ℕ)) (fields : R → List (List ℕ)) (rows : List R) (categories : List Category) → eqb (length rows) 0 ≡ false →
     read_from (rule_kind header) (after_rule header) 2 [] (map fields rows) ≡ Ok categories → AreRules categories
 rows_give_rules header fields [] categories some h = absurd (false≢true (sym some))

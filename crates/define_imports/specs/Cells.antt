@@ -48,7 +48,7 @@ abbrev pub cell : List (List ℕ) → Option ℕ → List ℕ
 cell fields None = []
 cell fields (Some place) = trimmed (slice_index_or fields place [])
 
--- the same, by the column's name
+-- the `cell` of a record in the column that is called `name`
 abbrev pub cell_named : List (List ℕ) → List (List ℕ) → List ℕ → List ℕ
 cell_named header fields name = cell fields (column header name)
 

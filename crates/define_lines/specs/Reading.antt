@@ -4,8 +4,8 @@ use Rattle.std.specs.Prelude.{ℕ, ◌+◌, List, [], ◌∷◌, Option, Some, N
 use Rattle.define_lines.specs.Lines.{Fault}
 
 -- How to read a text line by line. The progress is what is known after some lines. `line_kind` is the lowest kind of fault of a line, if it
--- has a fault. `after_line` is the progress after a line without fault. `at_last` is the value or the fault of the whole text, given the
--- number of the last piece, the progress and the bytes after the last LF
+-- has a fault. `after_line` is the progress after a line without fault. `at_last` is the value, or the fault at the end of the text, given
+-- the number of the last piece, the progress and the bytes after the last LF
 pub record Reader (Progress Value : Type 0) : Type 0 where
   pub line_kind : Progress → List ℕ → Option ℕ
   pub after_line : Progress → List ℕ → Progress

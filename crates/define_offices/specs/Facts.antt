@@ -78,7 +78,7 @@ has_drop (Sealed bundle) = false
 has_drop (Drawn bundle digits []) = false
 has_drop (Drawn bundle digits (id ∷ dropped)) = true
 
--- there is a round, and each round except the last is drawn and has a drop
+-- there is a round, and each round except the last is drawn and has a dropout
 abbrev pub closed_but_last : List Round → Bool
 closed_but_last [] = false
 closed_but_last (round ∷ []) = true

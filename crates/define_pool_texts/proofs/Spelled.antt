@@ -210,8 +210,8 @@ one_standing (volunteer ∷ volunteers) (suc passed) (suc number) standing d h l
     ap (λ lines. standing_line volunteer.standing volunteer.id ++ lines) (one_standing volunteers passed number standing d h (omega arith) (omega arith))
     ∙ sym (append_assoc (standing_line volunteer.standing volunteer.id) (standing_lines volunteers) (standing_line standing (get_or volunteers number d).id))
 
--- if the volunteers from `passed` on are open, and the standing of a volunteer `number`, at least `passed`, is set, then those after this
--- volunteer are open
+-- if the volunteers from `passed` on are open and `passed ≤ number`, the volunteers after `number` are still open once the standing of
+-- volunteer `number` is set
 open_behind : (volunteers : List Volunteer) (passed number : ℕ) (standing : Standing) → open_from passed volunteers ≡ true → passed ≤ number → open_from (suc number) (with_standing volunteers number standing) ≡ true
 open_behind [] passed number standing h l = refl
 open_behind (volunteer ∷ volunteers) zero zero standing h l = (and_parts (is_open volunteer.standing) (open_from 0 volunteers) h).1
@@ -253,8 +253,8 @@ one_household (volunteer ∷ volunteers) (suc passed) (suc number) name d h l m 
     ap (λ lines. household_line volunteer.household volunteer.id ++ lines) (one_household volunteers passed number name d h (omega arith) (omega arith))
     ∙ sym (append_assoc (household_line volunteer.household volunteer.id) (household_lines volunteers) (household_line (Some name) (get_or volunteers number d).id))
 
--- if the volunteers from `passed` on have no household, and that of a volunteer `number`, at least `passed`, is set, then those after this
--- volunteer have none
+-- if the volunteers from `passed` on have no household and `passed ≤ number`, the volunteers after `number` still have none once the
+-- household of volunteer `number` is set
 alone_behind : (volunteers : List Volunteer) (passed number : ℕ) (name : List ℕ) → alone_from passed volunteers ≡ true → passed ≤ number → alone_from (suc number) (with_household volunteers number name) ≡ true
 alone_behind [] passed number name h l = refl
 alone_behind (volunteer ∷ volunteers) zero zero name h l = (and_parts (not (is_some volunteer.household)) (alone_from 0 volunteers) h).1
@@ -354,8 +354,8 @@ volunteer_parts pool passed id names h =
     let one = ltb-false 0 passed.households neither_passed.0 in
     let other = ltb-false 0 passed.standings neither_passed.1 in (omega arith, omega arith, parts.1)
 
--- the pool so far is right: it keeps its limits; those whom no standing line has passed are open; those whom no household line has passed
--- have no household; somebody has a household exactly if there was a household line; and in version 1 there was none
+-- the pool so far is right: it is a pool; volunteers from `passed.standings` on are open; volunteers from `passed.households` on have no
+-- household; somebody has a household exactly if there was a household line; and in version 1 there was none
 pub record IsRightInside (pool : Pool) (passed : Passed) : Type 0 where
   pub is_pool : IsPool pool
   pub ahead : open_from passed.standings pool.volunteers ≡ true

@@ -155,8 +155,8 @@ after_line (Versioned second) line = Inside (empty_pool (size_of (fields_of line
 after_line (Inside pool passed) line = after_entry pool passed (entry_of (fields_of line))
 after_line (Ended pool) line = Ended pool
 
--- the value or the fault of the whole text, given the bytes after the last LF. 12: the lines run out before the end. 1: bytes after the
--- end
+-- the pool, or the fault at the end of the text, given the bytes after the last LF. 12: the lines run out before the end. 1: bytes after
+-- the end
 abbrev pub at_last : ℕ → Progress → List ℕ → Result Pool Fault
 at_last number (Ended pool) [] = Ok pool
 at_last number (Ended pool) (byte ∷ bytes) = Err (record { line = number; kind = 1 })

@@ -209,7 +209,7 @@ missing_kind (InTrees bundle whole lines) = 23
 missing_kind (InNoPanel pool lines) = 23
 missing_kind (Closed proof) = 23
 
--- the proof, or the fault of the whole text, given the bytes after the last LF. Bytes after the last line are fault 23
+-- the proof, or the fault at the end of the text, given the bytes after the last LF. Bytes after the last line are a fault of kind 23
 abbrev pub at_last : ℕ → Progress → List ℕ → Result Proof Fault
 at_last number (Closed proof) [] = Ok proof
 at_last number progress bytes = Err (record { line = number; kind = missing_kind progress })

@@ -1,5 +1,5 @@
 -- The report of a round: its title, phase and pool; past `Open` its lottery with each volunteer's chance, from the seal on the seal, and of a
--- round that was drawn the draw. Over Pools and Lines of `define_offices`. `office_reports` writes it.
+-- round that was drawn the draw. Over Pools and Lines of `define_offices`. `round_reports` writes it.
 use Rattle.std.specs.Prelude.{ℕ, true, List, [], ◌∷◌, ◌++◌, codes, filter, length, map, Option, Some, None, Result, Ok, Err}
 use Rattle.std.specs.Fmt.{decimal}
 use Rattle.std.specs.List.{enumerate_from, flat_map}

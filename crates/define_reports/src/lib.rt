@@ -1,6 +1,6 @@
 //! The report of a round of an office: what it is called, how far it has come, its quotas, its lottery with each volunteer's chance, the seal
 //! and the draw. The definitions are in `specs/`. Stands on `define_offices`, and on `define_made_pools` for lines of one field. Above:
-//! `office_reports`, which writes it.
+//! `round_reports`, which writes it.
 //!
 //! The functions have no body: their contracts are laws over the definitions, and worked examples.
 #![tactic(auto)]

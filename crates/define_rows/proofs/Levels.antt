@@ -1,4 +1,4 @@
--- The equation of a class's unit row says that the class's count is its size times the sum of its levels.
+-- A table that is `AllSettled` has levels. By the equation of its unit row, a class's count is its size times the sum of its levels.
 use Rattle.std.proofs.Common.{◌≡◌, ◌≢◌, ℕ, zero, suc, ◌+◌, ◌*◌, ◌/◌, ◌<◌, Bool, true, false, cond, List, [], ◌∷◌, length, get_or, Option, Some, None, ℤ, pos, ◌+ℤ◌, ◌-ℤ◌, ◌*ℤ◌, neg_ℤ, refl, sym, ap, ap₂, ◌∙◌, subst, arith}
 use Rattle.std.specs.Prelude.{int_lt, unsigned_abs, slice_index, sum_by}
 use Rattle.std.specs.Int.{◌∣◌}

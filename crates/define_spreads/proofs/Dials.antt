@@ -1,4 +1,4 @@
--- The dial of a composition: a multiple of the sizes of the classes taken in part, with their marks along it.
+-- The dial of a composition: its length is a multiple of the size of each class taken in part, and each mark of these classes is a cut.
 use Rattle.std.proofs.Common.{◌≡◌, ◌⊎◌, inl, inr, ℕ, zero, suc, ◌+◌, ◌*◌, ◌/◌, ◌≤◌, ◌<◌, Bool, true, false, cond, ◌||◌, eqb, ltb, List, [], ◌∷◌, ◌++◌, map, length, get_or, slice_get, Some, refl, sym, ap, ◌∙◌, ⊎_elim, arith, subst}
 use Rattle.std.specs.Int.{◌∣◌}
 use Rattle.std.specs.List.{fold, flat_map, range_with_len, AllByRecursion}

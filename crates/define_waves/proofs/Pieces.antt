@@ -1,4 +1,4 @@
--- Searching below the pieces keeps the same composition as searching through all, and the front of each piece is a front (`IsFront`).
+-- Going through the compositions below the pieces' fronts keeps the same one as going through all. Each of these fronts is an `IsFront`.
 use Rattle.std.proofs.Common.{◌≡◌, ℕ, zero, suc, ◌+◌, ◌-◌, ◌≤◌, Bool, true, false, cond, List, [], ◌∷◌, ◌++◌, map, length, filter, take, drop, fold, ℤ, Some, refl, sym, ap, ◌∙◌, arith, subst, length-append, append_assoc}
 use Rattle.std.specs.Prelude.{int_lt, nat_le, not}
 use Rattle.std.specs.List.{flat_map, AllByRecursion, position_or_len, range_with_len}
@@ -135,7 +135,7 @@ piece_lengths all closed row =
       | false ↦ tt
     ]
 
--- ---- the front of each piece is a front
+-- ---- the front of each piece satisfies `IsFront`
 
 fits_more : (pre later : List Class) (class : Class) (front : List ℕ) (c : ℕ) → Fits (pre ++ class ∷ later) front → length front ≡ length pre → class.least ≤ c → c ≤ class.most → Fits (pre ++ class ∷ later) (front ++ c ∷ [])
 fits_more [] later class [] c fits e l m = ((l, m), fits_none later)

@@ -8,6 +8,8 @@ mod branches;
 #[cfg(test)]
 mod digests;
 #[cfg(test)]
+mod doors;
+#[cfg(test)]
 mod faults;
 #[cfg(test)]
 mod fronts;

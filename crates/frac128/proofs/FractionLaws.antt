@@ -25,7 +25,7 @@ products-divided num den g is =
     let both = subst (IsGcd num den) (sym is) (IsGcd-gcd_of num den) in
     same_from_parts g num den (num / g) (den / g) (mul-div_cancel' g both.0) (mul-div_cancel' g both.1)
 
--- If two fractions in lowest terms have the same value, they have the same upper and the same lower number.
+-- If two fractions in lowest terms have the same value, they have the same numerator and the same denominator.
 pub IsLowest-unique : (an ad bn bd : ℕ) → IsLowest an ad → IsLowest bn bd → an * bd ≡ bn * ad → (an ≡ bn) × (ad ≡ bd)
 IsLowest-unique an ad bn bd a_lowest b_lowest same =
     let by_a : gcd_of (bd * an) (bd * ad) ≡ bd = gcd_of-scale bd an ad ∙ ap (λ n. bd * n) a_lowest.1 ∙ omega arith in

@@ -105,7 +105,7 @@ fn compare_quotients(mut an: u128, mut ad: u128, mut bn: u128, mut bd: u128) -> 
     }
 }
 
-/// A fraction of whole numbers in lowest terms: the upper number is at least 0, the lower at least 1, and no number above 1 divides both.
+/// A fraction of whole numbers in lowest terms: the numerator is at least 0, the denominator at least 1, and nothing above 1 divides both.
 /// Prints as `num/den`.
 #[derive(Clone, Copy, Debug, PartialEq, Eq)]
 pub struct Frac {
@@ -124,7 +124,7 @@ impl Model for Frac {
 }
 
 impl Frac {
-    /// Returns the upper number, at least 0.
+    /// Returns the numerator, at least 0.
     pub fn num(&self) -> i128
         ensures value { result ≡ pos self.now.num }
         ensures lowest { IsLowest self.now.num self.now.den }
@@ -132,7 +132,7 @@ impl Frac {
         self.num as i128
     }
 
-    /// Returns the lower number, at least 1.
+    /// Returns the denominator, at least 1.
     pub fn den(&self) -> i128
         ensures value { result ≡ pos self.now.den }
         ensures lowest { IsLowest self.now.num self.now.den }

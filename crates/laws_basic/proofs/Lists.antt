@@ -34,7 +34,7 @@ get_or-enumerate_from {X} first (x ∷ xs) (suc t) d e l =
     get_or-enumerate_from (first + 1) xs t d e (omega arith)
     ∙ (let same : (first + 1) + t ≡ first + suc t = omega arith in ap (λ n. let pair : ℕ × X = (n, get_or xs t e) in pair) same)
 
--- a range of one number more has `first + count` at its end
+-- a range that is one number longer ends with `first + count`
 pub range-more : (first count : ℕ) → range_with_len first (suc count) ≡ range_with_len first count ++ (first + count) ∷ []
 range-more first zero = let e : first ≡ first + 0 = omega arith in ap (λ k. k ∷ []) e
 range-more first (suc count) =

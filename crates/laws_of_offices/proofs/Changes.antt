@@ -59,7 +59,7 @@ with_rounds tables rounds keeps closed each = record {
   rounds = λ place round at. KeepsRound-in tables (record tables { rounds = rounds }) (record { charter = λ h. h; rules = λ h. h; ids = refl }) round (each place round at);
 }
 
--- if a change keeps drops, and `KeepsRound` holds of the changed round, the facts hold of the tables with this round changed
+-- if a change keeps dropouts, and `KeepsRound` holds of the changed round, the facts hold of the tables with this round changed
 module _ (tables : Tables) (keeps : IsTables tables) (change : Round → Round) (drops : (round : Round) → has_drop round ≡ true → has_drop (change round) ≡ true) where
   changed_place : (place : ℕ) → ((old : Round) → round_at tables.rounds place ≡ Some old → KeepsRound tables (change old)) →
       IsTables (record tables { rounds = changed_at change tables.rounds place })
@@ -74,7 +74,7 @@ module _ (tables : Tables) (keeps : IsTables tables) (change : Round → Round) 
   changed_keeps zero right = with_rounds tables tables.rounds keeps keeps.closed keeps.rounds
   changed_keeps (suc place) right = changed_place place right
 
--- if the last round has a drop, the facts still hold after an open round is added at the end
+-- if the last round has a dropout, the facts still hold after an open round is added at the end
 pub pushed_keeps : (tables : Tables) → IsTables tables → (place : ℕ) (round : Round) → round_at tables.rounds place ≡ Some round → suc place ≡ length tables.rounds → has_drop round ≡ true →
     IsTables (record tables { rounds = tables.rounds ++ Open ∷ [] })
 pushed_keeps tables keeps place round at end drop =

@@ -20,7 +20,7 @@ round_at-changed change (first ∷ rounds) (suc p) zero round h = inl h
 round_at-changed change (first ∷ rounds) (suc p) (suc q) round h =
     elim (round_at-changed change rounds p q round h) [ inl same ↦ inl same | inr changed ↦ inr (record { old = changed.old; there = changed.there; is = changed.is }) ]
 
--- if a change keeps drops, the rounds before the last stay closed
+-- if a change keeps dropouts, the rounds before the last stay closed
 pub closed-changed : (change : Round → Round) → ((round : Round) → has_drop round ≡ true → has_drop (change round) ≡ true) → (rounds : List Round) (p : ℕ) →
     closed_but_last rounds ≡ true → closed_but_last (changed_at change rounds p) ≡ true
 closed-changed change keeps [] p h = h
@@ -44,7 +44,7 @@ round_at-push [] last (suc q) round h = inl h
 round_at-push (first ∷ rounds) last zero round h = inl h
 round_at-push (first ∷ rounds) last (suc q) round h = round_at-push rounds last q round h
 
--- if the last round has a drop, `closed_but_last` still holds after a round is added at the end
+-- if the last round has a dropout, `closed_but_last` still holds after a round is added at the end
 pub closed-push : (rounds : List Round) (place : ℕ) (round last : Round) → closed_but_last rounds ≡ true → round_at rounds place ≡ Some round → suc place ≡ length rounds → has_drop round ≡ true →
     closed_but_last (rounds ++ last ∷ []) ≡ true
 closed-push [] place round last h at end drop = absurd (cc)

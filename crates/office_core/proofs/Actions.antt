@@ -1,4 +1,4 @@
--- What a command over a keeper does to the tables and the faults that the keeper tells.
+-- What a command over a keeper does to the tables that the keeper tells, and to the keeper's count of faults.
 use Rattle.std.proofs.Common.{◌≡◌, ℕ, List, [], ◌∷◌, ◌++◌, Option, Some, None, Result, Ok, Err, refl, subst, sym, ap, ◌∙◌}
 use Rattle.std.specs.Prelude.{IfSome, option_map}
 use Rattle.define_offices.specs.Commands as office
@@ -44,10 +44,6 @@ module _ (told : Option Tables) (loaded : Tables) (command : Command) (after : O
       (refusal, is_it, stays_so (office.Unproved refusal) (λ t. refl) (subst (Comes loaded command) equal decides.comes) unchanged)
   acts_stopped decide.OutOfMemory decides unchanged = unchanged
 
-  pub over_failed : (stop : KeeperStop) → after ≡ told → ActsOver loaded told command (Err (stop_of_keeper stop)) after
-  over_failed keeper.Failed is = is
-  over_failed keeper.OutOfMemory is = is
-
   has_outcome : (outcome : Outcome) → IsLoaded told loaded → HasOutcomeOver loaded told command outcome after → HasOutcome told command outcome after
   has_outcome outcome is has = record { tables = loaded; loaded = is; comes = has.comes; leaves = has.leaves }
 
@@ -59,10 +55,6 @@ module _ (told : Option Tables) (loaded : Tables) (command : Command) (after : O
   acts_on (Err (act.Unproved verdict)) is (refusal, says, has) = (refusal, says, has_outcome (office.Unproved refusal) is has)
   acts_on (Err act.KeeperFault) is same = same
   acts_on (Err act.OutOfMemory) is same = same
-
-pub acts_failed : (told : Option Tables) (command : Command) (stop : KeeperStop) (after : Option Tables) → after ≡ told → ActsOn told command (Err (stop_of_keeper stop)) after
-acts_failed told command keeper.Failed after is = is
-acts_failed told command keeper.OutOfMemory after is = is
 
 -- ---- a change leaves tables
 

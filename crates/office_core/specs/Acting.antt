@@ -52,7 +52,7 @@ ActsOver tables before command (Err (Unproved verdict)) after =
 ActsOver tables before command (Err KeeperFault) after = after ≡ before
 ActsOver tables before command (Err OutOfMemory) after = after ≡ before
 
--- the same over the tables that were loaded
+-- as `ActsOver`, over the tables that the keeper loads
 abbrev pub ActsOn : Option Tables → office.Command → Result Reply ActStop → Option Tables → Type 0
 ActsOn before command (Ok reply) after = (change : Option office.Change) × HasOutcome before command (Replies change (seen_reply reply)) after
 ActsOn before command (Err (Refused refusal)) after = HasOutcome before command (Refuses (seen_refusal refusal)) after

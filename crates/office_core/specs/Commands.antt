@@ -16,7 +16,7 @@ seen_command (Draw round seal digits) = office.Draw round seal digits.items
 seen_command (Drop round id) = office.Drop round id
 seen_command (NextRound after) = office.NextRound after
 seen_command (Show round) = office.Show round
-seen_command (Withdraw key) = office.Withdraw key
+seen_command (Withdraw key) = office.Withdraw key.items
 
 -- if the command is a solve, it asks for 1 to 64 workers to price
 abbrev pub HasWorkers : Command → Type 0

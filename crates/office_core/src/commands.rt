@@ -66,8 +66,8 @@ pub enum Command {
     },
     /// Lets a volunteer withdraw, named by the key.
     Withdraw {
-        /// The volunteer's key.
-        key: Name,
+        /// The volunteer's key, of whatever bytes.
+        key: Vec<u8>,
     },
 }
 

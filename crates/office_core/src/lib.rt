@@ -1,10 +1,10 @@
 //! The office as a small machine: commands over its tables. `decide` returns the outcome of a command over tables. `act` loads the tables
-//! from a keeper, decides, and stores the change; `act_over` does so over tables that were loaded before. Stands on `office_steps`, which decides each command that needs neither the run nor a
-//! proof, on `leximin_run` and `proof_verify` for the others, and on the definitions of `define_offices` and their laws. `office_keeper`
-//! stands on it.
+//! from a keeper, decides, and stores the change; `act_over` does so over tables that were loaded before. Stands on `office_steps`, which
+//! decides each command that needs neither the run nor a proof, on `leximin_run` and `proof_verify` for the others, and on the definitions
+//! of `define_offices` and their laws. `office_keeper` and `command_stores` stand on it.
 //!
-//! Promises: `decide` returns an outcome of the command by the definitions, and `act` and `act_over` change a keeper's tables by that outcome; the trait
-//! `Keeper`.
+//! Promises: `decide` returns an outcome of the command by the definitions, and `act` and `act_over` change a keeper's tables by that
+//! outcome; the trait `Keeper`.
 #![tactic(auto)]
 
 mod acting;

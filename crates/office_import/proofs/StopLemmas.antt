@@ -12,7 +12,7 @@ pub stop_for : {T : Type 0} (said : Result T Fault) (f : Fault) → said ≡ Err
 stop_for said f e (fault g) h = e ∙ ap Err (sym h)
 stop_for said f e OutOfMemory h = tt
 
--- what is right for one result is right for an equal one
+-- a result that is right for `said` is right for an equal `other`
 pub reads_same : {T : Type 0} (said other : Result T Fault) (result : Result T ImportStop) → other ≡ said → Reads (λ r. said ≡ r) result → Reads (λ r. other ≡ r) result
 reads_same said other (Ok value) e h = e ∙ h
 reads_same said other (Err (fault f)) e h = e ∙ h

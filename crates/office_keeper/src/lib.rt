@@ -1,10 +1,10 @@
 //! Keepers of an office's tables. `MapKeeper` keeps them in memory, for tests: each of its calls can be made to fail. `SqliteKeeper` keeps
-//! them in a file, and `SqliteOver` in whatever a connection that it is given is over. Stands on `office_core`, whose trait `Keeper` each
-//! implements, and on `sqlite`. `sortition` and `office_store_tests` stand on it.
+//! them in a file, and `SqliteOver` in the database of a connection that it is given. Stands on `office_core`, whose trait `Keeper` each
+//! implements, and on `sqlite`. `sortition` stands on it.
 //!
-//! Promises: those of the trait, and that `MapKeeper` tells its tables and its place. The other two tell no tables. Each counts exactly the
-//! calls that failed, and fails before it is attached. That a store holds what was stored, before and after a crash, is tested in
-//! `office_store_tests`.
+//! Promises: those of the trait; each keeper counts exactly its calls that failed; `MapKeeper` tells its tables, and it and `SqliteKeeper`
+//! tell their places. Before `SqliteKeeper` or `SqliteOver` is attached, its other calls fail. That a file holds what was stored, also
+//! after a crash, is no promise of a contract: it is tested.
 #![tactic(auto)]
 
 mod map_keeper;

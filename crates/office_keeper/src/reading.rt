@@ -216,7 +216,7 @@ fn register_of(alloc: Global, rows: &[Row], households: &[Row]) -> Result<Vec<En
     Ok(entries)
 }
 
-/// Returns the household of this row, if it has this place.
+/// Returns the household of a row of households, or None if there is no row or its place isn't `place`.
 fn household_of(alloc: Global, row: Option<&Row>, place: usize) -> Result<Option<Name>, Error> {
     match row {
         Some(row) if has_number(row, 0, place)? => Ok(Some(name(alloc, row, 1)?)),
@@ -263,7 +263,7 @@ fn rounds_of(alloc: Global, rows: &[Row], dropped: &[Row]) -> Result<Vec<Round>,
     Ok(rounds)
 }
 
-/// Returns the ids of the dropouts of this round, which begin behind `told` others. Their places are consecutive from 0.
+/// Returns the ids of the dropouts of this round, from row `told` of the dropouts on. Their places are consecutive from 0.
 fn dropped_of(
     alloc: Global,
     dropped: &[Row],

@@ -13,7 +13,7 @@ use crate::replies::{Refusal, Reply};
 use crate::stops::OfficeStop;
 use office_pools::{PoolStop, pool_of};
 use office_tables::{Change, Entry, Phase, Round, Tables};
-use pool_model::{Name, Standing, Volunteer};
+use pool_model::{Standing, Volunteer};
 use sealed_draw::seal;
 use std::alloc::{AllocError, Global};
 
@@ -22,11 +22,11 @@ use std::alloc::{AllocError, Global};
 pub fn withdraw(
     alloc: Global,
     tables: &Tables,
-    key: &Name,
+    key: &[u8],
 ) -> Result<(Option<Change>, Reply), OfficeStop>
     ensures { Says (withdraw_at tables.now (place_of_hash tables.now.register (seal_of key.now) 0)) result }
 {
-    let hash = seal(alloc, key.as_bytes())?;
+    let hash = seal(alloc, key)?;
     let register = tables.register();
     let Some(place) = place_of(register, hash.as_bytes()) else {
         return Err(OfficeStop::Refused(Refusal::UnknownKey));

@@ -1,4 +1,4 @@
--- Tests of lists, element by element: names that differ, ids that agree, rounds that have a drop, members of a panel.
+-- Tests of lists, element by element: names that differ, ids that agree, rounds that have a dropout, members of a panel.
 use Rattle.std.proofs.Common.{◌≡◌, ◌<◌, ◌≤◌, ◌+◌, ◌-◌, ℕ, zero, suc, Bool, true, false, not, ◌&&◌, ◌||◌, List, [], ◌∷◌, length, get_or, map, drop, take, refl, sym, ap, ap₂, ◌∙◌, ltb, subst, arith}
 use Rattle.std.specs.List.{AllByRecursion, list_all, list_any, zip}
 use Rattle.std.specs.Str.{bytes_eq}

@@ -18,7 +18,7 @@ round_of phase.Drawn None digits dropped = Open
 abbrev pub is_nil : {A : Type 0} → List A → Bool
 is_nil xs = length xs == 0
 
--- the parts are those of a round: an open round has nothing, a later one has a bundle, and only a drawn one has digits and dropouts
+-- the parts are those of a round: it has a bundle exactly if its phase is past `Open`, and digits and dropouts only if it is drawn
 abbrev pub parts_fit : Phase → Option Bundle → List ℕ → List (List ℕ) → Bool
 parts_fit phase.Open bundle digits dropped = is_none bundle && is_nil digits && is_nil dropped
 parts_fit phase.Solved bundle digits dropped = is_some bundle && is_nil digits && is_nil dropped

@@ -48,8 +48,8 @@ impl Round {
         }
     }
 
-    /// Returns the round of these parts, or None exactly if they don't fit: an open round has no bundle, a later round has one, and only a
-    /// drawn round has digits and dropouts.
+    /// Returns the round of these parts, or None exactly if they don't fit: it has a bundle exactly if it is past `Open`, and digits
+    /// and dropouts only if it is drawn.
     pub fn from_parts(
         phase: Phase,
         bundle: Option<Bundle>,

@@ -1,3 +1,4 @@
 pub mod Faults
 pub mod Content
 pub mod Memory
+pub mod Links

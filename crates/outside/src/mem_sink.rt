@@ -91,7 +91,7 @@ impl Sink for MemSink {
 }
 
 // Appends the first `fitting` bytes of the piece, or all if it has fewer.
-fn append_front(written: &mut Vec<u8>, piece: &[u8], fitting: usize)
+pub(crate) fn append_front(written: &mut Vec<u8>, piece: &[u8], fitting: usize)
     requires { length written.old.items + fitting ≤ vec_capacity written.old }
     ensures items { written.new.items ≡ written.old.items ++ take fitting piece.now }
     ensures room { vec_capacity written.old ≤ vec_capacity written.new }

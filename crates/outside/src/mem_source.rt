@@ -88,7 +88,7 @@ impl Source for MemSource {
 }
 
 // Copies bytes to the front of the room, as many as fit, and returns how many.
-fn copy_front(bytes: &[u8], room: &mut [u8]) -> usize
+pub(crate) fn copy_front(bytes: &[u8], room: &mut [u8]) -> usize
     ensures count { result ≡ min (length room.old) (length bytes.now) }
     ensures room { room.new ≡ take result bytes.now ++ drop result room.old }
     ensures front { take result room.new ≡ take result bytes.now }

@@ -65,7 +65,7 @@ impl<W: Write> Sink for StdSink<W> {
 }
 
 // Writes the piece, and returns whether the writer took all of it.
-fn write_piece<W: Write>(inner: &mut W, piece: &[u8]) -> bool
+pub(crate) fn write_piece<W: Write>(inner: &mut W, piece: &[u8]) -> bool
     ensures part { AppendsPart (W.contents inner.old) (W.contents inner.new) piece.now }
     ensures whole { result ≡ true
         → Appends (W.contents inner.old) (W.contents inner.new) piece.now }

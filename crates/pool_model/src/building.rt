@@ -6,7 +6,7 @@ use thiserror::Error;
 /// Why a step of building a pool is refused.
 #[derive(Debug, Drop, Error)]
 pub enum BuildStop {
-    /// The lowest kind of fault that applies; kinds are numbered as in the faults of a pool's text.
+    /// The lowest kind of fault that applies. Kinds are numbered as in the faults of the texts of pools, bundles and proofs.
     #[error("fault of kind {0}")]
     Kind(u8),
     /// No memory was left.

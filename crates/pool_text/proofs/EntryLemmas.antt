@@ -34,7 +34,7 @@ word_says_text (StandingWord standing) (id ∷ other ∷ fields) h = tt
 word_says_text EndWord [] h = tt
 word_says_text EndWord (other ∷ fields) h = tt
 
--- if all fields are UTF-8, the new name or id of their entry is
+-- if all fields are UTF-8, so is the new name or id of their entry
 entry_is_text : (fields : List (List ℕ)) → AllByRecursion IsUtf8 fields → IsText (entry_of fields)
 entry_is_text [] h = tt
 entry_is_text (first ∷ fields) h =
@@ -43,7 +43,7 @@ entry_is_text (first ∷ fields) h =
       | Some word ↦ word_says_text word fields h.1
     ]
 
--- if a line is UTF-8, the new name or id of its entry is
+-- if a line is UTF-8, so is the new name or id of its entry
 pub line_says_text : (line : List ℕ) → is_utf8 line ≡ true → IsText (entry_of (fields_of line))
 line_says_text line h =
     let each = each_field_is_utf8 (fields_of line) (subst IsUtf8 (sym (line_of-fields_of line)) (IsUtf8-from_is_utf8 line h)) in

@@ -39,7 +39,7 @@ next_due (Versioned second) line number h = omega arith
 next_due (Inside pool passed) line number h = entry_due pool passed (entry_of (fields_of line)) number h
 next_due (Ended pool) line number h = omega arith
 
--- if the text has a fault where it ends, at line `number`, the fault is in no earlier line
+-- if the text ends in line `number`, and the end is a fault, the fault's line is at least `number`
 last_from : (number : ℕ) (progress : Progress) (bytes : List ℕ) → IsRightBefore number (at_last number progress bytes)
 last_from number Begun bytes = omega arith
 last_from number (Versioned second) bytes = omega arith

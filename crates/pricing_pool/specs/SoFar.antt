@@ -28,8 +28,8 @@ CameTo (Err OutOfMemory) nodes (Ok done) before after = ⊥
 CameTo (Err OutOfMemory) nodes (Err Spent) before after = ⊥
 CameTo (Err OutOfMemory) nodes (Err OutOfMemory) before after = Unit {0}
 
--- what a search may return if its pricing is `due` by the definition: `Ok` if it has `due` and its visits are at most `nodes`; `Spent` if
--- they exceed `nodes`; running out of memory at any time
+-- what a search may return if the definition's pricing is `due`: `Ok` if its own pricing `after` is `due`, with at most `nodes` visits;
+-- `Spent` if `due` has more than `nodes` visits; running out of memory at any time
 abbrev pub GoesOn : Pricing → ℕ → Result (Unit {0}) SearchStop → Pricing → Type 0
 GoesOn due nodes (Ok done) after = (after ≡ due) × (due.visits ≤ nodes)
 GoesOn due nodes (Err Spent) after = nodes < due.visits

@@ -85,7 +85,7 @@ fn wishes_of(
     Ok(wishes)
 }
 
-/// Returns how often a panel can be taken off so that the remainder still satisfies each row on average.
+/// Returns the greatest weight by which a panel can be taken off: each part stays within the total, and the rows are satisfied on average.
 fn greatest_weight(
     remainder: &Remainder,
     face: &Face,
@@ -108,8 +108,8 @@ fn greatest_weight(
     narrow_add(weight, 0)
 }
 
-/// Returns how often a panel can be taken off so that the remainder still satisfies one row on average. `own` is the panel's sum in this
-/// row, and `sum` the remainder's.
+/// Returns the greatest weight by which a panel can be taken off so that the remainder satisfies one row on average. `own` is the panel's
+/// sum in this row, and `sum` the remainder's.
 fn row_weight(own: i128, span: Span, sum: i128, total: Narrow) -> Result<i128, ProveStop> {
     let (least, greatest) = (span.least(), span.greatest());
     let mut weight = total.wide();

@@ -41,7 +41,7 @@ impl Decision {
         self.volunteer
     }
 
-    /// True in the subtree with the volunteer.
+    /// True if the next line is in the subtree with the volunteer.
     fn is_in(&self) -> bool
         ensures { result ≡ self.now.is_in }
     {

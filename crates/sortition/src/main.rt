@@ -1,18 +1,11 @@
-//! The program: a citizens' assembly sortition office. `office` is the top call, whose contract says what each answer means; `main` calls
-//! it over standard input and output and a keeper of files, and has no contract of its own. Stands on `command_words`, which reads the words of a call, on
-//! `command_shell`, and on the crates of commands. Promises: `office`, and the laws in `headline.rt`.
+//! The program: a citizens' assembly sortition office. `main` calls `office` over standard input and output and a keeper of files, and has no
+//! contract of its own. Stands on `command_office`. Promises: none of its own; those of `office` are in `command_office`, and what they mean
+//! for a reader is in `command_headline`.
 #![tactic(auto)]
 
-mod asked;
 mod given;
-mod headline;
-mod office;
-mod steps;
-#[cfg(test)]
-mod store_tests;
-#[cfg(test)]
-mod tests;
 
+use command_office::{no_words, office};
 use office_keeper::SqliteKeeper;
 use outside::{NoWatch, StdSink, StdSource};
 use std::process::ExitCode;
@@ -23,7 +16,7 @@ fn main(rt: HostRuntime) -> ExitCode {
     let mut errs = StdSink::new(rt.stderr());
     let mut keeper = SqliteKeeper::new(&rt);
     let status = match given::given_words(&rt) {
-        Ok(words) => office::office(
+        Ok(words) => office(
             &rt,
             rt.alloc(),
             &words,
@@ -33,7 +26,7 @@ fn main(rt: HostRuntime) -> ExitCode {
             &mut keeper,
             &NoWatch,
         ),
-        Err(error) => given::no_words(&mut errs, error.kind()).number(),
+        Err(error) => no_words(&mut errs, error.kind()).number(),
     };
     ExitCode::from(status)
 }

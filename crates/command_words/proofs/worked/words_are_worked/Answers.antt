@@ -6,11 +6,15 @@ use Rattle.command_words.proofs.worked.words_are_worked.Goals as goal
 
 pub returns-clause-prove : goal.returns-clause-prove
 unfolding given_in command_table proof_commands office_commands run_commands clap_on_literals
-returns-clause-prove c = record { defaults = refl; least = refl; most = refl; pivots = refl; nodes = refl }
+returns-clause-prove c = record { defaults = refl; least = refl; most = refl; pivots = refl; nodes = refl; store = refl; more = refl }
+
+pub returns-clause-keep : goal.returns-clause-keep
+unfolding given_in command_table proof_commands office_commands run_commands clap_on_literals
+returns-clause-keep c = record { rounds = record { defaults = refl; least = refl; most = refl; more = refl; no_store = refl }; another = refl }
 
 pub returns-clause-plain : goal.returns-clause-plain
 unfolding given_in command_table proof_commands office_commands run_commands clap_on_literals
-returns-clause-plain c = record { verify = refl; bundle = refl }
+returns-clause-plain c = record { verify = refl; bundle = refl; dice = refl; tickets = refl; chances = refl }
 
 pub returns-clause-seal : goal.returns-clause-seal
 unfolding given_in command_table proof_commands office_commands run_commands clap_on_literals

@@ -49,7 +49,7 @@ returns-in-Show g c =
 pub returns-in-Withdraw : goal.returns-in-Withdraw
 returns-in-Withdraw g c =
     let tables = c.args.tables.now in
-    rw c.in-Withdraw.is (at_once tables (Withdraw c.in-Withdraw.key) (withdraw_at tables (place_of_hash tables.register (seal_of c.in-Withdraw.key) 0)) c.stepped-in-Withdraw.result refl (c.stepped-in-Withdraw.ensures _ c.withdraw.ensures))
+    rw c.in-Withdraw.is (at_once tables (Withdraw c.in-Withdraw.key.items) (withdraw_at tables (place_of_hash tables.register (seal_of c.in-Withdraw.key.items) 0)) c.stepped-in-Withdraw.result refl (c.stepped-in-Withdraw.ensures _ (rw c.deref-in-Withdraw.ensures.value at c.withdraw.ensures)))
 
 pub returns-in-Keep : goal.returns-in-Keep
 returns-in-Keep g c =

@@ -1,4 +1,4 @@
-use Rattle.std.proofs.Common.{◌≤◌, ◌<◌, ◌++◌, length, take, arith, length-append}
+use Rattle.std.proofs.Common.{◌<◌, ◌++◌, length, take, arith, length-append}
 use Rattle.std.proofs.KnownBytes.{Consumes-trans}
 use Rattle.outside.proofs.reading.read_all.Goals as goal
 

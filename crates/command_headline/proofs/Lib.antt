@@ -1,0 +1,11 @@
+pub mod Reading
+pub mod Leximin
+pub mod Promises
+pub mod Checkers
+pub mod Workers
+pub mod Kept
+pub mod Plain
+pub mod SolvedRounds
+pub mod StorePromises
+pub mod KeptRounds
+pub mod ProofPromises

@@ -1,0 +1,19 @@
+//! What the program promises, for a reader who believes nothing but definitions: the laws of `specs/Headline.antt` about the contract of
+//! `office`. Each is proved as the contract of a function with an empty body. Stands on `command_office`, which has the contract, and on the
+//! definitions. Nothing stands on it.
+#![tactic(auto)]
+
+ghost use Rattle.std.specs.Prelude.{ℕ, List};
+ghost use Rattle.command_stores.specs.StoreTold.{StoreTold};
+ghost use Rattle.command_office.specs.Office.{OfficeIsRight};
+ghost use Rattle.command_headline.specs.Headline.{Headline, WorkersChangeNothing};
+
+/// Every call that satisfies the contract of `office` keeps the promises of `Headline`.
+pub fn headline()
+    ensures { (words : List (List ℕ)) (told : StoreTold) → OfficeIsRight words told → Headline words told }
+{}
+
+/// The number of workers changes no byte of what `lottery` answers. This law doesn't speak of `make`.
+pub fn workers_change_nothing()
+    ensures { WorkersChangeNothing }
+{}

@@ -1,0 +1,46 @@
+-- If the words ask for a command, an outcome that is right for the command is right for the words.
+use Rattle.std.proofs.Common.{◌≡◌, ℕ, List, Option, Some, refl, subst, sym}
+use Rattle.command_meanings.specs.Draw.{DrawMeans}
+use Rattle.command_shell.specs.Formats.{bundle_format}
+use Rattle.command_shell.specs.Told.{Told, object}
+use Rattle.command_stores.specs.Imports.{ImportMeans}
+use Rattle.command_stores.specs.Steps.{StepMeans, TextMeans}
+use Rattle.command_stores.specs.StoreOutcomes.{SilentStoreOutcome, TextStoreOutcome}
+use Rattle.command_stores.specs.ProvedRounds.{ProvesRound}
+use Rattle.command_stores.specs.declared.imports.Import.{Import}
+use Rattle.command_stores.specs.declared.proving.ProveRound.{ProveRound}
+use Rattle.command_stores.specs.declared.texts.StoreText.{StoreText}
+use Rattle.define_offices.specs.Commands.{Command}
+use Rattle.command_stores.specs.StoreTold.{StoreTold, keeper_told, store_told}
+use Rattle.define_offices.specs.Tables.{Tables}
+use Rattle.office_core.specs.Keeping.{Place}
+use Rattle.command_office.specs.Office.{Answers, AnswersRightly, LeavesStore}
+use Rattle.command_office.specs.declared.asked.Asked.{Asked}
+
+-- a call that is right and leaves the keeper alone
+pub leaves : (Right : Told → Type 0) (call : Told) (kept : Option Tables) (faults : ℕ) (place : Place) → Right call → LeavesStore Right (store_told call (keeper_told (object kept kept faults faults) place place))
+leaves Right call kept faults place right = record { keeper = record { object = record { same = refl; no_fault = refl }; place = refl }; call = right }
+
+pub as_asked : (asked it : Asked) (told : StoreTold) → asked ≡ it → AnswersRightly (Some it) told → AnswersRightly (Some asked) told
+as_asked asked it told is right = subst (λ one. AnswersRightly (Some one) told) (sym is) right
+
+-- what is right for a command over the store at a path is right for an equal command and path
+pub steps_so : (path store : List ℕ) (one other : Command) (told : StoreTold) → path ≡ store → one ≡ other → SilentStoreOutcome path (StepMeans one) told → SilentStoreOutcome store (StepMeans other) told
+steps_so path store one other told same equal right =
+    subst (λ it. SilentStoreOutcome store (StepMeans it) told) equal (subst (λ p. SilentStoreOutcome p (StepMeans one) told) same right)
+
+pub imports_so : (path store : List ℕ) (import : Import) (told : StoreTold) → path ≡ store → TextStoreOutcome path (ImportMeans import) told → TextStoreOutcome store (ImportMeans import) told
+imports_so path store import told same right = subst (λ p. TextStoreOutcome p (ImportMeans import) told) same right
+
+pub proofs_so : (path store : List ℕ) (proving : ProveRound) (told : StoreTold) → path ≡ store → SilentStoreOutcome path (ProvesRound proving) told → SilentStoreOutcome store (ProvesRound proving) told
+proofs_so path store proving told same right = subst (λ p. SilentStoreOutcome p (ProvesRound proving) told) same right
+
+pub texts_so : (path store : List ℕ) (text : StoreText) (told : StoreTold) → path ≡ store → SilentStoreOutcome path (TextMeans text) told → SilentStoreOutcome store (TextMeans text) told
+texts_so path store text told same right = subst (λ p. SilentStoreOutcome p (TextMeans text) told) same right
+
+-- an outcome that is right for a draw is right for a draw with an equal seal and equal digits
+pub draws_so : (seal digits given_seal given_digits : List ℕ) (told : Told) → seal ≡ given_seal → digits ≡ given_digits →
+    Answers bundle_format (DrawMeans seal digits) told → Answers bundle_format (DrawMeans given_seal given_digits) told
+draws_so seal digits given_seal given_digits told same_seal same_digits answers =
+    subst (λ one. Answers bundle_format (DrawMeans given_seal one) told) same_digits
+    (subst (λ one. Answers bundle_format (DrawMeans one digits) told) same_seal answers)

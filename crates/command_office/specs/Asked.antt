@@ -1,0 +1,138 @@
+-- What the words of a call ask for: a command with its arguments. `given_in` (command_words) matches the words to the program's table of
+-- commands and options; this file tests the ranges of the numbers and makes the command. The contract of `office` cites it.
+use Rattle.std.specs.Prelude.{◌&&◌, ℕ, List, Option, Some, None, codes, if◌then◌else◌, nat_le, option_and_then, option_map}
+use Rattle.command_proofs.specs.declared.proving.Prove.{Prove}
+use Rattle.command_questions.specs.declared.questions.Question.TheVariants as question
+use Rattle.command_stores.specs.declared.imports.Import.{Import}
+use Rattle.command_stores.specs.declared.imports.Import.TheVariants as imports
+use Rattle.command_stores.specs.declared.texts.StoreText.{StoreText}
+use Rattle.command_stores.specs.declared.texts.StoreText.TheVariants as texts
+use Rattle.command_words.specs.Given.{Given, number_of, text_of}
+use Rattle.command_words.specs.Words.{given_in}
+use Rattle.command_words.specs.declared.words.CommandName.{CommandName}
+use Rattle.command_words.specs.declared.words.CommandName.TheVariants as name
+use Rattle.define_runs.specs.Run.{Limits}
+use Rattle.command_office.specs.declared.asked.Asked.{Asked}
+use Rattle.command_office.specs.declared.asked.Asked.TheVariants as asks
+use Rattle.command_office.specs.declared.steps.Step.{Step}
+use Rattle.command_office.specs.declared.steps.Step.TheVariants as steps
+
+abbrev pub limits_from : ℕ → ℕ → ℕ → Option Limits
+limits_from bits pivots nodes =
+    if nat_le 1 bits && nat_le bits 127 && nat_le pivots 1000000000 && nat_le nodes 1000000000000
+    then Some (record { bits = bits; pivots = pivots; nodes = nodes }) else None
+
+-- the limits of a run, by `bits`, `pivots` and `nodes`; None if one is missing or out of its range
+abbrev pub limits_in : Given → Option Limits
+limits_in given =
+    option_and_then (λ bits.
+    option_and_then (λ pivots. option_and_then (limits_from bits pivots) (number_of (codes "nodes") given))
+    (number_of (codes "pivots") given))
+    (number_of (codes "bits") given)
+
+abbrev pub workers_from : ℕ → Option ℕ
+workers_from number = if nat_le 1 number && nat_le number 64 then Some number else None
+
+-- how many workers price, by `workers`: from 1 to 64, else None
+abbrev pub workers_in : Given → Option ℕ
+workers_in given = option_and_then workers_from (number_of (codes "workers") given)
+
+abbrev pub volunteers_from : ℕ → Option ℕ
+volunteers_from number = if nat_le 1 number && nat_le number 400 then Some number else None
+
+-- how many volunteers a made pool has, by `volunteers`: from 1 to 400, else None
+abbrev pub volunteers_in : Given → Option ℕ
+volunteers_in given = option_and_then volunteers_from (number_of (codes "volunteers") given)
+
+abbrev pub make_asked : Given → Option Asked
+make_asked given =
+    option_and_then (λ seed.
+    option_and_then (λ volunteers.
+    option_and_then (λ limits.
+    option_map (λ workers. asks.Make (record { seed = seed; volunteers = volunteers; limits = limits; workers = workers }))
+    (workers_in given)) (limits_in given)) (volunteers_in given)) (number_of (codes "seed") given)
+
+-- the number of the round
+abbrev pub round_in : Given → Option ℕ
+round_in given = number_of (codes "round") given
+
+-- a command of the office over the store that the words name
+abbrev pub step_asked : Step → Given → Option Asked
+step_asked step given = option_map (λ store. asks.Step store step) (text_of (codes "store") given)
+
+-- an import into the store that the words name
+abbrev pub import_asked : Import → Given → Option Asked
+import_asked import given = option_map (λ store. asks.Import store import) (text_of (codes "store") given)
+
+-- a text that is made of the tables of the store that the words name
+abbrev pub text_asked : StoreText → Given → Option Asked
+text_asked text given = option_map (λ store. asks.Text store text) (text_of (codes "store") given)
+
+-- without a store a proof is that of a pool or of a bundle
+abbrev pub prove_from : Given → Prove → Option (List ℕ) → Option Asked
+prove_from given prove (Some store) = option_map (λ round. asks.ProveRound store (record { round = round; prove = prove })) (round_in given)
+prove_from given prove None = Some (asks.Prove prove)
+
+abbrev pub prove_asked : Given → Option Asked
+prove_asked given =
+    option_and_then (λ pivots.
+    option_and_then (λ nodes. prove_from given (record { pivots = pivots; nodes = nodes }) (text_of (codes "store") given)) (number_of (codes "nodes") given))
+    (number_of (codes "pivots") given)
+
+-- without a store a draw is from a bundle
+abbrev pub draw_from : Given → List ℕ → List ℕ → Option (List ℕ) → Option Asked
+draw_from given seal digits (Some store) = option_and_then (λ round. step_asked (steps.Draw round seal digits) given) (round_in given)
+draw_from given seal digits None = Some (asks.Draw seal digits)
+
+abbrev pub draw_asked : Given → Option Asked
+draw_asked given =
+    option_and_then (λ seal. option_and_then (λ digits. draw_from given seal digits (text_of (codes "store") given)) (text_of (codes "digits") given))
+    (text_of (codes "seal") given)
+
+-- without a store a seal is that of a bundle
+abbrev pub seal_from : Given → Option (List ℕ) → Option Asked
+seal_from given (Some store) = option_and_then (λ round. step_asked (steps.Seal round) given) (round_in given)
+seal_from given None = Some (asks.Seal (record {}))
+
+abbrev pub solve_asked : Given → Option Asked
+solve_asked given =
+    option_and_then (λ round.
+    option_and_then (λ limits. option_and_then (λ workers. step_asked (steps.Solve round limits workers) given) (workers_in given)) (limits_in given))
+    (round_in given)
+
+abbrev pub drop_asked : Given → Option Asked
+drop_asked given =
+    option_and_then (λ round. option_and_then (λ id. step_asked (steps.Drop round id) given) (text_of (codes "id") given)) (round_in given)
+
+abbrev pub command_asked : CommandName → Given → Option Asked
+command_asked name.Prove given = prove_asked given
+command_asked name.Keep given = option_and_then (λ round. import_asked (imports.Proof round) given) (round_in given)
+command_asked name.Verify given = Some (asks.Verify (record {}))
+command_asked name.Bundle given = Some (asks.Bundle (record {}))
+command_asked name.Seal given = seal_from given (text_of (codes "store") given)
+command_asked name.Draw given = draw_asked given
+command_asked name.Dice given = Some (asks.Question question.Dice)
+command_asked name.Tickets given = Some (asks.Question question.Tickets)
+command_asked name.Chances given = Some (asks.Question question.Chances)
+command_asked name.Panel given = option_map (λ nodes. asks.Panel (record { nodes = nodes })) (number_of (codes "nodes") given)
+command_asked name.Lottery given =
+    option_and_then (λ limits. option_map (λ workers. asks.Lottery (record { limits = limits; workers = workers })) (workers_in given)) (limits_in given)
+command_asked name.Check given = option_map (λ nodes. asks.Check (record { nodes = nodes })) (number_of (codes "nodes") given)
+command_asked name.Make given = make_asked given
+command_asked name.Solve given = solve_asked given
+command_asked name.Drop given = drop_asked given
+command_asked name.NextRound given = option_and_then (λ after. step_asked (steps.NextRound after) given) (number_of (codes "after") given)
+command_asked name.Show given = option_and_then (λ round. step_asked (steps.Show round) given) (round_in given)
+command_asked name.Report given = option_and_then (λ round. text_asked (texts.Report round) given) (round_in given)
+command_asked name.Pool given = option_and_then (λ round. text_asked (texts.Pool round) given) (round_in given)
+command_asked name.ImportCharter given = import_asked imports.Charter given
+command_asked name.ImportRules given = import_asked imports.Rules given
+command_asked name.ImportRegister given = import_asked imports.Register given
+
+-- the command with its arguments, or None if a value is missing or out of its range
+abbrev pub asked_by : Given → Option Asked
+asked_by given = command_asked given.command given
+
+-- the command that the words ask for; None if the words are not of the forms, or ask for help
+abbrev pub asked : List (List ℕ) → Option Asked
+asked words = option_and_then asked_by (given_in words)

@@ -1,0 +1,93 @@
+-- The contract of `office`: what a call of the program may do, for its words. Each line of `AnswersRightly` names the meaning of a command
+-- (`command_meanings/specs`), which has a field for each of the command's statuses. What is the same for all commands is defined in the
+-- shell (`command_shell/specs`): faults of source, out and errs, want of memory, a text that is too long, and which of out and errs stay
+-- untouched (`Outcomes`); and a text outside its format (`Subjects`).
+use Rattle.std.specs.Prelude.{ℕ, List, [], ◌∷◌, codes, Option, Some, None}
+use Rattle.command_meanings.specs.Check.{CheckMeans}
+use Rattle.command_meanings.specs.Draw.{DrawMeans}
+use Rattle.command_meanings.specs.ItsBundle.{BundleMeans}
+use Rattle.command_meanings.specs.Lottery.{LotteryMeans}
+use Rattle.command_meanings.specs.Make.{MakeMeans}
+use Rattle.command_meanings.specs.Panel.{PanelMeans}
+use Rattle.command_meanings.specs.Prove.{ProvesWithin}
+use Rattle.command_meanings.specs.Seal.{SealMeans}
+use Rattle.command_meanings.specs.Verify.{VerifyMeans}
+use Rattle.command_shell.specs.Answers.{IsTheAnswer, RightAnswers}
+use Rattle.command_shell.specs.Formats.{bundle_format, pool_format, pool_or_bundle_format, proof_format}
+use Rattle.command_shell.specs.Lines.{line, want_of_memory_line}
+use Rattle.command_shell.specs.Outcomes.{IsStopped, SilentOutcome, TextOutcome}
+use Rattle.command_shell.specs.Subjects.{About, Format}
+use Rattle.command_shell.specs.Told.{Told, IsUntouched}
+use Rattle.command_questions.specs.Questions.{QuestionMeans}
+use Rattle.command_stores.specs.Imports.{ImportMeans}
+use Rattle.command_stores.specs.ProvedRounds.{ProvesRound}
+use Rattle.command_stores.specs.Steps.{StepMeans, TextMeans}
+use Rattle.command_stores.specs.StoreOutcomes.{SilentStoreOutcome, TextStoreOutcome}
+use Rattle.command_stores.specs.StoreTold.{IsLeftAlone, StoreTold}
+use Rattle.command_office.specs.Asked.{asked}
+use Rattle.command_office.specs.Steps.{step_command}
+use Rattle.command_office.specs.declared.asked.Asked.{Asked}
+use Rattle.command_office.specs.declared.asked.Asked.TheVariants as asks
+
+-- the call told the one answer that is right about what the source held, whole or cut off by a fault of out; or the source held too much or
+-- counted a fault; or memory was wanting
+abbrev pub Answers : {Value : Type 0} → Format Value → (Value → RightAnswers) → Told → Type 0
+Answers format Means told = TextOutcome (About format (λ value. IsTheAnswer (Means value))) told
+
+-- the outcome of words that ask for nothing: they are not of the forms, or ask for help
+pub record IsUsage (told : Told) : Type 0 where
+  pub source : IsUntouched told.source
+  -- status 2: errs got a text. That the text is `clap`'s is tested, not proved
+  pub text : List ℕ
+  pub stopped : IsStopped 2 text told
+
+-- the outcomes that a call may have whose words ask for nothing, or for a command that uses no store
+abbrev pub AnswersAlone : Option Asked → Told → Type 0
+AnswersAlone None told = IsUsage told
+-- the run that makes a proof has no definition, so nothing says which of the statuses 0, 1, 4, 5 and 11 comes
+AnswersAlone (Some (asks.Prove it)) told = TextOutcome (About pool_or_bundle_format (ProvesWithin it.pivots it.nodes)) told
+AnswersAlone (Some (asks.Verify it)) told = Answers proof_format VerifyMeans told
+AnswersAlone (Some (asks.Bundle it)) told = Answers proof_format BundleMeans told
+AnswersAlone (Some (asks.Seal it)) told = Answers bundle_format SealMeans told
+AnswersAlone (Some (asks.Draw seal digits)) told = Answers bundle_format (DrawMeans seal digits) told
+AnswersAlone (Some (asks.Panel it)) told = Answers pool_format (PanelMeans it.nodes) told
+-- no meaning names the number of workers, neither here nor for `make` nor for a solve over a store, so it changes nothing that is told
+AnswersAlone (Some (asks.Lottery it)) told = Answers pool_format (LotteryMeans it.limits) told
+AnswersAlone (Some (asks.Check it)) told = Answers bundle_format (CheckMeans it.nodes) told
+-- one line for every question about a bundle
+AnswersAlone (Some (asks.Question it)) told = Answers bundle_format (QuestionMeans it) told
+AnswersAlone (Some (asks.Make it)) told = SilentOutcome (IsTheAnswer (MakeMeans it.seed it.volunteers it.limits)) told
+AnswersAlone other told = ⊥
+
+-- a call that uses no store leaves the keeper alone
+pub record LeavesStore (Right : Told → Type 0) (told : StoreTold) : Type 0 where
+  pub keeper : IsLeftAlone told.keeper
+  pub call : Right told.call
+
+-- the outcomes that a call may have if its words ask for this command, or for nothing
+abbrev pub AnswersRightly : Option Asked → StoreTold → Type 0
+-- one line for every command of the office: the answer is the outcome of the command over the store's tables. At most one answer is right
+-- (`steps_answer_once` of `command_stores`)
+AnswersRightly (Some (asks.Step store step)) told = SilentStoreOutcome store (StepMeans (step_command step)) told
+-- one line for every import, and for a given proof that answers a round, about the file that the source held; at most one answer is right
+-- (`imports_answer_once`)
+AnswersRightly (Some (asks.Import store import)) told = TextStoreOutcome store (ImportMeans import) told
+-- a proof of the pool of an open round, which the round keeps. As for `prove` without a store, nothing says whether the run finds one
+AnswersRightly (Some (asks.ProveRound store proving)) told = SilentStoreOutcome store (ProvesRound proving) told
+-- one line for every text that is made of the store's tables
+AnswersRightly (Some (asks.Text store text)) told = SilentStoreOutcome store (TextMeans text) told
+AnswersRightly other told = LeavesStore (AnswersAlone other) told
+
+-- status 12: memory was wanting while the words were read, so the source is untouched
+pub record WantsMemory (told : Told) : Type 0 where
+  pub source : IsUntouched told.source
+  pub stopped : IsStopped 12 want_of_memory_line told
+
+-- the outcomes that a call with these words may have
+pub data OfficeIsRight (words : List (List ℕ)) (told : StoreTold) : Type 0 where
+  Asks : AnswersRightly (asked words) told → OfficeIsRight words told
+  NoMemory : LeavesStore WantsMemory told → OfficeIsRight words told
+
+-- the line that errs gets if a word isn't UTF-8. `office` isn't called then, since its words are strings
+abbrev pub words_not_utf8_line : List ℕ
+words_not_utf8_line = line (codes "error: invalid UTF-8 was detected in one or more arguments" ∷ [])

@@ -1,0 +1,101 @@
+//! The top call: `office`. Its contract is the promise of the whole program.
+
+ghost use Rattle.std.specs.Prelude.{map, string_bytes, Some};
+ghost use Rattle.command_shell.specs.Told.{object, told};
+ghost use Rattle.command_shell.specs.Answers.{status_number};
+ghost use Rattle.command_stores.specs.StoreTold.{keeper_told, store_told};
+ghost use Rattle.command_office.specs.Office.{AnswersRightly, OfficeIsRight};
+
+use crate::asked::{Asked, read_asked};
+use crate::steps::command_of;
+use command_bundles::Draw;
+use command_pools::{call_lottery, call_make};
+use command_shell::{Resources, Status, call, refuse_words, want_memory};
+use command_stores::{call_import, call_prove_round, call_step, call_text};
+use command_words::WordsStop;
+use office_core::Keeper;
+use outside::{Sink, Source, Watch};
+use std::alloc::Global;
+use std::thread::Threads;
+
+/// Makes one call of the program, and returns the program's status. `words` don't include the program's name.
+///
+/// The contract says for each list of words what each status means, and what `out` and `errs` gained.
+///
+/// For `lottery` and `make`, workers search the pieces of a pricing on threads, and `watch` is told of each piece as it starts. No answer
+/// depends on the workers or the watch.
+pub fn office<R: Threads + Sync, S: Source, O: Sink, E: Sink, K: Keeper, W: Watch + Sync>(
+    rt: &R,
+    alloc: Global,
+    words: &[String],
+    source: &mut S,
+    out: &mut O,
+    errs: &mut E,
+    keeper: &mut K,
+    watch: &W,
+) -> u8
+    ensures { OfficeIsRight (map string_bytes words.now) (store_told
+        (told result
+        (object (S.left source.old) (S.left source.new) (S.faults source.old) (S.faults source.new))
+        (object (O.written out.old) (O.written out.new) (O.faults out.old) (O.faults out.new))
+        (object (E.written errs.old) (E.written errs.new) (E.faults errs.old) (E.faults errs.new)))
+        (keeper_told (object (K.tables keeper.old) (K.tables keeper.new) (K.faults keeper.old) (K.faults keeper.new)) (K.place keeper.old) (K.place keeper.new))) }
+{
+    match read_asked(alloc, words) {
+        Ok(asked) => {
+            let resources = Resources { rt, alloc, watch };
+            run(&resources, asked, source, out, errs, keeper).number()
+        }
+        Err(WordsStop::Usage(text)) => refuse_words(errs, text.as_bytes()).number(),
+        Err(WordsStop::OutOfMemory) => want_memory(errs).number(),
+    }
+}
+
+/// Makes one call of the command that the words ask for.
+fn run<R: Threads + Sync, W: Watch + Sync, S: Source, O: Sink, E: Sink, K: Keeper>(
+    resources: &Resources<'_, R, W>,
+    asked: Asked<'_>,
+    source: &mut S,
+    out: &mut O,
+    errs: &mut E,
+    keeper: &mut K,
+) -> Status
+    ensures { AnswersRightly (Some asked.entry) (store_told
+        (told (status_number result)
+        (object (S.left source.old) (S.left source.new) (S.faults source.old) (S.faults source.new))
+        (object (O.written out.old) (O.written out.new) (O.faults out.old) (O.faults out.new))
+        (object (E.written errs.old) (E.written errs.new) (E.faults errs.old) (E.faults errs.new)))
+        (keeper_told (object (K.tables keeper.old) (K.tables keeper.new) (K.faults keeper.old) (K.faults keeper.new)) (K.place keeper.old) (K.place keeper.new))) }
+{
+    let alloc = resources.alloc;
+    match asked {
+        Asked::Prove(prove) => call(alloc, &prove, source, out, errs),
+        Asked::Verify(verify) => call(alloc, &verify, source, out, errs),
+        Asked::Bundle(bundle) => call(alloc, &bundle, source, out, errs),
+        Asked::Seal(seal) => call(alloc, &seal, source, out, errs),
+        Asked::Draw { seal, digits } => {
+            let draw = Draw {
+                seal: seal.as_str(),
+                digits: digits.as_str(),
+            };
+            call(alloc, &draw, source, out, errs)
+        }
+        Asked::Panel(panel) => call(alloc, &panel, source, out, errs),
+        Asked::Lottery(lottery) => call_lottery(resources, &lottery, source, out, errs),
+        Asked::Check(check) => call(alloc, &check, source, out, errs),
+        Asked::Question(question) => call(alloc, &question, source, out, errs),
+        Asked::Make(make) => call_make(resources, &make, out, errs),
+        Asked::Step { store, step } => match command_of(alloc, &step) {
+            Ok(command) => call_step(resources, &command, store.as_str(), keeper, out, errs),
+            Err(_) => want_memory(errs),
+        },
+        Asked::Import { store, import } => {
+            let path = store.as_str();
+            call_import(resources, import, path, source, keeper, out, errs)
+        }
+        Asked::ProveRound { store, proving } => {
+            call_prove_round(resources, proving, store.as_str(), keeper, out, errs)
+        }
+        Asked::Text { store, text } => call_text(alloc, text, store.as_str(), keeper, out, errs),
+    }
+}

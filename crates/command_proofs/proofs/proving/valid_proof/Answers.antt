@@ -1,0 +1,8 @@
+use Rattle.std.proofs.lemmas.Result.{IfOk-weaker}
+use Rattle.command_shell.specs.Answers.{saying}
+use Rattle.command_proofs.proofs.Proved.{pool_told}
+use Rattle.command_proofs.proofs.proving.valid_proof.Goals as goal
+
+pub returns : goal.returns
+returns c =
+    IfOk-weaker c.proof_text.result _ _ (λ answer tells. λ left pool valid. pool_told left (saying answer) pool c.args.proof.now c.facts.ensures valid tells) c.proof_text.ensures

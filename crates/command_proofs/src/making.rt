@@ -1,0 +1,51 @@
+//! Makes a proof of a pool by a run under a budget, and verifies it. `proving` prints it; `command_stores` keeps it for a round.
+
+ghost use Rattle.std.specs.Prelude.{◌≡◌, IfOk};
+ghost use Rattle.define_pools.specs.Pool.{Pool as SeenPool};
+ghost use Rattle.proof_limits.specs.Budgets.{Left, SpendsOn};
+ghost use Rattle.proof_run.specs.Made.{IsOfPool};
+ghost use Rattle.command_proofs.specs.Proved.{MakesOf};
+
+use crate::proving_lines::{lost, stopped};
+use command_shell::Answer;
+use pool_model::Pool;
+use proof_limits::Budget;
+use proof_model::Proof;
+use proof_run::make_proof;
+use proof_verify::verify;
+use std::alloc::{AllocError, Global};
+
+/// What a run made of a pool.
+#[derive(Debug, Drop)]
+pub enum Made {
+    /// A valid proof of the pool.
+    Valid(Proof),
+    /// No proof. This is the answer that says why, with status 4 or 5.
+    Stopped(Answer),
+}
+
+/// Makes a proof of `pool` by a run under `budget`, and verifies it. Afterwards `budget` is what the run left of it.
+///
+/// # Errors
+///
+/// Want of memory alone.
+pub fn proof_within(alloc: Global, budget: &mut Budget, pool: &Pool) -> Result<Made, AllocError>
+    ensures makes { IfOk result (MakesOf budget.new pool.now) }
+    ensures spends { SpendsOn budget.old budget.new }
+{
+    match make_proof(alloc, pool, budget) {
+        Ok(proof) => verified(alloc, proof),
+        Err(stop) => Ok(Made::Stopped(stopped(alloc, budget, &stop)?)),
+    }
+}
+
+/// Returns the proof if it is valid, else the answer that a step of the run was lost.
+fn verified(alloc: Global, proof: Proof) -> Result<Made, AllocError>
+    ensures { IfOk result (λ made. (left : Left) (pool : SeenPool) → IsOfPool pool proof → MakesOf left pool made) }
+{
+    let verdict = verify(alloc, &proof)?;
+    match verdict.refusal() {
+        None => Ok(Made::Valid(proof)),
+        Some(_) => Ok(Made::Stopped(lost(alloc)?)),
+    }
+}

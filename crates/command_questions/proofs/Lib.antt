@@ -1,0 +1,4 @@
+pub mod Numbers
+pub mod SummedCounts
+pub mod Rows
+pub mod OneAnswer

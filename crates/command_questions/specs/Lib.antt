@@ -1,0 +1,6 @@
+pub mod Decimals
+pub mod Dice
+pub mod Tickets
+pub mod Chances
+pub mod Questions
+pub mod WorkedQuestions

@@ -1,0 +1,32 @@
+-- What each question about a bundle answers: a text that is made of the bundle alone. A further question is a line of `question_text`.
+-- Over Dice, Tickets and Chances.
+use Rattle.std.specs.Prelude.{◌≡◌, ℕ, List}
+use Rattle.define_bundles.specs.BundleText.{Bundle}
+use Rattle.define_lines.specs.Lines.{text_of}
+use Rattle.define_pools.specs.Lottery.{TotalAgrees}
+use Rattle.command_shell.specs.Answers.{RightAnswers, no_answer}
+use Rattle.command_meanings.specs.Draw.{HasWrongTotal}
+use Rattle.command_questions.specs.declared.questions.Question.{Question}
+use Rattle.command_questions.specs.declared.questions.Question.TheVariants.{Chances, Dice, Tickets}
+use Rattle.command_questions.specs.Chances.{lines_of_chances}
+use Rattle.command_questions.specs.Dice.{dice_lines}
+use Rattle.command_questions.specs.Tickets.{ticket_lines}
+
+-- the text that answers a question about a bundle
+abbrev pub question_text : Question → Bundle → List ℕ
+question_text Dice bundle = text_of (dice_lines bundle)
+question_text Tickets bundle = text_of (ticket_lines bundle)
+question_text Chances bundle = text_of (lines_of_chances bundle)
+
+-- the weights sum to the total, and the text answers the question
+pub record PrintsText (question : Question) (bundle : Bundle) (text : List ℕ) : Type 0 where
+  pub total : TotalAgrees bundle.answer.lottery
+  pub answers : text ≡ question_text question bundle
+
+abbrev pub QuestionMeans : Question → Bundle → RightAnswers
+QuestionMeans question bundle = record no_answer {
+  -- status 0
+  done = PrintsText question bundle;
+  -- status 3
+  input = HasWrongTotal bundle;
+}

@@ -1,0 +1,90 @@
+//! Doors and their links: in memory, where calls fail as listed, and over a port of this machine, on one thread.
+
+ghost use Rattle.std.specs.Prelude.{IfOk};
+ghost use Rattle.engine_tests.specs.Doors.{NoMoreBack};
+
+use outside::{Door, Failed, Link, MemDoor, MemLink, TcpDoor};
+use std::alloc::{AllocError, Global};
+use std::io::{Read, Write};
+use std::net::TcpStream;
+use std::test::Fail;
+
+/// Writes to the next link what one read of it gave, and gives the link back. Returns false if no link came.
+fn echo_next<D: Door>(door: &mut D) -> Result<bool, Failed>
+    requires { NoMoreBack (D.links door.old) }
+    ensures { NoMoreBack (D.links door.new) }
+{
+    let Some(mut link) = door.next()? else {
+        return Ok(false);
+    };
+    let mut room = [0u8; 16];
+    let told = match link.read(&mut room) {
+        Ok(count) => link.put(&room[..count]),
+        Err(stop) => Err(stop),
+    };
+    door.back(link);
+    told?;
+    Ok(true)
+}
+
+/// Opens the door at the first port that is free, and returns it.
+fn open<D: Door>(door: &mut D) -> Option<u16> {
+    for port in 20_000..20_100 {
+        if door.listen(port).is_ok() {
+            return Some(port);
+        }
+    }
+    None
+}
+
+/// Returns a door with two links. Its first and fourth call fail, and the second link takes four bytes.
+fn two_links(alloc: Global) -> Result<MemDoor, Fail>
+    ensures { IfOk result (λ door. NoMoreBack (Some door.links)) }
+{
+    let mut links = Vec::new(alloc);
+    links.push(MemLink::new(alloc, b"first", 8, &[])?)?;
+    links.push(MemLink::new(alloc, b"second", 4, &[])?)?;
+    Ok(MemDoor::new(alloc, links, &[1, 4])?)
+}
+
+/// Returns what was written to the links, each with a slash behind it.
+fn written_to(alloc: Global, links: &[MemLink]) -> Result<Vec<u8>, AllocError> {
+    let mut written = Vec::new(alloc);
+    for link in links {
+        written.extend_from_slice(link.written())?;
+        written.push(b'/')?;
+    }
+    Ok(written)
+}
+
+/// Tests that links come and go in their order, that a call which fails gives none, and that a put past the room of a link fails.
+#[test]
+fn links_in_memory_come_and_go(rt: HostRuntime) -> Result<(), Fail> {
+    let mut door = two_links(rt.alloc())?;
+    assert!(rt; door.listen(80).is_err());
+    assert_eq!(rt; echo_next(&mut door).ok(), Some(true));
+    assert_eq!(rt; echo_next(&mut door).ok(), None);
+    assert_eq!(rt; echo_next(&mut door).ok(), None);
+    assert_eq!(rt; echo_next(&mut door).ok(), Some(false));
+    assert_eq!(rt; door.faults(), 2);
+    let written = written_to(rt.alloc(), door.given_back())?;
+    assert_eq!(rt; written.as_slice(), b"first/seco/".as_slice());
+    Ok(())
+}
+
+/// Tests that a port is a door: that it gives the connection that a client makes, that what the client writes can be read and what is put
+/// comes to the client, and that the connection ends when it is given back.
+#[test]
+fn ports_are_doors(rt: HostRuntime) -> Result<(), Fail> {
+    let mut door = TcpDoor::new(&rt);
+    assert!(rt; door.next().is_err());
+    let port = open(&mut door).unwrap_or(0);
+    let mut client = TcpStream::connect(&rt, ("127.0.0.1", port))?;
+    client.write_all(b"who is there")?;
+    assert_eq!(rt; echo_next(&mut door).ok(), Some(true));
+    let mut room = [0u8; 16];
+    let count = client.read(&mut room)?;
+    assert_eq!(rt; &room[..count], b"who is there".as_slice());
+    assert_eq!(rt; client.read(&mut room)?, 0);
+    Ok(())
+}

@@ -1,0 +1,194 @@
+//! Two assemblies as commands, from the imports on, and how each command ends.
+
+ghost use Rattle.std.specs.Prelude.{IfSome};
+ghost use Rattle.office_core.specs.Commands.{HasWorkers};
+
+use define_runs::Limits;
+use office_core::{ActStop, Charter, Command, Keeper, Rows, Rules, act};
+use office_import::{read_charter, read_register, read_rules};
+use outside::NoWatch;
+use pool_model::Name;
+use std::alloc::Global;
+use std::thread::Threads;
+
+/// A command of the office. The round is round 1 if none is named.
+#[derive(Clone, Copy)]
+pub(crate) enum Asked {
+    Charter,
+    Rules,
+    Register(&'static [u8]),
+    Solve(usize),
+    Seal,
+    Draw(&'static str, &'static [u8]),
+    DropOut(&'static str),
+    Next,
+    Show,
+    Withdraw(&'static str),
+}
+
+/// How a command ends.
+#[derive(Clone, Copy, PartialEq, Eq)]
+pub(crate) enum Ending {
+    Replies,
+    Refuses,
+    Stops,
+}
+
+/// A command with its ending.
+pub(crate) type Row = (Asked, Ending);
+
+const CHARTER: &[u8] = b"title = \"River\"\nsize = 2\n";
+
+const RULES: &[u8] = b"category,name,min,max\ngender,female,1,1\ngender,male,1,1\n";
+
+const FOUR: &[u8] = b"id,key,gender\na,abc,female\nb,k2,female\nc,k3,male\nd,k4,male\n";
+
+const DIFFERING: &[u8] = b"id,key,gender\na,abc,female\nb,k2,female\nc,k3,female\nd,k4,male\n";
+
+const KEY_TAKEN: &[u8] = b"id,key,gender\nd,k4,male\ne,abc,male\n";
+
+const HOUSED: &[u8] = b"id,key,gender,household\na,abc,female,h\nb,k2,female,\nc,k3,male,h\n";
+
+const MORE: &[u8] = b"id,key,gender\nd,k4,male\ne,k5,male\n";
+
+/// The SHA-256 digest of the bundle of `FOUR`.
+const SEAL: &str = "41f145deb96e63082dd54ce2bcf3dea5bf3bb3cf4f2936371c318b2d1a4355e7";
+
+/// The SHA-256 digest of the bundle of `HOUSED` and `MORE`.
+const HOUSED_SEAL: &str = "2cb82b27c8b4c04f4a46a1fb8c5c4856a2486862f6e8e32bdddb6295cbdb3ab9";
+
+/// Four volunteers, with repeats and refusals.
+pub(crate) const PLAIN: &[Row] = &[
+    (Asked::Solve(1), Ending::Refuses),
+    (Asked::Register(FOUR), Ending::Refuses),
+    (Asked::Rules, Ending::Replies),
+    (Asked::Rules, Ending::Replies),
+    (Asked::Register(FOUR), Ending::Replies),
+    (Asked::Register(FOUR), Ending::Replies),
+    (Asked::Register(DIFFERING), Ending::Refuses),
+    (Asked::Register(KEY_TAKEN), Ending::Refuses),
+    (Asked::Charter, Ending::Replies),
+    (Asked::Charter, Ending::Replies),
+    (Asked::Seal, Ending::Refuses),
+    (Asked::Solve(1), Ending::Replies),
+    (Asked::Solve(1), Ending::Replies),
+    (Asked::Draw(SEAL, b"0"), Ending::Refuses),
+    (Asked::Seal, Ending::Replies),
+    (Asked::Seal, Ending::Replies),
+    (Asked::Draw(SEAL, b"x"), Ending::Refuses),
+    (Asked::Draw(SEAL, b"0"), Ending::Replies),
+    (Asked::Draw(SEAL, b"0"), Ending::Replies),
+    (Asked::Draw(SEAL, b"7"), Ending::Refuses),
+    (Asked::DropOut("b"), Ending::Refuses),
+    (Asked::Next, Ending::Refuses),
+    (Asked::DropOut("a"), Ending::Replies),
+    (Asked::DropOut("a"), Ending::Replies),
+    (Asked::Next, Ending::Replies),
+    (Asked::Next, Ending::Replies),
+    (Asked::Solve(2), Ending::Replies),
+    (Asked::Solve(2), Ending::Replies),
+    (Asked::Solve(9), Ending::Refuses),
+    (Asked::Withdraw("k2"), Ending::Refuses),
+    (Asked::Show, Ending::Replies),
+];
+
+/// Five volunteers, with a change of each kind. Two are of one household, and one withdraws.
+pub(crate) const HOUSEHOLDS: &[Row] = &[
+    (Asked::Rules, Ending::Replies),
+    (Asked::Register(HOUSED), Ending::Replies),
+    (Asked::Register(MORE), Ending::Replies),
+    (Asked::Charter, Ending::Replies),
+    (Asked::Withdraw("k5"), Ending::Replies),
+    (Asked::Solve(1), Ending::Replies),
+    (Asked::Seal, Ending::Replies),
+    (Asked::Draw(HOUSED_SEAL, b"0"), Ending::Replies),
+    (Asked::DropOut("a"), Ending::Replies),
+    (Asked::Next, Ending::Replies),
+];
+
+/// Does a command over a keeper. Returns how it ends, or None if memory runs out.
+pub(crate) fn done<K: Keeper, R: Threads + Sync>(
+    rt: &R,
+    alloc: Global,
+    keeper: &mut K,
+    asked: Asked,
+) -> Option<Ending> {
+    let command = command_of(alloc, asked)?;
+    Some(match act(rt, alloc, keeper, &command, &NoWatch) {
+        Ok(_) => Ending::Replies,
+        Err(ActStop::Refused(_)) => Ending::Refuses,
+        Err(_) => Ending::Stops,
+    })
+}
+
+/// Returns the command that is asked for.
+pub(crate) fn command_of(alloc: Global, asked: Asked) -> Option<Command>
+    ensures { IfSome result HasWorkers }
+{
+    match asked {
+        Asked::Charter => charter(alloc),
+        Asked::Rules => rules(alloc),
+        Asked::Register(rows) => register(alloc, rows),
+        Asked::Solve(round) => solve(round),
+        Asked::Seal => Some(Command::Seal { round: 1 }),
+        Asked::Draw(seal, digits) => draw(alloc, seal, digits),
+        Asked::DropOut(id) => drop_out(alloc, id),
+        Asked::Next => Some(Command::NextRound { after: 1 }),
+        Asked::Show => Some(Command::Show { round: 1 }),
+        Asked::Withdraw(key) => withdraw(alloc, key),
+    }
+}
+
+fn charter(alloc: Global) -> Option<Command>
+    ensures { IfSome result HasWorkers }
+{
+    Some(Command::Charter(read_charter(alloc, CHARTER).ok()?))
+}
+
+fn rules(alloc: Global) -> Option<Command>
+    ensures { IfSome result HasWorkers }
+{
+    Some(Command::Rules(read_rules(alloc, RULES).ok()?))
+}
+
+fn register(alloc: Global, rows: &[u8]) -> Option<Command>
+    ensures { IfSome result HasWorkers }
+{
+    let rules = read_rules(alloc, RULES).ok()?;
+    Some(Command::Register(read_register(alloc, rows, &rules).ok()?))
+}
+
+fn solve(round: usize) -> Option<Command>
+    ensures { IfSome result HasWorkers }
+{
+    let limits = Limits::new(127, 1000, 10000)?;
+    Some(Command::Solve {
+        round,
+        limits,
+        workers: 1,
+    })
+}
+
+fn draw(alloc: Global, seal: &str, digits: &[u8]) -> Option<Command>
+    ensures { IfSome result HasWorkers }
+{
+    Some(Command::Draw {
+        round: 1,
+        seal: Name::new(alloc, seal).ok()?,
+        digits: Vec::from_slice(alloc, digits).ok()?,
+    })
+}
+
+fn drop_out(alloc: Global, id: &str) -> Option<Command>
+    ensures { IfSome result HasWorkers }
+{
+    let id = Name::new(alloc, id).ok()?;
+    Some(Command::Drop { round: 1, id })
+}
+
+fn withdraw(alloc: Global, key: &str) -> Option<Command>
+    ensures { IfSome result HasWorkers }
+{
+    let key = Vec::from_slice(alloc, key.as_bytes()).ok()?;
+    Some(Command::Withdraw { key })
+}

@@ -1,0 +1,78 @@
+-- A link is a source and a sink in one. A door gives links. This says what the calls of a door do to its links, and what a link and a door
+-- in memory are. Over Memory. Their contracts cite it.
+use Rattle.std.specs.Prelude.{ℕ, ◌+◌, ◌<◌, ◌++◌, ◌∷◌, List, [], length, min, drop, Option, Some, None, IfSome, if◌then◌else◌}
+use Rattle.outside.specs.Memory.{Calls, SourceState, SinkState, after_call, after_put, after_read, next_fails, no_calls}
+
+-- what a door tells: the links that are still to come, how many were given, and those that were given back, in this order
+pub record DoorLinks (L : Type 0) : Type 0 where
+  pub coming : List L
+  pub given : ℕ
+  pub back : List L
+
+-- no link was given yet
+abbrev pub none_given : {L : Type 0} → List L → DoorLinks L
+none_given coming = record { coming = coming; given = 0; back = [] }
+
+-- the first of the links, if there is one
+abbrev pub first_of : {L : Type 0} → List L → Option L
+first_of [] = None
+first_of (link ∷ links) = Some link
+
+-- the links after the first to come, if there is one, was given
+abbrev pub after_next : {L : Type 0} → DoorLinks L → DoorLinks L
+after_next links = record links { coming = drop 1 links.coming; given = links.given + min 1 (length links.coming) }
+
+-- the links after one was given back
+abbrev pub after_back : {L : Type 0} → DoorLinks L → L → DoorLinks L
+after_back links link = record links { back = links.back ++ link ∷ [] }
+
+-- a link that was given has not come back, if the door tells its links
+abbrev pub IsOneOut : {L : Type 0} → Option (DoorLinks L) → Type 0
+IsOneOut links = IfSome links (λ told. length told.back < told.given)
+
+-- a link in memory: the bytes that are left, what was written, how many bytes it takes in all, and its calls, reads and puts together
+pub record LinkState : Type 0 where
+  pub left : List ℕ
+  pub written : List ℕ
+  pub room : ℕ
+  pub calls : Calls
+
+-- its source
+abbrev pub source_of : LinkState → SourceState
+source_of link = record { left = link.left; calls = link.calls }
+
+-- its sink
+abbrev pub sink_of : LinkState → SinkState
+sink_of link = record { written = link.written; room = link.room; calls = link.calls }
+
+-- nothing was read or written yet
+abbrev pub new_link : List ℕ → ℕ → List ℕ → LinkState
+new_link bytes room failing = record { left = bytes; written = []; room = room; calls = no_calls failing }
+
+-- the link after a read into a room of `size` bytes
+abbrev pub link_after_read : LinkState → ℕ → LinkState
+link_after_read link size = record link { left = (after_read (source_of link) size).left; calls = (after_read (source_of link) size).calls }
+
+-- the link after a put of `piece`
+abbrev pub link_after_put : LinkState → List ℕ → LinkState
+link_after_put link piece = record link { written = (after_put (sink_of link) piece).written; calls = (after_put (sink_of link) piece).calls }
+
+-- a door in memory: its links and its calls, `listen` and `next` together
+pub record DoorState : Type 0 where
+  pub links : DoorLinks LinkState
+  pub calls : Calls
+
+-- the door after a call of `listen`
+abbrev pub door_after_listen : DoorState → DoorState
+door_after_listen door = record door { calls = after_call door.calls (next_fails door.calls) }
+
+-- the door after a call of `next`, which gives a link unless the call is to fail
+abbrev pub door_after_next : DoorState → DoorState
+door_after_next door = record {
+  links = if next_fails door.calls then door.links else after_next door.links;
+  calls = after_call door.calls (next_fails door.calls);
+}
+
+-- the door after a link was given back
+abbrev pub door_after_back : DoorState → LinkState → DoorState
+door_after_back door link = record door { links = after_back door.links link }

@@ -1,0 +1,111 @@
+//! A door over a port of this machine, 127.0.0.1. The desk waits at such a door.
+ghost use Rattle.std.specs.Prelude.{◌≡◌, ◌≤◌, None, if◌then◌else◌, is_err, IfOk, IfSome, IsSome, OnErr, OnOk, option_map};
+ghost use Rattle.outside.specs.Faults.{Rose, raised};
+ghost use Rattle.outside.specs.Links.{IsOneOut, after_back, after_next, first_of};
+
+use crate::{Door, Failed, TcpLink};
+use std::net::{Net, OpenListener, TcpListener};
+
+/// The address at which the door listens: only programs of this machine reach it.
+const ADDRESS: &str = "127.0.0.1";
+
+/// A port of this machine. It tells no links: contracts speak of its count of faults alone. Each error of the system is a fault, and so is
+/// a `next` before the door listens. `next` waits for a connection, and never returns `None`. `back` closes the connection.
+#[derive(Drop)]
+pub struct TcpDoor<R: Net + Drop> {
+    rt: R,
+    listener: Option<R::Listener>,
+    faults: u64,
+}
+
+impl<R: Net + Drop> TcpDoor<R> {
+    /// Returns a door that doesn't listen yet and has counted no fault.
+    pub fn new(rt: R) -> TcpDoor<R>
+        ensures { ⟦<TcpDoor<R> as Door>⟧.faults result ≡ 0 }
+    {
+        TcpDoor {
+            rt,
+            listener: None,
+            faults: 0,
+        }
+    }
+
+    /// Returns how many calls have failed.
+    pub fn faults(&self) -> u64
+        ensures { result ≡ ⟦<TcpDoor<R> as Door>⟧.faults self.now }
+    {
+        self.faults
+    }
+}
+
+impl<R: Net + Drop> Door for TcpDoor<R> {
+    type Link = TcpLink<R::Stream>;
+
+    ghost links = { λ _. None };
+
+    ghost faults = { λ d. d.faults };
+
+    fn listen(&mut self, port: u16) -> Result<(), Failed>
+        ensures same { ⟦<TcpDoor<R> as Door>⟧.links self.new
+            ≡ ⟦<TcpDoor<R> as Door>⟧.links self.old }
+        ensures never_falls { ⟦<TcpDoor<R> as Door>⟧.faults self.old
+            ≤ ⟦<TcpDoor<R> as Door>⟧.faults self.new }
+        ensures cause { OnErr result (Rose (⟦<TcpDoor<R> as Door>⟧.faults self.old)
+            (⟦<TcpDoor<R> as Door>⟧.faults self.new)) }
+        ensures none { OnOk result (⟦<TcpDoor<R> as Door>⟧.faults self.new
+            ≡ ⟦<TcpDoor<R> as Door>⟧.faults self.old) }
+
+        // Each error counts one fault, and nothing else does.
+        ensures counted { ⟦<TcpDoor<R> as Door>⟧.faults self.new
+            ≡ (if is_err result then raised (⟦<TcpDoor<R> as Door>⟧.faults self.old)
+            else ⟦<TcpDoor<R> as Door>⟧.faults self.old) }
+    {
+        match TcpListener::bind(&self.rt, (ADDRESS, port)) {
+            Ok(listener) => {
+                self.listener = Some(listener);
+                Ok(())
+            }
+            Err(_) => {
+                self.faults = self.faults.saturating_add(1);
+                Err(Failed)
+            }
+        }
+    }
+
+    fn next(&mut self) -> Result<Option<TcpLink<R::Stream>>, Failed>
+        ensures first { IfOk result (λ link. IfSome (⟦<TcpDoor<R> as Door>⟧.links self.old)
+            (λ told. link ≡ first_of told.coming)) }
+        ensures given { OnOk result (⟦<TcpDoor<R> as Door>⟧.links self.new
+            ≡ option_map after_next (⟦<TcpDoor<R> as Door>⟧.links self.old)) }
+        ensures same { OnErr result (⟦<TcpDoor<R> as Door>⟧.links self.new
+            ≡ ⟦<TcpDoor<R> as Door>⟧.links self.old) }
+        ensures never_falls { ⟦<TcpDoor<R> as Door>⟧.faults self.old
+            ≤ ⟦<TcpDoor<R> as Door>⟧.faults self.new }
+        ensures cause { OnErr result (Rose (⟦<TcpDoor<R> as Door>⟧.faults self.old)
+            (⟦<TcpDoor<R> as Door>⟧.faults self.new)) }
+        ensures none { OnOk result (⟦<TcpDoor<R> as Door>⟧.faults self.new
+            ≡ ⟦<TcpDoor<R> as Door>⟧.faults self.old) }
+
+        // Each error counts one fault, and nothing else does. A link is given at each `Ok`.
+        ensures counted { ⟦<TcpDoor<R> as Door>⟧.faults self.new
+            ≡ (if is_err result then raised (⟦<TcpDoor<R> as Door>⟧.faults self.old)
+            else ⟦<TcpDoor<R> as Door>⟧.faults self.old) }
+        ensures some { IfOk result (λ link. IsSome link) }
+    {
+        if let Some(listener) = &self.listener {
+            if let Ok((stream, _)) = listener.accept() {
+                return Ok(Some(TcpLink::new(stream)));
+            }
+        }
+        self.faults = self.faults.saturating_add(1);
+        Err(Failed)
+    }
+
+    fn back(&mut self, _link: TcpLink<R::Stream>)
+        requires { IsOneOut (⟦<TcpDoor<R> as Door>⟧.links self.old) }
+        ensures last { ⟦<TcpDoor<R> as Door>⟧.links self.new
+            ≡ option_map (λ told. after_back told _link) (⟦<TcpDoor<R> as Door>⟧.links self.old) }
+        ensures none { ⟦<TcpDoor<R> as Door>⟧.faults self.new
+            ≡ ⟦<TcpDoor<R> as Door>⟧.faults self.old }
+    {}
+}

@@ -1,4 +1,0 @@
-pub mod Steps
-pub mod Asked
-pub mod Office
-pub mod Headline
