@@ -29,6 +29,10 @@ use Rattle.command_meanings.specs.Panel.{PanelMeans}
 use Rattle.command_meanings.specs.Prove.{IsGiven, ProvesWithin, given_in, pool_in}
 use Rattle.command_meanings.specs.Seal.{SealMeans}
 use Rattle.command_meanings.specs.Verify.{Shows, VerifyMeans}
+use Rattle.command_explain.specs.AnyTexts.{Decides, IsRightOrFaulty, IsText, any_format}
+use Rattle.command_explain.specs.Explained.{Explains}
+use Rattle.command_explain.specs.declared.any_text.AnyText.{AnyText}
+use Rattle.command_explain.specs.declared.any_text.AnyText.TheVariants as any
 use Rattle.command_office.specs.declared.asked.Asked.{Asked}
 use Rattle.command_office.specs.declared.asked.Asked.TheVariants as asks
 use Rattle.command_headline.specs.Headline.{SpentAlone, CheckFailed, HeldBundle, HeldEither, HeldNoText, HeldPool, HeldProof, PassedAlone, BrokenAlone, IsShown, TellsBundle, DoneAlone, TellsItsBundle, NoneAlone, TellsProof, TellsShown, TellsSummary, TellsValid, WrongAlone, is_status}
@@ -185,6 +189,8 @@ module _ (told : Told) where
       record { pool = at.1.value; held = held_pool at.1.value at.1.bytes at.1.held at.1.spells; text = at.0; out = at.1.is_told.out; panel = at.1.means.right }
   done (Some (asks.Lottery it)) right s = lottery_told it.limits right s
   done (Some (asks.Check it)) right s = valid_told it.nodes right s
+  done (Some (asks.Explain it)) right s =
+      let is = (about_done any_format Explains told right s).1 in (is.bytes, is.held, subst (λ one. Decides one (IsText is.bytes)) is.means is.spells)
   done (Some (asks.Question it)) right s =
       let is = (about_done bundle_format (one (QuestionMeans it)) told right s).1 in
       record { bundle = is.value; held = held_bundle is.value is.bytes is.held is.spells; total = is.means.right.total; out = subst (Gains told.out) is.means.right.answers is.is_told.out }
@@ -210,6 +216,7 @@ module _ (told : Told) where
       let is = (about_no_panel pool_format (one (LotteryMeans it.limits)) told right s).1 in
       (is.value, held_pool is.value is.bytes is.held is.spells, is.means.right.finds.none)
   no_panel (Some (asks.Question it)) right s = absurd ((about_no_panel bundle_format (one (QuestionMeans it)) told right s).1.means.right)
+  no_panel (Some (asks.Explain it)) right s = absurd ((about_no_panel any_format Explains told right s).1.means)
   no_panel (Some (asks.Check it)) right s = absurd ((about_no_panel bundle_format (one (CheckMeans it.nodes)) told right s).1.means.right)
   no_panel (Some (asks.Make it)) right s =
       let at = said_at told 1 (λ e. absurd (cc)) (λ e. absurd (cc)) s right.ends in
@@ -254,6 +261,15 @@ module _ (told : Told) where
   no_draw seal digits (Long held) = inl (inr held)
   no_draw seal digits (OfValue line is) = inr (is.value, held_bundle is.value is.bytes is.held is.spells, is.means.right.total)
 
+  no_fault_left : (bytes : List ℕ) (about : AnyText) (line : List ℕ) → IsRightOrFaulty bytes about → Explains about (Stops Input line) → IsText bytes → ⊥
+  no_fault_left bytes any.Right line spells means = absurd means
+  no_fault_left bytes (any.Faulty fault) line spells means = spells
+
+  no_right_text : IsInput any_format Explains told → WrongAlone (Some (asks.Explain (record {}))) told
+  no_right_text (NoText bytes fault held fails) = absurd (cc (fails))
+  no_right_text (Long held) = inr held
+  no_right_text (OfValue line is) = inl (is.bytes, is.held, no_fault_left is.bytes is.value line is.spells is.means)
+
   no_answer : (question : Question) → IsInput bundle_format (one (QuestionMeans question)) told → WrongAlone (Some (asks.Question question)) told
   no_answer question (NoText bytes fault held fails) = inl (inl (bytes, fault, held, fails))
   no_answer question (Long held) = inl (inr held)
@@ -267,6 +283,7 @@ module _ (told : Told) where
   text (Some (asks.Seal it)) right s = no_text bundle_format (one SealMeans) (λ value line means. means.right) (about_input bundle_format (one SealMeans) told right s)
   text (Some (asks.Draw seal digits)) right s = no_draw seal digits (about_input bundle_format (one (DrawMeans seal digits)) told right s)
   text (Some (asks.Question it)) right s = no_answer it (about_input bundle_format (one (QuestionMeans it)) told right s)
+  text (Some (asks.Explain it)) right s = no_right_text (about_input any_format Explains told right s)
   text (Some (asks.Panel it)) right s = no_text pool_format (one (PanelMeans it.nodes)) (λ value line means. means.right) (about_input pool_format (one (PanelMeans it.nodes)) told right s)
   text (Some (asks.Lottery it)) right s = no_text pool_format (one (LotteryMeans it.limits)) (λ value line means. means.right) (about_input pool_format (one (LotteryMeans it.limits)) told right s)
   text (Some (asks.Check it)) right s = no_text bundle_format (one (CheckMeans it.nodes)) (λ value line means. means.right) (about_input bundle_format (one (CheckMeans it.nodes)) told right s)
@@ -285,6 +302,7 @@ module _ (told : Told) where
   number (Some (asks.Seal it)) right s = absurd ((about_wide bundle_format (one SealMeans) told right s).1.means.right)
   number (Some (asks.Draw seal digits)) right s = absurd ((about_wide bundle_format (one (DrawMeans seal digits)) told right s).1.means.right)
   number (Some (asks.Question it)) right s = absurd ((about_wide bundle_format (one (QuestionMeans it)) told right s).1.means.right)
+  number (Some (asks.Explain it)) right s = absurd ((about_wide any_format Explains told right s).1.means)
   number (Some (asks.Panel it)) right s = absurd ((about_wide pool_format (one (PanelMeans it.nodes)) told right s).1.means.right)
   number (Some (asks.Lottery it)) right s =
       let at = about_wide pool_format (one (LotteryMeans it.limits)) told right s in
@@ -305,6 +323,7 @@ module _ (told : Told) where
   budget (Some (asks.Seal it)) right s = absurd ((about_spent bundle_format (one SealMeans) told right s).1.means.right)
   budget (Some (asks.Draw seal digits)) right s = absurd ((about_spent bundle_format (one (DrawMeans seal digits)) told right s).1.means.right)
   budget (Some (asks.Question it)) right s = absurd ((about_spent bundle_format (one (QuestionMeans it)) told right s).1.means.right)
+  budget (Some (asks.Explain it)) right s = absurd ((about_spent any_format Explains told right s).1.means)
   budget (Some (asks.Panel it)) right s =
       let at = about_spent pool_format (one (PanelMeans it.nodes)) told right s in
       (at.1.value, held_pool at.1.value at.1.bytes at.1.held at.1.spells, at.0, at.1.is_told.errs, at.1.means.right)
@@ -337,6 +356,7 @@ module _ (told : Told) where
       let at = about_rule bundle_format (one (DrawMeans seal digits)) told right s in
       (at.1.value, held_bundle at.1.value at.1.bytes at.1.held at.1.spells, at.0, at.1.is_told.errs, at.1.means.right)
   rule (Some (asks.Question it)) right s = absurd ((about_rule bundle_format (one (QuestionMeans it)) told right s).1.means.right)
+  rule (Some (asks.Explain it)) right s = absurd ((about_rule any_format Explains told right s).1.means)
   rule (Some (asks.Panel it)) right s = absurd ((about_rule pool_format (one (PanelMeans it.nodes)) told right s).1.means.right)
   rule (Some (asks.Lottery it)) right s = absurd ((about_rule pool_format (one (LotteryMeans it.limits)) told right s).1.means.right)
   rule (Some (asks.Check it)) right s = absurd ((about_rule bundle_format (one (CheckMeans it.nodes)) told right s).1.means.right)
@@ -389,6 +409,7 @@ module _ (told : Told) where
   check (Some (asks.Seal it)) right s = absurd ((about_refused bundle_format (one SealMeans) told right s).1.means.right)
   check (Some (asks.Draw seal digits)) right s = absurd ((about_refused bundle_format (one (DrawMeans seal digits)) told right s).1.means.right)
   check (Some (asks.Question it)) right s = absurd ((about_refused bundle_format (one (QuestionMeans it)) told right s).1.means.right)
+  check (Some (asks.Explain it)) right s = absurd ((about_refused any_format Explains told right s).1.means)
   check (Some (asks.Panel it)) right s = absurd ((about_refused pool_format (one (PanelMeans it.nodes)) told right s).1.means.right)
   check (Some (asks.Lottery it)) right s = absurd ((about_refused pool_format (one (LotteryMeans it.limits)) told right s).1.means.right)
   check (Some (asks.Check it)) right s =

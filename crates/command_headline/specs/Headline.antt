@@ -59,6 +59,7 @@ use Rattle.define_rows.specs.Table.{Table}
 use Rattle.define_runs.specs.Run.{Ending, Limits, RunEnds}
 use Rattle.office_core.specs.Acting.{IsLoaded}
 use Rattle.proof_limits.specs.Budgets.{Left, SpendsOn, unspent}
+use Rattle.command_explain.specs.AnyTexts.{IsText}
 use Rattle.command_office.specs.Asked.{asked}
 use Rattle.command_office.specs.Office.{OfficeIsRight}
 use Rattle.command_office.specs.Steps.{step_command}
@@ -198,6 +199,10 @@ pub record TellsAnswer (question : Question) (told : Told) : Type 0 where
   pub total : TotalAgrees bundle.answer.lottery
   pub out : Gains told.out (question_text question bundle)
 
+-- `explain`: the source held the text of a pool, a bundle or a proof
+abbrev pub HeldText : Told → Type 0
+HeldText told = (bytes : List ℕ) × HeldAll told.source bytes × IsText bytes
+
 abbrev pub DoneAlone : Option Asked → Told → Type 0
 DoneAlone (Some (asks.Prove it)) told = TellsProof told
 DoneAlone (Some (asks.Verify it)) told = TellsShown told
@@ -208,6 +213,7 @@ DoneAlone (Some (asks.Panel it)) told = TellsPanel it.nodes told
 DoneAlone (Some (asks.Lottery it)) told = TellsBundle told
 DoneAlone (Some (asks.Check it)) told = TellsValid told
 DoneAlone (Some (asks.Question it)) told = TellsAnswer it told
+DoneAlone (Some (asks.Explain it)) told = HeldText told
 DoneAlone (Some (asks.Make it)) told = TellsSummary it.limits (made_pool it.seed it.volunteers) told
 -- words that ask for nothing never have status 0; for commands over a store see `TellsDone`
 DoneAlone other told = ⊥
@@ -244,6 +250,9 @@ WrongAlone (Some (asks.Draw seal digits)) told =
 -- and so for a question about a bundle
 WrongAlone (Some (asks.Question it)) told =
     HeldNoText bundle_format told ⊎ ((bundle : Bundle) × HeldBundle told.source bundle × (TotalAgrees bundle.answer.lottery → ⊥))
+-- for `explain` the bytes are none of the three texts
+WrongAlone (Some (asks.Explain it)) told =
+    ((bytes : List ℕ) × HeldAll told.source bytes × (IsText bytes → ⊥)) ⊎ HeldMore told.source input_limit
 WrongAlone (Some (asks.Panel it)) told = HeldNoText pool_format told
 WrongAlone (Some (asks.Lottery it)) told = HeldNoText pool_format told
 WrongAlone (Some (asks.Check it)) told = HeldNoText bundle_format told

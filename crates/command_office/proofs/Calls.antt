@@ -44,3 +44,5 @@ pub draws_so : (seal digits given_seal given_digits : List ℕ) (told : Told) �
 draws_so seal digits given_seal given_digits told same_seal same_digits answers =
     subst (λ one. Answers bundle_format (DrawMeans given_seal one) told) same_digits
     (subst (λ one. Answers bundle_format (DrawMeans one digits) told) same_seal answers)
+
+-- and for a draw in a number of tickets

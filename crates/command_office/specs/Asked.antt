@@ -2,7 +2,10 @@
 -- commands and options; this file tests the ranges of the numbers and makes the command. The contract of `office` cites it.
 use Rattle.std.specs.Prelude.{◌&&◌, ℕ, List, Option, Some, None, codes, if◌then◌else◌, nat_le, option_and_then, option_map}
 use Rattle.command_proofs.specs.declared.proving.Prove.{Prove}
+use Rattle.command_questions.specs.declared.questions.Question.{Question}
 use Rattle.command_questions.specs.declared.questions.Question.TheVariants as question
+use Rattle.command_questions.specs.declared.short.InTickets.{InTickets}
+use Rattle.command_questions.specs.declared.short.InTickets.TheVariants as in_tickets
 use Rattle.command_stores.specs.declared.imports.Import.{Import}
 use Rattle.command_stores.specs.declared.imports.Import.TheVariants as imports
 use Rattle.command_stores.specs.declared.texts.StoreText.{StoreText}
@@ -89,6 +92,25 @@ draw_asked given =
     option_and_then (λ seal. option_and_then (λ digits. draw_from given seal digits (text_of (codes "store") given)) (text_of (codes "digits") given))
     (text_of (codes "seal") given)
 
+abbrev pub tickets_from : ℕ → Option ℕ
+tickets_from number = if nat_le 1 number && nat_le number 1000000000 then Some number else None
+
+-- the number of tickets, by `tickets`: from 1 to 10 ^ 9, else None
+abbrev pub tickets_in : Given → Option ℕ
+tickets_in given = option_and_then tickets_from (number_of (codes "tickets") given)
+
+-- what is printed about a bundle in this number of tickets
+abbrev pub in_tickets_asked : InTickets → ℕ → Asked
+in_tickets_asked answer tickets = asks.Question (question.InTickets tickets answer)
+
+abbrev pub question_from : Question → InTickets → Option ℕ → Option Asked
+question_from whole short (Some number) = option_map (in_tickets_asked short) (tickets_from number)
+question_from whole short None = Some (asks.Question whole)
+
+-- a question about a bundle, or about it in a number of tickets if the words give one
+abbrev pub question_asked : Question → InTickets → Given → Option Asked
+question_asked whole short given = question_from whole short (number_of (codes "tickets") given)
+
 -- without a store a seal is that of a bundle
 abbrev pub seal_from : Given → Option (List ℕ) → Option Asked
 seal_from given (Some store) = option_and_then (λ round. step_asked (steps.Seal round) given) (round_in given)
@@ -111,9 +133,11 @@ command_asked name.Verify given = Some (asks.Verify (record {}))
 command_asked name.Bundle given = Some (asks.Bundle (record {}))
 command_asked name.Seal given = seal_from given (text_of (codes "store") given)
 command_asked name.Draw given = draw_asked given
-command_asked name.Dice given = Some (asks.Question question.Dice)
-command_asked name.Tickets given = Some (asks.Question question.Tickets)
+command_asked name.Dice given = question_asked question.Dice in_tickets.Dice given
+command_asked name.Tickets given = question_asked question.Tickets in_tickets.Ranges given
+command_asked name.Short given = option_map (in_tickets_asked in_tickets.Panels) (tickets_in given)
 command_asked name.Chances given = Some (asks.Question question.Chances)
+command_asked name.Explain given = Some (asks.Explain (record {}))
 command_asked name.Panel given = option_map (λ nodes. asks.Panel (record { nodes = nodes })) (number_of (codes "nodes") given)
 command_asked name.Lottery given =
     option_and_then (λ limits. option_map (λ workers. asks.Lottery (record { limits = limits; workers = workers })) (workers_in given)) (limits_in given)

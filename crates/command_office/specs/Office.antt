@@ -18,6 +18,8 @@ use Rattle.command_shell.specs.Lines.{line, want_of_memory_line}
 use Rattle.command_shell.specs.Outcomes.{IsStopped, SilentOutcome, TextOutcome}
 use Rattle.command_shell.specs.Subjects.{About, Format}
 use Rattle.command_shell.specs.Told.{Told, IsUntouched}
+use Rattle.command_explain.specs.AnyTexts.{any_format}
+use Rattle.command_explain.specs.Explained.{Explains}
 use Rattle.command_questions.specs.Questions.{QuestionMeans}
 use Rattle.command_stores.specs.Imports.{ImportMeans}
 use Rattle.command_stores.specs.ProvedRounds.{ProvesRound}
@@ -54,6 +56,8 @@ AnswersAlone (Some (asks.Panel it)) told = Answers pool_format (PanelMeans it.no
 -- no meaning names the number of workers, neither here nor for `make` nor for a solve over a store, so it changes nothing that is told
 AnswersAlone (Some (asks.Lottery it)) told = Answers pool_format (LotteryMeans it.limits) told
 AnswersAlone (Some (asks.Check it)) told = Answers bundle_format (CheckMeans it.nodes) told
+-- any bytes; the words of the answer aren't defined, only when they come and the line that they begin with at status 3
+AnswersAlone (Some (asks.Explain it)) told = TextOutcome (About any_format Explains) told
 -- one line for every question about a bundle
 AnswersAlone (Some (asks.Question it)) told = Answers bundle_format (QuestionMeans it) told
 AnswersAlone (Some (asks.Make it)) told = SilentOutcome (IsTheAnswer (MakeMeans it.seed it.volunteers it.limits)) told

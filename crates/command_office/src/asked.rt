@@ -9,15 +9,18 @@ ghost use Rattle.command_office.specs.Asked.{
   draw_asked as words_of_draw,
   draw_from as words_of_draw_from,
   import_asked as words_of_import,
+  in_tickets_asked as words_of_in_tickets,
   limits_from as words_of_limits,
   limits_in,
   make_asked as words_of_make,
   prove_asked as words_of_prove,
   prove_from as words_of_prove_from,
+  question_asked as words_of_question,
   seal_from as words_of_seal_from,
   solve_asked as words_of_solve,
   step_asked as words_of_step,
   text_asked as words_of_text,
+  tickets_in,
   volunteers_in,
   workers_from as words_of_workers,
   workers_in,
@@ -25,12 +28,14 @@ ghost use Rattle.command_office.specs.Asked.{
 
 use crate::steps::Step;
 use command_bundles::{Check, Seal};
+use command_explain::Explain;
 use command_pools::{FirstPanel, Lottery, Make, Volunteers};
 use command_proofs::{ItsBundle, Prove, Verify};
-use command_questions::Question;
+use command_questions::{InTickets, Question};
 use command_stores::{Import, ProveRound, StoreText};
 use command_words::{CommandName, Given, Word, WordsStop, read_words};
 use define_runs::{Limits, Workers};
+use short_draws::TicketCount;
 use std::alloc::Global;
 
 /// The text for a number that `clap` accepts and that is out of its range. No words lead to it, since `clap` tests the ranges.
@@ -62,6 +67,8 @@ pub enum Asked<'a> {
     Check(Check),
     /// A text that answers a question about a bundle.
     Question(Question),
+    /// What any file is, in words.
+    Explain(Explain),
     /// The summary of the run over a made pool.
     Make(Make),
     /// A command of the office, over a store.
@@ -123,9 +130,14 @@ fn asked_by<'a>(given: &Given<'a>) -> Option<Asked<'a>>
         CommandName::Bundle => Some(Asked::Bundle(ItsBundle)),
         CommandName::Seal => seal_from(given, given.text("store")),
         CommandName::Draw => draw_of(given),
-        CommandName::Dice => Some(Asked::Question(Question::Dice)),
-        CommandName::Tickets => Some(Asked::Question(Question::Tickets)),
+        CommandName::Dice => question_of(given, Question::Dice, InTickets::Dice),
+        CommandName::Tickets => question_of(given, Question::Tickets, InTickets::Ranges),
+        CommandName::Short => {
+            let tickets = tickets_of(given)?;
+            Some(in_tickets(tickets, InTickets::Panels))
+        }
         CommandName::Chances => Some(Asked::Question(Question::Chances)),
+        CommandName::Explain => Some(Asked::Explain(Explain)),
         CommandName::Panel => {
             let nodes = given.number("nodes")?;
             Some(Asked::Panel(FirstPanel { nodes }))
@@ -270,6 +282,32 @@ fn solve_of<'a>(given: &Given<'a>) -> Option<Asked<'a>>
         workers,
     };
     step_of(given, step)
+}
+
+/// Returns a question about a bundle, or about it in the number of tickets that the words give.
+fn question_of<'a>(given: &Given<'a>, whole: Question, short: InTickets) -> Option<Asked<'a>>
+    ensures { result ≡ words_of_question whole short given.now }
+{
+    match given.number("tickets") {
+        Some(number) => {
+            let tickets = TicketCount::new(number)?;
+            Some(in_tickets(tickets, short))
+        }
+        None => Some(Asked::Question(whole)),
+    }
+}
+
+fn in_tickets<'a>(tickets: TicketCount, answer: InTickets) -> Asked<'a>
+    ensures { result ≡ words_of_in_tickets answer tickets }
+{
+    Asked::Question(Question::InTickets { tickets, answer })
+}
+
+/// Returns the number of tickets, or None if the words don't give a number from 1 to 10^9.
+fn tickets_of(given: &Given<'_>) -> Option<TicketCount>
+    ensures { result ≡ tickets_in given.now }
+{
+    TicketCount::new(given.number("tickets")?)
 }
 
 /// Returns the number of a round.

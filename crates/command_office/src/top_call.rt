@@ -84,6 +84,7 @@ fn run<R: Threads + Sync, W: Watch + Sync, S: Source, O: Sink, E: Sink, K: Keepe
         Asked::Lottery(lottery) => call_lottery(resources, &lottery, source, out, errs),
         Asked::Check(check) => call(alloc, &check, source, out, errs),
         Asked::Question(question) => call(alloc, &question, source, out, errs),
+        Asked::Explain(explain) => call(alloc, &explain, source, out, errs),
         Asked::Make(make) => call_make(resources, &make, out, errs),
         Asked::Step { store, step } => match command_of(alloc, &step) {
             Ok(command) => call_step(resources, &command, store.as_str(), keeper, out, errs),

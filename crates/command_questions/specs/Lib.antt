@@ -2,5 +2,6 @@ pub mod Decimals
 pub mod Dice
 pub mod Tickets
 pub mod Chances
+pub mod Short
 pub mod Questions
 pub mod WorkedQuestions

@@ -1,15 +1,17 @@
 -- What each question about a bundle answers: a text that is made of the bundle alone. A further question is a line of `question_text`.
--- Over Dice, Tickets and Chances.
+-- Over Dice, Tickets, Chances and Short.
 use Rattle.std.specs.Prelude.{◌≡◌, ℕ, List}
 use Rattle.define_bundles.specs.BundleText.{Bundle}
 use Rattle.define_lines.specs.Lines.{text_of}
 use Rattle.define_pools.specs.Lottery.{TotalAgrees}
+use Rattle.define_short_draws.specs.ShortBundle.{shortened_bundle}
 use Rattle.command_shell.specs.Answers.{RightAnswers, no_answer}
 use Rattle.command_meanings.specs.Draw.{HasWrongTotal}
 use Rattle.command_questions.specs.declared.questions.Question.{Question}
-use Rattle.command_questions.specs.declared.questions.Question.TheVariants.{Chances, Dice, Tickets}
+use Rattle.command_questions.specs.declared.questions.Question.TheVariants.{Chances, Dice, InTickets, Tickets}
 use Rattle.command_questions.specs.Chances.{lines_of_chances}
 use Rattle.command_questions.specs.Dice.{dice_lines}
+use Rattle.command_questions.specs.Short.{lines_in_tickets}
 use Rattle.command_questions.specs.Tickets.{ticket_lines}
 
 -- the text that answers a question about a bundle
@@ -17,6 +19,7 @@ abbrev pub question_text : Question → Bundle → List ℕ
 question_text Dice bundle = text_of (dice_lines bundle)
 question_text Tickets bundle = text_of (ticket_lines bundle)
 question_text Chances bundle = text_of (lines_of_chances bundle)
+question_text (InTickets tickets answer) bundle = text_of (lines_in_tickets answer (shortened_bundle bundle tickets))
 
 -- the weights sum to the total, and the text answers the question
 pub record PrintsText (question : Question) (bundle : Bundle) (text : List ℕ) : Type 0 where

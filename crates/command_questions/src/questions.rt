@@ -10,9 +10,11 @@ ghost use Rattle.command_questions.specs.declared.questions.Question.{Question};
 use crate::chances::chances_text;
 use crate::dice::dice_text;
 use crate::ranges::tickets_text;
+use crate::short::{InTickets, text_in_tickets};
 use bundle_text::Bundle;
 use command_shell::{Answer, Cause, Command, Meaning, Printed, input_line};
 use sealed_draw::total_agrees;
+use short_draws::TicketCount;
 use std::alloc::{AllocError, Global};
 
 /// The kind of fault of a bundle whose weights don't sum to its total. It is printed with line number 0, since no single line is faulty.
@@ -27,6 +29,13 @@ pub enum Question {
     Tickets,
     /// `chances`: each volunteer's chance, the sum of the chances for each value, and the least and the greatest chance.
     Chances,
+    /// `short`, and `dice` and `tickets` with `--tickets`: an answer about the bundle in a round number of tickets.
+    InTickets {
+        /// The number of tickets.
+        tickets: TicketCount,
+        /// What is printed.
+        answer: InTickets,
+    },
 }
 
 /// Each question has at most one right answer about a bundle.
@@ -75,5 +84,6 @@ fn text_about(alloc: Global, question: Question, bundle: &Bundle) -> Result<Vec<
         Question::Dice => dice_text(alloc, bundle),
         Question::Tickets => tickets_text(alloc, bundle),
         Question::Chances => chances_text(alloc, bundle),
+        Question::InTickets { tickets, answer } => text_in_tickets(alloc, bundle, tickets, answer),
     }
 }

@@ -325,7 +325,7 @@ const USAGE_ROWS: &[(&[&str], &[u8], u8, &[u8], &[u8])] = &[
         FOUR,
         2,
         b"",
-        b"error: 'sortition' requires a subcommand but one was not provided\n  [subcommands: prove, keep, verify, bundle, seal, dice, tickets, draw, chances, import-charter, import-rules, import-register, solve, drop, next-round, show, report, pool, panel, lottery, check, make, help]\n\nUsage: sortition <COMMAND>\n\nFor more information, try '--help'.\n",
+        b"error: 'sortition' requires a subcommand but one was not provided\n  [subcommands: prove, keep, verify, bundle, explain, seal, dice, tickets, draw, chances, short, import-charter, import-rules, import-register, solve, drop, next-round, show, report, pool, panel, lottery, check, make, help]\n\nUsage: sortition <COMMAND>\n\nFor more information, try '--help'.\n",
     ),
     (
         &["panel", "--nodes", "x"],

@@ -5,7 +5,7 @@ use Rattle.command_words.specs.declared.words.CommandWords.{CommandWords}
 use Rattle.command_words.specs.declared.words.Missing.{Missing}
 use Rattle.command_words.specs.declared.words.Missing.TheVariants as missing
 use Rattle.command_words.specs.declared.words.OptionWords.{OptionWords}
-use Rattle.command_words.specs.declared.table.TheConstants.{OFFICE_COMMANDS, PROOF_COMMANDS, RUN_COMMANDS}
+use Rattle.command_words.specs.declared.table.TheConstants.{DRAW_COMMANDS, OFFICE_COMMANDS, PROOF_COMMANDS, RUN_COMMANDS}
 
 abbrev pub Text : Type 0
 Text = List ℕ
@@ -42,9 +42,13 @@ option_entry = option_as (λ text. text.now)
 abbrev pub command_entry : CommandWords (Bor Text) (Bor (List (OptionWords (Bor Text)))) → CommandEntry
 command_entry = command_as (λ text. text.now) (λ options. options.now)
 
--- the program's commands about proofs, seals and draws
+-- the program's commands about proofs
 unfoldable pub proof_commands : List CommandEntry
 proof_commands = map (command_as (λ text. text.now) (λ options. options.now)) PROOF_COMMANDS.now
+
+-- the program's commands about seals and draws
+unfoldable pub draw_commands : List CommandEntry
+draw_commands = map (command_as (λ text. text.now) (λ options. options.now)) DRAW_COMMANDS.now
 
 -- the program's commands over a store
 unfoldable pub office_commands : List CommandEntry
@@ -56,4 +60,4 @@ run_commands = map (command_as (λ text. text.now) (λ options. options.now)) RU
 
 -- the program's own table
 unfoldable pub command_table : List CommandEntry
-command_table = proof_commands ++ office_commands ++ run_commands
+command_table = proof_commands ++ draw_commands ++ office_commands ++ run_commands

@@ -41,6 +41,7 @@ pub record PlainGive : Type 0 where
   pub dice : Give (codes "dice" ∷ []) name.Dice []
   pub tickets : Give (codes "tickets" ∷ []) name.Tickets []
   pub chances : Give (codes "chances" ∷ []) name.Chances []
+  pub explain : Give (codes "explain" ∷ []) name.Explain []
 
 -- `store` may be absent, and rounds are from 0 to 1000, round 1 if none is given; an option may be given once, and with a value
 pub record SealGives : Type 0 where
@@ -63,6 +64,17 @@ pub record DrawGives : Type 0 where
   pub more : GiveNothing (codes "draw" ∷ codes "--round" ∷ codes "1001" ∷ codes "--seal" ∷ codes "s" ∷ codes "--digits" ∷ codes "97" ∷ [])
   pub no_seal : GiveNothing (codes "draw" ∷ codes "--digits" ∷ codes "97" ∷ [])
   pub no_digits : GiveNothing (codes "draw" ∷ codes "--seal" ∷ codes "s" ∷ [])
+
+-- numbers of tickets are from 1 to 10 ^ 9. `short` has 1000 if none is given; `dice` and `tickets` have none then
+pub record ShortGives : Type 0 where
+  pub short : Give (codes "short" ∷ []) name.Short (number (codes "tickets") 1000 ∷ [])
+  pub least : Give (codes "short" ∷ codes "--tickets" ∷ codes "1" ∷ []) name.Short (number (codes "tickets") 1 ∷ [])
+  pub most : Give (codes "short" ∷ codes "--tickets" ∷ codes "1000000000" ∷ []) name.Short (number (codes "tickets") 1000000000 ∷ [])
+  pub none : GiveNothing (codes "short" ∷ codes "--tickets" ∷ codes "0" ∷ [])
+  pub more : GiveNothing (codes "short" ∷ codes "--tickets" ∷ codes "1000000001" ∷ [])
+  pub dice : Give (codes "dice" ∷ codes "--tickets" ∷ codes "1000" ∷ []) name.Dice (number (codes "tickets") 1000 ∷ [])
+  pub tickets : Give (codes "tickets" ∷ codes "--tickets" ∷ codes "1" ∷ []) name.Tickets (number (codes "tickets") 1 ∷ [])
+  pub no_dice : GiveNothing (codes "dice" ∷ codes "--tickets" ∷ codes "0" ∷ [])
 
 -- the budget of the searches of `panel` and `check`: from 0 to 10 ^ 12 visits
 pub record SearchesGive : Type 0 where

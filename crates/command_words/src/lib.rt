@@ -9,6 +9,7 @@
 #![tactic(auto)]
 
 mod given;
+mod help;
 mod program;
 mod reading;
 mod table;

@@ -12,6 +12,7 @@ ghost use Rattle.command_words.specs.Program.{
   program_app,
 };
 
+use crate::help::HELP;
 use crate::words::{Form, Missing, TableCommand, TableOption};
 use clap::builder::ValueParser;
 use clap::{Arg, Command};
@@ -35,7 +36,7 @@ fn program_alone<'a>(alloc: Global) -> Result<Command<'a>, AllocError>
     ensures { IfOk result (λ program. app_of program ≡ words_of_program_alone) }
 {
     Command::new(alloc, "sortition")
-        .about("Selects a citizens' assembly by lot")
+        .override_help(HELP)
         .no_binary_name(true)
         .subcommand_required(true)
         .bin_name("sortition")

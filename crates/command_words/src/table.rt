@@ -6,6 +6,7 @@ ghost use Rattle.std.specs.Prelude.{◌≡◌, IfOk, map};
 ghost use Rattle.command_words.specs.Table.{
   command_entry,
   command_table as words_of_command_table,
+  draw_commands as words_of_draw_commands,
   office_commands as words_of_office_commands,
   proof_commands as words_of_proof_commands,
   run_commands as words_of_run_commands,
@@ -22,16 +23,24 @@ pub(crate) fn command_table(alloc: Global) -> Result<Vec<TableCommand>, AllocErr
 {
     let mut table = Vec::new(alloc);
     table.extend_from_slice(proof_commands())?;
+    table.extend_from_slice(draw_commands())?;
     table.extend_from_slice(office_commands())?;
     table.extend_from_slice(run_commands())?;
     Ok(table)
 }
 
-/// Returns the commands about proofs, seals and draws.
+/// Returns the commands about proofs.
 fn proof_commands() -> &'static [TableCommand]
     ensures { map command_entry result.now ≡ words_of_proof_commands }
 {
     PROOF_COMMANDS
+}
+
+/// Returns the commands about seals and draws.
+fn draw_commands() -> &'static [TableCommand]
+    ensures { map command_entry result.now ≡ words_of_draw_commands }
+{
+    DRAW_COMMANDS
 }
 
 /// Returns the commands over a store.
@@ -104,6 +113,16 @@ const PROOF_COMMANDS: &[TableCommand] = &[
         options: &[],
     },
     CommandWords {
+        command: CommandName::Explain,
+        name: "explain",
+        help: "Says in words what the text on standard input holds, or what is wrong with the file",
+        example: "Example: sortition explain < people.csv",
+        options: &[],
+    },
+];
+
+const DRAW_COMMANDS: &[TableCommand] = &[
+    CommandWords {
         command: CommandName::Seal,
         name: "seal",
         help: "Prints the seal of the bundle on standard input, or of a round of the store",
@@ -115,36 +134,21 @@ const PROOF_COMMANDS: &[TableCommand] = &[
         name: "dice",
         help: "Prints how dice draw from the bundle on standard input",
         example: "Example: sortition dice < city.bundle",
-        options: &[],
+        options: &[TICKETS_IF_ANY],
     },
     CommandWords {
         command: CommandName::Tickets,
         name: "tickets",
         help: "Prints a table of the tickets of the bundle on standard input",
         example: "Example: sortition tickets < city.bundle",
-        options: &[],
+        options: &[TICKETS_IF_ANY],
     },
     CommandWords {
         command: CommandName::Draw,
         name: "draw",
         help: "Prints the panel that dice draw from the bundle on standard input, or in a round of the store",
         example: "Example: sortition draw --seal SEAL --digits 9957 < city.bundle",
-        options: &[
-            STORE_IF_ANY,
-            ROUND,
-            OptionWords {
-                name: "seal",
-                help: "The seal of the bundle, as it was published",
-                form: Form::Text,
-                missing: Missing::Refused,
-            },
-            OptionWords {
-                name: "digits",
-                help: "The digits of ten-sided dice, in the order of the throws",
-                form: Form::Text,
-                missing: Missing::Refused,
-            },
-        ],
+        options: &[STORE_IF_ANY, ROUND, SEAL, DIGITS],
     },
     CommandWords {
         command: CommandName::Chances,
@@ -152,6 +156,13 @@ const PROOF_COMMANDS: &[TableCommand] = &[
         help: "Prints the volunteers' chances in the bundle on standard input",
         example: "Example: sortition chances < city.bundle",
         options: &[],
+    },
+    CommandWords {
+        command: CommandName::Short,
+        name: "short",
+        help: "Prints the lottery of the bundle on standard input in a round number of tickets",
+        example: "Example: sortition short --tickets 1000 < city.bundle",
+        options: &[TICKETS],
     },
 ];
 
@@ -297,6 +308,8 @@ const RUN_COMMANDS: &[TableCommand] = &[
 
 const MOST_ROUND: u64 = 1000;
 
+const MOST_TICKETS: u64 = 1_000_000_000;
+
 const MOST_PIVOTS: u64 = 1_000_000_000;
 
 const MOST_NODES: u64 = 1_000_000_000_000;
@@ -312,6 +325,40 @@ const STORE_IF_ANY: TableOption = OptionWords {
     name: "store",
     help: "The file of the store, if the bundle is in one",
     form: Form::Text,
+    missing: Missing::Absent,
+};
+
+const SEAL: TableOption = OptionWords {
+    name: "seal",
+    help: "The seal of the bundle, as it was published",
+    form: Form::Text,
+    missing: Missing::Refused,
+};
+
+const DIGITS: TableOption = OptionWords {
+    name: "digits",
+    help: "The digits of ten-sided dice, in the order of the throws",
+    form: Form::Text,
+    missing: Missing::Refused,
+};
+
+const TICKETS: TableOption = OptionWords {
+    name: "tickets",
+    help: "The number of tickets, 1 to 1000000000",
+    form: Form::Number {
+        least: 1,
+        most: MOST_TICKETS,
+    },
+    missing: Missing::Default("1000"),
+};
+
+const TICKETS_IF_ANY: TableOption = OptionWords {
+    name: "tickets",
+    help: "The number of tickets, 1 to 1000000000, if the lottery is drawn in a round number of them",
+    form: Form::Number {
+        least: 1,
+        most: MOST_TICKETS,
+    },
     missing: Missing::Absent,
 };
 

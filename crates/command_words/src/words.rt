@@ -21,6 +21,10 @@ pub enum CommandName {
     Tickets,
     /// The volunteers' chances in a bundle.
     Chances,
+    /// What any file is, in words.
+    Explain,
+    /// The lottery of a bundle in a round number of tickets.
+    Short,
     /// The first quota panel of a pool.
     Panel,
     /// The lottery of a pool by the stated run.

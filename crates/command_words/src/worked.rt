@@ -13,6 +13,7 @@ ghost use Rattle.command_words.specs.WorkedWords.{
   ProveGives,
   SealGives,
   SearchesGive,
+  ShortGives,
   ShownRoundsGive,
   SolveGives,
 };
@@ -24,6 +25,7 @@ pub fn words_are_worked()
     ensures plain { PlainGive }
     ensures seal { SealGives }
     ensures draw { DrawGives }
+    ensures short { ShortGives }
     ensures solve { SolveGives }
     ensures drop { DropGives }
     ensures next_round { NextRoundGives }

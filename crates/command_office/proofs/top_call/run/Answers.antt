@@ -41,5 +41,8 @@ returns-in-ProveRound g c = as_asked _ _ _ c.in-ProveRound.is (proofs_so _ _ _ _
 pub returns-in-Text : goal.returns-in-Text
 returns-in-Text g c = as_asked _ _ _ c.in-Text.is (texts_so _ _ _ _ c.as_str-in-Text.ensures (c.call_text.ensures _ (record { same = refl; no_fault = refl })))
 
+pub returns-in-Explain : goal.returns-in-Explain
+returns-in-Explain g c = as_asked _ _ _ c.in-Explain.is (leaves _ _ _ _ _ c.call-in-Explain.ensures)
+
 pub returns-in-Question : goal.returns-in-Question
 returns-in-Question g c = as_asked _ _ _ c.in-Question.is (leaves _ _ _ _ _ c.call-in-Question.ensures)

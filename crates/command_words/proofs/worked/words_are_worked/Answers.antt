@@ -1,43 +1,43 @@
 use Rattle.std.proofs.Common.{refl}
 use Rattle.clap.proofs.OnLiterals.{clap_on_literals}
 use Rattle.command_words.specs.Words.{given_in}
-use Rattle.command_words.specs.Table.{command_table, office_commands, proof_commands, run_commands}
+use Rattle.command_words.specs.Table.{command_table, draw_commands, office_commands, proof_commands, run_commands}
 use Rattle.command_words.proofs.worked.words_are_worked.Goals as goal
 
 pub returns-clause-prove : goal.returns-clause-prove
-unfolding given_in command_table proof_commands office_commands run_commands clap_on_literals
+unfolding given_in command_table proof_commands draw_commands office_commands run_commands clap_on_literals
 returns-clause-prove c = record { defaults = refl; least = refl; most = refl; pivots = refl; nodes = refl; store = refl; more = refl }
 
 pub returns-clause-keep : goal.returns-clause-keep
-unfolding given_in command_table proof_commands office_commands run_commands clap_on_literals
+unfolding given_in command_table proof_commands draw_commands office_commands run_commands clap_on_literals
 returns-clause-keep c = record { rounds = record { defaults = refl; least = refl; most = refl; more = refl; no_store = refl }; another = refl }
 
 pub returns-clause-plain : goal.returns-clause-plain
-unfolding given_in command_table proof_commands office_commands run_commands clap_on_literals
-returns-clause-plain c = record { verify = refl; bundle = refl; dice = refl; tickets = refl; chances = refl }
+unfolding given_in command_table proof_commands draw_commands office_commands run_commands clap_on_literals
+returns-clause-plain c = record { verify = refl; bundle = refl; dice = refl; tickets = refl; chances = refl; explain = refl }
 
 pub returns-clause-seal : goal.returns-clause-seal
-unfolding given_in command_table proof_commands office_commands run_commands clap_on_literals
+unfolding given_in command_table proof_commands draw_commands office_commands run_commands clap_on_literals
 returns-clause-seal c = record { absent = refl; store = refl; least = refl; most = refl; more = refl; twice = refl; no_value = refl }
 
 pub returns-clause-draw : goal.returns-clause-draw
-unfolding given_in command_table proof_commands office_commands run_commands clap_on_literals
+unfolding given_in command_table proof_commands draw_commands office_commands run_commands clap_on_literals
 returns-clause-draw c = record { texts = refl; least = refl; most = refl; more = refl; no_seal = refl; no_digits = refl }
 
 pub returns-clause-solve : goal.returns-clause-solve
-unfolding given_in command_table proof_commands office_commands run_commands clap_on_literals
+unfolding given_in command_table proof_commands draw_commands office_commands run_commands clap_on_literals
 returns-clause-solve c = record { rounds = record { defaults = refl; least = refl; most = refl; more = refl; no_store = refl }; more_bits = refl }
 
 pub returns-clause-drop : goal.returns-clause-drop
-unfolding given_in command_table proof_commands office_commands run_commands clap_on_literals
+unfolding given_in command_table proof_commands draw_commands office_commands run_commands clap_on_literals
 returns-clause-drop c = record { rounds = record { defaults = refl; least = refl; most = refl; more = refl; no_store = refl }; no_id = refl }
 
 pub returns-clause-next_round : goal.returns-clause-next_round
-unfolding given_in command_table proof_commands office_commands run_commands clap_on_literals
+unfolding given_in command_table proof_commands draw_commands office_commands run_commands clap_on_literals
 returns-clause-next_round c = record { defaults = refl; least = refl; most = refl; more = refl; no_store = refl }
 
 pub returns-clause-shown : goal.returns-clause-shown
-unfolding given_in command_table proof_commands office_commands run_commands clap_on_literals
+unfolding given_in command_table proof_commands draw_commands office_commands run_commands clap_on_literals
 returns-clause-shown c = record {
   show = record { defaults = refl; least = refl; most = refl; more = refl; no_store = refl };
   report = record { defaults = refl; least = refl; most = refl; more = refl; no_store = refl };
@@ -45,7 +45,7 @@ returns-clause-shown c = record {
 }
 
 pub returns-clause-imports : goal.returns-clause-imports
-unfolding given_in command_table proof_commands office_commands run_commands clap_on_literals
+unfolding given_in command_table proof_commands draw_commands office_commands run_commands clap_on_literals
 returns-clause-imports c = record {
   charter = record { store = refl; no_store = refl; another = refl };
   rules = record { store = refl; no_store = refl; another = refl };
@@ -53,17 +53,21 @@ returns-clause-imports c = record {
 }
 
 pub returns-clause-searches : goal.returns-clause-searches
-unfolding given_in command_table proof_commands office_commands run_commands clap_on_literals
+unfolding given_in command_table proof_commands draw_commands office_commands run_commands clap_on_literals
 returns-clause-searches c = record { panel = refl; panel_least = refl; panel_most = refl; panel_more = refl; check = refl; check_least = refl; check_most = refl; check_more = refl }
 
 pub returns-clause-lottery : goal.returns-clause-lottery
-unfolding given_in command_table proof_commands office_commands run_commands clap_on_literals
+unfolding given_in command_table proof_commands draw_commands office_commands run_commands clap_on_literals
 returns-clause-lottery c = record { defaults = refl; least = refl; most = refl; no_bits = refl; more_bits = refl; more_pivots = refl; more_nodes = refl; no_workers = refl; more_workers = refl }
 
 pub returns-clause-make : goal.returns-clause-make
-unfolding given_in command_table proof_commands office_commands run_commands clap_on_literals
+unfolding given_in command_table proof_commands draw_commands office_commands run_commands clap_on_literals
 returns-clause-make c = record { defaults = refl; most = refl; no_seed = refl; no_volunteers = refl; greater_seed = refl; nobody = refl; too_many = refl; more_bits = refl }
 
 pub returns-clause-others : goal.returns-clause-others
-unfolding given_in command_table proof_commands office_commands run_commands clap_on_literals
+unfolding given_in command_table proof_commands draw_commands office_commands run_commands clap_on_literals
 returns-clause-others c = record { none = refl; another = refl; help = refl; option = refl }
+
+pub returns-clause-short : goal.returns-clause-short
+unfolding given_in command_table proof_commands draw_commands office_commands run_commands clap_on_literals
+returns-clause-short c = record { short = refl; least = refl; most = refl; none = refl; more = refl; dice = refl; tickets = refl; no_dice = refl }

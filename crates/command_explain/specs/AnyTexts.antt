@@ -1,0 +1,58 @@
+-- What any bytes are: the text of a pool, a bundle or a proof, or none, with a first fault. They are read as the text of what their first
+-- word says: a bundle's, a proof's, or else a pool's. Over the definitions of the texts.
+use Rattle.std.specs.Prelude.{◌≡◌, ℕ, Bool, List, take, codes, bytes_eq, if◌then◌else◌, Result, Ok, Err}
+use Rattle.std.specs.Bool.{MatchBool}
+use Rattle.define_additions.specs.ProofVerdict.{Proof}
+use Rattle.define_bundles.specs.BundleReading.{read_bundle}
+use Rattle.define_bundles.specs.BundleText.{Bundle, IsBundle, bundle_spelling}
+use Rattle.define_lines.specs.Lines.{Fault}
+use Rattle.define_pool_texts.specs.PoolReading.{read}
+use Rattle.define_pool_texts.specs.PoolText.{spelling}
+use Rattle.define_pools.specs.Pool.{IsPool, Pool}
+use Rattle.define_proof_texts.specs.ProofReading.{read_proof}
+use Rattle.define_proof_texts.specs.ProofText.{IsProof, proof_spelling}
+use Rattle.command_shell.specs.Formats.{begins_as_bundle}
+use Rattle.command_shell.specs.Subjects.{Format}
+use Rattle.command_explain.specs.declared.any_text.AnyText.{AnyText}
+use Rattle.command_explain.specs.declared.any_text.AnyText.TheVariants.{Right, Faulty}
+
+abbrev pub begins_as_proof : List ℕ → Bool
+begins_as_proof bytes = bytes_eq (codes "proof") (take 5 bytes)
+
+-- what a reading in one format says
+abbrev pub looked_as : {Value : Type 0} → Result Value Fault → AnyText
+looked_as (Ok value) = Right
+looked_as (Err fault) = Faulty (record { line = fault.line; kind = fault.kind })
+
+-- what is known of any bytes
+abbrev pub looked_at : List ℕ → AnyText
+looked_at bytes =
+    if begins_as_bundle bytes then looked_as (read_bundle bytes)
+    else (if begins_as_proof bytes then looked_as (read_proof bytes) else looked_as (read bytes))
+
+abbrev pub IsSomePool : List ℕ → Type 0
+IsSomePool bytes = (pool : Pool) × (IsPool pool × (bytes ≡ spelling pool))
+
+abbrev pub IsSomeBundle : List ℕ → Type 0
+IsSomeBundle bytes = (bundle : Bundle) × (IsBundle bundle × (bytes ≡ bundle_spelling bundle))
+
+abbrev pub IsSomeProof : List ℕ → Type 0
+IsSomeProof bytes = (proof : Proof) × (IsProof proof × (bytes ≡ proof_spelling proof))
+
+-- the bytes are the text of a pool, a bundle or a proof. Which of the three is told by the word that they begin with
+abbrev pub IsText : List ℕ → Type 0
+IsText bytes =
+    MatchBool (begins_as_bundle bytes) (IsSomeBundle bytes) (MatchBool (begins_as_proof bytes) (IsSomeProof bytes) (IsSomePool bytes))
+
+-- what is known is that `Text` holds, or else that it doesn't
+abbrev pub Decides : AnyText → Type 0 → Type 0
+Decides Right Text = Text
+Decides (Faulty fault) Text = ¬ Text
+
+-- the bytes are a text if they are known to be right, and else none
+abbrev pub IsRightOrFaulty : List ℕ → AnyText → Type 0
+IsRightOrFaulty bytes text = Decides text (IsText bytes)
+
+-- any bytes can be read so
+abbrev pub any_format : Format AnyText
+any_format = record { read = λ bytes. Ok (looked_at bytes); spells = λ text bytes. IsRightOrFaulty bytes text }

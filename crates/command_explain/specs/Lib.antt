@@ -1,0 +1,2 @@
+pub mod AnyTexts
+pub mod Explained

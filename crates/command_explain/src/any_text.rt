@@ -1,0 +1,76 @@
+//! Any bytes as the input of a command: whether they are a right text, or where they first go wrong.
+
+ghost use Rattle.std.specs.Prelude.{◌≡◌, ℕ, List, IfOk};
+ghost use Rattle.command_explain.specs.AnyTexts.{IsRightOrFaulty, looked_as, looked_at};
+
+use bundle_text::Bundle;
+use command_shell::Subject;
+use define_bundles::bundle_or_fault;
+use define_pool_texts::pool_or_fault;
+use define_proof_texts::proof_or_fault;
+use pool_model::Pool;
+use proof_model::Proof;
+use std::alloc::{AllocError, Global};
+use text_lines::{TextFault, TextStop};
+
+/// A text that begins with this word is read as a bundle's.
+const BUNDLE: &[u8] = b"bundle";
+
+/// A text that begins with this word is read as a proof's.
+const PROOF: &[u8] = b"proof";
+
+/// What is known of any bytes.
+#[derive(Clone, Copy, Debug)]
+pub enum AnyText {
+    /// They are the text of a pool, a bundle or a proof.
+    Right,
+    /// They are none, and this is their first fault.
+    Faulty(TextFault),
+}
+
+/// Any bytes are a right text, or they are none and have a first fault.
+pub fn right_or_faulty()
+    ensures { (bytes : List ℕ) → IsRightOrFaulty bytes (looked_at bytes) }
+{
+    pool_or_fault();
+    bundle_or_fault();
+    proof_or_fault();
+}
+
+impl Subject for AnyText {
+    ghost use Rattle.command_explain.specs.AnyTexts.{any_format};
+
+    ghost format = { any_format };
+
+    fn read(alloc: Global, bytes: &[u8]) -> Result<AnyText, TextStop> {
+        right_or_faulty();
+        match look_at(alloc, bytes) {
+            Ok(text) => Ok(text),
+            Err(AllocError) => Err(TextStop::OutOfMemory),
+        }
+    }
+}
+
+/// Reads the bytes by the word that they begin with.
+fn look_at(alloc: Global, bytes: &[u8]) -> Result<AnyText, AllocError>
+    ensures { IfOk result (λ text. text ≡ looked_at bytes.now) }
+{
+    if bytes.starts_with(BUNDLE) {
+        look_as::<Bundle>(alloc, bytes)
+    } else if bytes.starts_with(PROOF) {
+        look_as::<Proof>(alloc, bytes)
+    } else {
+        look_as::<Pool>(alloc, bytes)
+    }
+}
+
+/// Reads the bytes in one format.
+fn look_as<S: Subject>(alloc: Global, bytes: &[u8]) -> Result<AnyText, AllocError>
+    ensures { IfOk result (λ text. text ≡ looked_as (S.format.read bytes.now)) }
+{
+    match S::read(alloc, bytes) {
+        Ok(_) => Ok(AnyText::Right),
+        Err(TextStop::Fault(fault)) => Ok(AnyText::Faulty(fault)),
+        Err(TextStop::OutOfMemory) => Err(AllocError),
+    }
+}

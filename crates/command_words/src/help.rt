@@ -1,0 +1,42 @@
+//! The help of the program. `clap` makes the help of a single command by the table.
+
+/// The commands by who needs them, each with one line. The words of the table (`table.rt`) are the program's; this text only shows them.
+pub(crate) const HELP: &str = "Selects a citizens' assembly by lot.
+
+Usage: sortition <COMMAND>
+
+To run an assembly over a store:
+  import-charter   Sets the title and the size of the panel, from a file of TOML
+  import-rules     Sets the quotas, from a file of CSV
+  import-register  Adds volunteers, from a file of CSV
+  solve            Answers an open round, of up to some 30 people
+  prove            Answers an open round of hundreds of people, with --store
+  keep             Answers an open round by a proof, whoever made it
+  show             Prints the bundle of a round: its lottery with its pool
+  drop             Notes that a member of the drawn panel drops out
+  next-round       Begins the round after one with a dropout
+  report           Prints the report of a round, for the public
+  pool             Prints the pool of a round
+
+To draw by dice, before everybody's eyes:
+  seal             Prints the seal of a bundle, which is published before the draw
+  dice             Prints how many dice a throw takes
+  tickets          Prints which ticket draws which panel
+  draw             Prints the panel that the digits of dice draw
+  short            Prints the lottery in a round number of tickets
+
+To check what was published:
+  verify           Checks a proof, by additions
+  bundle           Prints the bundle of a proof
+  chances          Prints each volunteer's chance in a bundle
+  check            Checks the certificate of a bundle
+  explain          Says in words what a text holds, or what is wrong with a file
+
+To make a lottery without a store:
+  prove            Makes the lottery of a pool, with a proof of it
+  lottery          Makes the lottery of a pool by the stated run, of up to some 30 people
+  panel            Prints the first panel of a pool that meets the quotas
+  make             Makes a pool from a number, and tells of its lottery
+
+`sortition help COMMAND` prints the options of a command, and an example.
+";

@@ -1,0 +1,17 @@
+-- What `why` claims of a conflict. Over Quotas and OnlyQuotas. `quota_conflicts` promises it, and the meaning of `why` cites it.
+use Rattle.std.specs.Prelude.{◌≡◌, ◌≤◌, [], IsTrue}
+use Rattle.std.specs.List.{list_all}
+use Rattle.define_pools.specs.Pool.{Pool, panels}
+use Rattle.define_conflicts.specs.OnlyQuotas.{only}
+use Rattle.define_conflicts.specs.Quotas.{Conflict, EachNeeded, MissBy, is_quota_of, known_miss}
+
+pub record IsConflict (pool : Pool) (conflict : Conflict) : Type 0 where
+  -- the quotas are the pool's
+  pub of_pool : IsTrue (list_all (is_quota_of pool) conflict.quotas)
+  -- each selection misses them by at least so many people in all, and this is at least 1
+  pub misses : MissBy pool conflict.quotas (known_miss conflict)
+  pub some : 1 ≤ known_miss conflict
+  -- the pool with only these quotas has no quota panel
+  pub none : panels (only pool conflict.quotas) ≡ []
+  -- if it is said that each is needed, then without any one of them some selection meets the others
+  pub needed : IsTrue conflict.is_each_needed → EachNeeded pool conflict.quotas

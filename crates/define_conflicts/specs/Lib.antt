@@ -1,0 +1,6 @@
+pub mod Quotas
+pub mod LeastMisses
+pub mod OnlyQuotas
+pub mod Conflicts
+pub mod ConflictText
+pub mod WorkedConflicts

@@ -1,0 +1,84 @@
+//! Conflicts: quotas of a pool that can't be met together. The definitions are in `specs/`. Stands on `define_pools` and `laws_basic`, and
+//! on `define_additions` and `define_searches` for laws on sums and households. Above: `quota_conflicts`, which finds conflicts and checks
+//! them, and the meaning of `why`.
+//!
+//! The functions have no body: their contracts are laws over the definitions, and worked examples. The promise that matters most is
+//! `conflict_leaves_no_panel`.
+#![tactic(auto)]
+
+ghost use Rattle.std.specs.Prelude.{◌≡◌, ◌<◌, ◌≤◌, ◌+◌, ◌*◌, [], ◌∷◌, ℕ, drop, take, true, length, nat_le, IsTrue, List, slice_set};
+ghost use Rattle.std.specs.List.{list_all};
+ghost use Rattle.define_pools.specs.declared.Standing.{Standing as SeenStanding};
+ghost use Rattle.define_pools.specs.declared.Standing.TheVariants.{Gone, Seated};
+ghost use Rattle.define_pools.specs.Pool.{Pool, panels};
+ghost use Rattle.define_pools.specs.WorkedExamples.{couple};
+ghost use Rattle.define_additions.specs.Leaves.{standings};
+ghost use Rattle.define_conflicts.specs.ConflictText.{conflict_text};
+ghost use Rattle.define_conflicts.specs.LeastMisses.{asked, given, quotas_of};
+ghost use Rattle.define_conflicts.specs.OnlyQuotas.{only};
+ghost use Rattle.define_conflicts.specs.Quotas.{MissAt, MissBy, is_quota_of, meets};
+ghost use Rattle.define_conflicts.specs.WorkedConflicts.{couple_conflict, couple_text, couple_weighted};
+
+/// Whom a quota counts.
+#[derive(Clone, Copy, Debug, PartialEq, Eq)]
+pub enum Counted {
+    /// Everybody: the quota is of the size.
+    Everybody,
+    /// Those who have value `.1` of category `.0`, by their places.
+    WithValue(usize, usize),
+    /// Those of the household of this volunteer.
+    OfHousehold(usize),
+}
+
+/// Which end of the bounds a quota is.
+#[derive(Clone, Copy, Debug, PartialEq, Eq)]
+pub enum Side {
+    /// The least number of a panel's members whom the quota counts.
+    AtLeast,
+    /// The greatest number of them.
+    AtMost,
+}
+
+/// A quota of a pool: one of the two bounds on the number of a panel's members whom it counts.
+#[derive(Clone, Copy, Debug, PartialEq, Eq)]
+pub struct Quota {
+    pub counted: Counted,
+    pub side: Side,
+}
+
+/// A quota with a weight, by which its misses are multiplied.
+#[derive(Clone, Copy, Debug, PartialEq, Eq)]
+pub struct WeightedQuota {
+    pub quota: Quota,
+    pub weight: usize,
+}
+
+/// If each selection misses some quotas of a pool by at least 1, then the pool with only these quotas has no quota panel.
+pub fn conflict_leaves_no_panel()
+    ensures { (pool : Pool) (quotas : List Quota) (least : ℕ) → IsTrue (list_all (is_quota_of pool) quotas) → MissBy pool quotas least → 1 ≤ least →
+        panels (only pool quotas) ≡ [] }
+{}
+
+/// If quotas with weights of at most `greatest` ask for more than can be given, and by more than `greatest` times `misses`, then each
+/// selection misses them by at least `misses + 1`.
+pub fn asking_more_misses()
+    ensures { (pool : Pool) (weighted : List WeightedQuota) (all : List SeenStanding) (greatest misses : ℕ) →
+        IsTrue (list_all (λ it. nat_le it.weight greatest) weighted) → given pool weighted all + greatest * misses < asked pool weighted all →
+        MissAt pool (quotas_of weighted) all (misses + 1) }
+{}
+
+/// If selections miss quotas both without volunteer `i` and with this volunteer, all selections miss them.
+pub fn both_parts_miss()
+    ensures { (pool : Pool) (quotas : List Quota) (all : List SeenStanding) (i least : ℕ) → MissAt pool quotas (slice_set all i Gone) least →
+        MissAt pool quotas (slice_set all i Seated) least → MissAt pool quotas all least }
+{}
+
+/// A woman and a man of one household can't both have the two seats. The size and the household ask for 2, and 1 can be given. One of them
+/// alone meets the household's quota, both meet the size's.
+pub fn worked_conflict()
+    ensures asked { asked couple couple_weighted (standings couple) ≡ 2 }
+    ensures given { given couple couple_weighted (standings couple) ≡ 1 }
+    ensures text { conflict_text couple couple_conflict ≡ couple_text }
+    ensures one { meets couple (0 ∷ []) (quotas_of (drop 1 couple_weighted)) ≡ true }
+    ensures both { meets couple (0 ∷ 1 ∷ []) (quotas_of (take 1 couple_weighted)) ≡ true }
+{}

@@ -1,0 +1,6 @@
+pub mod Keeping
+pub mod TeamSearch
+pub mod Freed
+pub mod Cheapest
+pub mod MovedBounds
+pub mod Least

@@ -1,0 +1,38 @@
+-- The search for the cheapest team, front by front, with its visits. To enter a front is one visit; the empty front counts one even if it
+-- isn't live. From an entered front its children are tried, the greatest count first, and each child that is live at that moment is
+-- entered. Over Costs. `quota_loosen` searches so.
+use Rattle.std.specs.Prelude.{ℕ, ◌+◌, nat_lt, if◌then◌else◌, Bool, true, ◌&&◌, List, [], ◌∷◌, ◌++◌, fold, Option, Some, None}
+use Rattle.define_searches.specs.Classes.{Class, Classes}
+use Rattle.define_searches.specs.Compositions.{counts_of, takes_one_a_household}
+use Rattle.define_searches.specs.Fronts.{size_reachable}
+use Rattle.define_loosenings.specs.Costs.{cost, sure_cost}
+
+-- a front may lead to a team: the size is within reach, and no household has two members taken
+abbrev pub leads_to_team : Classes → List ℕ → Bool
+leads_to_team all front = size_reachable all front && takes_one_a_household all.classes front
+
+-- a front may lead to counts that cost less than those that were kept, if there are any
+abbrev pub may_cost_less : Classes → Option (List ℕ) → List ℕ → Bool
+may_cost_less all None front = true
+may_cost_less all (Some kept) front = nat_lt (sure_cost all front) (cost all kept)
+
+-- a front is live: it may lead to a team that costs less than the one that was kept
+abbrev pub is_live_below : Classes → Option (List ℕ) → List ℕ → Bool
+is_live_below all kept front = leads_to_team all front && may_cost_less all kept front
+
+-- how far a search is: its visits, and the counts that were kept last
+pub record CostSearch : Type 0 where
+  pub visits : ℕ
+  pub kept : Option (List ℕ)
+
+-- the search from a front that is entered, with the classes that come after it. If none come after it, the front is kept
+abbrev pub enter_cheapest : Classes → List Class → List ℕ → CostSearch → CostSearch
+enter_cheapest all [] front so_far = record { visits = so_far.visits + 1; kept = Some front }
+enter_cheapest all (class ∷ later) front so_far =
+    fold (λ now c. if is_live_below all now.kept (front ++ c ∷ []) then enter_cheapest all later (front ++ c ∷ []) now else now)
+    (record { visits = so_far.visits + 1; kept = so_far.kept }) (counts_of class)
+
+-- the search for the cheapest team
+abbrev pub cheapest_search : Classes → CostSearch
+cheapest_search all =
+    if is_live_below all None [] then enter_cheapest all all.classes [] (record { visits = 0; kept = None }) else record { visits = 1; kept = None }

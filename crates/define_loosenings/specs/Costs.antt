@@ -1,0 +1,49 @@
+-- The counts of teams by classes, and what they cost. Over Classes of `define_searches`. The search for a least loosening goes by them.
+use Rattle.std.specs.Prelude.{ℕ, ◌+◌, ◌-◌, ◌==◌, nat_lt, if◌then◌else◌, Bool, true, ◌&&◌, List, [], ◌∷◌, filter, sum_by, Option, Some, None}
+use Rattle.std.specs.List.{enumerate_from}
+use Rattle.define_searches.specs.declared.Bounds.{Bounds}
+use Rattle.define_searches.specs.Classes.{Classes}
+use Rattle.define_searches.specs.Compositions.{all_counts, has_value, taken_of, takes_one_a_household}
+use Rattle.define_searches.specs.Fronts.{later_than, most_given}
+use Rattle.define_loosenings.specs.Teams.{missed_by}
+
+-- the counts sum to the size, and no household has two members taken
+abbrev pub makes_team : Classes → List ℕ → Bool
+makes_team all counts = taken_of (λ class. true) all.classes counts == all.size && takes_one_a_household all.classes counts
+
+-- the counts of all teams, in order
+abbrev pub team_counts : Classes → List (List ℕ)
+team_counts all = filter (makes_team all) (all_counts all.classes)
+
+-- the sum over values of how far the count of members with the value is below its lower or above its upper bound
+abbrev pub cost : Classes → List ℕ → ℕ
+cost all counts =
+    sum_by (λ (c, values).
+    sum_by (λ (v, bound). missed_by bound.lower bound.upper (taken_of (has_value c v) all.classes counts)) (enumerate_from 0 values))
+    (enumerate_from 0 all.bounds)
+
+-- how far a number that grows by at most `more` will at least be below the lower or above the upper bound
+abbrev pub surely_missed : Bounds → ℕ → ℕ → ℕ
+surely_missed bound number more = (bound.lower - (number + more)) + (number - bound.upper)
+
+-- what all counts that begin with a front cost at least
+abbrev pub sure_cost : Classes → List ℕ → ℕ
+sure_cost all front =
+    sum_by (λ (c, values).
+    sum_by (λ (v, bound). surely_missed bound (taken_of (has_value c v) all.classes front) (most_given (has_value c v) (later_than front all.classes)))
+    (enumerate_from 0 values))
+    (enumerate_from 0 all.bounds)
+
+-- `later` if it has counts that cost less than `counts`, else `counts`
+abbrev pub cheaper : (List ℕ → ℕ) → List ℕ → Option (List ℕ) → List ℕ
+cheaper cost counts None = counts
+cheaper cost counts (Some later) = if nat_lt (cost later) (cost counts) then later else counts
+
+-- of the lists of counts, the first of least cost
+abbrev pub first_cheapest : (List ℕ → ℕ) → List (List ℕ) → Option (List ℕ)
+first_cheapest cost [] = None
+first_cheapest cost (counts ∷ rest) = Some (cheaper cost counts (first_cheapest cost rest))
+
+-- of the counts of all teams, the first of least cost
+abbrev pub cheapest_team : Classes → Option (List ℕ)
+cheapest_team all = first_cheapest (cost all) (team_counts all)

@@ -1,0 +1,66 @@
+//! Least loosenings of quotas: teams, which are panels that need not meet the quotas; what a team costs; the pool with its bounds moved
+//! so that a team is a quota panel; and the search for the cheapest team with the visits that it counts. The definitions are in `specs/`.
+//! Stands on `define_pools` and the classes of `define_searches`. Used by `quota_loosen`, which searches, and the command `loosen`.
+//!
+//! The functions have no body: their contracts are laws over the definitions, and worked examples. Each law is a promise. The laws hold for
+//! every test of who is alike that makes classes.
+#![tactic(auto)]
+
+ghost use Rattle.std.specs.Prelude.{◌≡◌, ◌↔◌, ℕ, Bool, List, [], ◌∷◌, None, Some, IsTrue};
+ghost use Rattle.define_pools.specs.Pool.{Pool, IsPool, panels, is_quota_panel};
+ghost use Rattle.define_pools.specs.WorkedExamples.{couple, four, nobody};
+ghost use Rattle.define_searches.specs.Classes.{Classes, IsSearchable, MakesClasses, classes_by, classes_of};
+ghost use Rattle.define_searches.specs.Compositions.{first_panel};
+ghost use Rattle.define_loosenings.specs.Costs.{cheapest_team};
+ghost use Rattle.define_loosenings.specs.CostSearch.{cheapest_search};
+ghost use Rattle.define_loosenings.specs.Loosenings.{IsCheapest, IsLeast, Loosening, least_loosening};
+ghost use Rattle.define_loosenings.specs.Teams.{DifferInBounds, bounds_moved, is_team, loosened, team_cost};
+ghost use Rattle.define_loosenings.specs.WorkedLoosenings.{one_woman};
+
+/// The search finds the cheapest team: of the counts of all teams, the first of least cost, and nothing if there is no team.
+pub fn search_finds_cheapest()
+    ensures { (all : Classes) → IsSearchable all → (cheapest_search all).kept ≡ cheapest_team all }
+{}
+
+/// The first members of the cheapest counts are a team; no team costs less; and of the compositions of that cost they have the first.
+/// There are no cheapest counts exactly if there is no team.
+pub fn cheapest_is_least()
+    ensures found { (pool : Pool) (alike : ℕ → ℕ → Bool) (counts : List ℕ) → MakesClasses pool alike → cheapest_team (classes_by alike pool) ≡ Some counts →
+        IsCheapest pool alike counts (first_panel (classes_by alike pool) counts) }
+    ensures none { (pool : Pool) (alike : ℕ → ℕ → Bool) → MakesClasses pool alike →
+        cheapest_team (classes_by alike pool) ≡ None ↔ ((team : List ℕ) → IsTrue (is_team pool team) → ⊥) }
+{}
+
+/// The pool that is loosened for a team differs in bounds alone, which move by what the team costs in all; the team is a quota panel of
+/// it; and it is within the limits of a pool.
+pub fn loosened_pool_has_team()
+    ensures bounds { (pool : Pool) (team : List ℕ) → DifferInBounds pool (loosened pool team) }
+    ensures moved { (pool : Pool) (team : List ℕ) → bounds_moved pool.categories (loosened pool team).categories ≡ team_cost pool team }
+    ensures panel { (pool : Pool) (team : List ℕ) → IsTrue (is_team pool team) → IsTrue (is_quota_panel (loosened pool team) team) }
+    ensures limits { (pool : Pool) (team : List ℕ) → IsPool pool → IsTrue (is_team pool team) → IsPool (loosened pool team) }
+{}
+
+/// The least loosening moves bounds alone, by its total in all, and its panel is a quota panel of its pool; no pool that differs in bounds
+/// alone and has a quota panel differs by less; and the total is 0 exactly if the pool itself has a quota panel. There is none exactly if
+/// there is no team.
+pub fn least_loosening_is_least()
+    ensures least { (pool : Pool) (loosening : Loosening) → least_loosening pool ≡ Some loosening → IsLeast pool loosening }
+    ensures none { (pool : Pool) → least_loosening pool ≡ None ↔ ((team : List ℕ) → IsTrue (is_team pool team) → ⊥) }
+{}
+
+/// The searches over small pools: two women and two men, of whom one each is to be chosen; one woman where two are to be chosen; and no
+/// volunteers.
+pub fn worked_cost_searches()
+    ensures four { cheapest_search (classes_of four) ≡ record { visits = 5; kept = Some (1 ∷ 1 ∷ []) } }
+    ensures one_woman { cheapest_search (classes_of (one_woman 2 2)) ≡ record { visits = 3; kept = Some (1 ∷ 1 ∷ []) } }
+    ensures nobody { cheapest_search (classes_of nobody) ≡ record { visits = 1; kept = None } }
+    ensures couple { cheapest_search (classes_of couple) ≡ record { visits = 2; kept = None } }
+{}
+
+/// The least loosenings of small pools.
+pub fn worked_loosenings()
+    ensures four { least_loosening four ≡ Some (record { total = 0; pool = four; panel = 0 ∷ 2 ∷ [] }) }
+    ensures one_woman { least_loosening (one_woman 2 2) ≡ Some (record { total = 1; pool = one_woman 1 2; panel = 0 ∷ 1 ∷ [] }) }
+    ensures nobody { least_loosening nobody ≡ None }
+    ensures couple { least_loosening couple ≡ None }
+{}

@@ -1,0 +1,4 @@
+pub mod Short
+pub mod ShortBundle
+pub mod Shares
+pub mod WorkedShort

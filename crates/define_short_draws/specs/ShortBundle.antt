@@ -1,0 +1,10 @@
+-- A bundle whose lottery is shortened. Its stages are those of the bundle, and don't certify the shortened lottery. Over Short.
+use Rattle.std.specs.Prelude.{ℕ}
+use Rattle.define_bundles.specs.BundleText.{Bundle}
+use Rattle.define_short_draws.specs.Short.{shortened}
+
+abbrev pub shortened_bundle : Bundle → ℕ → Bundle
+shortened_bundle bundle tickets = record {
+  pool = bundle.pool;
+  answer = record { lottery = shortened bundle.answer.lottery tickets; stages = bundle.answer.stages };
+}

@@ -1,0 +1,14 @@
+use Rattle.std.proofs.Common.{◌≡◌, ◌+◌, ℕ, List, length}
+use Rattle.std.specs.Io.KnownBytes.{Consumes}
+use Rattle.office_requests.proofs.fronts.skip.Given as goal
+
+-- the bytes that were read, and those that are still to be read, are `count`
+abbrev pub invariant-loop-left : goal.invariant-loop-left
+invariant-loop-left g l = record {
+  read : (bytes : List ℕ) × Consumes (g.L.Link.left l.fn.link) (g.L.Link.left l.link) bytes × (length bytes + l.left ≡ l.count);
+  written : g.L.Link.written l.link ≡ g.L.Link.written l.fn.link;
+  none : g.L.Link.faults l.link ≡ g.L.Link.faults l.fn.link;
+}
+
+abbrev pub decreases-loop-left : goal.decreases-loop-left
+decreases-loop-left g l = l.left

@@ -1,0 +1,17 @@
+-- What is read from a link.
+use Rattle.std.specs.Prelude.{◌≡◌, ℕ, ◌<◌, ◌≤◌, Bool, List, length, MatchBool, Option, None, IfSome}
+use Rattle.std.specs.Io.KnownBytes.{Consumes, IsAtEnd}
+use Rattle.define_desk.specs.Requests.{head_size, most_of_head}
+
+-- `bytes` were read. `head` is the size of their head; if they have none, they are as many as a head may have, or the link is at its end
+pub record ReadsFront (old new : Option (List ℕ)) (bytes : List ℕ) (head : Option ℕ) : Type 0 where
+  pub read : Consumes old new bytes
+  pub head_is : head ≡ head_size bytes
+  pub within : length bytes ≤ most_of_head
+  pub fits : IfSome head (λ size. size ≤ length bytes)
+  pub ended : head ≡ None → length bytes < most_of_head → IsAtEnd new
+
+-- `count` bytes were read, or all that there were
+abbrev pub Skips : ℕ → Option (List ℕ) → Option (List ℕ) → Bool → Type 0
+Skips count old new are_all =
+    (bytes : List ℕ) × Consumes old new bytes × MatchBool are_all (length bytes ≡ count) ((length bytes < count) × IsAtEnd new)

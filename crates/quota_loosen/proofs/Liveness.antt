@@ -1,0 +1,80 @@
+-- What a tally says of the front that it tracks: whether the size can still be had, and what the front surely costs.
+use Rattle.std.proofs.Common.{suc, zero, ◌≡◌, ℕ, ◌+◌, ◌-◌, ◌*◌, ◌≤◌, ◌<◌, Bool, true, ◌&&◌, leb, List, [], ◌∷◌, length, drop, sum_by, get_or, refl, sym, ap, ◌∙◌, arith, subst}
+use Rattle.std.specs.Prelude.{slice_index, slice_index_or}
+use Rattle.std.specs.List.{enumerate_from, AllByRecursion}
+use Rattle.laws_basic.proofs.Sums.{sum_by-is-total, total}
+use Rattle.define_searches.specs.declared.Bounds.{Bounds}
+use Rattle.define_searches.specs.Classes.{Class, Classes, KeepsLimits}
+use Rattle.define_searches.specs.Compositions.{has_value, taken_of}
+use Rattle.define_searches.specs.Fronts.{later_than, most_given, size_reachable, taken_by}
+use Rattle.laws_of_fronts.specs.Front.{FrontTally, Tracks}
+use Rattle.laws_of_fronts.specs.Tallies.{cell}
+use Rattle.laws_of_fronts.proofs.Tracking.{few_places, most_of_none}
+use Rattle.define_loosenings.specs.Costs.{cost, sure_cost, surely_missed}
+use Rattle.define_loosenings.specs.Teams.{missed_by}
+use Rattle.quota_loosen.specs.Sums.{missed_in, missed_in_all}
+
+reach_equal : (size a b c d : ℕ) → a ≡ b → c ≡ d → (leb a size && leb size (a + c)) ≡ (leb b size && leb size (b + d))
+reach_equal size a b c d e f = ap (λ n. leb n size && leb size (n + c)) e ∙ ap (λ n. leb b size && leb size (b + n)) f
+
+pub size_of_front : (all : Classes) (front : List ℕ) (tally : FrontTally) → Tracks all front (drop (length front) all.classes) tally →
+    size_reachable all front ≡ (leb tally.taken all.size && leb all.size (tally.taken + tally.later_taken))
+size_of_front all front tally tracks = reach_equal all.size _ _ _ _ (sym tracks.taken) (sym tracks.later_taken)
+
+-- two sums over a list with places, if the terms are equal at each place
+terms_equal : {X : Type 0} (f g : ℕ × X → ℕ) (first : ℕ) (xs : List X) (d : X) → ((i : ℕ) → i < length xs → f (first + i, get_or xs i d) ≡ g (first + i, get_or xs i d)) →
+    total f (enumerate_from first xs) ≡ total g (enumerate_from first xs)
+terms_equal f g first [] d h = refl
+terms_equal f g first (x ∷ xs) d h =
+    let e : first + 0 ≡ first = omega arith in
+    let here : f (first, x) ≡ g (first, x) = subst (λ k. f (k, x) ≡ g (k, x)) e (h 0 (omega arith)) in
+    let rest = terms_equal f g (first + 1) xs d (λ i l. let s : first + suc i ≡ first + 1 + i = omega arith in subst (λ k. f (k, get_or xs i d) ≡ g (k, get_or xs i d)) s (h (suc i) (omega arith))) in
+    rw (here, rest) refl
+
+sums_equal : {X : Type 0} (f g : ℕ × X → ℕ) (xs : List X) (d : X) → ((i : ℕ) → i < length xs → f (i, get_or xs i d) ≡ g (i, get_or xs i d)) →
+    sum_by f (enumerate_from 0 xs) ≡ sum_by g (enumerate_from 0 xs)
+sums_equal f g xs d h =
+    sum_by-is-total f (enumerate_from 0 xs)
+    ∙ terms_equal f g 0 xs d (λ i l. let s : i ≡ 0 + i = omega arith in subst (λ k. f (k, get_or xs i d) ≡ g (k, get_or xs i d)) s (h i l))
+    ∙ sym (sum_by-is-total g (enumerate_from 0 xs))
+
+-- what the cells miss is what the front surely costs
+pub missed_is_cost : (all : Classes) (front : List ℕ) (tally : FrontTally) → KeepsLimits all → Tracks all front (drop (length front) all.classes) tally →
+    missed_in_all all.bounds tally.held tally.later ≡ sure_cost all front
+missed_is_cost all front tally limits tracks =
+    sums_equal (λ (c, values). missed_in values tally.held tally.later c)
+    (λ (c, values). sum_by (λ (v, bound). surely_missed bound (taken_of (has_value c v) all.classes front) (most_given (has_value c v) (later_than front all.classes))) (enumerate_from 0 values))
+    all.bounds [] (λ c below. of_category c below)
+  where
+    no_bound : Bounds
+    no_bound = record { lower = 0; upper = 0 }
+
+    of_category : (c : ℕ) → c < length all.bounds → missed_in (get_or all.bounds c []) tally.held tally.later c
+        ≡ sum_by (λ (v, bound). surely_missed bound (taken_of (has_value c v) all.classes front) (most_given (has_value c v) (later_than front all.classes))) (enumerate_from 0 (get_or all.bounds c []))
+    of_category c below =
+        sums_equal (λ (v, bound). surely_missed bound (slice_index tally.held (cell c v)) (slice_index tally.later (cell c v)))
+        (λ (v, bound). surely_missed bound (taken_of (has_value c v) all.classes front) (most_given (has_value c v) (later_than front all.classes)))
+        (get_or all.bounds c []) no_bound
+        (λ v inside. let few = few_places all limits c below in
+        let held = tracks.held c v below (omega arith) in let later = tracks.later c v below (omega arith) in
+        ap (λ n. surely_missed (get_or (get_or all.bounds c []) v no_bound) n (slice_index tally.later (cell c v))) held
+        ∙ ap (surely_missed (get_or (get_or all.bounds c []) v no_bound) (taken_of (has_value c v) all.classes front)) later)
+
+-- a front of all classes surely costs what it costs
+pub whole_cost : (all : Classes) (front : List ℕ) → length front ≡ length all.classes → sure_cost all front ≡ cost all front
+whole_cost all front whole =
+    sums_equal (λ (c, values). sum_by (λ (v, bound). surely_missed bound (taken_of (has_value c v) all.classes front) (most_given (has_value c v) (later_than front all.classes))) (enumerate_from 0 values))
+    (λ (c, values). sum_by (λ (v, bound). missed_by bound.lower bound.upper (taken_of (has_value c v) all.classes front)) (enumerate_from 0 values))
+    all.bounds [] (λ c below. sums_equal (λ (v, bound). surely_missed bound (taken_of (has_value c v) all.classes front) (most_given (has_value c v) (later_than front all.classes)))
+    (λ (v, bound). missed_by bound.lower bound.upper (taken_of (has_value c v) all.classes front)) (get_or all.bounds c []) (record { lower = 0; upper = 0 })
+    (λ v inside. nothing_more (get_or (get_or all.bounds c []) v (record { lower = 0; upper = 0 })) (taken_of (has_value c v) all.classes front) (most_given (has_value c v) (later_than front all.classes))
+    (ap (most_given (has_value c v)) (none_left all.classes (length front) whole) ∙ most_of_none (has_value c v))))
+  where
+    none_left : (xs : List Class) (n : ℕ) → n ≡ length xs → drop n xs ≡ []
+    none_left [] zero e = refl
+    none_left [] (suc n) e = absurd (omega arith)
+    none_left (x ∷ xs) zero e = absurd (omega arith)
+    none_left (x ∷ xs) (suc n) e = none_left xs n (omega arith)
+
+    nothing_more : (bound : Bounds) (number more : ℕ) → more ≡ 0 → surely_missed bound number more ≡ missed_by bound.lower bound.upper number
+    nothing_more bound number more z = omega arith

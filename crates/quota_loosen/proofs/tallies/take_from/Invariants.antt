@@ -1,0 +1,5 @@
+use Rattle.laws_of_fronts.proofs.Adding.{SharesUpTo}
+use Rattle.quota_loosen.proofs.tallies.take_from.Given as goal
+
+abbrev pub invariant-loop-category : goal.invariant-loop-category
+invariant-loop-category l = SharesUpTo l.category l.fn.values l.fn.count l.cells l.fn.cells

@@ -1,0 +1,4 @@
+pub mod Front
+pub mod Sums
+pub mod Steps
+pub mod Answers

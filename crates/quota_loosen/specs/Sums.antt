@@ -1,0 +1,23 @@
+-- How far the numbers in cells surely miss the bounds, value by value. For `tallies`.
+use Rattle.std.specs.Prelude.{ℕ, ◌≤◌, ◌<◌, All, List, slice_index, sum_by}
+use Rattle.std.specs.List.{enumerate_from}
+use Rattle.define_loosenings.specs.Costs.{surely_missed}
+use Rattle.define_searches.specs.declared.Bounds.{Bounds}
+use Rattle.laws_of_fronts.specs.Tallies.{cell}
+
+-- the bounds of each value are in order and at most 999
+abbrev pub AreLimited : List (List Bounds) → Type 0
+AreLimited bounds = All (λ values. All (λ bound. (bound.lower ≤ bound.upper) × (bound.upper ≤ 999)) values) bounds
+
+-- the cells of a category are at most 1000000
+abbrev pub AreSmallIn : ℕ → List ℕ → Type 0
+AreSmallIn category cells = (v : ℕ) → v < 50 → slice_index cells (cell category v) ≤ 1000000
+
+-- how far the values of a category surely miss their bounds, with the numbers in `held` and the most that is still to come in `later`
+abbrev pub missed_in : List Bounds → List ℕ → List ℕ → ℕ → ℕ
+missed_in values held later category =
+    sum_by (λ (v, bound). surely_missed bound (slice_index held (cell category v)) (slice_index later (cell category v))) (enumerate_from 0 values)
+
+-- how far all values surely miss their bounds
+abbrev pub missed_in_all : List (List Bounds) → List ℕ → List ℕ → ℕ
+missed_in_all bounds held later = sum_by (λ (c, values). missed_in values held later c) (enumerate_from 0 bounds)

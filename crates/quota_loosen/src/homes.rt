@@ -1,0 +1,40 @@
+//! Counters for households: how many members are taken of each. A helper of `tally`.
+
+ghost use Rattle.std.specs.Prelude.{◌≡◌, ◌≤◌, length};
+ghost use Rattle.define_searches.specs.Classes.{IsKnownHousehold};
+ghost use Rattle.laws_of_fronts.specs.Homes.{AreFew, HasMoreAt, CanGiveAt, has_room};
+
+// Adds `count` to the counter of a household, if there is one.
+pub(crate) fn add_at(homes: &mut [usize], household: Option<usize>, count: usize)
+    requires known { IsKnownHousehold (length homes.old) household }
+    requires small { AreFew homes.old }
+    requires count { count ≤ 1000 }
+    ensures { HasMoreAt household count homes.old homes.new }
+{
+    if let Some(number) = household {
+        homes[number] += count;
+    }
+}
+
+// Takes `count` from the counter of a household, if there is one.
+pub(crate) fn take_at(homes: &mut [usize], household: Option<usize>, count: usize)
+    requires known { IsKnownHousehold (length homes.old) household }
+    requires enough { CanGiveAt household count homes.old }
+    ensures { HasMoreAt household count homes.new homes.old }
+{
+    if let Some(number) = household {
+        homes[number] -= count;
+    }
+}
+
+// True if at most one member is taken of the household, or if there is no household.
+pub(crate) fn has_one(homes: &[usize], household: Option<usize>) -> bool
+    requires known { IsKnownHousehold (length homes.now) household }
+    requires small { AreFew homes.now }
+    ensures { result ≡ has_room homes.now household 0 }
+{
+    match household {
+        None => true,
+        Some(number) => homes[number] <= 1,
+    }
+}

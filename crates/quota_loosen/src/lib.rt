@@ -1,0 +1,16 @@
+//! The least loosening of a pool's quotas: the bounds that are moved least in all so that there is a quota panel, by a search under a
+//! budget of visits. Stands on `alike`, which makes the classes, `define_loosenings`, which says what is found and what a visit is, and
+//! `pool_model`. Used by the command `loosen`.
+//!
+//! Promise: `loosen`. All else is a helper.
+#![tactic(auto)]
+
+mod bounds;
+mod homes;
+mod least;
+mod searching;
+mod tallies;
+mod tally;
+
+pub use least::{Loosened, loosen};
+pub use searching::LoosenStop;

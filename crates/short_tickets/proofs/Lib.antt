@@ -1,0 +1,3 @@
+pub mod ShareLemmas
+pub mod LineLemmas
+pub mod RowLemmas
