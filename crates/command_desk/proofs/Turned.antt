@@ -1,0 +1,81 @@
+-- Turns after turns, and how they end.
+use Rattle.std.proofs.Common.{◌≡◌, ◌≤◌, ◌<◌, ◌⊎◌, ℕ, ◌+◌, ◌++◌, List, [], ◌∷◌, length, Option, Some, None, Result, Ok, Err, refl, sym, ap, subst, ◌∙◌, inl, inr, length-append, arith, cond}
+use Rattle.std.specs.Prelude.{IfSome, is_err, is_ok, option_map}
+use Rattle.command_shell.specs.Told.{HasFaulted, HasNoFault}
+use Rattle.office_http.specs.Visits.{Kept, LinkTold, Visit}
+use Rattle.office_http.specs.declared.attending.LinkFault.{LinkFault}
+use Rattle.outside.specs.Faults.{Rose}
+use Rattle.outside.specs.Links.{DoorLinks}
+use Rattle.outside.specs.declared.source.Failed.{Failed}
+use Rattle.command_desk.specs.DeskTold.{Door, door_told, seen_links}
+use Rattle.command_desk.specs.Serving.{AreAttended, broken_of, served_of}
+use Rattle.command_desk.specs.Turns.{AreUnderWay, ServesDoor, TakesTurn}
+use Rattle.command_desk.specs.declared.serving.Counts.{Counts}
+use Rattle.command_desk.proofs.Attended.{attended_more, none_attended}
+use Rattle.command_desk.proofs.Counting.{broken_more, served_more}
+
+-- no turn was made
+pub no_turn : (links : Option (DoorLinks LinkTold)) (kept : Kept) → AreUnderWay links kept (record { served = 0; broken = 0 }) 0 links kept
+no_turn links kept = record { visits = []; attended = none_attended links links kept kept refl refl; counted = record { served = refl; broken = refl }; number = refl }
+
+-- one more turn was made
+pub one_turn : (links between after : Option (DoorLinks LinkTold)) (before kept left : Kept) (counts more : Counts) (turns : ℕ) (ended : Result ℕ LinkFault) →
+    AreUnderWay links before counts turns between kept → TakesTurn between after kept left (Ok (Some ended)) →
+    more.served ≡ counts.served + cond (is_ok ended) 1 0 → more.broken ≡ counts.broken + cond (is_err ended) 1 0 → AreUnderWay links before more (turns + 1) after left
+one_turn links between after before kept left counts more turns ended way (visit, is, attended) served broken =
+    let ok : cond (is_ok visit.ended) 1 0 ≡ cond (is_ok ended) 1 0 = ap (λ (e : Result ℕ LinkFault). cond (is_ok e) 1 0) is in
+    let err : cond (is_err visit.ended) 1 0 ≡ cond (is_err ended) 1 0 = ap (λ (e : Result ℕ LinkFault). cond (is_err e) 1 0) is in
+    let number : length (way.visits ++ visit ∷ []) ≡ turns + 1 = length-append way.visits (visit ∷ []) ∙ ap (λ (n : ℕ). n + 1) way.number in
+    record {
+      visits = way.visits ++ visit ∷ [];
+      attended = attended_more links between after before kept left way.visits (visit ∷ []) way.attended attended;
+      counted = record {
+        served = served ∙ ap (λ (n : ℕ). n + cond (is_ok ended) 1 0) way.counted.served ∙ ap (λ (n : ℕ). served_of way.visits + n) (sym ok) ∙ sym (served_more way.visits visit);
+        broken = broken ∙ ap (λ (n : ℕ). n + cond (is_err ended) 1 0) way.counted.broken ∙ ap (λ (n : ℕ). broken_of way.visits + n) (sym err) ∙ sym (broken_more way.visits visit);
+      };
+      number = number;
+    }
+
+-- all turns were made that may be
+pub all_turns : (connections turns : ℕ) (door : Door) (before after : Kept) (counts : Counts) → AreUnderWay door.before before counts turns door.after after → turns ≡ connections → HasNoFault door →
+    ServesDoor connections door before after (Ok counts)
+all_turns connections turns door before after counts way all none =
+    let number : length way.visits ≡ connections = way.number ∙ all in
+    let within : length way.visits ≤ connections = omega (arith, number) in
+    (way.visits, way.attended, within, record { all = inl number; no_fault = none }, way.counted)
+
+-- no link came any more
+pub last_turn : (connections turns : ℕ) (door : Door) (between : Option (DoorLinks LinkTold)) (before kept after : Kept) (counts : Counts) → AreUnderWay door.before before counts turns between kept →
+    turns < connections → TakesTurn between door.after kept after (Ok None) → HasNoFault door → ServesDoor connections door before after (Ok counts)
+last_turn connections turns door between before kept after counts way fewer (same, left, none_comes) none =
+    let within : length way.visits ≤ connections = omega (arith, way.number) in
+    let attended = subst (λ (links : Option (DoorLinks LinkTold)). AreAttended door.before before way.visits links after) (sym same)
+    (subst (λ (k : Kept). AreAttended door.before before way.visits between k) (sym left) way.attended) in
+    let ended : IfSome door.after (λ links. links.coming ≡ []) = subst (λ (links : Option (DoorLinks LinkTold)). IfSome links (λ told. told.coming ≡ [])) (sym same) none_comes in
+    (way.visits, attended, within, record { all = inr ended; no_fault = none }, way.counted)
+
+-- the door failed
+pub failed_turn : (connections turns : ℕ) (door : Door) (between : Option (DoorLinks LinkTold)) (before kept after : Kept) (counts : Counts) (failed : Failed) → AreUnderWay door.before before counts turns between kept →
+    turns ≤ connections → TakesTurn between door.after kept after (Err failed) → HasFaulted door → ServesDoor connections door before after (Err failed)
+failed_turn connections turns door between before kept after counts failed way fewer (same, left) faulted =
+    let within : length way.visits ≤ connections = omega (arith, way.number) in
+    let attended = subst (λ (links : Option (DoorLinks LinkTold)). AreAttended door.before before way.visits links after) (sym same)
+    (subst (λ (k : Kept). AreAttended door.before before way.visits between k) (sym left) way.attended) in
+    (way.visits, attended, within, faulted)
+
+-- ---- the door is opened first
+
+-- it was opened: links and faults are as before
+pub opened : {L : Type 0} (sees : L → LinkTold) (connections : ℕ) (links between after : Option (DoorLinks L)) (faults faults_between faults_after : ℕ) (before left : Kept) (result : Result Counts Failed) →
+    between ≡ links → faults_between ≡ faults → ServesDoor connections (door_told sees between after faults_between faults_after) before left result →
+    ServesDoor connections (door_told sees links after faults faults_after) before left result
+opened {L} sees connections links between after faults faults_between faults_after before left result same none served =
+    subst (λ (l : Option (DoorLinks L)). ServesDoor connections (door_told sees l after faults faults_after) before left result) same
+    (subst (λ (f : ℕ). ServesDoor connections (door_told sees between after f faults_after) before left result) none served)
+
+-- it was not
+pub not_opened : {L : Type 0} (sees : L → LinkTold) (connections : ℕ) (links after : Option (DoorLinks L)) (faults faults_after : ℕ) (kept : Kept) (failed : Failed) → after ≡ links → Rose faults faults_after →
+    ServesDoor connections (door_told sees links after faults faults_after) kept kept (Err failed)
+not_opened {L} sees connections links after faults faults_after kept failed same rose =
+    let within : 0 ≤ connections = omega arith in
+    ([], none_attended _ _ kept kept (ap (λ (l : Option (DoorLinks L)). option_map (seen_links sees) l) same) refl, within, rose)

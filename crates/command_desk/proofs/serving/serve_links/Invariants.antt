@@ -1,0 +1,18 @@
+use Rattle.std.proofs.Common.{◌≡◌}
+use Rattle.std.specs.Prelude.{option_map}
+use Rattle.command_desk.specs.DeskTold.{NoMoreBack, seen_links}
+use Rattle.command_desk.specs.Turns.{AreUnderWay}
+use Rattle.office_http.specs.Visits.{kept, link_told}
+use Rattle.command_desk.proofs.serving.serve_links.Given as goal
+
+-- the turns so far are counted, each link that was given came back, and the door counted no fault
+abbrev pub invariant-loop-turn : goal.invariant-loop-turn
+invariant-loop-turn g l = record {
+  way : AreUnderWay (option_map (seen_links (λ link. link_told (g.D.Link.Link.left link) (g.D.Link.Link.written link) (g.D.Link.Link.faults link))) (g.D.Door.links l.fn.door))
+      (kept (g.K.Keeper.tables l.fn.keeper) (g.K.Keeper.faults l.fn.keeper)) l.counts l._turn
+      (option_map (seen_links (λ link. link_told (g.D.Link.Link.left link) (g.D.Link.Link.written link) (g.D.Link.Link.faults link))) (g.D.Door.links l.door))
+      (kept (g.K.Keeper.tables l.keeper) (g.K.Keeper.faults l.keeper));
+  back : NoMoreBack (g.D.Door.links l.door);
+  none : g.D.Door.faults l.door ≡ g.D.Door.faults l.fn.door;
+  place : g.K.Keeper.place l.keeper ≡ g.K.Keeper.place l.fn.keeper;
+}

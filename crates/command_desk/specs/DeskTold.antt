@@ -1,0 +1,30 @@
+-- What one call of `serve` told of the outside: what a call over a store tells, and the door before and after. The links of a door are seen
+-- by what they tell. Over StoreTold. ServeOutcomes and the contract of `office` cite it.
+use Rattle.std.specs.Prelude.{◌≤◌, ℕ, List, length, map, Option, IfSome, option_map}
+use Rattle.command_shell.specs.Told.{Object, object}
+use Rattle.command_stores.specs.StoreTold.{StoreTold}
+use Rattle.office_http.specs.Visits.{LinkTold}
+use Rattle.outside.specs.Links.{DoorLinks}
+
+-- links, seen by what each tells
+abbrev pub seen_links : {L : Type 0} → (L → LinkTold) → DoorLinks L → DoorLinks LinkTold
+seen_links sees links = record { coming = map sees links.coming; given = links.given; back = map sees links.back }
+
+-- a door before and after the call: its links, if it tells them, and its count of faults
+abbrev pub Door : Type 0
+Door = Object (DoorLinks LinkTold)
+
+abbrev pub door_told : {L : Type 0} → (L → LinkTold) → Option (DoorLinks L) → Option (DoorLinks L) → ℕ → ℕ → Door
+door_told sees before after faults_before faults_after =
+    object (option_map (seen_links sees) before) (option_map (seen_links sees) after) faults_before faults_after
+
+pub record DeskTold : Type 0 where
+  pub store : StoreTold
+  pub door : Door
+
+abbrev pub desk_told : StoreTold → Door → DeskTold
+desk_told store door = record { store = store; door = door }
+
+-- no more links came back than were given, if the door tells its links
+abbrev pub NoMoreBack : {L : Type 0} → Option (DoorLinks L) → Type 0
+NoMoreBack links = IfSome links (λ told. length told.back ≤ told.given)

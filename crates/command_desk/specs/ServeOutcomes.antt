@@ -1,0 +1,48 @@
+-- How a call of `serve` ends. Over DeskTold and Serving, and the outcomes of the shell and of calls over a store. The contract of `office`
+-- cites it.
+use Rattle.std.specs.Prelude.{◌≡◌, ◌⊎◌, ◌≤◌, ℕ, List, [], length, IfSome}
+use Rattle.command_shell.specs.Lines.{door_fault_line, keeper_fault_line, want_of_memory_line}
+use Rattle.command_shell.specs.Outcomes.{IsCutOff, IsPrinted, IsStopped}
+use Rattle.command_shell.specs.Told.{HasFaulted, HasNoFault, IsUntouched}
+use Rattle.command_stores.specs.StoreOutcomes.{HasFailed, HasStoredNothing}
+use Rattle.command_stores.specs.StoreTold.{IsAttached, Keeper}
+use Rattle.office_http.specs.Visits.{Kept, Visit, kept}
+use Rattle.command_desk.specs.DeskTold.{DeskTold, Door}
+use Rattle.command_desk.specs.Serving.{AreAttended, served_line}
+
+-- what the keeper told as the call began, and what it tells afterwards
+abbrev pub kept_before : Keeper → Kept
+kept_before keeper = kept keeper.object.before keeper.object.faults_before
+
+abbrev pub kept_after : Keeper → Kept
+kept_after keeper = kept keeper.object.after keeper.object.faults_after
+
+-- the keeper was attached at `path`, and then links were attended, in the order in which the door gave them
+pub record HasServed (path : List ℕ) (connections : ℕ) (told : DeskTold) (visits : List Visit) : Type 0 where
+  pub attached : IsAttached path told.store.keeper
+  pub attended : AreAttended told.door.before (kept_before told.store.keeper) visits told.door.after (kept_after told.store.keeper)
+  pub within : length visits ≤ connections
+
+-- the call attended as many links as it may, or no link is still to come, as far as the door tells; the door counted no fault
+pub record IsAtEnd (connections : ℕ) (door : Door) (visits : List Visit) : Type 0 where
+  pub all : (length visits ≡ connections) ⊎ IfSome door.after (λ links. links.coming ≡ [])
+  pub no_fault : HasNoFault door
+
+-- how a call of `serve` ends over the store at `path`, which attends at most `connections` links. A fault of the keeper at a link is the reply 503
+-- to that link, and a fault of a link is counted; neither ends the call
+pub data ServeOutcome (path : List ℕ) (connections : ℕ) (told : DeskTold) : Type 0 where
+  -- 0: the line was told
+  Done : (visits : List Visit) → HasServed path connections told visits → IsAtEnd connections told.door visits → IsPrinted 0 (served_line visits) told.store.call → ServeOutcome path connections told
+  -- 8: out counted a fault while the line was told. What the visits changed is kept
+  WriteFault : (visits : List Visit) → HasServed path connections told visits → IsAtEnd connections told.door visits → IsCutOff (served_line visits) told.store.call → ServeOutcome path connections told
+  -- 9: the keeper counted a fault when it was attached, and the door was left alone
+  KeeperFault : IsUntouched told.door → HasFailed path told.store.keeper → IsStopped 9 keeper_fault_line told.store.call → ServeOutcome path connections told
+  -- 10: the door counted a fault, as it was opened or at a later link. What the visits changed is kept
+  DoorFault : (visits : List Visit) → HasServed path connections told visits → HasFaulted told.door → IsStopped 10 door_fault_line told.store.call → ServeOutcome path connections told
+  -- 12: memory was wanting before the door was opened; it was left alone
+  WantOfMemory : IsUntouched told.door → HasStoredNothing path told.store.keeper → IsStopped 12 want_of_memory_line told.store.call → ServeOutcome path connections told
+
+-- how a call of `serve` ends, which reads no input: the source is untouched
+pub record SilentServeOutcome (path : List ℕ) (connections : ℕ) (told : DeskTold) : Type 0 where
+  pub source : IsUntouched told.store.call.source
+  pub ends : ServeOutcome path connections told

@@ -1,0 +1,36 @@
+-- What a turn of `serve` does, and what all turns do. For `visiting` and `serving`.
+use Rattle.std.specs.Prelude.{◌≡◌, ◌≤◌, ℕ, List, [], ◌∷◌, length, Option, Some, None, IfSome, Result, Ok, Err}
+use Rattle.command_shell.specs.Told.{HasFaulted}
+use Rattle.outside.specs.Links.{DoorLinks}
+use Rattle.outside.specs.declared.source.Failed.{Failed}
+use Rattle.office_http.specs.Visits.{Kept, LinkTold, Visit}
+use Rattle.office_http.specs.declared.attending.LinkFault.{LinkFault}
+use Rattle.command_desk.specs.DeskTold.{Door}
+use Rattle.command_desk.specs.Serving.{AreAttended, broken_of, served_of}
+use Rattle.command_desk.specs.ServeOutcomes.{IsAtEnd}
+use Rattle.command_desk.specs.declared.serving.Counts.{Counts}
+
+-- one link was attended; or none is to come; or the door failed
+abbrev pub TakesTurn : Option (DoorLinks LinkTold) → Option (DoorLinks LinkTold) → Kept → Kept → Result (Option (Result ℕ LinkFault)) Failed → Type 0
+TakesTurn links links_after before after (Ok (Some ended)) = (visit : Visit) × (visit.ended ≡ ended) × AreAttended links before (visit ∷ []) links_after after
+TakesTurn links links_after before after (Ok None) = (links_after ≡ links) × (after ≡ before) × IfSome links (λ told. told.coming ≡ [])
+TakesTurn links links_after before after (Err failed) = (links_after ≡ links) × (after ≡ before)
+
+-- the counts are those of the visits
+pub record AreCounted (visits : List Visit) (counts : Counts) : Type 0 where
+  pub served : counts.served ≡ served_of visits
+  pub broken : counts.broken ≡ broken_of visits
+
+-- the visits up to now, if there were so many turns
+pub record AreUnderWay (links : Option (DoorLinks LinkTold)) (before : Kept) (counts : Counts) (turns : ℕ) (links_now : Option (DoorLinks LinkTold)) (now : Kept) : Type 0 where
+  pub visits : List Visit
+  pub attended : AreAttended links before visits links_now now
+  pub counted : AreCounted visits counts
+  pub number : length visits ≡ turns
+
+-- the links that came were attended, up to `connections`; or the door failed
+abbrev pub ServesDoor : ℕ → Door → Kept → Kept → Result Counts Failed → Type 0
+ServesDoor connections door before after (Ok counts) =
+    (visits : List Visit) × AreAttended door.before before visits door.after after × (length visits ≤ connections) × IsAtEnd connections door visits × AreCounted visits counts
+ServesDoor connections door before after (Err failed) =
+    (visits : List Visit) × AreAttended door.before before visits door.after after × (length visits ≤ connections) × HasFaulted door

@@ -1,0 +1,76 @@
+//! One call of `serve`.
+
+ghost use Rattle.std.specs.Prelude.{◌≡◌, IfOk, OnOk};
+ghost use Rattle.command_shell.specs.Told.{Bytes, IsUntouched, object, told};
+ghost use Rattle.command_shell.specs.Answers.{status_number};
+ghost use Rattle.command_stores.specs.StoreTold.{MayBeAttached, keeper_told, store_told};
+ghost use Rattle.office_core.specs.Keeping.{HasCause, at};
+ghost use Rattle.office_http.specs.Visits.{link_told};
+ghost use Rattle.command_desk.specs.DeskTold.{NoMoreBack, desk_told, door_told};
+ghost use Rattle.command_desk.specs.ServeOutcomes.{SilentServeOutcome};
+ghost use Rattle.command_desk.specs.Rooms.{IsRoom};
+
+use crate::lines::{room_for_line, served_answer};
+use crate::serving::serve_door;
+use command_shell::{Resources, Status, door_fault, keeper_fault, tell, want_memory};
+use office_core::{Keeper, KeeperStop};
+use outside::{Door, Sink, Watch};
+use std::alloc::Global;
+use std::thread::Threads;
+
+/// The arguments of `serve`.
+#[derive(Clone, Copy, Debug)]
+pub struct Serve {
+    /// The port at which the door is opened.
+    pub port: u16,
+    /// How many links are attended at most.
+    pub connections: usize,
+}
+
+/// Makes one call of `serve` over the store at `path`. Nothing wants memory once the door is opened, but for the reply to a link.
+pub fn call_serve<R: Threads + Sync, W: Watch + Sync, K: Keeper, D: Door, O: Sink, E: Sink>(
+    resources: &Resources<'_, R, W>,
+    serve: Serve,
+    path: &str,
+    keeper: &mut K,
+    door: &mut D,
+    out: &mut O,
+    errs: &mut E,
+) -> Status
+    requires { NoMoreBack (D.links door.old) }
+    ensures { (source : Bytes) → IsUntouched source → SilentServeOutcome path.now serve.connections (desk_told (store_told
+        (told (status_number result) source
+        (object (O.written out.old) (O.written out.new) (O.faults out.old) (O.faults out.new))
+        (object (E.written errs.old) (E.written errs.new) (E.faults errs.old) (E.faults errs.new)))
+        (keeper_told (object (K.tables keeper.old) (K.tables keeper.new) (K.faults keeper.old) (K.faults keeper.new)) (K.place keeper.old) (K.place keeper.new)))
+        (door_told (λ link. link_told (D.Link.left link) (D.Link.written link) (D.Link.faults link))
+        (D.links door.old) (D.links door.new) (D.faults door.old) (D.faults door.new))) }
+{
+    match open_store(resources.alloc, path, keeper) {
+        Ok(room) => match serve_door(resources, serve, keeper, door) {
+            Ok(counts) => tell(
+                out,
+                errs,
+                &served_answer(room, counts.served, counts.broken),
+            ),
+            Err(_) => door_fault(errs),
+        },
+        Err(KeeperStop::Failed) => keeper_fault(errs),
+        Err(KeeperStop::OutOfMemory) => want_memory(errs),
+    }
+}
+
+/// Attaches the keeper, and returns the room for the line that is told at the end.
+fn open_store<K: Keeper>(alloc: Global, path: &str, keeper: &mut K) -> Result<Vec<u8>, KeeperStop>
+    ensures room { IfOk result IsRoom }
+    ensures attached { OnOk result (K.place keeper.new ≡ at (K.place keeper.old) path.now) }
+    ensures place { MayBeAttached path.now (keeper_told (object (K.tables keeper.old) (K.tables keeper.new) (K.faults keeper.old) (K.faults keeper.new)) (K.place keeper.old) (K.place keeper.new)) }
+    ensures same { K.tables keeper.new ≡ K.tables keeper.old }
+    ensures cause { HasCause (K.faults keeper.old) (K.faults keeper.new) result }
+{
+    keeper.attach(alloc, path)?;
+    match room_for_line(alloc) {
+        Ok(room) => Ok(room),
+        Err(_) => Err(KeeperStop::OutOfMemory),
+    }
+}

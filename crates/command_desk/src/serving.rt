@@ -1,0 +1,83 @@
+//! The links that come through a door, one after the other.
+
+ghost use Rattle.std.specs.Prelude.{◌≡◌, ◌+◌, ◌-◌, ◌<◌, ◌^◌, if◌then◌else◌, is_err, is_ok};
+ghost use Rattle.office_http.specs.Visits.{kept, link_told};
+ghost use Rattle.command_desk.specs.DeskTold.{NoMoreBack, door_told};
+ghost use Rattle.command_desk.specs.Turns.{ServesDoor};
+
+use crate::calling::Serve;
+use crate::visiting::visit_next;
+use command_shell::Resources;
+use office_core::Keeper;
+use office_http::LinkFault;
+use outside::{Door, Failed, Watch};
+use std::thread::Threads;
+
+/// How many visits ended with a status, and how many with a fault of the link.
+#[derive(Clone, Copy, Debug)]
+pub(crate) struct Counts {
+    pub served: usize,
+    pub broken: usize,
+}
+
+/// Opens the door, and attends the links that come through it.
+pub(crate) fn serve_door<R: Threads + Sync, W: Watch + Sync, K: Keeper, D: Door>(
+    resources: &Resources<'_, R, W>,
+    serve: Serve,
+    keeper: &mut K,
+    door: &mut D,
+) -> Result<Counts, Failed>
+    requires { NoMoreBack (D.links door.old) }
+    ensures served { ServesDoor serve.connections
+        (door_told (λ link. link_told (D.Link.left link) (D.Link.written link) (D.Link.faults link))
+        (D.links door.old) (D.links door.new) (D.faults door.old) (D.faults door.new))
+        (kept (K.tables keeper.old) (K.faults keeper.old)) (kept (K.tables keeper.new) (K.faults keeper.new)) result }
+    ensures place { K.place keeper.new ≡ K.place keeper.old }
+{
+    match door.listen(serve.port) {
+        Ok(()) => serve_links(resources, serve.connections, keeper, door),
+        Err(failed) => Err(failed),
+    }
+}
+
+/// Attends the links that come through the door, up to `connections`.
+fn serve_links<R: Threads + Sync, W: Watch + Sync, K: Keeper, D: Door>(
+    resources: &Resources<'_, R, W>,
+    connections: usize,
+    keeper: &mut K,
+    door: &mut D,
+) -> Result<Counts, Failed>
+    requires { NoMoreBack (D.links door.old) }
+    ensures served { ServesDoor connections
+        (door_told (λ link. link_told (D.Link.left link) (D.Link.written link) (D.Link.faults link))
+        (D.links door.old) (D.links door.new) (D.faults door.old) (D.faults door.new))
+        (kept (K.tables keeper.old) (K.faults keeper.old)) (kept (K.tables keeper.new) (K.faults keeper.new)) result }
+    ensures place { K.place keeper.new ≡ K.place keeper.old }
+{
+    let mut counts = Counts {
+        served: 0,
+        broken: 0,
+    };
+    for _turn in 0..connections {
+        match visit_next(resources, keeper, door) {
+            Ok(Some(ended)) => counts.add(ended),
+            Ok(None) => return Ok(counts),
+            Err(failed) => return Err(failed),
+        }
+    }
+    Ok(counts)
+}
+
+impl Counts {
+    /// Counts a visit.
+    fn add(&mut self, ended: Result<u16, LinkFault>)
+        requires { self.old.served + self.old.broken < 2 ^ 64 - 1 }
+        ensures served { self.new.served ≡ self.old.served + (if is_ok ended then 1 else 0) }
+        ensures broken { self.new.broken ≡ self.old.broken + (if is_err ended then 1 else 0) }
+    {
+        match ended {
+            Ok(_) => self.served += 1,
+            Err(_) => self.broken += 1,
+        }
+    }
+}

@@ -1,0 +1,45 @@
+//! One link: the door gives it, the desk attends it, and it goes back.
+
+ghost use Rattle.std.specs.Prelude.{◌≡◌, OnErr, OnOk, option_map};
+ghost use Rattle.outside.specs.Faults.{Rose};
+ghost use Rattle.office_http.specs.Visits.{kept, link_told};
+ghost use Rattle.command_desk.specs.DeskTold.{NoMoreBack, seen_links};
+ghost use Rattle.command_desk.specs.Turns.{TakesTurn};
+
+use command_shell::Resources;
+use office_core::Keeper;
+use office_http::{LinkFault, attend};
+use outside::{Door, Failed, Watch};
+use std::thread::Threads;
+
+/// Attends the next link, if one is to come, and gives it back. Returns how the visit ended.
+pub(crate) fn visit_next<R: Threads + Sync, W: Watch + Sync, K: Keeper, D: Door>(
+    resources: &Resources<'_, R, W>,
+    keeper: &mut K,
+    door: &mut D,
+) -> Result<Option<Result<u16, LinkFault>>, Failed>
+    requires { NoMoreBack (D.links door.old) }
+    ensures turn { TakesTurn
+        (option_map (seen_links (λ link. link_told (D.Link.left link) (D.Link.written link) (D.Link.faults link))) (D.links door.old))
+        (option_map (seen_links (λ link. link_told (D.Link.left link) (D.Link.written link) (D.Link.faults link))) (D.links door.new))
+        (kept (K.tables keeper.old) (K.faults keeper.old)) (kept (K.tables keeper.new) (K.faults keeper.new)) result }
+    ensures back { NoMoreBack (D.links door.new) }
+    ensures cause { OnErr result (Rose (D.faults door.old) (D.faults door.new)) }
+    ensures none { OnOk result (D.faults door.new ≡ D.faults door.old) }
+    ensures place { K.place keeper.new ≡ K.place keeper.old }
+{
+    match door.next()? {
+        Some(mut link) => {
+            let ended = attend(
+                resources.rt,
+                resources.alloc,
+                &mut link,
+                keeper,
+                resources.watch,
+            );
+            door.back(link);
+            Ok(Some(ended))
+        }
+        None => Ok(None),
+    }
+}

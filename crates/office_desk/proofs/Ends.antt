@@ -1,0 +1,155 @@
+-- How a request ends: withdrawals, and requests that leave the tables.
+use Rattle.std.proofs.Common.{◌≡◌, ℕ, List, [], ◌∷◌, Option, Some, None, Result, Ok, Err, inl, inr, option_map, refl, sym, ap, ◌∙◌, subst}
+use Rattle.std.specs.Prelude.{IfSome, codes, map}
+use Rattle.define_draws.specs.Seal.{seal_of}
+use Rattle.define_offices.specs.Commands as office
+use Rattle.define_offices.specs.Commands.{Outcome, Refuses, Replies, Stops, Withdraw}
+use Rattle.define_offices.specs.Deciding.{IsDecided, place_of_hash, with_hash, withdraw_at}
+use Rattle.define_offices.specs.Steps.{AtOnce, ByRun, Comes, tables_after}
+use Rattle.define_offices.specs.Tables.{Entry, Tables}
+use Rattle.define_desk.specs.Requests.{Request}
+use Rattle.define_desk.specs.Replies.{Reply, not_found, told, unknown_key}
+use Rattle.define_desk.specs.Views.{published, published_of}
+use Rattle.define_desk.specs.Desk.{BundlePage, DrawPage, OwnPage, Page as SeenPage, Served, WithdrawalPage, bundle_reply, draw_reply, if_by, leaving, own_reply, round_named, served, served_page, withdrawal, withdrawal_by, withdrawal_reply, withdrawn_body}
+use Rattle.office_steps.specs.Replies.{seen_refusal, seen_reply}
+use Rattle.office_steps.specs.declared.replies.Reply.{Reply as OfficeReply}
+use Rattle.office_core.specs.Acting.{ActsOver, HasFault as ActFault, HasOutcomeOver, IsLoaded}
+use Rattle.office_core.specs.declared.stops.ActStop.{ActStop}
+use Rattle.office_core.specs.declared.stops.ActStop.TheVariants as act
+use Rattle.office_desk.specs.Answers.{HasFault, IsReplyTo, NoMemory, Replied, Unavailable}
+use Rattle.office_desk.specs.Endings.{Done, EndsAs, Failed, IsSentFor, WantsMemory}
+use Rattle.office_desk.specs.Pages.{seen_page}
+use Rattle.office_desk.specs.Refusals.{refusal_reply}
+use Rattle.office_desk.specs.Sent.{Sent, sent_of}
+use Rattle.office_desk.specs.Withdrawals.{TellsWithdrawn, stop_refusal}
+use Rattle.office_desk.specs.declared.routes.Page.TheVariants.{Bundle, Draw, Own, Withdrawal}
+
+-- ---- withdrawals
+
+comes_withdrawn : (tables : Tables) (key : List ℕ) (outcome : Outcome) → Comes tables (Withdraw key) outcome → withdraw_at tables (place_of_hash tables.register (seal_of key) 0) ≡ outcome
+comes_withdrawn tables key outcome (AtOnce e) = cc
+comes_withdrawn tables key outcome (ByRun number limits pool ending c n r e) = absurd (cc)
+
+-- the tables that were loaded are those that the keeper tells
+kept_as : (before : Option Tables) (tables : Tables) (change : Tables → Tables) → IfSome before (λ kept. tables ≡ kept) → option_map (λ t. change t) before ≡ option_map (λ t. change tables) before
+kept_as None tables change e = refl
+kept_as (Some kept) tables change e = ap (λ t. Some (change t)) (sym e)
+
+module _ (before : Option Tables) (tables : Tables) (key : List ℕ) (after : Option Tables) (loaded : IfSome before (λ kept. tables ≡ kept)) where
+  with_outcome : (entry : Entry) (outcome : Outcome) (sent : Sent) → with_hash tables.register (seal_of key) ≡ Some entry → HasOutcomeOver tables before (Withdraw key) outcome after →
+      sent ≡ sent_of (withdrawal_reply entry outcome) → EndsAs before (withdrawal tables (key ∷ [])) after sent
+  with_outcome entry outcome sent found has is =
+      let comes = comes_withdrawn tables key outcome has.comes in
+      let whole : withdrawal tables (key ∷ []) ≡ leaving (tables_after tables outcome) (withdrawal_reply entry outcome) =
+      ap (λ (row : Option Entry). withdrawal_by tables row (withdraw_at tables (place_of_hash tables.register (seal_of key) 0))) found ∙ ap (λ (o : Outcome). withdrawal_by tables (Some entry) o) comes in
+      subst (λ (serves : Served). EndsAs before serves after sent) (sym whole) (Done is (has.leaves ∙ kept_as before tables (λ t. tables_after t outcome) loaded))
+
+  done_with : (found : Option Entry) (reply : OfficeReply) (sent : Sent) → with_hash tables.register (seal_of key) ≡ found → TellsWithdrawn found (Some sent) → ActsOver tables before (Withdraw key) (Ok reply) after →
+      EndsAs before (withdrawal tables (key ∷ [])) after sent
+  done_with None reply sent f tells acts = absurd (cc)
+  done_with (Some entry) reply sent f tells acts =
+      let (change, has) = acts in
+      let is : sent ≡ sent_of (told (withdrawn_body entry.id)) = cc in
+      with_outcome entry (Replies change (seen_reply reply)) sent f has is
+
+  pub done_ends : (reply : OfficeReply) (sent : Sent) → TellsWithdrawn (with_hash tables.register (seal_of key)) (Some sent) → ActsOver tables before (Withdraw key) (Ok reply) after →
+      EndsAs before (withdrawal tables (key ∷ [])) after sent
+  done_ends reply sent tells acts = done_with (with_hash tables.register (seal_of key)) reply sent refl tells acts
+
+  stopped_with : (found : Option Entry) (stop : ActStop) (sent : Sent) → with_hash tables.register (seal_of key) ≡ found → TellsWithdrawn found (Some sent) → ActsOver tables before (Withdraw key) (Err stop) after →
+      EndsAs before (withdrawal tables (key ∷ [])) after (sent_of (refusal_reply (stop_refusal stop)))
+  stopped_with None stop sent f tells acts = absurd (cc)
+  stopped_with (Some entry) (act.Refused refusal) sent f tells acts = with_outcome entry (Refuses (seen_refusal refusal)) _ f acts refl
+  stopped_with (Some entry) (act.Solve stopped) sent f tells acts = let (ending, is, has) = acts in with_outcome entry (Stops ending) _ f has refl
+  stopped_with (Some entry) (act.Unproved verdict) sent f tells acts = let (refusal, is, has) = acts in with_outcome entry (office.Unproved refusal) _ f has refl
+  stopped_with (Some entry) act.KeeperFault sent f tells acts = Failed refl acts
+  stopped_with (Some entry) act.OutOfMemory sent f tells acts = WantsMemory refl acts
+
+  pub stopped_ends : (stop : ActStop) (sent : Sent) → TellsWithdrawn (with_hash tables.register (seal_of key)) (Some sent) → ActsOver tables before (Withdraw key) (Err stop) after →
+      EndsAs before (withdrawal tables (key ∷ [])) after (sent_of (refusal_reply (stop_refusal stop)))
+  stopped_ends stop sent tells acts = stopped_with (with_hash tables.register (seal_of key)) stop sent refl tells acts
+
+-- ---- replies that leave the tables
+
+kept_so : (before : Option Tables) (tables : Tables) → IfSome before (λ kept. tables ≡ kept) → before ≡ option_map (λ t. tables) before
+kept_so None tables e = refl
+kept_so (Some kept) tables e = ap Some (sym e)
+
+pub left_so : (before : Option Tables) (tables : Tables) (reply : Reply) (sent : Sent) → IfSome before (λ kept. tables ≡ kept) → sent ≡ sent_of reply → EndsAs before (leaving tables reply) before sent
+left_so before tables reply sent loaded is = Done is (kept_so before tables loaded)
+
+unknown_with : (before : Option Tables) (tables : Tables) (key : List ℕ) (found : Option Entry) (sent : Sent) → IfSome before (λ kept. tables ≡ kept) → with_hash tables.register (seal_of key) ≡ found → TellsWithdrawn found None →
+    sent ≡ sent_of unknown_key → EndsAs before (withdrawal tables (key ∷ [])) before sent
+unknown_with before tables key None sent loaded f tells is =
+    let whole : withdrawal tables (key ∷ []) ≡ leaving tables unknown_key =
+    ap (λ (row : Option Entry). withdrawal_by tables row (withdraw_at tables (place_of_hash tables.register (seal_of key) 0))) f in
+    subst (λ (serves : Served). EndsAs before serves before sent) (sym whole) (left_so before tables unknown_key sent loaded is)
+unknown_with before tables key (Some entry) sent loaded f tells is = absurd (cc)
+
+-- nobody's key
+pub unknown_ends : (before : Option Tables) (tables : Tables) (key : List ℕ) (sent : Sent) → IfSome before (λ kept. tables ≡ kept) → TellsWithdrawn (with_hash tables.register (seal_of key)) None →
+    sent ≡ sent_of unknown_key → EndsAs before (withdrawal tables (key ∷ [])) before sent
+unknown_ends before tables key sent loaded tells is = unknown_with before tables key (with_hash tables.register (seal_of key)) sent loaded refl tells is
+
+-- ---- replies to requests
+
+module _ (before : Option Tables) (tables : Tables) (request : Request) (loaded : IsLoaded before tables) where
+  pub ends_reply : (serves : Served) (after : Option Tables) (sent : Sent) → served tables request ≡ serves → EndsAs before serves after sent → IsReplyTo before request after sent
+  ends_reply serves after sent e (Done is leaves) =
+      Replied tables loaded (record { replies = is ∙ ap (λ (s : Served). sent_of s.reply) (sym e); leaves = leaves ∙ ap (λ (s : Served). option_map (λ t. s.tables) before) (sym e) })
+  ends_reply serves after sent e (Failed is same) = Unavailable is same
+  ends_reply serves after sent e (WantsMemory is same) = NoMemory is same
+
+  pub shown_reply : (reply : Reply) (sent : Sent) → served tables request ≡ leaving tables reply → IsSentFor reply sent → IsReplyTo before request before sent
+  shown_reply reply sent e (inl is) = ends_reply (leaving tables reply) before sent e (left_so before tables reply sent loaded.same is)
+  shown_reply reply sent e (inr is) = NoMemory is refl
+
+-- ---- pages
+
+module _ (tables : Tables) (request : Request) where
+  pub at_bundle : (found : Option SeenPage) (round : ℕ) → option_map seen_page found ≡ Some (Bundle round) → served_page tables request found ≡ leaving tables (bundle_reply request (published_of (map published tables.rounds) round))
+  at_bundle None round e = absurd (cc)
+  at_bundle (Some (BundlePage text)) round e = let n : round_named text ≡ round = cc in ap (λ (k : ℕ). leaving tables (bundle_reply request (published_of (map published tables.rounds) k))) n
+  at_bundle (Some (DrawPage text)) round e = absurd (cc)
+  at_bundle (Some OwnPage) round e = absurd (cc)
+  at_bundle (Some WithdrawalPage) round e = absurd (cc)
+
+  pub at_draw : (found : Option SeenPage) (round : ℕ) → option_map seen_page found ≡ Some (Draw round) → served_page tables request found ≡ leaving tables (draw_reply request (published_of (map published tables.rounds) round))
+  at_draw None round e = absurd (cc)
+  at_draw (Some (BundlePage text)) round e = absurd (cc)
+  at_draw (Some (DrawPage text)) round e = let n : round_named text ≡ round = cc in ap (λ (k : ℕ). leaving tables (draw_reply request (published_of (map published tables.rounds) k))) n
+  at_draw (Some OwnPage) round e = absurd (cc)
+  at_draw (Some WithdrawalPage) round e = absurd (cc)
+
+  pub at_own : (found : Option SeenPage) → option_map seen_page found ≡ Some Own → served_page tables request found ≡ leaving tables (if_by (codes "GET") request (own_reply tables request.keys))
+  at_own None e = absurd (cc)
+  at_own (Some (BundlePage text)) e = absurd (cc)
+  at_own (Some (DrawPage text)) e = absurd (cc)
+  at_own (Some OwnPage) e = refl
+  at_own (Some WithdrawalPage) e = absurd (cc)
+
+  pub at_withdrawal : (found : Option SeenPage) → option_map seen_page found ≡ Some Withdrawal → served_page tables request found ≡ served_page tables request (Some WithdrawalPage)
+  at_withdrawal None e = absurd (cc)
+  at_withdrawal (Some (BundlePage text)) e = absurd (cc)
+  at_withdrawal (Some (DrawPage text)) e = absurd (cc)
+  at_withdrawal (Some OwnPage) e = absurd (cc)
+  at_withdrawal (Some WithdrawalPage) e = refl
+
+  pub at_nothing : (found : Option SeenPage) → option_map seen_page found ≡ None → served_page tables request found ≡ leaving tables not_found
+  at_nothing None e = refl
+  at_nothing (Some page) e = absurd (cc)
+
+-- ---- counts of faults
+
+pub stopped_faults : (before now : ℕ) (stop : ActStop) → ActFault before now (Err stop) → HasFault before now (refusal_reply (stop_refusal stop)).status
+stopped_faults before now (act.Refused refusal) h = h
+stopped_faults before now (act.Solve stopped) h = h
+stopped_faults before now (act.Unproved verdict) h = h
+stopped_faults before now act.KeeperFault h = h
+stopped_faults before now act.OutOfMemory h = h
+
+pub told_faults : (before now : ℕ) (found : Option Entry) (sent : Sent) → TellsWithdrawn found (Some sent) → now ≡ before → HasFault before now sent.status
+told_faults before now None sent tells h = absurd (cc)
+told_faults before now (Some entry) sent tells h =
+    let is : sent ≡ sent_of (told (withdrawn_body entry.id)) = cc in
+    subst (λ (s : Sent). HasFault before now s.status) (sym is) h

@@ -1,0 +1,14 @@
+mod BodyTexts
+mod ByMethod
+mod Digits
+mod DrawnBodies
+mod Ends
+mod Isolation
+mod NamedDigits
+mod Numbers
+mod OwnReplies
+mod PublishedRounds
+mod RefusalTexts
+mod ReplyTexts
+mod Seats
+mod Statuses

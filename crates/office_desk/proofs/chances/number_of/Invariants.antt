@@ -1,0 +1,7 @@
+use Rattle.std.proofs.Common.{◌≡◌, drop}
+use Rattle.define_desk.specs.Desk.{number_of}
+use Rattle.office_desk.proofs.chances.number_of.Given as goal
+
+-- none of the volunteers whom the loop has passed has the id
+abbrev pub invariant-loop-number : goal.invariant-loop-number
+invariant-loop-number l = number_of l.id l.volunteers 0 ≡ number_of l.id (drop l.number l.volunteers) l.number

@@ -1,0 +1,45 @@
+-- Bodies of JSON by their parts, and the values whose texts they are. For `bodies`.
+use Rattle.std.specs.Prelude.{ℕ, ◌++◌, Bool, true, List, Option, Some, None, codes}
+use Rattle.std.specs.Fmt.{decimal}
+use Rattle.json.specs.Print.{quoted}
+use Rattle.serde_json.specs.Data.{Data, null, boolean, number, unsigned, string, object, member, no_members}
+use Rattle.define_desk.specs.Replies.{text_or_null, truth, truth_or_null}
+
+-- ---- texts
+
+abbrev pub own_text : Option (List ℕ) → Option Bool → List ℕ → List ℕ → ℕ → Bool → List ℕ
+own_text chance drawn id phase round withdrawn =
+    codes "{\"chance\":" ++ text_or_null chance
+    ++ codes ",\"drawn\":" ++ truth_or_null drawn
+    ++ codes ",\"id\":" ++ quoted id
+    ++ codes ",\"phase\":" ++ quoted phase
+    ++ codes ",\"round\":" ++ decimal round
+    ++ codes ",\"withdrawn\":" ++ truth withdrawn
+    ++ codes "}"
+
+-- with the text of the panel
+abbrev pub draw_text : List ℕ → List ℕ → List ℕ → List ℕ → List ℕ
+draw_text digits panel seal ticket =
+    codes "{\"digits\":" ++ quoted digits ++ codes ",\"panel\":" ++ panel ++ codes ",\"seal\":" ++ quoted seal ++ codes ",\"ticket\":" ++ quoted ticket ++ codes "}"
+
+-- ---- values
+
+abbrev pub text_data : Option (List ℕ) → Data
+text_data None = null
+text_data (Some text) = string text
+
+abbrev pub truth_data : Option Bool → Data
+truth_data None = null
+truth_data (Some value) = boolean value
+
+abbrev pub own_data : Option (List ℕ) → Option Bool → List ℕ → List ℕ → ℕ → Bool → Data
+own_data chance drawn id phase round withdrawn =
+    object (member (codes "chance") (text_data chance) (member (codes "drawn") (truth_data drawn) (member (codes "id") (string id)
+    (member (codes "phase") (string phase) (member (codes "round") (number (unsigned round)) (member (codes "withdrawn") (boolean withdrawn) no_members))))))
+
+abbrev pub draw_data : List ℕ → Data → List ℕ → List ℕ → Data
+draw_data digits panel seal ticket =
+    object (member (codes "digits") (string digits) (member (codes "panel") panel (member (codes "seal") (string seal) (member (codes "ticket") (string ticket) no_members))))
+
+abbrev pub withdrawn_data : List ℕ → Data
+withdrawn_data id = object (member (codes "id") (string id) (member (codes "withdrawn") (boolean true) no_members))

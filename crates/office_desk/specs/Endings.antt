@@ -1,0 +1,16 @@
+-- How a request ends, by what the desk serves for it. For `serving` and `withdrawing`.
+use Rattle.std.specs.Prelude.{◌≡◌, Option, option_map, ◌⊎◌}
+use Rattle.define_offices.specs.Tables.{Tables}
+use Rattle.define_desk.specs.Replies.{Reply, out_of_memory, unavailable}
+use Rattle.define_desk.specs.Desk.{Served}
+use Rattle.office_desk.specs.Sent.{Sent, sent_of}
+
+-- this reply is sent, or that memory ran out
+abbrev pub IsSentFor : Reply → Sent → Type 0
+IsSentFor reply sent = (sent ≡ sent_of reply) ⊎ (sent ≡ sent_of out_of_memory)
+
+-- what is served is sent, and the tables that the keeper tells are left so; or they are as before
+pub data EndsAs (before : Option Tables) (serves : Served) (after : Option Tables) (sent : Sent) : Type 0 where
+  Done : sent ≡ sent_of serves.reply → after ≡ option_map (λ told. serves.tables) before → EndsAs before serves after sent
+  Failed : sent ≡ sent_of unavailable → after ≡ before → EndsAs before serves after sent
+  WantsMemory : sent ≡ sent_of out_of_memory → after ≡ before → EndsAs before serves after sent

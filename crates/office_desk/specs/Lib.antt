@@ -1,0 +1,11 @@
+pub mod Sent
+pub mod Answers
+pub mod Refusals
+pub mod Contents
+pub mod Heads
+pub mod Bodies
+pub mod Pages
+pub mod Shown
+pub mod Panels
+pub mod Endings
+pub mod Withdrawals

@@ -1,0 +1,19 @@
+-- Pages of the program, as the definitions of the desk have them. For `routes`.
+use Rattle.std.specs.Prelude.{ℕ, nat_le, nat_lt, Bool, ◌&&◌, List, length}
+use Rattle.std.specs.Char.{is_ascii_digit}
+use Rattle.std.specs.List.{list_all}
+use Rattle.define_desk.specs.Desk as desk
+use Rattle.define_desk.specs.Desk.{round_named}
+use Rattle.office_desk.specs.declared.routes.Page.{Page}
+use Rattle.office_desk.specs.declared.routes.Page.TheVariants.{Bundle, Draw, Own, Withdrawal}
+
+-- a round has its number instead of the text that names it
+abbrev pub seen_page : desk.Page → Page
+seen_page (desk.BundlePage round) = Bundle (round_named round)
+seen_page (desk.DrawPage round) = Draw (round_named round)
+seen_page desk.OwnPage = Own
+seen_page desk.WithdrawalPage = Withdrawal
+
+-- 1 to 4 digits
+abbrev pub is_round_text : List ℕ → Bool
+is_round_text text = nat_lt 0 (length text) && nat_le (length text) 4 && list_all is_ascii_digit text

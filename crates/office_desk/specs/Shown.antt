@@ -1,0 +1,24 @@
+-- What is published of a round, as a value of the program. For `published` and the pages that show it.
+use Rattle.std.specs.Prelude.{◌≡◌, ℕ, List, is_ok, true, ⊤}
+use Rattle.define_pools.specs.Lottery.{TotalAgrees}
+use Rattle.define_bundles.specs.BundleText.{Bundle}
+use Rattle.define_draws.specs.Dice.{name_ticket}
+use Rattle.define_desk.specs.Views as views
+use Rattle.office_desk.specs.declared.published.Published.{Published}
+use Rattle.office_desk.specs.declared.published.Published.TheVariants.{Nothing, TheBundle, TheDraw}
+
+abbrev pub seen_published : Published → views.Published
+seen_published Nothing = views.Nothing
+seen_published (TheBundle bundle) = views.TheBundle bundle.now
+seen_published (TheDraw bundle digits) = views.TheDraw bundle.now digits.now
+
+-- the weights of the bundle sum to its total, and the digits name a ticket
+pub record CanBeDrawn (bundle : Bundle) (digits : List ℕ) : Type 0 where
+  pub agrees : TotalAgrees bundle.answer.lottery
+  pub named : is_ok (name_ticket bundle.answer.lottery.total digits) ≡ true
+
+-- the weights of a bundle that is published sum to its total, and digits that are published name a ticket
+abbrev pub IsSound : views.Published → Type 0
+IsSound views.Nothing = ⊤
+IsSound (views.TheBundle bundle) = TotalAgrees bundle.answer.lottery
+IsSound (views.TheDraw bundle digits) = CanBeDrawn bundle digits

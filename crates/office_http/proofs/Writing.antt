@@ -1,0 +1,32 @@
+-- What is written of an answer ends a visit.
+use Rattle.std.proofs.Common.{◌≡◌, ℕ, List, Option, Err, Ok, subst, ap, ◌∙◌}
+use Rattle.std.specs.Io.KnownBytes.{Appends}
+use Rattle.outside.specs.Content.{AppendsPart}
+use Rattle.outside.specs.Faults.{Rose}
+use Rattle.office_desk.specs.Sent.{Sent}
+use Rattle.office_http.specs.Answers.{IsAnswerTo}
+use Rattle.office_http.specs.Visits.{CutOff, IsAttended, Kept, LinkTold, visit}
+use Rattle.office_http.specs.declared.attending.LinkFault.{LinkFault}
+
+-- all of it was written
+pub written : (link after : LinkTold) (before left : Kept) (sent : Sent) (number : ℕ) (unwritten : Option (List ℕ)) (piece : List ℕ) (faults : ℕ) →
+    IsAnswerTo link.left before left sent → number ≡ sent.status → unwritten ≡ link.written → piece ≡ sent.bytes → Appends unwritten after.written piece →
+    faults ≡ link.faults → after.faults ≡ faults → IsAttended (visit link before after left (Ok number))
+written link after before left sent number unwritten piece faults (reply, says, is) status none all gains no_fault more = record {
+  reply = reply;
+  is = is;
+  status = status ∙ ap (λ (s : Sent). s.status) says;
+  written =
+      subst (λ (bytes : List ℕ). Appends link.written after.written bytes) (all ∙ ap (λ (s : Sent). s.bytes) says)
+      (subst (λ (old : Option (List ℕ)). Appends old after.written piece) none gains);
+  no_fault = more ∙ no_fault;
+}
+
+-- a part of it was written
+pub cut_off : (link after : LinkTold) (before left : Kept) (sent : Sent) (fault : LinkFault) (unwritten : Option (List ℕ)) (piece : List ℕ) (faults : ℕ) →
+    IsAnswerTo link.left before left sent → unwritten ≡ link.written → piece ≡ sent.bytes → AppendsPart unwritten after.written piece →
+    faults ≡ link.faults → Rose faults after.faults → IsAttended (visit link before after left (Err fault))
+cut_off link after before left sent fault unwritten piece faults (reply, says, is) none all gains no_fault rose =
+    CutOff (subst (λ (count : ℕ). Rose count after.faults) no_fault rose) reply is
+    (subst (λ (bytes : List ℕ). AppendsPart link.written after.written bytes) (all ∙ ap (λ (s : Sent). s.bytes) says)
+    (subst (λ (old : Option (List ℕ)). AppendsPart old after.written piece) none gains))
