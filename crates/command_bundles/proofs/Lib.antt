@@ -2,3 +2,4 @@ pub mod Members
 pub mod Stopped
 pub mod CheckLines
 pub mod Checked
+pub mod ShortDrawn

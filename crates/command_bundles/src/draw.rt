@@ -14,7 +14,7 @@ use sealed_draw::{DrawStop, draw, seal, total_agrees};
 use std::alloc::{AllocError, Global};
 
 /// The kind of fault of a bundle whose weights don't sum to its total. It is printed with line number 0, since no single line is faulty.
-const WRONG_TOTAL: u8 = 14;
+pub(crate) const WRONG_TOTAL: u8 = 14;
 
 /// `draw`: prints the panel that is drawn from a bundle.
 #[derive(Clone, Copy, Debug)]
@@ -70,7 +70,7 @@ fn drawn(
 }
 
 /// Returns the answer for a draw that is refused. Fails if memory runs out.
-fn stopped(alloc: Global, stop: &DrawStop) -> Result<Answer, AllocError>
+pub(crate) fn stopped(alloc: Global, stop: &DrawStop) -> Result<Answer, AllocError>
     ensures { IfOk result (λ answer. TellsStop stop.now (saying answer)) }
 {
     let line = match stop {

@@ -1,13 +1,15 @@
 -- Every call that is right keeps the promises of the headline.
 use Rattle.std.proofs.Common.{◌≡◌, ℕ, List, Option, Some, ap, subst}
+use Rattle.command_desk.specs.DeskTold.{DeskTold}
+use Rattle.command_desk.specs.ServeOutcomes.{Done, DoorFault, KeeperFault, ServeOutcome, WantOfMemory, WriteFault}
 use Rattle.command_shell.specs.Formats.{pool_format}
 use Rattle.command_stores.specs.StoreTold.{StoreTold}
 use Rattle.command_meanings.specs.Lottery.{LotteryMeans}
 use Rattle.command_office.specs.Asked.{asked}
 use Rattle.command_office.specs.declared.asked.Asked.{Asked}
 use Rattle.command_office.specs.declared.asked.Asked.TheVariants as asks
-use Rattle.command_headline.specs.Headline.{BrokenAlone, BudgetSpent, DoneAlone, Headline, Keeps, NoneAlone, NumberPassed, PassedAlone, RuleBroken, SpentAlone, TellsDone, TellsNone, TextIsWrong, WorkersChangeNothing, WrongAlone, is_status}
-use Rattle.command_office.specs.Office.{AnswersAlone, AnswersRightly, Asks, LeavesStore, NoMemory, OfficeIsRight, WantsMemory}
+use Rattle.command_headline.specs.Headline.{BrokenAlone, BudgetSpent, DoneAlone, Headline, Keeps, KeepsDesk, NoneAlone, NumberPassed, PassedAlone, Promises, RuleBroken, SpentAlone, TellsDone, TellsNone, TextIsWrong, WorkersChangeNothing, WrongAlone, is_serve_status, is_status}
+use Rattle.command_office.specs.Office.{AnswersAlone, AnswersRightly, Asks, EndsRightly, LeavesDoor, LeavesStore, NoMemory, OfficeIsRight, WantsMemory}
 use Rattle.command_headline.proofs.Checkers.{check_is_exact, verify_is_exact}
 use Rattle.command_headline.proofs.Promises as promise
 use Rattle.command_headline.proofs.ProofPromises.{import_keeps, prove_keeps}
@@ -47,7 +49,7 @@ alone_keeps told it alone right =
       proof = λ verify is proof is_proof from n8 n12. verify_is_exact told.call (subst (λ one. AnswersAlone one told.call) is call) proof is_proof from n8 n12;
     }
 
--- ---- every call
+-- ---- calls that open no desk
 
 asks_keep : (told : StoreTold) (it : Option Asked) → AnswersRightly it told → Keeps it told
 asks_keep told (Some (asks.Step path step)) right = step_keeps told path step right
@@ -75,20 +77,85 @@ wants_keep it told want = let twelve = want.call.stopped.status in record {
   proof = λ verify is proof is_proof from n8 n12. absurd (n12 twelve);
 }
 
-pub keeps : (words : List (List ℕ)) (told : StoreTold) → OfficeIsRight words told → Headline words told
-keeps words told (Asks right) = asks_keep told (asked words) right
-keeps words told (NoMemory want) = wants_keep (asked words) told want
+-- ---- the desk
+
+serve_keeps : (path : List ℕ) (connections : ℕ) (told : DeskTold) → ServeOutcome path connections told → KeepsDesk path connections told
+serve_keeps path connections told (Done visits has end printed) = let status = printed.status in record {
+  done = λ s. record { visits = visits; served = has; ended = end; out = printed.out };
+  write_fault = λ s. absurd (cc (status, s));
+  keeper_fault = λ s. absurd (cc (status, s));
+  door_fault = λ s. absurd (cc (status, s));
+  memory = λ s. absurd (cc (status, s));
+  statuses = ap is_serve_status status;
+}
+serve_keeps path connections told (WriteFault visits has end cut) = let status = cut.status in record {
+  done = λ s. absurd (cc (status, s));
+  write_fault = λ s. (cut.faulted, (visits, has));
+  keeper_fault = λ s. absurd (cc (status, s));
+  door_fault = λ s. absurd (cc (status, s));
+  memory = λ s. absurd (cc (status, s));
+  statuses = ap is_serve_status status;
+}
+serve_keeps path connections told (KeeperFault untouched failed stopped) = let status = stopped.status in record {
+  done = λ s. absurd (cc (status, s));
+  write_fault = λ s. absurd (cc (status, s));
+  keeper_fault = λ s. (failed.faulted, record { door = untouched; tables = failed.same });
+  door_fault = λ s. absurd (cc (status, s));
+  memory = λ s. absurd (cc (status, s));
+  statuses = ap is_serve_status status;
+}
+serve_keeps path connections told (DoorFault visits has faulted stopped) = let status = stopped.status in record {
+  done = λ s. absurd (cc (status, s));
+  write_fault = λ s. absurd (cc (status, s));
+  keeper_fault = λ s. absurd (cc (status, s));
+  door_fault = λ s. (faulted, (visits, has));
+  memory = λ s. absurd (cc (status, s));
+  statuses = ap is_serve_status status;
+}
+serve_keeps path connections told (WantOfMemory untouched nothing stopped) = let status = stopped.status in record {
+  done = λ s. absurd (cc (status, s));
+  write_fault = λ s. absurd (cc (status, s));
+  keeper_fault = λ s. absurd (cc (status, s));
+  door_fault = λ s. absurd (cc (status, s));
+  memory = λ s. record { door = untouched; tables = nothing.same };
+  statuses = ap is_serve_status status;
+}
+
+-- if memory is wanting while the words are read, no desk is opened
+serve_wants : (path : List ℕ) (connections : ℕ) (told : DeskTold) → LeavesDoor (LeavesStore WantsMemory) told → KeepsDesk path connections told
+serve_wants path connections told want = let status = want.call.call.stopped.status in record {
+  done = λ s. absurd (cc (status, s));
+  write_fault = λ s. absurd (cc (status, s));
+  keeper_fault = λ s. absurd (cc (status, s));
+  door_fault = λ s. absurd (cc (status, s));
+  memory = λ s. record { door = want.door; tables = want.call.keeper.object.same };
+  statuses = ap is_serve_status status;
+}
+
+-- ---- every call
+
+asks_promise : (told : DeskTold) (it : Option Asked) → EndsRightly it told → Promises it told
+asks_promise told (Some (asks.Serve path serve)) right = serve_keeps path serve.connections told right.ends
+asks_promise told other right = (right.door, asks_keep told.store other right.call)
+
+wants_promise : (told : DeskTold) (it : Option Asked) → LeavesDoor (LeavesStore WantsMemory) told → Promises it told
+wants_promise told (Some (asks.Serve path serve)) want = serve_wants path serve.connections told want
+wants_promise told other want = (want.door, wants_keep other told.store want.call)
+
+pub keeps : (words : List (List ℕ)) (told : DeskTold) → OfficeIsRight words told → Headline words told
+keeps words told (Asks right) = asks_promise told (asked words) right
+keeps words told (NoMemory want) = wants_promise told (asked words) want
 
 -- if the words ask for `it`, what is right for the words is right for `it`
-as_asks : (words : List (List ℕ)) (told : StoreTold) (it : Asked) → asked words ≡ Some it → AnswersRightly (asked words) told → AnswersRightly (Some it) told
-as_asks words told it is right = subst (λ one. AnswersRightly one told) is right
+as_asks : (words : List (List ℕ)) (told : DeskTold) (it : Asked) → asked words ≡ Some it → EndsRightly (asked words) told → EndsRightly (Some it) told
+as_asks words told it is right = subst (λ one. EndsRightly one told) is right
 
 pub workers_change_nothing : WorkersChangeNothing
 workers_change_nothing words other_words first second (Asks one) (Asks other) limits workers others is was text first_told second_told first_clear second_clear a8 a12 b8 b12 =
-    tell_the_same pool_format (LotteryMeans limits) first.call second.call text first_told second_told first_clear second_clear a8 a12 b8 b12
-    (as_asks words first (asks.Lottery (record { limits = limits; workers = workers })) is one).call
-    (as_asks other_words second (asks.Lottery (record { limits = limits; workers = others })) was other).call
+    tell_the_same pool_format (LotteryMeans limits) first.store.call second.store.call text first_told second_told first_clear second_clear a8 a12 b8 b12
+    (as_asks words first (asks.Lottery (record { limits = limits; workers = workers })) is one).call.call
+    (as_asks other_words second (asks.Lottery (record { limits = limits; workers = others })) was other).call.call
 workers_change_nothing words other_words first second (NoMemory want) other limits workers others is was text first_told second_told first_clear second_clear a8 a12 b8 b12 =
-    absurd (a12 want.call.stopped.status)
+    absurd (a12 want.call.call.stopped.status)
 workers_change_nothing words other_words first second (Asks one) (NoMemory want) limits workers others is was text first_told second_told first_clear second_clear a8 a12 b8 b12 =
-    absurd (b12 want.call.stopped.status)
+    absurd (b12 want.call.call.stopped.status)

@@ -21,10 +21,12 @@ use Rattle.command_shell.specs.Outcomes.{IsTold, Outcome, SilentOutcome, TextOut
 use Rattle.command_shell.specs.Subjects.{About, Format}
 use Rattle.command_shell.specs.Told.{Told, Gains, GainsLine, HasFaulted, HeldAll}
 use Rattle.command_meanings.specs.Check.{CheckMeans}
+use Rattle.command_bundles.specs.ShortDraw.{ShortDrawMeans}
 use Rattle.command_meanings.specs.Draw.{DrawMeans}
 use Rattle.command_meanings.specs.ItsBundle.{BundleMeans}
 use Rattle.command_meanings.specs.Lottery.{LotteryMeans}
 use Rattle.command_meanings.specs.Make.{MakeMeans}
+use Rattle.command_loosen.specs.Loosening.{LoosenMeans}
 use Rattle.command_meanings.specs.Panel.{PanelMeans}
 use Rattle.command_meanings.specs.Prove.{IsGiven, ProvesWithin, given_in, pool_in}
 use Rattle.command_meanings.specs.Seal.{SealMeans}
@@ -184,9 +186,15 @@ module _ (told : Told) where
   done (Some (asks.Draw seal digits)) right s =
       let at = about_done bundle_format (one (DrawMeans seal digits)) told right s in
       record { bundle = at.1.value; held = held_bundle at.1.value at.1.bytes at.1.held at.1.spells; text = at.0; out = at.1.is_told.out; drawn = at.1.means.right }
+  done (Some (asks.ShortDraw tickets seal digits)) right s =
+      let at = about_done bundle_format (one (ShortDrawMeans tickets seal digits)) told right s in
+      record { bundle = at.1.value; held = held_bundle at.1.value at.1.bytes at.1.held at.1.spells; text = at.0; out = at.1.is_told.out; drawn = at.1.means.right }
   done (Some (asks.Panel it)) right s =
       let at = about_done pool_format (one (PanelMeans it.nodes)) told right s in
       record { pool = at.1.value; held = held_pool at.1.value at.1.bytes at.1.held at.1.spells; text = at.0; out = at.1.is_told.out; panel = at.1.means.right }
+  done (Some (asks.Loosen it)) right s =
+      let at = about_done pool_format (one (LoosenMeans it.nodes)) told right s in
+      record { pool = at.1.value; held = held_pool at.1.value at.1.bytes at.1.held at.1.spells; text = at.0; out = at.1.is_told.out; loosening = at.1.means.right }
   done (Some (asks.Lottery it)) right s = lottery_told it.limits right s
   done (Some (asks.Check it)) right s = valid_told it.nodes right s
   done (Some (asks.Explain it)) right s =
@@ -209,8 +217,12 @@ module _ (told : Told) where
       let at = about_no_panel proof_format (one BundleMeans) told right s in absurd (bundle_not_no_panel at.1.value at.0 at.1.means.right)
   no_panel (Some (asks.Seal it)) right s = absurd ((about_no_panel bundle_format (one SealMeans) told right s).1.means.right)
   no_panel (Some (asks.Draw seal digits)) right s = absurd ((about_no_panel bundle_format (one (DrawMeans seal digits)) told right s).1.means.right)
+  no_panel (Some (asks.ShortDraw tickets seal digits)) right s = absurd ((about_no_panel bundle_format (one (ShortDrawMeans tickets seal digits)) told right s).1.means.right)
   no_panel (Some (asks.Panel it)) right s =
       let is = (about_no_panel pool_format (one (PanelMeans it.nodes)) told right s).1 in
+      (is.value, held_pool is.value is.bytes is.held is.spells, is.means.right.none)
+  no_panel (Some (asks.Loosen it)) right s =
+      let is = (about_no_panel pool_format (one (LoosenMeans it.nodes)) told right s).1 in
       (is.value, held_pool is.value is.bytes is.held is.spells, is.means.right.none)
   no_panel (Some (asks.Lottery it)) right s =
       let is = (about_no_panel pool_format (one (LotteryMeans it.limits)) told right s).1 in
@@ -239,6 +251,7 @@ module _ (told : Told) where
   how_it_ends (Some (asks.Import store import)) right = absurd right
   how_it_ends (Some (asks.ProveRound store proving)) right = absurd right
   how_it_ends (Some (asks.Text store text)) right = absurd right
+  how_it_ends (Some (asks.Serve store serve)) right = absurd right
   how_it_ends other right = ByText _ right
 
   usage_so : (it : Option Asked) → HowItEnds it → told.status ≡ 2 → it ≡ None
@@ -261,6 +274,11 @@ module _ (told : Told) where
   no_draw seal digits (Long held) = inl (inr held)
   no_draw seal digits (OfValue line is) = inr (is.value, held_bundle is.value is.bytes is.held is.spells, is.means.right.total)
 
+  no_short_draw : (tickets : ℕ) (seal digits : List ℕ) → IsInput bundle_format (one (ShortDrawMeans tickets seal digits)) told → WrongAlone (Some (asks.ShortDraw tickets seal digits)) told
+  no_short_draw tickets seal digits (NoText bytes fault held fails) = inl (inl (bytes, fault, held, fails))
+  no_short_draw tickets seal digits (Long held) = inl (inr held)
+  no_short_draw tickets seal digits (OfValue line is) = inr (is.value, held_bundle is.value is.bytes is.held is.spells, is.means.right.total)
+
   no_fault_left : (bytes : List ℕ) (about : AnyText) (line : List ℕ) → IsRightOrFaulty bytes about → Explains about (Stops Input line) → IsText bytes → ⊥
   no_fault_left bytes any.Right line spells means = absurd means
   no_fault_left bytes (any.Faulty fault) line spells means = spells
@@ -282,9 +300,11 @@ module _ (told : Told) where
   text (Some (asks.Bundle it)) right s = no_text proof_format (one BundleMeans) (λ value line means. bundle_not_input value line means.right) (about_input proof_format (one BundleMeans) told right s)
   text (Some (asks.Seal it)) right s = no_text bundle_format (one SealMeans) (λ value line means. means.right) (about_input bundle_format (one SealMeans) told right s)
   text (Some (asks.Draw seal digits)) right s = no_draw seal digits (about_input bundle_format (one (DrawMeans seal digits)) told right s)
+  text (Some (asks.ShortDraw tickets seal digits)) right s = no_short_draw tickets seal digits (about_input bundle_format (one (ShortDrawMeans tickets seal digits)) told right s)
   text (Some (asks.Question it)) right s = no_answer it (about_input bundle_format (one (QuestionMeans it)) told right s)
   text (Some (asks.Explain it)) right s = no_right_text (about_input any_format Explains told right s)
   text (Some (asks.Panel it)) right s = no_text pool_format (one (PanelMeans it.nodes)) (λ value line means. means.right) (about_input pool_format (one (PanelMeans it.nodes)) told right s)
+  text (Some (asks.Loosen it)) right s = no_text pool_format (one (LoosenMeans it.nodes)) (λ value line means. means.right) (about_input pool_format (one (LoosenMeans it.nodes)) told right s)
   text (Some (asks.Lottery it)) right s = no_text pool_format (one (LotteryMeans it.limits)) (λ value line means. means.right) (about_input pool_format (one (LotteryMeans it.limits)) told right s)
   text (Some (asks.Check it)) right s = no_text bundle_format (one (CheckMeans it.nodes)) (λ value line means. means.right) (about_input bundle_format (one (CheckMeans it.nodes)) told right s)
   text (Some (asks.Make it)) right s =
@@ -301,9 +321,11 @@ module _ (told : Told) where
   number (Some (asks.Bundle it)) right s = let at = about_wide proof_format (one BundleMeans) told right s in absurd (bundle_not_wide at.1.value at.0 at.1.means.right)
   number (Some (asks.Seal it)) right s = absurd ((about_wide bundle_format (one SealMeans) told right s).1.means.right)
   number (Some (asks.Draw seal digits)) right s = absurd ((about_wide bundle_format (one (DrawMeans seal digits)) told right s).1.means.right)
+  number (Some (asks.ShortDraw tickets seal digits)) right s = absurd ((about_wide bundle_format (one (ShortDrawMeans tickets seal digits)) told right s).1.means.right)
   number (Some (asks.Question it)) right s = absurd ((about_wide bundle_format (one (QuestionMeans it)) told right s).1.means.right)
   number (Some (asks.Explain it)) right s = absurd ((about_wide any_format Explains told right s).1.means)
   number (Some (asks.Panel it)) right s = absurd ((about_wide pool_format (one (PanelMeans it.nodes)) told right s).1.means.right)
+  number (Some (asks.Loosen it)) right s = absurd ((about_wide pool_format (one (LoosenMeans it.nodes)) told right s).1.means.right)
   number (Some (asks.Lottery it)) right s =
       let at = about_wide pool_format (one (LotteryMeans it.limits)) told right s in
       (at.1.value, held_pool at.1.value at.1.bytes at.1.held at.1.spells, at.0, at.1.is_told.errs, at.1.means.right)
@@ -322,10 +344,14 @@ module _ (told : Told) where
   budget (Some (asks.Bundle it)) right s = let at = about_spent proof_format (one BundleMeans) told right s in absurd (bundle_not_spent at.1.value at.0 at.1.means.right)
   budget (Some (asks.Seal it)) right s = absurd ((about_spent bundle_format (one SealMeans) told right s).1.means.right)
   budget (Some (asks.Draw seal digits)) right s = absurd ((about_spent bundle_format (one (DrawMeans seal digits)) told right s).1.means.right)
+  budget (Some (asks.ShortDraw tickets seal digits)) right s = absurd ((about_spent bundle_format (one (ShortDrawMeans tickets seal digits)) told right s).1.means.right)
   budget (Some (asks.Question it)) right s = absurd ((about_spent bundle_format (one (QuestionMeans it)) told right s).1.means.right)
   budget (Some (asks.Explain it)) right s = absurd ((about_spent any_format Explains told right s).1.means)
   budget (Some (asks.Panel it)) right s =
       let at = about_spent pool_format (one (PanelMeans it.nodes)) told right s in
+      (at.1.value, held_pool at.1.value at.1.bytes at.1.held at.1.spells, at.0, at.1.is_told.errs, at.1.means.right)
+  budget (Some (asks.Loosen it)) right s =
+      let at = about_spent pool_format (one (LoosenMeans it.nodes)) told right s in
       (at.1.value, held_pool at.1.value at.1.bytes at.1.held at.1.spells, at.0, at.1.is_told.errs, at.1.means.right)
   budget (Some (asks.Lottery it)) right s =
       let at = about_spent pool_format (one (LotteryMeans it.limits)) told right s in
@@ -355,9 +381,13 @@ module _ (told : Told) where
   rule (Some (asks.Draw seal digits)) right s =
       let at = about_rule bundle_format (one (DrawMeans seal digits)) told right s in
       (at.1.value, held_bundle at.1.value at.1.bytes at.1.held at.1.spells, at.0, at.1.is_told.errs, at.1.means.right)
+  rule (Some (asks.ShortDraw tickets seal digits)) right s =
+      let at = about_rule bundle_format (one (ShortDrawMeans tickets seal digits)) told right s in
+      (at.1.value, held_bundle at.1.value at.1.bytes at.1.held at.1.spells, at.0, at.1.is_told.errs, at.1.means.right)
   rule (Some (asks.Question it)) right s = absurd ((about_rule bundle_format (one (QuestionMeans it)) told right s).1.means.right)
   rule (Some (asks.Explain it)) right s = absurd ((about_rule any_format Explains told right s).1.means)
   rule (Some (asks.Panel it)) right s = absurd ((about_rule pool_format (one (PanelMeans it.nodes)) told right s).1.means.right)
+  rule (Some (asks.Loosen it)) right s = absurd ((about_rule pool_format (one (LoosenMeans it.nodes)) told right s).1.means.right)
   rule (Some (asks.Lottery it)) right s = absurd ((about_rule pool_format (one (LotteryMeans it.limits)) told right s).1.means.right)
   rule (Some (asks.Check it)) right s = absurd ((about_rule bundle_format (one (CheckMeans it.nodes)) told right s).1.means.right)
   rule (Some (asks.Make it)) right s =
@@ -408,9 +438,11 @@ module _ (told : Told) where
   check (Some (asks.Bundle it)) right s = let at = about_refused proof_format (one BundleMeans) told right s in absurd (bundle_not_refused at.1.value at.0 at.1.means.right)
   check (Some (asks.Seal it)) right s = absurd ((about_refused bundle_format (one SealMeans) told right s).1.means.right)
   check (Some (asks.Draw seal digits)) right s = absurd ((about_refused bundle_format (one (DrawMeans seal digits)) told right s).1.means.right)
+  check (Some (asks.ShortDraw tickets seal digits)) right s = absurd ((about_refused bundle_format (one (ShortDrawMeans tickets seal digits)) told right s).1.means.right)
   check (Some (asks.Question it)) right s = absurd ((about_refused bundle_format (one (QuestionMeans it)) told right s).1.means.right)
   check (Some (asks.Explain it)) right s = absurd ((about_refused any_format Explains told right s).1.means)
   check (Some (asks.Panel it)) right s = absurd ((about_refused pool_format (one (PanelMeans it.nodes)) told right s).1.means.right)
+  check (Some (asks.Loosen it)) right s = absurd ((about_refused pool_format (one (LoosenMeans it.nodes)) told right s).1.means.right)
   check (Some (asks.Lottery it)) right s = absurd ((about_refused pool_format (one (LotteryMeans it.limits)) told right s).1.means.right)
   check (Some (asks.Check it)) right s =
       let is = (about_refused bundle_format (one (CheckMeans it.nodes)) told right s).1 in

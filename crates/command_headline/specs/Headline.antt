@@ -4,16 +4,18 @@
 -- ProofText), what the words ask for (Asked), what was read and printed (Told), and the limits and lines that the imports below name.
 --
 -- Most promises say what holds if a call has some status; only those on `check` and `verify` also say when the status is 0. When the other
--- statuses come is said by the contract of `office` (Office). That out is untouched at status 2 to 7, 9 and 12, and errs at 0, 1 and 11, is
--- said only by `IsStopped` and `IsPrinted` (command_shell/specs/Outcomes.antt).
+-- statuses come is said by the contract of `office` (Office). That out is untouched at status 2 to 7, 9, 10 and 12, and errs at 0, 1 and 11, is
+-- said only by `IsStopped` and `IsPrinted` (command_shell/specs/Outcomes.antt). What is promised of `serve` is in `KeepsDesk`, near the end.
 use Rattle.std.specs.List.{list_all, list_any}
 use Rattle.std.specs.Prelude.{◌≡◌, ◌≢◌, ◌↔◌, ◌⊎◌, ◌≤◌, ◌==◌, ℕ, nat_lt, Bool, IsTrue, IsFalse, List, [], ◌∷◌, length, Option, Some, None, Ok, Err, option_map}
 use Rattle.command_bundles.specs.declared.check.Check.{Check}
 use Rattle.command_meanings.specs.Check.{SpendsStage, refused_line, valid_line}
+use Rattle.command_bundles.specs.ShortDraw.{PrintsShortDrawn, RefusesShortDraw}
 use Rattle.command_meanings.specs.Draw.{PrintsDrawn, RefusesDraw}
 use Rattle.command_meanings.specs.ItsBundle.{no_lottery_line}
 use Rattle.command_meanings.specs.Lottery.{PassesWidth, SpendsBudget}
 use Rattle.command_meanings.specs.Make.{sizes_of}
+use Rattle.command_loosen.specs.Loosening.{PrintsLoosening, SpendsSearch}
 use Rattle.command_meanings.specs.Panel.{PrintsFirstPanel, SpendsVisits}
 use Rattle.command_meanings.specs.Prove.{PassesProofWidth, SpendsProofBudget}
 use Rattle.command_meanings.specs.Seal.{seal_line}
@@ -24,12 +26,15 @@ use Rattle.command_shell.specs.Formats.{bundle_format, pool_format, pool_or_bund
 use Rattle.command_shell.specs.Lines.{input_limit, input_line}
 use Rattle.command_shell.specs.Outcomes.{IsTold, IsTooLong}
 use Rattle.command_shell.specs.Subjects.{Format}
-use Rattle.command_shell.specs.Told.{Bytes, Told, Gains, GainsLine, HasFaulted, HeldAll, HeldMore}
+use Rattle.command_shell.specs.Told.{Bytes, Told, Gains, GainsLine, HasFaulted, HeldAll, HeldMore, IsUntouched}
 use Rattle.command_questions.specs.Questions.{question_text}
 use Rattle.command_questions.specs.declared.questions.Question.{Question}
 use Rattle.command_stores.specs.Imports.{ReadsFile}
 use Rattle.command_stores.specs.Steps.{stored_text}
 use Rattle.command_stores.specs.StoreTold.{KeepsTables, StoreTold}
+use Rattle.command_desk.specs.DeskTold.{DeskTold}
+use Rattle.command_desk.specs.ServeOutcomes.{HasServed, IsAtEnd}
+use Rattle.command_desk.specs.Serving.{served_line}
 use Rattle.command_stores.specs.declared.imports.Import.{Import}
 use Rattle.command_stores.specs.declared.imports.Import.TheVariants as import
 use Rattle.command_stores.specs.declared.texts.StoreText.{StoreText}
@@ -58,6 +63,7 @@ use Rattle.define_proof_texts.specs.ProofText.{IsProof, proof_spelling}
 use Rattle.define_rows.specs.Table.{Table}
 use Rattle.define_runs.specs.Run.{Ending, Limits, RunEnds}
 use Rattle.office_core.specs.Acting.{IsLoaded}
+use Rattle.office_http.specs.Visits.{Visit}
 use Rattle.proof_limits.specs.Budgets.{Left, SpendsOn, unspent}
 use Rattle.command_explain.specs.AnyTexts.{IsText}
 use Rattle.command_office.specs.Asked.{asked}
@@ -170,6 +176,14 @@ pub record TellsDrawn (seal digits : List ℕ) (told : Told) : Type 0 where
   pub out : Gains told.out text
   pub drawn : PrintsDrawn seal digits bundle text
 
+-- `short-draw` printed what the digits of dice draw in this number of tickets from the bundle that the source held, whose seal was given
+pub record TellsShortDrawn (tickets : ℕ) (seal digits : List ℕ) (told : Told) : Type 0 where
+  pub bundle : Bundle
+  pub held : HeldBundle told.source bundle
+  pub text : List ℕ
+  pub out : Gains told.out text
+  pub drawn : PrintsShortDrawn tickets seal digits bundle text
+
 -- `seal` printed the seal of the bundle that the source held
 pub record TellsSeal (told : Told) : Type 0 where
   pub bundle : Bundle
@@ -192,6 +206,14 @@ pub record TellsPanel (nodes : ℕ) (told : Told) : Type 0 where
   pub out : Gains told.out text
   pub panel : PrintsFirstPanel nodes pool text
 
+-- `loosen` printed the least loosening of the quotas of the pool that the source held
+pub record TellsLoosening (nodes : ℕ) (told : Told) : Type 0 where
+  pub pool : Pool
+  pub held : HeldPool told.source pool
+  pub text : List ℕ
+  pub out : Gains told.out text
+  pub loosening : PrintsLoosening nodes pool text
+
 -- the source held this bundle, whose weights sum to the total, and out gained the text that answers a question about it
 pub record TellsAnswer (question : Question) (told : Told) : Type 0 where
   pub bundle : Bundle
@@ -209,7 +231,9 @@ DoneAlone (Some (asks.Verify it)) told = TellsShown told
 DoneAlone (Some (asks.Bundle it)) told = TellsItsBundle told
 DoneAlone (Some (asks.Seal it)) told = TellsSeal told
 DoneAlone (Some (asks.Draw seal digits)) told = TellsDrawn seal digits told
+DoneAlone (Some (asks.ShortDraw tickets seal digits)) told = TellsShortDrawn tickets seal digits told
 DoneAlone (Some (asks.Panel it)) told = TellsPanel it.nodes told
+DoneAlone (Some (asks.Loosen it)) told = TellsLoosening it.nodes told
 DoneAlone (Some (asks.Lottery it)) told = TellsBundle told
 DoneAlone (Some (asks.Check it)) told = TellsValid told
 DoneAlone (Some (asks.Question it)) told = TellsAnswer it told
@@ -224,6 +248,7 @@ DoneAlone other told = ⊥
 abbrev pub NoneAlone : Option Asked → Told → Type 0
 NoneAlone (Some (asks.Lottery it)) told = (pool : Pool) × HeldPool told.source pool × (panels pool ≡ [])
 NoneAlone (Some (asks.Panel it)) told = (pool : Pool) × HeldPool told.source pool × (panels pool ≡ [])
+NoneAlone (Some (asks.Loosen it)) told = (pool : Pool) × HeldPool told.source pool × (panels pool ≡ [])
 NoneAlone (Some (asks.Prove it)) told = (pool : Pool) × HeldEither told.source pool × (panels pool ≡ [])
 NoneAlone (Some (asks.Make it)) told = panels (made_pool it.seed it.volunteers) ≡ []
 -- no other command without a store has status 1, nor have words that ask for nothing; for a solve see `TellsNone`
@@ -247,13 +272,16 @@ WrongAlone (Some (asks.Seal it)) told = HeldNoText bundle_format told
 -- for `draw` also a bundle whose weights don't sum to its total
 WrongAlone (Some (asks.Draw seal digits)) told =
     HeldNoText bundle_format told ⊎ ((bundle : Bundle) × HeldBundle told.source bundle × (TotalAgrees bundle.answer.lottery → ⊥))
--- and so for a question about a bundle
+-- and so for `short-draw`, and for a question about a bundle
+WrongAlone (Some (asks.ShortDraw tickets seal digits)) told =
+    HeldNoText bundle_format told ⊎ ((bundle : Bundle) × HeldBundle told.source bundle × (TotalAgrees bundle.answer.lottery → ⊥))
 WrongAlone (Some (asks.Question it)) told =
     HeldNoText bundle_format told ⊎ ((bundle : Bundle) × HeldBundle told.source bundle × (TotalAgrees bundle.answer.lottery → ⊥))
 -- for `explain` the bytes are none of the three texts
 WrongAlone (Some (asks.Explain it)) told =
     ((bytes : List ℕ) × HeldAll told.source bytes × (IsText bytes → ⊥)) ⊎ HeldMore told.source input_limit
 WrongAlone (Some (asks.Panel it)) told = HeldNoText pool_format told
+WrongAlone (Some (asks.Loosen it)) told = HeldNoText pool_format told
 WrongAlone (Some (asks.Lottery it)) told = HeldNoText pool_format told
 WrongAlone (Some (asks.Check it)) told = HeldNoText bundle_format told
 -- `make` and words that ask for nothing never have status 3; for imports see `TextIsWrong`
@@ -271,6 +299,7 @@ PassedAlone other told = ⊥
 -- step have no condition
 abbrev pub SpentAlone : Option Asked → Told → Type 0
 SpentAlone (Some (asks.Panel it)) told = (pool : Pool) × HeldPool told.source pool × (line : List ℕ) × GainsLine told.errs line × SpendsVisits it.nodes pool line
+SpentAlone (Some (asks.Loosen it)) told = (pool : Pool) × HeldPool told.source pool × (line : List ℕ) × GainsLine told.errs line × SpendsSearch it.nodes pool line
 SpentAlone (Some (asks.Lottery it)) told = (pool : Pool) × HeldPool told.source pool × (line : List ℕ) × GainsLine told.errs line × SpendsBudget it.limits pool line
 SpentAlone (Some (asks.Make it)) told = (line : List ℕ) × GainsLine told.errs line × SpendsBudget it.limits (made_pool it.seed it.volunteers) line
 SpentAlone (Some (asks.Check it)) told = (bundle : Bundle) × HeldBundle told.source bundle × (line : List ℕ) × GainsLine told.errs line × SpendsStage it.nodes bundle line
@@ -280,6 +309,8 @@ SpentAlone other told = ⊥
 -- status 6: a rule was broken, and errs gained the line that says which
 abbrev pub BrokenAlone : Option Asked → Told → Type 0
 BrokenAlone (Some (asks.Draw seal digits)) told = (bundle : Bundle) × HeldBundle told.source bundle × (line : List ℕ) × GainsLine told.errs line × RefusesDraw seal digits bundle line
+BrokenAlone (Some (asks.ShortDraw tickets seal digits)) told =
+    (bundle : Bundle) × HeldBundle told.source bundle × (line : List ℕ) × GainsLine told.errs line × RefusesShortDraw tickets seal digits bundle line
 BrokenAlone (Some (asks.Bundle it)) told = (pool : Pool) × (lines : List TreeLine) × HeldProof told.source (OfNoPanel pool lines) × GainsLine told.errs no_lottery_line
 BrokenAlone other told = ⊥
 
@@ -448,7 +479,7 @@ RuleBroken other told = BrokenAlone other told.call
 abbrev pub is_status : ℕ → Bool
 is_status number = list_any (λ status. number == status) (0 ∷ 1 ∷ 2 ∷ 3 ∷ 4 ∷ 5 ∷ 6 ∷ 7 ∷ 8 ∷ 9 ∷ 11 ∷ 12 ∷ [])
 
--- the promises of a call whose words ask for `it`, or for nothing
+-- the promises of a call whose words ask for `it`, or for nothing, and that opens no desk
 pub record Keeps (it : Option Asked) (told : StoreTold) : Type 0 where
   -- status 0: an answered lottery is leximin greatest over the quota panels of its pool. `TellsDone` says for each command what status 0
   -- means
@@ -487,9 +518,53 @@ pub record Keeps (it : Option Asked) (told : StoreTold) : Type 0 where
   pub proof : (verify : Verify) → it ≡ Some (asks.Verify verify) → (proof : Proof) → IsProof proof → ToldText told.call.source (proof_spelling proof) →
       told.call.status ≢ 8 → told.call.status ≢ 12 → told.call.status ≡ 0 ↔ verdict proof ≡ Valid
 
+-- ---- the promises of `serve`, which attends links over the store at `path`
+
+-- links were attended, at most `connections` of them: those that the door gave, in their order. Each visit ended as a visit must
+-- (`IsAttended` of `office_http`), found the store's tables as the visit before left them, and its link came back
+abbrev pub Serves : List ℕ → ℕ → DeskTold → Type 0
+Serves path connections told = (visits : List Visit) × HasServed path connections told visits
+
+-- and out gained the line that counts them. They are as many as `connections`, or no link is still to come
+pub record TellsServed (path : List ℕ) (connections : ℕ) (told : DeskTold) : Type 0 where
+  pub visits : List Visit
+  pub served : HasServed path connections told visits
+  pub ended : IsAtEnd connections told.door visits
+  pub out : Gains told.store.call.out (served_line visits)
+
+-- the door was left alone, and the tables are as before
+pub record IsUnopened (told : DeskTold) : Type 0 where
+  pub door : IsUntouched told.door
+  pub tables : KeepsTables told.store.keeper
+
+-- `number` is one of the statuses of `serve`
+abbrev pub is_serve_status : ℕ → Bool
+is_serve_status number = list_any (λ status. number == status) (0 ∷ 8 ∷ 9 ∷ 10 ∷ 12 ∷ [])
+
+pub record KeepsDesk (path : List ℕ) (connections : ℕ) (told : DeskTold) : Type 0 where
+  -- status 0: links were attended and counted
+  pub done : told.store.call.status ≡ 0 → TellsServed path connections told
+  -- status 8 comes only if out counted a fault, and what the visits changed is kept
+  pub write_fault : told.store.call.status ≡ 8 → HasFaulted told.store.call.out × Serves path connections told
+  -- status 9 comes only if the keeper of the store counted a fault before the door was opened
+  pub keeper_fault : told.store.call.status ≡ 9 → HasFaulted told.store.keeper.object × IsUnopened told
+  -- status 10 comes only if the door counted a fault, and what the visits changed is kept
+  pub door_fault : told.store.call.status ≡ 10 → HasFaulted told.door × Serves path connections told
+  -- status 12, want of memory, comes only before the door is opened
+  pub memory : told.store.call.status ≡ 12 → IsUnopened told
+  -- there is no other status
+  pub statuses : IsTrue (is_serve_status told.store.call.status)
+
+-- ---- every call
+
+-- the promises of a call whose words ask for `it`, or for nothing. Only `serve` opens the door
+abbrev pub Promises : Option Asked → DeskTold → Type 0
+Promises (Some (asks.Serve path serve)) told = KeepsDesk path serve.connections told
+Promises other told = IsUntouched told.door × Keeps other told.store
+
 -- the promises, for every call with these words
-abbrev pub Headline : List (List ℕ) → StoreTold → Type 0
-Headline words told = Keeps (asked words) told
+abbrev pub Headline : List (List ℕ) → DeskTold → Type 0
+Headline words told = Promises (asked words) told
 
 -- both calls told the same answer, or both told that the input is too long
 abbrev pub TellTheSame : Told → Told → Type 0
@@ -500,8 +575,8 @@ TellTheSame first second = ((answer : Saying) × IsTold answer first × IsTold a
 -- right there, so they change nothing
 abbrev pub WorkersChangeNothing : Type 0
 WorkersChangeNothing =
-    (words other_words : List (List ℕ)) (first second : StoreTold) → OfficeIsRight words first → OfficeIsRight other_words second →
+    (words other_words : List (List ℕ)) (first second : DeskTold) → OfficeIsRight words first → OfficeIsRight other_words second →
     (limits : Limits) (workers others : ℕ) → asked words ≡ Some (asks.Lottery (record { limits = limits; workers = workers })) →
     asked other_words ≡ Some (asks.Lottery (record { limits = limits; workers = others })) →
-    (text : List ℕ) → first.call.source.before ≡ Some text → second.call.source.before ≡ Some text → (HasFaulted first.call.source → ⊥) → (HasFaulted second.call.source → ⊥) →
-    first.call.status ≢ 8 → first.call.status ≢ 12 → second.call.status ≢ 8 → second.call.status ≢ 12 → TellTheSame first.call second.call
+    (text : List ℕ) → first.store.call.source.before ≡ Some text → second.store.call.source.before ≡ Some text → (HasFaulted first.store.call.source → ⊥) → (HasFaulted second.store.call.source → ⊥) →
+    first.store.call.status ≢ 8 → first.store.call.status ≢ 12 → second.store.call.status ≢ 8 → second.store.call.status ≢ 12 → TellTheSame first.store.call second.store.call

@@ -4,13 +4,13 @@
 #![tactic(auto)]
 
 ghost use Rattle.std.specs.Prelude.{ℕ, List};
-ghost use Rattle.command_stores.specs.StoreTold.{StoreTold};
+ghost use Rattle.command_desk.specs.DeskTold.{DeskTold};
 ghost use Rattle.command_office.specs.Office.{OfficeIsRight};
 ghost use Rattle.command_headline.specs.Headline.{Headline, WorkersChangeNothing};
 
 /// Every call that satisfies the contract of `office` keeps the promises of `Headline`.
 pub fn headline()
-    ensures { (words : List (List ℕ)) (told : StoreTold) → OfficeIsRight words told → Headline words told }
+    ensures { (words : List (List ℕ)) (told : DeskTold) → OfficeIsRight words told → Headline words told }
 {}
 
 /// The number of workers changes no byte of what `lottery` answers. This law doesn't speak of `make`.

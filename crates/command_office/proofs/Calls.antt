@@ -1,5 +1,10 @@
 -- If the words ask for a command, an outcome that is right for the command is right for the words.
 use Rattle.std.proofs.Common.{◌≡◌, ℕ, List, Option, Some, refl, subst, sym}
+use Rattle.command_bundles.specs.ShortDraw.{ShortDrawMeans}
+use Rattle.command_desk.specs.DeskTold.{DeskTold, desk_told}
+use Rattle.command_desk.specs.ServeOutcomes.{SilentServeOutcome}
+use Rattle.office_http.specs.Visits.{LinkTold}
+use Rattle.outside.specs.Links.{DoorLinks}
 use Rattle.command_meanings.specs.Draw.{DrawMeans}
 use Rattle.command_shell.specs.Formats.{bundle_format}
 use Rattle.command_shell.specs.Told.{Told, object}
@@ -14,15 +19,19 @@ use Rattle.define_offices.specs.Commands.{Command}
 use Rattle.command_stores.specs.StoreTold.{StoreTold, keeper_told, store_told}
 use Rattle.define_offices.specs.Tables.{Tables}
 use Rattle.office_core.specs.Keeping.{Place}
-use Rattle.command_office.specs.Office.{Answers, AnswersRightly, LeavesStore}
+use Rattle.command_office.specs.Office.{Answers, EndsRightly, LeavesDoor, LeavesStore}
 use Rattle.command_office.specs.declared.asked.Asked.{Asked}
 
 -- a call that is right and leaves the keeper alone
 pub leaves : (Right : Told → Type 0) (call : Told) (kept : Option Tables) (faults : ℕ) (place : Place) → Right call → LeavesStore Right (store_told call (keeper_told (object kept kept faults faults) place place))
 leaves Right call kept faults place right = record { keeper = record { object = record { same = refl; no_fault = refl }; place = refl }; call = right }
 
-pub as_asked : (asked it : Asked) (told : StoreTold) → asked ≡ it → AnswersRightly (Some it) told → AnswersRightly (Some asked) told
-as_asked asked it told is right = subst (λ one. AnswersRightly (Some one) told) (sym is) right
+-- a call that is right and leaves the door alone
+pub shut : (Right : StoreTold → Type 0) (call : StoreTold) (links : Option (DoorLinks LinkTold)) (faults : ℕ) → Right call → LeavesDoor Right (desk_told call (object links links faults faults))
+shut Right call links faults right = record { door = record { same = refl; no_fault = refl }; call = right }
+
+pub as_asked : (asked it : Asked) (told : DeskTold) → asked ≡ it → EndsRightly (Some it) told → EndsRightly (Some asked) told
+as_asked asked it told is right = subst (λ one. EndsRightly (Some one) told) (sym is) right
 
 -- what is right for a command over the store at a path is right for an equal command and path
 pub steps_so : (path store : List ℕ) (one other : Command) (told : StoreTold) → path ≡ store → one ≡ other → SilentStoreOutcome path (StepMeans one) told → SilentStoreOutcome store (StepMeans other) told
@@ -38,6 +47,9 @@ proofs_so path store proving told same right = subst (λ p. SilentStoreOutcome p
 pub texts_so : (path store : List ℕ) (text : StoreText) (told : StoreTold) → path ≡ store → SilentStoreOutcome path (TextMeans text) told → SilentStoreOutcome store (TextMeans text) told
 texts_so path store text told same right = subst (λ p. SilentStoreOutcome p (TextMeans text) told) same right
 
+pub serves_so : (path store : List ℕ) (connections : ℕ) (told : DeskTold) → path ≡ store → SilentServeOutcome path connections told → SilentServeOutcome store connections told
+serves_so path store connections told same right = subst (λ p. SilentServeOutcome p connections told) same right
+
 -- an outcome that is right for a draw is right for a draw with an equal seal and equal digits
 pub draws_so : (seal digits given_seal given_digits : List ℕ) (told : Told) → seal ≡ given_seal → digits ≡ given_digits →
     Answers bundle_format (DrawMeans seal digits) told → Answers bundle_format (DrawMeans given_seal given_digits) told
@@ -46,3 +58,10 @@ draws_so seal digits given_seal given_digits told same_seal same_digits answers 
     (subst (λ one. Answers bundle_format (DrawMeans one digits) told) same_seal answers)
 
 -- and for a draw in a number of tickets
+
+-- and for a draw in a number of tickets
+pub short_draws_so : (tickets : ℕ) (seal digits given_seal given_digits : List ℕ) (told : Told) → seal ≡ given_seal → digits ≡ given_digits →
+    Answers bundle_format (ShortDrawMeans tickets seal digits) told → Answers bundle_format (ShortDrawMeans tickets given_seal given_digits) told
+short_draws_so tickets seal digits given_seal given_digits told same_seal same_digits answers =
+    subst (λ one. Answers bundle_format (ShortDrawMeans tickets given_seal one) told) same_digits
+    (subst (λ one. Answers bundle_format (ShortDrawMeans tickets one digits) told) same_seal answers)

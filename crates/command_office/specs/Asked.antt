@@ -1,6 +1,7 @@
 -- What the words of a call ask for: a command with its arguments. `given_in` (command_words) matches the words to the program's table of
 -- commands and options; this file tests the ranges of the numbers and makes the command. The contract of `office` cites it.
 use Rattle.std.specs.Prelude.{◌&&◌, ℕ, List, Option, Some, None, codes, if◌then◌else◌, nat_le, option_and_then, option_map}
+use Rattle.command_desk.specs.declared.calling.Serve.{Serve}
 use Rattle.command_proofs.specs.declared.proving.Prove.{Prove}
 use Rattle.command_questions.specs.declared.questions.Question.{Question}
 use Rattle.command_questions.specs.declared.questions.Question.TheVariants as question
@@ -111,6 +112,12 @@ question_from whole short None = Some (asks.Question whole)
 abbrev pub question_asked : Question → InTickets → Given → Option Asked
 question_asked whole short given = question_from whole short (number_of (codes "tickets") given)
 
+abbrev pub short_draw_asked : Given → Option Asked
+short_draw_asked given =
+    option_and_then (λ tickets.
+    option_and_then (λ seal. option_map (λ digits. asks.ShortDraw tickets seal digits) (text_of (codes "digits") given)) (text_of (codes "seal") given))
+    (tickets_in given)
+
 -- without a store a seal is that of a bundle
 abbrev pub seal_from : Given → Option (List ℕ) → Option Asked
 seal_from given (Some store) = option_and_then (λ round. step_asked (steps.Seal round) given) (round_in given)
@@ -126,6 +133,20 @@ abbrev pub drop_asked : Given → Option Asked
 drop_asked given =
     option_and_then (λ round. option_and_then (λ id. step_asked (steps.Drop round id) given) (text_of (codes "id") given)) (round_in given)
 
+abbrev pub serve_from : ℕ → ℕ → Option Serve
+serve_from port connections =
+    if nat_le 1 port && nat_le port 65535 && nat_le 1 connections && nat_le connections 1000000
+    then Some (record { port = port; connections = connections }) else None
+
+-- the desk over the store that the words name; None if a number is missing or out of its range
+abbrev pub serve_asked : Given → Option Asked
+serve_asked given =
+    option_and_then (λ port.
+    option_and_then (λ connections.
+    option_and_then (λ serve. option_map (λ store. asks.Serve store serve) (text_of (codes "store") given)) (serve_from port connections))
+    (number_of (codes "connections") given))
+    (number_of (codes "port") given)
+
 abbrev pub command_asked : CommandName → Given → Option Asked
 command_asked name.Prove given = prove_asked given
 command_asked name.Keep given = option_and_then (λ round. import_asked (imports.Proof round) given) (round_in given)
@@ -136,9 +157,11 @@ command_asked name.Draw given = draw_asked given
 command_asked name.Dice given = question_asked question.Dice in_tickets.Dice given
 command_asked name.Tickets given = question_asked question.Tickets in_tickets.Ranges given
 command_asked name.Short given = option_map (in_tickets_asked in_tickets.Panels) (tickets_in given)
+command_asked name.ShortDraw given = short_draw_asked given
 command_asked name.Chances given = Some (asks.Question question.Chances)
 command_asked name.Explain given = Some (asks.Explain (record {}))
 command_asked name.Panel given = option_map (λ nodes. asks.Panel (record { nodes = nodes })) (number_of (codes "nodes") given)
+command_asked name.Loosen given = option_map (λ nodes. asks.Loosen (record { nodes = nodes })) (number_of (codes "nodes") given)
 command_asked name.Lottery given =
     option_and_then (λ limits. option_map (λ workers. asks.Lottery (record { limits = limits; workers = workers })) (workers_in given)) (limits_in given)
 command_asked name.Check given = option_map (λ nodes. asks.Check (record { nodes = nodes })) (number_of (codes "nodes") given)
@@ -152,6 +175,7 @@ command_asked name.Pool given = option_and_then (λ round. text_asked (texts.Poo
 command_asked name.ImportCharter given = import_asked imports.Charter given
 command_asked name.ImportRules given = import_asked imports.Rules given
 command_asked name.ImportRegister given = import_asked imports.Register given
+command_asked name.Serve given = serve_asked given
 
 -- the command with its arguments, or None if a value is missing or out of its range
 abbrev pub asked_by : Given → Option Asked

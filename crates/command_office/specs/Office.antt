@@ -3,6 +3,8 @@
 -- shell (`command_shell/specs`): faults of source, out and errs, want of memory, a text that is too long, and which of out and errs stay
 -- untouched (`Outcomes`); and a text outside its format (`Subjects`).
 use Rattle.std.specs.Prelude.{ℕ, List, [], ◌∷◌, codes, Option, Some, None}
+use Rattle.command_bundles.specs.ShortDraw.{ShortDrawMeans}
+use Rattle.command_loosen.specs.Loosening.{LoosenMeans}
 use Rattle.command_meanings.specs.Check.{CheckMeans}
 use Rattle.command_meanings.specs.Draw.{DrawMeans}
 use Rattle.command_meanings.specs.ItsBundle.{BundleMeans}
@@ -26,6 +28,8 @@ use Rattle.command_stores.specs.ProvedRounds.{ProvesRound}
 use Rattle.command_stores.specs.Steps.{StepMeans, TextMeans}
 use Rattle.command_stores.specs.StoreOutcomes.{SilentStoreOutcome, TextStoreOutcome}
 use Rattle.command_stores.specs.StoreTold.{IsLeftAlone, StoreTold}
+use Rattle.command_desk.specs.DeskTold.{DeskTold}
+use Rattle.command_desk.specs.ServeOutcomes.{SilentServeOutcome}
 use Rattle.command_office.specs.Asked.{asked}
 use Rattle.command_office.specs.Steps.{step_command}
 use Rattle.command_office.specs.declared.asked.Asked.{Asked}
@@ -52,7 +56,9 @@ AnswersAlone (Some (asks.Verify it)) told = Answers proof_format VerifyMeans tol
 AnswersAlone (Some (asks.Bundle it)) told = Answers proof_format BundleMeans told
 AnswersAlone (Some (asks.Seal it)) told = Answers bundle_format SealMeans told
 AnswersAlone (Some (asks.Draw seal digits)) told = Answers bundle_format (DrawMeans seal digits) told
+AnswersAlone (Some (asks.ShortDraw tickets seal digits)) told = Answers bundle_format (ShortDrawMeans tickets seal digits) told
 AnswersAlone (Some (asks.Panel it)) told = Answers pool_format (PanelMeans it.nodes) told
+AnswersAlone (Some (asks.Loosen it)) told = Answers pool_format (LoosenMeans it.nodes) told
 -- no meaning names the number of workers, neither here nor for `make` nor for a solve over a store, so it changes nothing that is told
 AnswersAlone (Some (asks.Lottery it)) told = Answers pool_format (LotteryMeans it.limits) told
 AnswersAlone (Some (asks.Check it)) told = Answers bundle_format (CheckMeans it.nodes) told
@@ -68,7 +74,7 @@ pub record LeavesStore (Right : Told → Type 0) (told : StoreTold) : Type 0 whe
   pub keeper : IsLeftAlone told.keeper
   pub call : Right told.call
 
--- the outcomes that a call may have if its words ask for this command, or for nothing
+-- the outcomes that a call may have whose words ask for nothing, or for a command that opens no desk
 abbrev pub AnswersRightly : Option Asked → StoreTold → Type 0
 -- one line for every command of the office: the answer is the outcome of the command over the store's tables. At most one answer is right
 -- (`steps_answer_once` of `command_stores`)
@@ -82,15 +88,26 @@ AnswersRightly (Some (asks.ProveRound store proving)) told = SilentStoreOutcome 
 AnswersRightly (Some (asks.Text store text)) told = SilentStoreOutcome store (TextMeans text) told
 AnswersRightly other told = LeavesStore (AnswersAlone other) told
 
+-- a call that opens no desk leaves the door alone
+pub record LeavesDoor (Right : StoreTold → Type 0) (told : DeskTold) : Type 0 where
+  pub door : IsUntouched told.door
+  pub call : Right told.store
+
+-- the outcomes that a call may have if its words ask for this command, or for nothing
+abbrev pub EndsRightly : Option Asked → DeskTold → Type 0
+-- each link that the door gave was attended by the desk over the store's tables
+EndsRightly (Some (asks.Serve store serve)) told = SilentServeOutcome store serve.connections told
+EndsRightly other told = LeavesDoor (AnswersRightly other) told
+
 -- status 12: memory was wanting while the words were read, so the source is untouched
 pub record WantsMemory (told : Told) : Type 0 where
   pub source : IsUntouched told.source
   pub stopped : IsStopped 12 want_of_memory_line told
 
 -- the outcomes that a call with these words may have
-pub data OfficeIsRight (words : List (List ℕ)) (told : StoreTold) : Type 0 where
-  Asks : AnswersRightly (asked words) told → OfficeIsRight words told
-  NoMemory : LeavesStore WantsMemory told → OfficeIsRight words told
+pub data OfficeIsRight (words : List (List ℕ)) (told : DeskTold) : Type 0 where
+  Asks : EndsRightly (asked words) told → OfficeIsRight words told
+  NoMemory : LeavesDoor (LeavesStore WantsMemory) told → OfficeIsRight words told
 
 -- the line that errs gets if a word isn't UTF-8. `office` isn't called then, since its words are strings
 abbrev pub words_not_utf8_line : List ℕ

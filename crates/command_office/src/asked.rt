@@ -17,6 +17,9 @@ ghost use Rattle.command_office.specs.Asked.{
   prove_from as words_of_prove_from,
   question_asked as words_of_question,
   seal_from as words_of_seal_from,
+  serve_asked as words_of_serve,
+  serve_from as words_of_serve_from,
+  short_draw_asked as words_of_short_draw,
   solve_asked as words_of_solve,
   step_asked as words_of_step,
   text_asked as words_of_text,
@@ -28,7 +31,9 @@ ghost use Rattle.command_office.specs.Asked.{
 
 use crate::steps::Step;
 use command_bundles::{Check, Seal};
+use command_desk::Serve;
 use command_explain::Explain;
+use command_loosen::Loosen;
 use command_pools::{FirstPanel, Lottery, Make, Volunteers};
 use command_proofs::{ItsBundle, Prove, Verify};
 use command_questions::{InTickets, Question};
@@ -59,8 +64,19 @@ pub enum Asked<'a> {
         /// The digits of dice.
         digits: Word<'a>,
     },
+    /// The panel that dice draw from a bundle in a round number of tickets.
+    ShortDraw {
+        /// The number of tickets.
+        tickets: TicketCount,
+        /// The bundle's seal, as it was published.
+        seal: Word<'a>,
+        /// The digits of dice.
+        digits: Word<'a>,
+    },
     /// The first quota panel of a pool.
     Panel(FirstPanel),
+    /// The least loosening of a pool's quotas.
+    Loosen(Loosen),
     /// The lottery of a pool, by the stated run.
     Lottery(Lottery),
     /// The verdict on the certificate of a bundle.
@@ -99,6 +115,13 @@ pub enum Asked<'a> {
         /// The text.
         text: StoreText,
     },
+    /// The desk of an office over HTTP.
+    Serve {
+        /// The path of the store.
+        store: Word<'a>,
+        /// The port, and how many links are attended at most.
+        serve: Serve,
+    },
 }
 
 /// Returns the command that the words ask for. `words` don't include the program's name. Fails with `Usage` if they ask for nothing, or if
@@ -136,11 +159,16 @@ fn asked_by<'a>(given: &Given<'a>) -> Option<Asked<'a>>
             let tickets = tickets_of(given)?;
             Some(in_tickets(tickets, InTickets::Panels))
         }
+        CommandName::ShortDraw => short_draw_of(given),
         CommandName::Chances => Some(Asked::Question(Question::Chances)),
         CommandName::Explain => Some(Asked::Explain(Explain)),
         CommandName::Panel => {
             let nodes = given.number("nodes")?;
             Some(Asked::Panel(FirstPanel { nodes }))
+        }
+        CommandName::Loosen => {
+            let nodes = given.number("nodes")?;
+            Some(Asked::Loosen(Loosen { nodes }))
         }
         CommandName::Lottery => {
             let limits = limits_of(given)?;
@@ -177,6 +205,7 @@ fn asked_by<'a>(given: &Given<'a>) -> Option<Asked<'a>>
         CommandName::ImportCharter => import_of(given, Import::Charter),
         CommandName::ImportRules => import_of(given, Import::Rules),
         CommandName::ImportRegister => import_of(given, Import::Register),
+        CommandName::Serve => serve_of(given),
     }
 }
 
@@ -303,6 +332,19 @@ fn in_tickets<'a>(tickets: TicketCount, answer: InTickets) -> Asked<'a>
     Asked::Question(Question::InTickets { tickets, answer })
 }
 
+fn short_draw_of<'a>(given: &Given<'a>) -> Option<Asked<'a>>
+    ensures { result ≡ words_of_short_draw given.now }
+{
+    let tickets = tickets_of(given)?;
+    let seal = given.text("seal")?;
+    let digits = given.text("digits")?;
+    Some(Asked::ShortDraw {
+        tickets,
+        seal,
+        digits,
+    })
+}
+
 /// Returns the number of tickets, or None if the words don't give a number from 1 to 10^9.
 fn tickets_of(given: &Given<'_>) -> Option<TicketCount>
     ensures { result ≡ tickets_in given.now }
@@ -366,4 +408,28 @@ fn workers_from(number: u64) -> Option<Workers>
     ensures { result ≡ words_of_workers number }
 {
     Workers::new(u32::try_from(number).ok()?)
+}
+
+/// Returns the desk over the store that the words name.
+fn serve_of<'a>(given: &Given<'a>) -> Option<Asked<'a>>
+    ensures { result ≡ words_of_serve given.now }
+{
+    let port = given.number("port")?;
+    let connections = given.number("connections")?;
+    let serve = serve_from(port, connections)?;
+    let store = given.text("store")?;
+    Some(Asked::Serve { store, serve })
+}
+
+fn serve_from(port: u64, connections: u64) -> Option<Serve>
+    ensures { result ≡ words_of_serve_from port connections }
+{
+    if 1 <= port && port <= 65_535 && 1 <= connections && connections <= 1_000_000 {
+        Some(Serve {
+            port: port as u16,
+            connections: connections as usize,
+        })
+    } else {
+        None
+    }
 }

@@ -4,17 +4,20 @@ ghost use Rattle.std.specs.Prelude.{map, string_bytes, Some};
 ghost use Rattle.command_shell.specs.Told.{object, told};
 ghost use Rattle.command_shell.specs.Answers.{status_number};
 ghost use Rattle.command_stores.specs.StoreTold.{keeper_told, store_told};
-ghost use Rattle.command_office.specs.Office.{AnswersRightly, OfficeIsRight};
+ghost use Rattle.command_desk.specs.DeskTold.{NoMoreBack, desk_told, door_told};
+ghost use Rattle.office_http.specs.Visits.{link_told};
+ghost use Rattle.command_office.specs.Office.{EndsRightly, OfficeIsRight};
 
 use crate::asked::{Asked, read_asked};
 use crate::steps::command_of;
-use command_bundles::Draw;
+use command_bundles::{Draw, ShortDraw};
+use command_desk::call_serve;
 use command_pools::{call_lottery, call_make};
 use command_shell::{Resources, Status, call, refuse_words, want_memory};
 use command_stores::{call_import, call_prove_round, call_step, call_text};
 use command_words::WordsStop;
 use office_core::Keeper;
-use outside::{Sink, Source, Watch};
+use outside::{Door, Sink, Source, Watch};
 use std::alloc::Global;
 use std::thread::Threads;
 
@@ -22,9 +25,11 @@ use std::thread::Threads;
 ///
 /// The contract says for each list of words what each status means, and what `out` and `errs` gained.
 ///
+/// The caller must show that no more links came back to the door than it gave, if it tells them; a new door has given none.
+///
 /// For `lottery` and `make`, workers search the pieces of a pricing on threads, and `watch` is told of each piece as it starts. No answer
 /// depends on the workers or the watch.
-pub fn office<R: Threads + Sync, S: Source, O: Sink, E: Sink, K: Keeper, W: Watch + Sync>(
+pub fn office<R: Threads + Sync, S: Source, O: Sink, E: Sink, K: Keeper, D: Door, W: Watch + Sync>(
     rt: &R,
     alloc: Global,
     words: &[String],
@@ -32,19 +37,23 @@ pub fn office<R: Threads + Sync, S: Source, O: Sink, E: Sink, K: Keeper, W: Watc
     out: &mut O,
     errs: &mut E,
     keeper: &mut K,
+    door: &mut D,
     watch: &W,
 ) -> u8
-    ensures { OfficeIsRight (map string_bytes words.now) (store_told
+    requires { NoMoreBack (D.links door.old) }
+    ensures { OfficeIsRight (map string_bytes words.now) (desk_told (store_told
         (told result
         (object (S.left source.old) (S.left source.new) (S.faults source.old) (S.faults source.new))
         (object (O.written out.old) (O.written out.new) (O.faults out.old) (O.faults out.new))
         (object (E.written errs.old) (E.written errs.new) (E.faults errs.old) (E.faults errs.new)))
-        (keeper_told (object (K.tables keeper.old) (K.tables keeper.new) (K.faults keeper.old) (K.faults keeper.new)) (K.place keeper.old) (K.place keeper.new))) }
+        (keeper_told (object (K.tables keeper.old) (K.tables keeper.new) (K.faults keeper.old) (K.faults keeper.new)) (K.place keeper.old) (K.place keeper.new)))
+        (door_told (λ link. link_told (D.Link.left link) (D.Link.written link) (D.Link.faults link))
+        (D.links door.old) (D.links door.new) (D.faults door.old) (D.faults door.new))) }
 {
     match read_asked(alloc, words) {
         Ok(asked) => {
             let resources = Resources { rt, alloc, watch };
-            run(&resources, asked, source, out, errs, keeper).number()
+            run(&resources, asked, source, out, errs, keeper, door).number()
         }
         Err(WordsStop::Usage(text)) => refuse_words(errs, text.as_bytes()).number(),
         Err(WordsStop::OutOfMemory) => want_memory(errs).number(),
@@ -52,20 +61,24 @@ pub fn office<R: Threads + Sync, S: Source, O: Sink, E: Sink, K: Keeper, W: Watc
 }
 
 /// Makes one call of the command that the words ask for.
-fn run<R: Threads + Sync, W: Watch + Sync, S: Source, O: Sink, E: Sink, K: Keeper>(
+fn run<R: Threads + Sync, W: Watch + Sync, S: Source, O: Sink, E: Sink, K: Keeper, D: Door>(
     resources: &Resources<'_, R, W>,
     asked: Asked<'_>,
     source: &mut S,
     out: &mut O,
     errs: &mut E,
     keeper: &mut K,
+    door: &mut D,
 ) -> Status
-    ensures { AnswersRightly (Some asked.entry) (store_told
+    requires { NoMoreBack (D.links door.old) }
+    ensures { EndsRightly (Some asked.entry) (desk_told (store_told
         (told (status_number result)
         (object (S.left source.old) (S.left source.new) (S.faults source.old) (S.faults source.new))
         (object (O.written out.old) (O.written out.new) (O.faults out.old) (O.faults out.new))
         (object (E.written errs.old) (E.written errs.new) (E.faults errs.old) (E.faults errs.new)))
-        (keeper_told (object (K.tables keeper.old) (K.tables keeper.new) (K.faults keeper.old) (K.faults keeper.new)) (K.place keeper.old) (K.place keeper.new))) }
+        (keeper_told (object (K.tables keeper.old) (K.tables keeper.new) (K.faults keeper.old) (K.faults keeper.new)) (K.place keeper.old) (K.place keeper.new)))
+        (door_told (λ link. link_told (D.Link.left link) (D.Link.written link) (D.Link.faults link))
+        (D.links door.old) (D.links door.new) (D.faults door.old) (D.faults door.new))) }
 {
     let alloc = resources.alloc;
     match asked {
@@ -80,7 +93,20 @@ fn run<R: Threads + Sync, W: Watch + Sync, S: Source, O: Sink, E: Sink, K: Keepe
             };
             call(alloc, &draw, source, out, errs)
         }
+        Asked::ShortDraw {
+            tickets,
+            seal,
+            digits,
+        } => {
+            let draw = ShortDraw {
+                tickets,
+                seal: seal.as_str(),
+                digits: digits.as_str(),
+            };
+            call(alloc, &draw, source, out, errs)
+        }
         Asked::Panel(panel) => call(alloc, &panel, source, out, errs),
+        Asked::Loosen(loosen) => call(alloc, &loosen, source, out, errs),
         Asked::Lottery(lottery) => call_lottery(resources, &lottery, source, out, errs),
         Asked::Check(check) => call(alloc, &check, source, out, errs),
         Asked::Question(question) => call(alloc, &question, source, out, errs),
@@ -98,5 +124,8 @@ fn run<R: Threads + Sync, W: Watch + Sync, S: Source, O: Sink, E: Sink, K: Keepe
             call_prove_round(resources, proving, store.as_str(), keeper, out, errs)
         }
         Asked::Text { store, text } => call_text(alloc, text, store.as_str(), keeper, out, errs),
+        Asked::Serve { store, serve } => {
+            call_serve(resources, serve, store.as_str(), keeper, door, out, errs)
+        }
     }
 }

@@ -2,7 +2,7 @@
 
 use command_office::office;
 use office_keeper::MapKeeper;
-use outside::{MemSink, MemSource, NoWatch};
+use outside::{MemDoor, MemSink, MemSource, NoWatch};
 use std::alloc::{AllocError, Global};
 use std::thread::Threads;
 
@@ -10,7 +10,7 @@ use std::thread::Threads;
 /// told is the status, a blank, and what `out` and `errs` gain. At status 2 what `errs` gains is left out.
 type Row = (&'static str, &'static str);
 
-const BUNDLE: &str = "\
+pub(crate) const BUNDLE: &str = "\
 0 bundle\t1
 pool\t1
 size\t2
@@ -273,7 +273,7 @@ fn written(file: &str) -> &'static str {
 }
 
 /// Returns the words of a call. Two quotes stand for an empty word.
-fn words_of(alloc: Global, call: &str) -> Result<Vec<String>, AllocError> {
+pub(crate) fn words_of(alloc: Global, call: &str) -> Result<Vec<String>, AllocError> {
     let mut words = Vec::new(alloc);
     for word in call.split_whitespace() {
         let word = match word {
@@ -296,7 +296,7 @@ struct Call<'a> {
 }
 
 /// Makes a call, and returns what it tells.
-fn told<R: Threads + Sync>(
+pub(crate) fn told<R: Threads + Sync>(
     rt: &R,
     alloc: Global,
     keeper: &mut MapKeeper,
@@ -345,6 +345,7 @@ fn made<R: Threads + Sync>(
     let mut source = MemSource::new(alloc, call.file, call.failing)?;
     let mut out = MemSink::new(alloc, call.room, &[])?;
     let mut errs = MemSink::new(alloc, 1000, &[])?;
+    let mut door = MemDoor::new(alloc, Vec::new(alloc), &[])?;
     let status = office(
         rt,
         alloc,
@@ -353,6 +354,7 @@ fn made<R: Threads + Sync>(
         &mut out,
         &mut errs,
         keeper,
+        &mut door,
         &NoWatch,
     );
     let lines = if status == 2 {
@@ -363,7 +365,7 @@ fn made<R: Threads + Sync>(
     format!(in alloc; "{status} {}{lines}", text_of(out.written()))
 }
 
-fn text_of(bytes: &[u8]) -> &str {
+pub(crate) fn text_of(bytes: &[u8]) -> &str {
     str::from_utf8(bytes).unwrap_or("?")
 }
 

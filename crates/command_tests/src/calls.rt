@@ -1,136 +1,19 @@
 //! Calls of `office` over the forms in memory: what it answers, and what `out` and `errs` gained.
 
+use crate::texts::{
+    APART, BARRED, COUPLE, COUPLE_PROOF, CROSSED, DOUBLED_PROOF, EITHER, EITHER_BUNDLE, FAMILY,
+    FIVE, FIVE_BUNDLE, FOUR, FOUR_BUNDLE, FOUR_BUNDLE_PROVED, FOUR_PROOF, FOUR_PROVED, LATER,
+    MEN_LEFT, NOBODY, ONE_WOMAN, ONE_WOMAN_BUNDLE, PAIR, PASSED_CAP, REPLACED, SHORT, SHORT_PROVED,
+    SIX, SURE_BUNDLE, TOTAL_OF_THREE, WIDE_BUNDLE, WOMEN_GONE, WRONG_TOTAL,
+};
 use command_office::{no_words, office};
 use office_keeper::MapKeeper;
-use outside::{MemSink, MemSource, NoWatch, Watch};
+use outside::{MemDoor, MemSink, MemSource, NoWatch, Watch};
 use std::alloc::{AllocError, Global};
 use std::io;
 use std::sync::atomic::{AtomicBool, Ordering};
 use std::test::Fail;
 use std::thread::Threads;
-
-/// Two women and two men, one of each to be chosen. The search makes 3 visits.
-const FOUR: &[u8] =
-    b"pool\t1\nsize\t2\ncategory\tgender\nvalue\tfemale\t1\t1\nvalue\tmale\t1\t1\nvolunteer\ta\tfemale\nvolunteer\tb\tfemale\nvolunteer\tc\tmale\nvolunteer\td\tmale\nend\n";
-
-/// Two seats and four volunteers, each with a value of their own. The first pricing makes 12 visits, in one wave of three pieces.
-const APART: &[u8] =
-    b"pool\t1\nsize\t2\ncategory\tvalue\nvalue\tp\t0\t1\nvalue\tq\t0\t1\nvalue\tr\t0\t1\nvalue\ts\t0\t1\nvolunteer\ta\tp\nvolunteer\tb\tq\nvolunteer\tc\tr\nvolunteer\td\ts\nend\n";
-
-/// Two seats for a woman and a man.
-const PAIR: &[u8] =
-    b"pool\t1\nsize\t2\ncategory\tgender\nvalue\tfemale\t0\t2\nvalue\tmale\t0\t2\nvolunteer\ta\tfemale\nvolunteer\tb\tmale\nend\n";
-
-/// Two women are required, and the pool has one.
-const SHORT: &[u8] =
-    b"pool\t1\nsize\t2\ncategory\tgender\nvalue\tfemale\t2\t2\nvalue\tmale\t0\t2\nvolunteer\ta\tfemale\nvolunteer\tb\tmale\nvolunteer\tc\tmale\nend\n";
-
-/// One seat that needs x and p. Only a has x, and only b has p, so there is no quota panel. The search makes 2 visits.
-const CROSSED: &[u8] =
-    b"pool\t1\nsize\t1\ncategory\tone\nvalue\tx\t1\t1\nvalue\ty\t0\t1\ncategory\ttwo\nvalue\tp\t1\t1\nvalue\tq\t0\t1\nvolunteer\ta\tx\tq\nvolunteer\tb\ty\tp\nend\n";
-
-/// The first quota panel is a and d: b has q, which no panel may have, and a and c both have x, which only one member may have.
-const LATER: &[u8] =
-    b"pool\t1\nsize\t2\ncategory\tone\nvalue\tx\t0\t1\nvalue\ty\t0\t2\ncategory\ttwo\nvalue\tp\t2\t2\nvalue\tq\t0\t0\nvolunteer\ta\tx\tp\nvolunteer\tb\ty\tq\nvolunteer\tc\tx\tp\nvolunteer\td\ty\tp\nend\n";
-
-/// A proof that there is no quota panel: both seats would go to a couple of one household.
-const COUPLE_PROOF: &[u8] =
-    b"proof\t1\npool\t2\nsize\t2\ncategory\tgender\nvalue\tfemale\t0\t2\nvalue\tmale\t0\t2\nvolunteer\ta\tfemale\nvolunteer\tb\tmale\nhousehold\ta\th\nhousehold\tb\th\nend\nnone\ntree\t0\nbound\t0\t0\t-1\t3\t1\nclose\n";
-
-/// A proof of the lottery over two women and two men.
-const FOUR_PROOF: &[u8] =
-    b"proof\t1\nbundle\t1\npool\t1\nsize\t2\ncategory\tgender\nvalue\tfemale\t1\t1\nvalue\tmale\t1\t1\nvolunteer\ta\tfemale\nvolunteer\tb\tfemale\nvolunteer\tc\tmale\nvolunteer\td\tmale\nend\ntotal\t2\npanel\t1\t0\t2\npanel\t1\t1\t3\nstage\t1\t1\t1\t0\t0\nstage\t0\t-1\t-1\t1\t1\ndone\ntree\t1\nbound\t1\t1\t1\ntree\t2\nbound\t1\t2\t1\t3\t-1\nclose\n";
-
-/// `FOUR_PROOF` with the factor 2 in the first stage's tree, which then doesn't show the cap.
-const DOUBLED_PROOF: &[u8] =
-    b"proof\t1\nbundle\t1\npool\t1\nsize\t2\ncategory\tgender\nvalue\tfemale\t1\t1\nvalue\tmale\t1\t1\nvolunteer\ta\tfemale\nvolunteer\tb\tfemale\nvolunteer\tc\tmale\nvolunteer\td\tmale\nend\ntotal\t2\npanel\t1\t0\t2\npanel\t1\t1\t3\nstage\t1\t1\t1\t0\t0\nstage\t0\t-1\t-1\t1\t1\ndone\ntree\t1\nbound\t1\t1\t2\ntree\t2\nbound\t1\t2\t1\t3\t-1\nclose\n";
-
-/// The proof that `prove` makes for two women and two men.
-const FOUR_PROVED: &[u8] =
-    b"proof\t1\nbundle\t1\npool\t1\nsize\t2\ncategory\tgender\nvalue\tfemale\t1\t1\nvalue\tmale\t1\t1\nvolunteer\ta\tfemale\nvolunteer\tb\tfemale\nvolunteer\tc\tmale\nvolunteer\td\tmale\nend\ntotal\t2\npanel\t1\t0\t3\npanel\t1\t1\t2\nstage\t1\t1\t1\t0\t0\nstage\t1\t0\t0\t1\t1\ndone\ntree\t1\nbound\t1\t1\t1\ntree\t2\nbound\t1\t0\t1\t1\t-1\nclose\n";
-
-/// The proof that `prove` makes for `FOUR_BUNDLE`. A volunteer's weight in the second stage is 1, the coefficient in the size, less twice
-/// the coefficient in the value `female`.
-const FOUR_BUNDLE_PROVED: &[u8] =
-    b"proof\t1\nbundle\t1\npool\t1\nsize\t2\ncategory\tgender\nvalue\tfemale\t1\t1\nvalue\tmale\t1\t1\nvolunteer\ta\tfemale\nvolunteer\tb\tfemale\nvolunteer\tc\tmale\nvolunteer\td\tmale\nend\ntotal\t2\npanel\t1\t0\t2\npanel\t1\t1\t3\nstage\t1\t1\t1\t0\t0\nstage\t0\t-1\t-1\t1\t1\ndone\ntree\t1\nbound\t1\t1\t1\ntree\t2\nbound\t1\t0\t1\t1\t-2\nclose\n";
-
-/// The proof that `prove` makes for `SHORT`.
-const SHORT_PROVED: &[u8] =
-    b"proof\t1\npool\t1\nsize\t2\ncategory\tgender\nvalue\tfemale\t2\t2\nvalue\tmale\t0\t2\nvolunteer\ta\tfemale\nvolunteer\tb\tmale\nvolunteer\tc\tmale\nend\nnone\ntree\t0\nbound\t0\t1\t-1\nclose\n";
-
-const NOBODY: &[u8] = b"pool\t1\nsize\t1\nend\n";
-
-/// The bundle of two women and two men.
-const FOUR_BUNDLE: &[u8] =
-    b"bundle\t1\npool\t1\nsize\t2\ncategory\tgender\nvalue\tfemale\t1\t1\nvalue\tmale\t1\t1\nvolunteer\ta\tfemale\nvolunteer\tb\tfemale\nvolunteer\tc\tmale\nvolunteer\td\tmale\nend\ntotal\t2\npanel\t1\t0\t2\npanel\t1\t1\t3\nstage\t1\t1\t1\t0\t0\nstage\t0\t-1\t-1\t1\t1\ndone\n";
-
-/// `FOUR_BUNDLE` with another first stage. The quota panel of a and d weighs more than its cap.
-const PASSED_CAP: &[u8] =
-    b"bundle\t1\npool\t1\nsize\t2\ncategory\tgender\nvalue\tfemale\t1\t1\nvalue\tmale\t1\t1\nvolunteer\ta\tfemale\nvolunteer\tb\tfemale\nvolunteer\tc\tmale\nvolunteer\td\tmale\nend\ntotal\t2\npanel\t1\t0\t2\npanel\t1\t1\t3\nstage\t1\t1\t0\t0\t1\nstage\t0\t-1\t-1\t1\t1\ndone\n";
-
-/// `FOUR_BUNDLE` with a total of 3.
-const TOTAL_OF_THREE: &[u8] =
-    b"bundle\t1\npool\t1\nsize\t2\ncategory\tgender\nvalue\tfemale\t1\t1\nvalue\tmale\t1\t1\nvolunteer\ta\tfemale\nvolunteer\tb\tfemale\nvolunteer\tc\tmale\nvolunteer\td\tmale\nend\ntotal\t3\npanel\t1\t0\t2\npanel\t1\t1\t3\nstage\t1\t1\t1\t0\t0\nstage\t0\t-1\t-1\t1\t1\ndone\n";
-
-/// `FOUR_BUNDLE` without the last stage, which settles the men.
-const MEN_LEFT: &[u8] =
-    b"bundle\t1\npool\t1\nsize\t2\ncategory\tgender\nvalue\tfemale\t1\t1\nvalue\tmale\t1\t1\nvolunteer\ta\tfemale\nvolunteer\tb\tfemale\nvolunteer\tc\tmale\nvolunteer\td\tmale\nend\ntotal\t2\npanel\t1\t0\t2\npanel\t1\t1\t3\nstage\t1\t1\t1\t0\t0\ndone\n";
-
-/// One woman and three men, one of each to be chosen.
-const ONE_WOMAN: &[u8] =
-    b"pool\t1\nsize\t2\ncategory\tgender\nvalue\tfemale\t1\t1\nvalue\tmale\t1\t1\nvolunteer\tw\tfemale\nvolunteer\tx\tmale\nvolunteer\ty\tmale\nvolunteer\tz\tmale\nend\n";
-
-/// One seat and three volunteers. The first has a value that no member may have.
-const BARRED: &[u8] =
-    b"pool\t1\nsize\t1\ncategory\tone\nvalue\tx\t0\t0\nvalue\ty\t0\t1\nvolunteer\ta\tx\nvolunteer\tb\ty\nvolunteer\tc\ty\nend\n";
-
-/// Two seats: one for x, which three volunteers have, and one for y, which two have.
-const FIVE: &[u8] =
-    b"pool\t1\nsize\t2\ncategory\tone\nvalue\tx\t1\t1\nvalue\ty\t1\t1\nvolunteer\ta\tx\nvolunteer\tb\tx\nvolunteer\tc\tx\nvolunteer\td\ty\nvolunteer\te\ty\nend\n";
-
-/// Two seats, for at most two members with p, one with q and one with r. Two volunteers have each value.
-const SIX: &[u8] =
-    b"pool\t1\nsize\t2\ncategory\tone\nvalue\tp\t0\t2\nvalue\tq\t0\t1\nvalue\tr\t0\t1\nvolunteer\ta\tp\nvolunteer\tb\tp\nvolunteer\tc\tq\nvolunteer\td\tq\nvolunteer\te\tr\nvolunteer\tf\tr\nend\n";
-
-/// One seat and two volunteers.
-const EITHER: &[u8] =
-    b"pool\t1\nsize\t1\ncategory\tone\nvalue\tx\t0\t1\nvalue\ty\t0\t1\nvolunteer\ta\tx\nvolunteer\tb\ty\nend\n";
-
-/// The bundle of `EITHER`.
-const EITHER_BUNDLE: &[u8] =
-    b"bundle\t1\npool\t1\nsize\t1\ncategory\tone\nvalue\tx\t0\t1\nvalue\ty\t0\t1\nvolunteer\ta\tx\nvolunteer\tb\ty\nend\ntotal\t2\npanel\t1\t0\npanel\t1\t1\nstage\t1\t1\t1\ndone\n";
-
-/// Two women and two men. One woman is gone, and one man is seated.
-const REPLACED: &[u8] =
-    b"pool\t1\nsize\t2\ncategory\tgender\nvalue\tfemale\t1\t1\nvalue\tmale\t1\t1\nvolunteer\ta\tfemale\nvolunteer\tb\tfemale\nvolunteer\tc\tmale\nvolunteer\td\tmale\ngone\ta\nseated\tc\nend\n";
-
-/// Two women and two men. One woman and one man are of one household.
-const FAMILY: &[u8] =
-    b"pool\t2\nsize\t2\ncategory\tgender\nvalue\tfemale\t1\t1\nvalue\tmale\t1\t1\nvolunteer\ta\tfemale\nvolunteer\tb\tfemale\nvolunteer\tc\tmale\nvolunteer\td\tmale\nhousehold\ta\th\nhousehold\tc\th\nend\n";
-
-/// Two seats, and no volunteers except a couple of one household.
-const COUPLE: &[u8] =
-    b"pool\t2\nsize\t2\ncategory\tgender\nvalue\tfemale\t0\t2\nvalue\tmale\t0\t2\nvolunteer\ta\tfemale\nvolunteer\tb\tmale\nhousehold\ta\th\nhousehold\tb\th\nend\n";
-
-/// Two women and two men. Both women are gone, and one man is seated.
-const WOMEN_GONE: &[u8] =
-    b"pool\t1\nsize\t2\ncategory\tgender\nvalue\tfemale\t1\t1\nvalue\tmale\t1\t1\nvolunteer\ta\tfemale\nvolunteer\tb\tfemale\nvolunteer\tc\tmale\nvolunteer\td\tmale\ngone\ta\ngone\tb\nseated\tc\nend\n";
-
-/// The bundle of one woman and three men.
-const ONE_WOMAN_BUNDLE: &[u8] =
-    b"bundle\t1\npool\t1\nsize\t2\ncategory\tgender\nvalue\tfemale\t1\t1\nvalue\tmale\t1\t1\nvolunteer\tw\tfemale\nvolunteer\tx\tmale\nvolunteer\ty\tmale\nvolunteer\tz\tmale\nend\ntotal\t3\npanel\t1\t0\t1\npanel\t1\t0\t2\npanel\t1\t0\t3\nstage\t1\t0\t1\t1\t1\nstage\t2\t3\t-1\t-1\t-1\ndone\n";
-
-/// `ONE_WOMAN_BUNDLE` with a total that the weights don't sum to.
-const WRONG_TOTAL: &[u8] =
-    b"bundle\t1\npool\t1\nsize\t2\ncategory\tgender\nvalue\tfemale\t1\t1\nvalue\tmale\t1\t1\nvolunteer\tw\tfemale\nvolunteer\tx\tmale\nvolunteer\ty\tmale\nvolunteer\tz\tmale\nend\ntotal\t4\npanel\t1\t0\t1\npanel\t1\t0\t2\npanel\t1\t0\t3\nstage\t1\t0\t1\t1\t1\nstage\t2\t3\t-1\t-1\t-1\ndone\n";
-
-/// A bundle of one panel.
-const SURE_BUNDLE: &[u8] =
-    b"bundle\t1\npool\t1\nsize\t2\ncategory\tgender\nvalue\tfemale\t0\t2\nvalue\tmale\t0\t2\nvolunteer\ta\tfemale\nvolunteer\tb\tmale\nend\ntotal\t1\npanel\t1\t0\t1\nstage\t1\t1\t0\nstage\t0\t-1\t1\ndone\n";
-
-/// A bundle of the greatest total, 10^38, and two panels.
-const WIDE_BUNDLE: &[u8] =
-    b"bundle\t1\npool\t1\nsize\t2\ncategory\tgender\nvalue\tfemale\t1\t1\nvalue\tmale\t1\t1\nvolunteer\tw\tfemale\nvolunteer\tx\tmale\nvolunteer\ty\tmale\nend\ntotal\t100000000000000000000000000000000000000\npanel\t10000000000000000000000000000000000000\t0\t1\npanel\t90000000000000000000000000000000000000\t0\t2\nstage\t1\t1\t0\t0\ndone\n";
 
 /// One call: its words; the text that the source holds; which reads of the source, which puts of `out` and which puts of `errs` (`lines`)
 /// fail, counted from 1; and how many bytes `out` takes.
@@ -186,6 +69,7 @@ fn answer_watched<R: Threads + Sync, W: Watch + Sync>(
     let mut out = MemSink::new(alloc, call.room, call.puts)?;
     let mut errs = MemSink::new(alloc, 1000, call.lines)?;
     let mut keeper = MapKeeper::new(alloc, &[])?;
+    let mut door = MemDoor::new(alloc, Vec::new(alloc), &[])?;
     let status = office(
         rt,
         alloc,
@@ -194,6 +78,7 @@ fn answer_watched<R: Threads + Sync, W: Watch + Sync>(
         &mut out,
         &mut errs,
         &mut keeper,
+        &mut door,
         watch,
     );
     Ok(Answer { status, out, errs })
@@ -325,7 +210,7 @@ const USAGE_ROWS: &[(&[&str], &[u8], u8, &[u8], &[u8])] = &[
         FOUR,
         2,
         b"",
-        b"error: 'sortition' requires a subcommand but one was not provided\n  [subcommands: prove, keep, verify, bundle, explain, seal, dice, tickets, draw, chances, short, import-charter, import-rules, import-register, solve, drop, next-round, show, report, pool, panel, lottery, check, make, help]\n\nUsage: sortition <COMMAND>\n\nFor more information, try '--help'.\n",
+        b"error: 'sortition' requires a subcommand but one was not provided\n  [subcommands: prove, keep, verify, bundle, explain, seal, dice, tickets, draw, chances, short, short-draw, import-charter, import-rules, import-register, solve, drop, next-round, show, report, pool, serve, panel, loosen, lottery, check, make, help]\n\nUsage: sortition <COMMAND>\n\nFor more information, try '--help'.\n",
     ),
     (
         &["panel", "--nodes", "x"],
@@ -503,6 +388,74 @@ const BUNDLE_ROWS: &[(&[&str], &[u8], u8, &[u8], &[u8])] = &[
         0,
         b"ticket\t10000000000000000000000000000000000000\t38\npanel\tw\ty\n",
         b"",
+    ),
+    (
+        &["short"],
+        FIVE_BUNDLE,
+        0,
+        b"tickets\t1000\npanel\t333\t0\t3\npanel\t167\t1\t3\npanel\t167\t1\t4\npanel\t333\t2\t4\n",
+        b"",
+    ),
+    (
+        &["short", "--tickets", "1"],
+        FIVE_BUNDLE,
+        0,
+        b"tickets\t1\npanel\t1\t0\t3\n",
+        b"",
+    ),
+    (
+        &[
+            "short-draw",
+            "--seal",
+            "a565420624c0997ef1a88ed2c43beaf72d119b9729fc3ffc7e8020035d560b88",
+            "--digits",
+            "500",
+        ],
+        FIVE_BUNDLE,
+        0,
+        b"ticket\t500\t3\npanel\tb\te\n",
+        b"",
+    ),
+    (
+        &[
+            "short-draw",
+            "--tickets",
+            "1000",
+            "--seal",
+            "0000000000000000000000000000000000000000000000000000000000000000",
+            "--digits",
+            "500",
+        ],
+        FIVE_BUNDLE,
+        6,
+        b"",
+        b"rule\tSealDiffers\t0000000000000000000000000000000000000000000000000000000000000000\ta565420624c0997ef1a88ed2c43beaf72d119b9729fc3ffc7e8020035d560b88\n",
+    ),
+    (
+        &[
+            "short-draw",
+            "--seal",
+            "a565420624c0997ef1a88ed2c43beaf72d119b9729fc3ffc7e8020035d560b88",
+            "--digits",
+            "50",
+        ],
+        FIVE_BUNDLE,
+        6,
+        b"",
+        b"rule\tMoreDigits\t2\n",
+    ),
+    (
+        &[
+            "short-draw",
+            "--seal",
+            "0000000000000000000000000000000000000000000000000000000000000000",
+            "--digits",
+            "500",
+        ],
+        WRONG_TOTAL,
+        3,
+        b"",
+        b"input\t0\t14\n",
     ),
 ];
 

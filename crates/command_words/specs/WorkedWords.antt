@@ -65,7 +65,7 @@ pub record DrawGives : Type 0 where
   pub no_seal : GiveNothing (codes "draw" ∷ codes "--digits" ∷ codes "97" ∷ [])
   pub no_digits : GiveNothing (codes "draw" ∷ codes "--seal" ∷ codes "s" ∷ [])
 
--- numbers of tickets are from 1 to 10 ^ 9. `short` has 1000 if none is given; `dice` and `tickets` have none then
+-- numbers of tickets are from 1 to 10 ^ 9. `short` and `short-draw` have 1000 if none is given; `dice` and `tickets` have none then
 pub record ShortGives : Type 0 where
   pub short : Give (codes "short" ∷ []) name.Short (number (codes "tickets") 1000 ∷ [])
   pub least : Give (codes "short" ∷ codes "--tickets" ∷ codes "1" ∷ []) name.Short (number (codes "tickets") 1 ∷ [])
@@ -75,13 +75,23 @@ pub record ShortGives : Type 0 where
   pub dice : Give (codes "dice" ∷ codes "--tickets" ∷ codes "1000" ∷ []) name.Dice (number (codes "tickets") 1000 ∷ [])
   pub tickets : Give (codes "tickets" ∷ codes "--tickets" ∷ codes "1" ∷ []) name.Tickets (number (codes "tickets") 1 ∷ [])
   pub no_dice : GiveNothing (codes "dice" ∷ codes "--tickets" ∷ codes "0" ∷ [])
+  pub draw : Give (codes "short-draw" ∷ codes "--tickets" ∷ codes "10" ∷ codes "--seal" ∷ codes "s" ∷ codes "--digits" ∷ codes "97" ∷ []) name.ShortDraw
+      (number (codes "tickets") 10 ∷ text (codes "seal") (codes "s") ∷ text (codes "digits") (codes "97") ∷ [])
+  pub default : Give (codes "short-draw" ∷ codes "--seal" ∷ codes "s" ∷ codes "--digits" ∷ codes "97" ∷ []) name.ShortDraw
+      (number (codes "tickets") 1000 ∷ text (codes "seal") (codes "s") ∷ text (codes "digits") (codes "97") ∷ [])
+  pub no_seal : GiveNothing (codes "short-draw" ∷ codes "--digits" ∷ codes "97" ∷ [])
+  pub no_digits : GiveNothing (codes "short-draw" ∷ codes "--seal" ∷ codes "s" ∷ [])
 
--- the budget of the searches of `panel` and `check`: from 0 to 10 ^ 12 visits
+-- the budget of the searches of `panel`, `loosen` and `check`: from 0 to 10 ^ 12 visits
 pub record SearchesGive : Type 0 where
   pub panel : Give (codes "panel" ∷ []) name.Panel (number (codes "nodes") 50000000 ∷ [])
   pub panel_least : Give (codes "panel" ∷ codes "--nodes" ∷ codes "0" ∷ []) name.Panel (number (codes "nodes") 0 ∷ [])
   pub panel_most : Give (codes "panel" ∷ codes "--nodes" ∷ codes "1000000000000" ∷ []) name.Panel (number (codes "nodes") 1000000000000 ∷ [])
   pub panel_more : GiveNothing (codes "panel" ∷ codes "--nodes" ∷ codes "1000000000001" ∷ [])
+  pub loosen : Give (codes "loosen" ∷ []) name.Loosen (number (codes "nodes") 50000000 ∷ [])
+  pub loosen_least : Give (codes "loosen" ∷ codes "--nodes" ∷ codes "0" ∷ []) name.Loosen (number (codes "nodes") 0 ∷ [])
+  pub loosen_most : Give (codes "loosen" ∷ codes "--nodes" ∷ codes "1000000000000" ∷ []) name.Loosen (number (codes "nodes") 1000000000000 ∷ [])
+  pub loosen_more : GiveNothing (codes "loosen" ∷ codes "--nodes" ∷ codes "1000000000001" ∷ [])
   pub check : Give (codes "check" ∷ []) name.Check (number (codes "nodes") 50000000 ∷ [])
   pub check_least : Give (codes "check" ∷ codes "--nodes" ∷ codes "0" ∷ []) name.Check (number (codes "nodes") 0 ∷ [])
   pub check_most : Give (codes "check" ∷ codes "--nodes" ∷ codes "1000000000000" ∷ []) name.Check (number (codes "nodes") 1000000000000 ∷ [])
@@ -175,3 +185,18 @@ pub record OthersGive : Type 0 where
   pub another : GiveNothing (codes "sort" ∷ [])
   pub help : GiveNothing (codes "help" ∷ [])
   pub option : GiveNothing (codes "verify" ∷ codes "--round" ∷ codes "1" ∷ [])
+
+-- the store and a port are required. Ports are from 1 to 65535; connections are from 1 to 10 ^ 6, and 10 ^ 6 if they are not given
+pub record ServeGives : Type 0 where
+  pub defaults : Give (codes "serve" ∷ codes "--store" ∷ codes "s" ∷ codes "--port" ∷ codes "1" ∷ []) name.Serve
+      (text (codes "store") (codes "s") ∷ number (codes "port") 1 ∷ number (codes "connections") 1000000 ∷ [])
+  pub least : Give (codes "serve" ∷ codes "--store" ∷ codes "s" ∷ codes "--port" ∷ codes "65535" ∷ codes "--connections" ∷ codes "1" ∷ []) name.Serve
+      (text (codes "store") (codes "s") ∷ number (codes "port") 65535 ∷ number (codes "connections") 1 ∷ [])
+  pub most : Give (codes "serve" ∷ codes "--store" ∷ codes "s" ∷ codes "--port" ∷ codes "1" ∷ codes "--connections" ∷ codes "1000000" ∷ []) name.Serve
+      (text (codes "store") (codes "s") ∷ number (codes "port") 1 ∷ number (codes "connections") 1000000 ∷ [])
+  pub no_store : GiveNothing (codes "serve" ∷ codes "--port" ∷ codes "1" ∷ [])
+  pub no_port : GiveNothing (codes "serve" ∷ codes "--store" ∷ codes "s" ∷ [])
+  pub zero : GiveNothing (codes "serve" ∷ codes "--store" ∷ codes "s" ∷ codes "--port" ∷ codes "0" ∷ [])
+  pub greater_port : GiveNothing (codes "serve" ∷ codes "--store" ∷ codes "s" ∷ codes "--port" ∷ codes "65536" ∷ [])
+  pub nobody : GiveNothing (codes "serve" ∷ codes "--store" ∷ codes "s" ∷ codes "--port" ∷ codes "1" ∷ codes "--connections" ∷ codes "0" ∷ [])
+  pub more : GiveNothing (codes "serve" ∷ codes "--store" ∷ codes "s" ∷ codes "--port" ∷ codes "1" ∷ codes "--connections" ∷ codes "1000001" ∷ [])

@@ -17,6 +17,7 @@ To run an assembly over a store:
   next-round       Begins the round after one with a dropout
   report           Prints the report of a round, for the public
   pool             Prints the pool of a round
+  serve            Opens the desk for volunteers over HTTP
 
 To draw by dice, before everybody's eyes:
   seal             Prints the seal of a bundle, which is published before the draw
@@ -24,6 +25,7 @@ To draw by dice, before everybody's eyes:
   tickets          Prints which ticket draws which panel
   draw             Prints the panel that the digits of dice draw
   short            Prints the lottery in a round number of tickets
+  short-draw       Prints the panel that dice draw in a round number of tickets
 
 To check what was published:
   verify           Checks a proof, by additions
@@ -36,6 +38,7 @@ To make a lottery without a store:
   prove            Makes the lottery of a pool, with a proof of it
   lottery          Makes the lottery of a pool by the stated run, of up to some 30 people
   panel            Prints the first panel of a pool that meets the quotas
+  loosen           Prints which bounds to move least, if no panel meets the quotas
   make             Makes a pool from a number, and tells of its lottery
 
 `sortition help COMMAND` prints the options of a command, and an example.

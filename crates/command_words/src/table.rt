@@ -164,6 +164,13 @@ const DRAW_COMMANDS: &[TableCommand] = &[
         example: "Example: sortition short --tickets 1000 < city.bundle",
         options: &[TICKETS],
     },
+    CommandWords {
+        command: CommandName::ShortDraw,
+        name: "short-draw",
+        help: "Prints the panel that dice draw from the bundle on standard input in a round number of tickets",
+        example: "Example: sortition short-draw --tickets 1000 --seal SEAL --digits 500 < city.bundle",
+        options: &[TICKETS, SEAL, DIGITS],
+    },
 ];
 
 const OFFICE_COMMANDS: &[TableCommand] = &[
@@ -250,6 +257,33 @@ const OFFICE_COMMANDS: &[TableCommand] = &[
         example: "Example: sortition pool --store city.store > city.pool",
         options: &[STORE, ROUND],
     },
+    CommandWords {
+        command: CommandName::Serve,
+        name: "serve",
+        help: "Opens the desk of the store over HTTP, at a port of this machine",
+        example: "Example: sortition serve --store city.store --port 8080",
+        options: &[
+            STORE,
+            OptionWords {
+                name: "port",
+                help: "The port, 1 to 65535",
+                form: Form::Number {
+                    least: 1,
+                    most: 65_535,
+                },
+                missing: Missing::Refused,
+            },
+            OptionWords {
+                name: "connections",
+                help: "How many connections are answered before the desk closes, 1 to 1000000",
+                form: Form::Number {
+                    least: 1,
+                    most: 1_000_000,
+                },
+                missing: Missing::Default("1000000"),
+            },
+        ],
+    },
 ];
 
 const RUN_COMMANDS: &[TableCommand] = &[
@@ -258,6 +292,13 @@ const RUN_COMMANDS: &[TableCommand] = &[
         name: "panel",
         help: "Prints the first quota panel of the pool on standard input",
         example: "Example: sortition panel < city.pool",
+        options: &[NODES],
+    },
+    CommandWords {
+        command: CommandName::Loosen,
+        name: "loosen",
+        help: "Prints which bounds to move least so that the pool on standard input has a quota panel",
+        example: "Example: sortition loosen < city.pool",
         options: &[NODES],
     },
     CommandWords {

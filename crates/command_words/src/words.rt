@@ -25,8 +25,12 @@ pub enum CommandName {
     Explain,
     /// The lottery of a bundle in a round number of tickets.
     Short,
+    /// The panel that dice draw from a bundle in a round number of tickets.
+    ShortDraw,
     /// The first quota panel of a pool.
     Panel,
+    /// The least loosening of a pool's quotas.
+    Loosen,
     /// The lottery of a pool by the stated run.
     Lottery,
     /// The verdict on the certificate of a bundle.
@@ -51,6 +55,8 @@ pub enum CommandName {
     ImportRules,
     /// Volunteers for the register, from a file.
     ImportRegister,
+    /// The desk of an office over HTTP.
+    Serve,
 }
 
 /// The form that an option's value must have.

@@ -13,6 +13,7 @@ ghost use Rattle.command_words.specs.WorkedWords.{
   ProveGives,
   SealGives,
   SearchesGive,
+  ServeGives,
   ShortGives,
   ShownRoundsGive,
   SolveGives,
@@ -35,4 +36,5 @@ pub fn words_are_worked()
     ensures lottery { LotteryGives }
     ensures make { MakeGives }
     ensures others { OthersGive }
+    ensures serve { ServeGives }
 {}

@@ -4,13 +4,26 @@ ghost use Rattle.outside.specs.Faults.{Rose, raised};
 ghost use Rattle.outside.specs.Links.{IsOneOut, after_back, after_next, first_of};
 
 use crate::{Door, Failed, TcpLink};
-use std::net::{Net, OpenListener, TcpListener};
+use std::io::Read;
+use std::net::{Net, OpenListener, OpenStream, Shutdown, TcpListener};
+use std::time::Duration;
 
 /// The address at which the door listens: only programs of this machine reach it.
 const ADDRESS: &str = "127.0.0.1";
 
+/// How long a read or a put of a link waits for the client, in seconds, before it fails.
+const PATIENCE: u64 = 10;
+
+/// How long `back` waits for the client to close its end, in milliseconds.
+const LINGERING: u64 = 500;
+
+/// How often `back` reads at most what the client still sends, a few thousand bytes at a time.
+const LAST_READS: usize = 64;
+
 /// A port of this machine. It tells no links: contracts speak of its count of faults alone. Each error of the system is a fault, and so is
 /// a `next` before the door listens. `next` waits for a connection, and never returns `None`. `back` closes the connection.
+///
+/// A read or a put of a link fails if the client lets it wait for 10 seconds.
 #[derive(Drop)]
 pub struct TcpDoor<R: Net + Drop> {
     rt: R,
@@ -94,6 +107,9 @@ impl<R: Net + Drop> Door for TcpDoor<R> {
     {
         if let Some(listener) = &self.listener {
             if let Ok((stream, _)) = listener.accept() {
+                let patience = Some(Duration::from_secs(PATIENCE));
+                let _reads = stream.set_read_timeout(patience);
+                let _puts = stream.set_write_timeout(patience);
                 return Ok(Some(TcpLink::new(stream)));
             }
         }
@@ -101,11 +117,29 @@ impl<R: Net + Drop> Door for TcpDoor<R> {
         Err(Failed)
     }
 
-    fn back(&mut self, _link: TcpLink<R::Stream>)
+    fn back(&mut self, link: TcpLink<R::Stream>)
         requires { IsOneOut (⟦<TcpDoor<R> as Door>⟧.links self.old) }
         ensures last { ⟦<TcpDoor<R> as Door>⟧.links self.new
-            ≡ option_map (λ told. after_back told _link) (⟦<TcpDoor<R> as Door>⟧.links self.old) }
+            ≡ option_map (λ told. after_back told link) (⟦<TcpDoor<R> as Door>⟧.links self.old) }
         ensures none { ⟦<TcpDoor<R> as Door>⟧.faults self.new
             ≡ ⟦<TcpDoor<R> as Door>⟧.faults self.old }
-    {}
+    {
+        close(link.into_stream());
+    }
+}
+
+/// Closes a connection. What the client has sent and nobody read is read first: otherwise the system would reset the connection, and the
+/// client could lose what was written to it.
+fn close<S: Read + OpenStream + Drop>(mut stream: S) {
+    let lingering = Some(Duration::from_millis(LINGERING));
+    if stream.shutdown(Shutdown::Write).is_err() || stream.set_read_timeout(lingering).is_err() {
+        return;
+    }
+    let mut room = [0u8; 4096];
+    for _read in 0..LAST_READS {
+        match stream.read(&mut room) {
+            Ok(0) | Err(_) => return,
+            Ok(_) => {}
+        }
+    }
 }

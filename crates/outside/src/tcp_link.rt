@@ -25,6 +25,11 @@ impl<S: Read + Write + Drop> TcpLink<S> {
         TcpLink { stream, faults: 0 }
     }
 
+    /// Returns the stream.
+    pub(crate) fn into_stream(self) -> S {
+        self.stream
+    }
+
     /// Returns how many reads and puts have failed.
     pub fn faults(&self) -> u64
         ensures { result ≡ ⟦<TcpLink<S> as Link>⟧.faults self.now }

@@ -1,5 +1,5 @@
-//! The program: a citizens' assembly sortition office. `main` calls `office` over standard input and output and a keeper of files, and has no
-//! contract of its own. Stands on `command_office`. Promises: none of its own; those of `office` are in `command_office`, and what they mean
+//! The program: a citizens' assembly sortition office. `main` calls `office` over standard input and output, a keeper of files and a door over
+//! a port, and has no contract of its own. Stands on `command_office`. Promises: none of its own; those of `office` are in `command_office`, and what they mean
 //! for a reader is in `command_headline`.
 #![tactic(auto)]
 
@@ -7,7 +7,7 @@ mod given;
 
 use command_office::{no_words, office};
 use office_keeper::SqliteKeeper;
-use outside::{NoWatch, StdSink, StdSource};
+use outside::{NoWatch, StdSink, StdSource, TcpDoor};
 use std::process::ExitCode;
 
 fn main(rt: HostRuntime) -> ExitCode {
@@ -15,6 +15,7 @@ fn main(rt: HostRuntime) -> ExitCode {
     let mut out = StdSink::new(rt.stdout());
     let mut errs = StdSink::new(rt.stderr());
     let mut keeper = SqliteKeeper::new(&rt);
+    let mut door = TcpDoor::new(&rt);
     let status = match given::given_words(&rt) {
         Ok(words) => office(
             &rt,
@@ -24,6 +25,7 @@ fn main(rt: HostRuntime) -> ExitCode {
             &mut out,
             &mut errs,
             &mut keeper,
+            &mut door,
             &NoWatch,
         ),
         Err(error) => no_words(&mut errs, error.kind()).number(),

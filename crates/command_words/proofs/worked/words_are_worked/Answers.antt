@@ -54,7 +54,7 @@ returns-clause-imports c = record {
 
 pub returns-clause-searches : goal.returns-clause-searches
 unfolding given_in command_table proof_commands draw_commands office_commands run_commands clap_on_literals
-returns-clause-searches c = record { panel = refl; panel_least = refl; panel_most = refl; panel_more = refl; check = refl; check_least = refl; check_most = refl; check_more = refl }
+returns-clause-searches c = record { panel = refl; panel_least = refl; panel_most = refl; panel_more = refl; loosen = refl; loosen_least = refl; loosen_most = refl; loosen_more = refl; check = refl; check_least = refl; check_most = refl; check_more = refl }
 
 pub returns-clause-lottery : goal.returns-clause-lottery
 unfolding given_in command_table proof_commands draw_commands office_commands run_commands clap_on_literals
@@ -68,6 +68,10 @@ pub returns-clause-others : goal.returns-clause-others
 unfolding given_in command_table proof_commands draw_commands office_commands run_commands clap_on_literals
 returns-clause-others c = record { none = refl; another = refl; help = refl; option = refl }
 
+pub returns-clause-serve : goal.returns-clause-serve
+unfolding given_in command_table proof_commands draw_commands office_commands run_commands clap_on_literals
+returns-clause-serve c = record { defaults = refl; least = refl; most = refl; no_store = refl; no_port = refl; zero = refl; greater_port = refl; nobody = refl; more = refl }
+
 pub returns-clause-short : goal.returns-clause-short
 unfolding given_in command_table proof_commands draw_commands office_commands run_commands clap_on_literals
-returns-clause-short c = record { short = refl; least = refl; most = refl; none = refl; more = refl; dice = refl; tickets = refl; no_dice = refl }
+returns-clause-short c = record { short = refl; least = refl; most = refl; none = refl; more = refl; dice = refl; tickets = refl; no_dice = refl; draw = refl; default = refl; no_seal = refl; no_digits = refl }

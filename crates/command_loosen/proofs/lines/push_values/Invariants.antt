@@ -1,0 +1,9 @@
+use Rattle.std.proofs.Common.{◌≡◌, ◌++◌, length, take}
+use Rattle.std.specs.List.{flat_map, zip}
+use Rattle.define_lines.specs.Lines.{text_of}
+use Rattle.command_loosen.specs.Lines.{moved_line}
+use Rattle.command_loosen.proofs.lines.push_values.Given as goal
+
+-- the lines of the values so far were appended
+abbrev pub invariant-loop-value : goal.invariant-loop-value
+invariant-loop-value l = l.text.items ≡ l.fn.text.items ++ text_of (flat_map (moved_line l.category) (take (length l.yielded) (zip l.values l.loosened)))
