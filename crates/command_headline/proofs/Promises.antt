@@ -2,6 +2,8 @@
 use Rattle.std.proofs.Common.{◌≡◌, ◌∙◌, ℕ, true, List, Option, Some, None, refl, ap, sym, subst, inl, inr}
 use Rattle.std.specs.Prelude.{◌⊎◌}
 use Rattle.define_additions.specs.Refusals.{RefusalMeans}
+use Rattle.define_additions.specs.TreeLines.{TreeLine}
+use Rattle.define_pools.specs.Lottery.{TotalAgrees}
 use Rattle.define_additions.specs.ProofVerdict.{OfLottery, OfNoPanel, Proof, verdict}
 use Rattle.define_bundles.specs.BundleText.{Bundle}
 use Rattle.define_checks.specs.Reasons.{Refusal, Refused, Valid}
@@ -35,9 +37,17 @@ use Rattle.command_explain.specs.AnyTexts.{Decides, IsRightOrFaulty, IsText, any
 use Rattle.command_explain.specs.Explained.{Explains}
 use Rattle.command_explain.specs.declared.any_text.AnyText.{AnyText}
 use Rattle.command_explain.specs.declared.any_text.AnyText.TheVariants as any
+use Rattle.command_page.specs.Inputs.{bundle_in, bundle_or_proof_format, IsTextOfEither as IsTextOfPage}
+use Rattle.command_page.specs.Page.{about, DrawnPageMeans, DrawnPageOfBundle, PageMeans, PageOfBundle, WithoutLottery}
+use Rattle.command_page.specs.declared.inputs.BundleOrProof.{BundleOrProof}
+use Rattle.command_page.specs.declared.inputs.BundleOrProof.TheVariants as paged
+use Rattle.command_why.specs.PoolsAndProofs.{pool_in as pool_asked, pool_or_proof_format, IsTextOfEither as IsTextOfPoolOrProof}
+use Rattle.command_why.specs.Why.{ExplainsWithin}
+use Rattle.command_why.specs.declared.about.PoolOrProof.{PoolOrProof}
+use Rattle.command_why.specs.declared.about.PoolOrProof.TheVariants as asked_of
 use Rattle.command_office.specs.declared.asked.Asked.{Asked}
 use Rattle.command_office.specs.declared.asked.Asked.TheVariants as asks
-use Rattle.command_headline.specs.Headline.{SpentAlone, CheckFailed, HeldBundle, HeldEither, HeldNoText, HeldPool, HeldProof, PassedAlone, BrokenAlone, IsShown, TellsBundle, DoneAlone, TellsItsBundle, NoneAlone, TellsProof, TellsShown, TellsSummary, TellsValid, WrongAlone, is_status}
+use Rattle.command_headline.specs.Headline.{SpentAlone, CheckFailed, HasNoLottery, HeldBundle, HeldBundleOrProof, HeldEither, HeldNoPage, HeldNoText, HeldPool, HeldPoolOrProof, HeldProof, PassedAlone, BrokenAlone, IsShown, TellsBundle, TellsDrawnPage, TellsPage, DoneAlone, TellsItsBundle, NoneAlone, TellsProof, TellsShown, TellsSummary, TellsValid, WrongAlone, is_status}
 use Rattle.command_office.specs.Office.{Answers, AnswersAlone, IsUsage}
 use Rattle.command_headline.proofs.Leximin.{leximin}
 use Rattle.command_headline.proofs.Reading.{IsInput, Long, NoText, OfValue, about_done, about_input, about_no_panel, about_refused, about_rule, about_spent, about_wide, is_done, is_input, is_no_panel, is_refused, is_rule, is_spent, is_wide, outcome_is_status, outcome_not_nine, outcome_not_seven, outcome_not_two, reads_not, said_at, text_is_status, text_not_nine, text_not_two, text_writes_not, writes_not}
@@ -84,6 +94,55 @@ module _ (told : Told) where
   held_either : (about : PoolOrBundle) (bytes : List ℕ) → HeldAll told.source bytes → IsTextOfEither about bytes → HeldEither told.source (pool_in about)
   held_either (either.Pool pool) bytes held is = inl (held_pool pool bytes held is)
   held_either (either.Bundle bundle) bytes held is = inr (bundle.answer, held_bundle bundle bytes held is)
+
+  held_asked : (about : PoolOrProof) (bytes : List ℕ) → HeldAll told.source bytes → IsTextOfPoolOrProof about bytes → HeldPoolOrProof told.source (pool_asked about)
+  held_asked (asked_of.Pool pool) bytes held is = inl (held_pool pool bytes held is)
+  held_asked (asked_of.Proof proof) bytes held is = inr (proof, held_proof proof bytes held is, refl)
+
+  -- what is right for `why` about a pool or a proof
+  abbrev explains : ℕ → ℕ → PoolOrProof → Saying → Type 0
+  explains pivots nodes about = ExplainsWithin pivots nodes (pool_asked about)
+
+  -- an answer about a page is right for the bundle that the source held, by itself or in a proof; or it is right for a proof without a lottery
+  abbrev PageAbout : (Bundle → RightAnswers) → Saying → Type 0
+  PageAbout Means answer =
+      ((bundle : Bundle) × HeldBundleOrProof told.source bundle × IsRight (Means bundle) answer)
+      ⊎ ((pool : Pool) × (lines : List TreeLine) × HeldProof told.source (OfNoPanel pool lines) × IsRight WithoutLottery answer)
+
+  page_about : (Means : Bundle → RightAnswers) (answer : Saying) (input : BundleOrProof) (bytes : List ℕ) → HeldAll told.source bytes → IsTextOfPage input bytes →
+      IsRight (about Means (bundle_in input)) answer → PageAbout Means answer
+  page_about Means answer (paged.Bundle bundle) bytes held is right = inl (bundle, inl (held_bundle bundle bytes held is), right)
+  page_about Means answer (paged.Proof (OfLottery pool its trees)) bytes held is right =
+      inl (record { pool = pool; answer = its }, inr (trees, held_proof (OfLottery pool its trees) bytes held is), right)
+  page_about Means answer (paged.Proof (OfNoPanel pool lines)) bytes held is right = inr (pool, lines, held_proof (OfNoPanel pool lines) bytes held is, right)
+
+  -- an answer that is right for no bundle, and for no proof without a lottery
+  not_about : (Means : Bundle → RightAnswers) (answer : Saying) → ((bundle : Bundle) → IsRight (Means bundle) answer → ⊥) → (IsRight WithoutLottery answer → ⊥) →
+      PageAbout Means answer → ⊥
+  not_about Means answer never none (inl (bundle, held, right)) = never bundle right
+  not_about Means answer never none (inr (pool, lines, held, right)) = none right
+
+  page_done : (text : List ℕ) → Gains told.out text → PageAbout PageOfBundle (Prints Done text) → TellsPage told
+  page_done text out (inl (bundle, held, right)) = record { bundle = bundle; held = held; text = text; out = out; page = right }
+  page_done text out (inr (pool, lines, held, right)) = absurd right
+
+  drawn_page_done : (digits text : List ℕ) → Gains told.out text → PageAbout (DrawnPageOfBundle digits) (Prints Done text) → TellsDrawnPage digits told
+  drawn_page_done digits text out (inl (bundle, held, right)) = record { bundle = bundle; held = held; text = text; out = out; page = right }
+  drawn_page_done digits text out (inr (pool, lines, held, right)) = absurd right
+
+  wrong_total : (Means : Bundle → RightAnswers) (line : List ℕ) →
+      ((bundle : Bundle) → IsRight (Means bundle) (Stops Input line) → TotalAgrees bundle.answer.lottery → ⊥) → PageAbout Means (Stops Input line) → HeldNoPage told
+  wrong_total Means line total (inl (bundle, held, right)) = inr (bundle, held, total bundle right)
+  wrong_total Means line total (inr (pool, lines, held, right)) = absurd right
+
+  page_broken : (line : List ℕ) → GainsLine told.errs line → PageAbout PageOfBundle (Stops Rule line) → HasNoLottery told
+  page_broken line gained (inl (bundle, held, right)) = absurd right
+  page_broken line gained (inr (pool, lines, held, right)) = (pool, lines, held, subst (GainsLine told.errs) right gained)
+
+  drawn_page_broken : (digits line : List ℕ) → GainsLine told.errs line → PageAbout (DrawnPageOfBundle digits) (Stops Rule line) →
+      BrokenAlone (Some (asks.DrawnPage digits)) told
+  drawn_page_broken digits line gained (inl (bundle, held, right)) = inr (bundle, held, line, gained, right)
+  drawn_page_broken digits line gained (inr (pool, lines, held, right)) = inl (pool, lines, held, subst (GainsLine told.errs) right gained)
 
   -- if an answer is about a given pool or bundle, the source held that pool, or the bundle whose lottery is proved
   held_given : (about : PoolOrBundle) (its : Answer) (bytes : List ℕ) → HeldAll told.source bytes → IsTextOfEither about bytes → IsGiven (given_in about) its →
@@ -178,6 +237,9 @@ module _ (told : Told) where
   done None right s = absurd (cc (right.stopped.status, s))
   done (Some (asks.Prove it)) right s = proof_told it.pivots it.nodes right s
   done (Some (asks.Verify it)) right s = shown_told right s
+  done (Some (asks.Why it)) right s =
+      let at = about_done pool_or_proof_format (explains it.pivots it.nodes) told right s in
+      record { pool = pool_asked at.1.value; held = held_asked at.1.value at.1.bytes at.1.held at.1.spells; text = at.0; out = at.1.is_told.out; why = at.1.means.right }
   done (Some (asks.Bundle it)) right s =
       let at = about_done proof_format (one BundleMeans) told right s in its_bundle at.1.value at.1.bytes at.0 at.1.held at.1.spells at.1.is_told.out at.1.means.right
   done (Some (asks.Seal it)) right s =
@@ -189,6 +251,12 @@ module _ (told : Told) where
   done (Some (asks.ShortDraw tickets seal digits)) right s =
       let at = about_done bundle_format (one (ShortDrawMeans tickets seal digits)) told right s in
       record { bundle = at.1.value; held = held_bundle at.1.value at.1.bytes at.1.held at.1.spells; text = at.0; out = at.1.is_told.out; drawn = at.1.means.right }
+  done (Some (asks.Page it)) right s =
+      let at = about_done bundle_or_proof_format (one PageMeans) told right s in
+      page_done at.0 at.1.is_told.out (page_about PageOfBundle (Prints Done at.0) at.1.value at.1.bytes at.1.held at.1.spells at.1.means.right)
+  done (Some (asks.DrawnPage digits)) right s =
+      let at = about_done bundle_or_proof_format (one (DrawnPageMeans digits)) told right s in
+      drawn_page_done digits at.0 at.1.is_told.out (page_about (DrawnPageOfBundle digits) (Prints Done at.0) at.1.value at.1.bytes at.1.held at.1.spells at.1.means.right)
   done (Some (asks.Panel it)) right s =
       let at = about_done pool_format (one (PanelMeans it.nodes)) told right s in
       record { pool = at.1.value; held = held_pool at.1.value at.1.bytes at.1.held at.1.spells; text = at.0; out = at.1.is_told.out; panel = at.1.means.right }
@@ -212,12 +280,19 @@ module _ (told : Told) where
   no_panel (Some (asks.Prove it)) right s =
       let is = (about_no_panel pool_or_bundle_format (ProvesWithin it.pivots it.nodes) told right s).1 in
       (pool_in is.value, held_either is.value is.bytes is.held is.spells, is.means.right.none)
+  no_panel (Some (asks.Why it)) right s = absurd ((about_no_panel pool_or_proof_format (explains it.pivots it.nodes) told right s).1.means.right)
   no_panel (Some (asks.Verify it)) right s = absurd ((about_no_panel proof_format (one VerifyMeans) told right s).1.means.right)
   no_panel (Some (asks.Bundle it)) right s =
       let at = about_no_panel proof_format (one BundleMeans) told right s in absurd (bundle_not_no_panel at.1.value at.0 at.1.means.right)
   no_panel (Some (asks.Seal it)) right s = absurd ((about_no_panel bundle_format (one SealMeans) told right s).1.means.right)
   no_panel (Some (asks.Draw seal digits)) right s = absurd ((about_no_panel bundle_format (one (DrawMeans seal digits)) told right s).1.means.right)
   no_panel (Some (asks.ShortDraw tickets seal digits)) right s = absurd ((about_no_panel bundle_format (one (ShortDrawMeans tickets seal digits)) told right s).1.means.right)
+  no_panel (Some (asks.Page it)) right s =
+      let at = about_no_panel bundle_or_proof_format (one PageMeans) told right s in
+      absurd (not_about PageOfBundle (Prints NoPanel at.0) (λ bundle never. never) (λ never. never) (page_about PageOfBundle (Prints NoPanel at.0) at.1.value at.1.bytes at.1.held at.1.spells at.1.means.right))
+  no_panel (Some (asks.DrawnPage digits)) right s =
+      let at = about_no_panel bundle_or_proof_format (one (DrawnPageMeans digits)) told right s in
+      absurd (not_about (DrawnPageOfBundle digits) (Prints NoPanel at.0) (λ bundle never. never) (λ never. never) (page_about (DrawnPageOfBundle digits) (Prints NoPanel at.0) at.1.value at.1.bytes at.1.held at.1.spells at.1.means.right))
   no_panel (Some (asks.Panel it)) right s =
       let is = (about_no_panel pool_format (one (PanelMeans it.nodes)) told right s).1 in
       (is.value, held_pool is.value is.bytes is.held is.spells, is.means.right.none)
@@ -274,6 +349,19 @@ module _ (told : Told) where
   no_draw seal digits (Long held) = inl (inr held)
   no_draw seal digits (OfValue line is) = inr (is.value, held_bundle is.value is.bytes is.held is.spells, is.means.right.total)
 
+  no_page : IsInput bundle_or_proof_format (one PageMeans) told → HeldNoPage told
+  no_page (NoText bytes fault held fails) = inl (inl (bytes, fault, held, fails))
+  no_page (Long held) = inl (inr held)
+  no_page (OfValue line is) =
+      wrong_total PageOfBundle line (λ bundle right. right.total) (page_about PageOfBundle (Stops Input line) is.value is.bytes is.held is.spells is.means.right)
+
+  no_drawn_page : (digits : List ℕ) → IsInput bundle_or_proof_format (one (DrawnPageMeans digits)) told → HeldNoPage told
+  no_drawn_page digits (NoText bytes fault held fails) = inl (inl (bytes, fault, held, fails))
+  no_drawn_page digits (Long held) = inl (inr held)
+  no_drawn_page digits (OfValue line is) =
+      wrong_total (DrawnPageOfBundle digits) line (λ bundle right. right.total)
+      (page_about (DrawnPageOfBundle digits) (Stops Input line) is.value is.bytes is.held is.spells is.means.right)
+
   no_short_draw : (tickets : ℕ) (seal digits : List ℕ) → IsInput bundle_format (one (ShortDrawMeans tickets seal digits)) told → WrongAlone (Some (asks.ShortDraw tickets seal digits)) told
   no_short_draw tickets seal digits (NoText bytes fault held fails) = inl (inl (bytes, fault, held, fails))
   no_short_draw tickets seal digits (Long held) = inl (inr held)
@@ -296,6 +384,7 @@ module _ (told : Told) where
   pub text : (it : Option Asked) → AnswersAlone it told → told.status ≡ 3 → WrongAlone it told
   text None right s = absurd (cc (right.stopped.status, s))
   text (Some (asks.Prove it)) right s = no_text pool_or_bundle_format (ProvesWithin it.pivots it.nodes) (λ value line means. means.right) (about_input pool_or_bundle_format (ProvesWithin it.pivots it.nodes) told right s)
+  text (Some (asks.Why it)) right s = no_text pool_or_proof_format (explains it.pivots it.nodes) (λ value line means. means.right) (about_input pool_or_proof_format (explains it.pivots it.nodes) told right s)
   text (Some (asks.Verify it)) right s = no_text proof_format (one VerifyMeans) (λ value line means. means.right) (about_input proof_format (one VerifyMeans) told right s)
   text (Some (asks.Bundle it)) right s = no_text proof_format (one BundleMeans) (λ value line means. bundle_not_input value line means.right) (about_input proof_format (one BundleMeans) told right s)
   text (Some (asks.Seal it)) right s = no_text bundle_format (one SealMeans) (λ value line means. means.right) (about_input bundle_format (one SealMeans) told right s)
@@ -303,6 +392,8 @@ module _ (told : Told) where
   text (Some (asks.ShortDraw tickets seal digits)) right s = no_short_draw tickets seal digits (about_input bundle_format (one (ShortDrawMeans tickets seal digits)) told right s)
   text (Some (asks.Question it)) right s = no_answer it (about_input bundle_format (one (QuestionMeans it)) told right s)
   text (Some (asks.Explain it)) right s = no_right_text (about_input any_format Explains told right s)
+  text (Some (asks.Page it)) right s = no_page (about_input bundle_or_proof_format (one PageMeans) told right s)
+  text (Some (asks.DrawnPage digits)) right s = no_drawn_page digits (about_input bundle_or_proof_format (one (DrawnPageMeans digits)) told right s)
   text (Some (asks.Panel it)) right s = no_text pool_format (one (PanelMeans it.nodes)) (λ value line means. means.right) (about_input pool_format (one (PanelMeans it.nodes)) told right s)
   text (Some (asks.Loosen it)) right s = no_text pool_format (one (LoosenMeans it.nodes)) (λ value line means. means.right) (about_input pool_format (one (LoosenMeans it.nodes)) told right s)
   text (Some (asks.Lottery it)) right s = no_text pool_format (one (LotteryMeans it.limits)) (λ value line means. means.right) (about_input pool_format (one (LotteryMeans it.limits)) told right s)
@@ -317,6 +408,8 @@ module _ (told : Told) where
   number None right s = absurd (cc (right.stopped.status, s))
   number (Some (asks.Prove it)) right s =
       let at = about_wide pool_or_bundle_format (ProvesWithin it.pivots it.nodes) told right s in (at.0, at.1.is_told.errs, at.1.means.right)
+  number (Some (asks.Why it)) right s =
+      let at = about_wide pool_or_proof_format (explains it.pivots it.nodes) told right s in (at.0, at.1.is_told.errs, at.1.means.right)
   number (Some (asks.Verify it)) right s = absurd ((about_wide proof_format (one VerifyMeans) told right s).1.means.right)
   number (Some (asks.Bundle it)) right s = let at = about_wide proof_format (one BundleMeans) told right s in absurd (bundle_not_wide at.1.value at.0 at.1.means.right)
   number (Some (asks.Seal it)) right s = absurd ((about_wide bundle_format (one SealMeans) told right s).1.means.right)
@@ -324,6 +417,12 @@ module _ (told : Told) where
   number (Some (asks.ShortDraw tickets seal digits)) right s = absurd ((about_wide bundle_format (one (ShortDrawMeans tickets seal digits)) told right s).1.means.right)
   number (Some (asks.Question it)) right s = absurd ((about_wide bundle_format (one (QuestionMeans it)) told right s).1.means.right)
   number (Some (asks.Explain it)) right s = absurd ((about_wide any_format Explains told right s).1.means)
+  number (Some (asks.Page it)) right s =
+      let at = about_wide bundle_or_proof_format (one PageMeans) told right s in
+      absurd (not_about PageOfBundle (Stops Wide at.0) (λ bundle never. never) (λ never. never) (page_about PageOfBundle (Stops Wide at.0) at.1.value at.1.bytes at.1.held at.1.spells at.1.means.right))
+  number (Some (asks.DrawnPage digits)) right s =
+      let at = about_wide bundle_or_proof_format (one (DrawnPageMeans digits)) told right s in
+      absurd (not_about (DrawnPageOfBundle digits) (Stops Wide at.0) (λ bundle never. never) (λ never. never) (page_about (DrawnPageOfBundle digits) (Stops Wide at.0) at.1.value at.1.bytes at.1.held at.1.spells at.1.means.right))
   number (Some (asks.Panel it)) right s = absurd ((about_wide pool_format (one (PanelMeans it.nodes)) told right s).1.means.right)
   number (Some (asks.Loosen it)) right s = absurd ((about_wide pool_format (one (LoosenMeans it.nodes)) told right s).1.means.right)
   number (Some (asks.Lottery it)) right s =
@@ -340,6 +439,8 @@ module _ (told : Told) where
   budget None right s = absurd (cc (right.stopped.status, s))
   budget (Some (asks.Prove it)) right s =
       let at = about_spent pool_or_bundle_format (ProvesWithin it.pivots it.nodes) told right s in (at.1.means.left, at.1.means.spends, at.0, at.1.is_told.errs, at.1.means.right)
+  budget (Some (asks.Why it)) right s =
+      let at = about_spent pool_or_proof_format (explains it.pivots it.nodes) told right s in (at.1.means.left, at.1.means.spends, at.0, at.1.is_told.errs, at.1.means.right)
   budget (Some (asks.Verify it)) right s = absurd ((about_spent proof_format (one VerifyMeans) told right s).1.means.right)
   budget (Some (asks.Bundle it)) right s = let at = about_spent proof_format (one BundleMeans) told right s in absurd (bundle_not_spent at.1.value at.0 at.1.means.right)
   budget (Some (asks.Seal it)) right s = absurd ((about_spent bundle_format (one SealMeans) told right s).1.means.right)
@@ -347,6 +448,12 @@ module _ (told : Told) where
   budget (Some (asks.ShortDraw tickets seal digits)) right s = absurd ((about_spent bundle_format (one (ShortDrawMeans tickets seal digits)) told right s).1.means.right)
   budget (Some (asks.Question it)) right s = absurd ((about_spent bundle_format (one (QuestionMeans it)) told right s).1.means.right)
   budget (Some (asks.Explain it)) right s = absurd ((about_spent any_format Explains told right s).1.means)
+  budget (Some (asks.Page it)) right s =
+      let at = about_spent bundle_or_proof_format (one PageMeans) told right s in
+      absurd (not_about PageOfBundle (Stops Spent at.0) (λ bundle never. never) (λ never. never) (page_about PageOfBundle (Stops Spent at.0) at.1.value at.1.bytes at.1.held at.1.spells at.1.means.right))
+  budget (Some (asks.DrawnPage digits)) right s =
+      let at = about_spent bundle_or_proof_format (one (DrawnPageMeans digits)) told right s in
+      absurd (not_about (DrawnPageOfBundle digits) (Stops Spent at.0) (λ bundle never. never) (λ never. never) (page_about (DrawnPageOfBundle digits) (Stops Spent at.0) at.1.value at.1.bytes at.1.held at.1.spells at.1.means.right))
   budget (Some (asks.Panel it)) right s =
       let at = about_spent pool_format (one (PanelMeans it.nodes)) told right s in
       (at.1.value, held_pool at.1.value at.1.bytes at.1.held at.1.spells, at.0, at.1.is_told.errs, at.1.means.right)
@@ -374,6 +481,7 @@ module _ (told : Told) where
   pub rule : (it : Option Asked) → AnswersAlone it told → told.status ≡ 6 → BrokenAlone it told
   rule None right s = absurd (cc (right.stopped.status, s))
   rule (Some (asks.Prove it)) right s = absurd ((about_rule pool_or_bundle_format (ProvesWithin it.pivots it.nodes) told right s).1.means.right)
+  rule (Some (asks.Why it)) right s = absurd ((about_rule pool_or_proof_format (explains it.pivots it.nodes) told right s).1.means.right)
   rule (Some (asks.Verify it)) right s = absurd ((about_rule proof_format (one VerifyMeans) told right s).1.means.right)
   rule (Some (asks.Bundle it)) right s =
       let at = about_rule proof_format (one BundleMeans) told right s in no_lottery at.1.value at.1.bytes at.0 at.1.held at.1.spells at.1.is_told.errs at.1.means.right
@@ -386,6 +494,12 @@ module _ (told : Told) where
       (at.1.value, held_bundle at.1.value at.1.bytes at.1.held at.1.spells, at.0, at.1.is_told.errs, at.1.means.right)
   rule (Some (asks.Question it)) right s = absurd ((about_rule bundle_format (one (QuestionMeans it)) told right s).1.means.right)
   rule (Some (asks.Explain it)) right s = absurd ((about_rule any_format Explains told right s).1.means)
+  rule (Some (asks.Page it)) right s =
+      let at = about_rule bundle_or_proof_format (one PageMeans) told right s in
+      page_broken at.0 at.1.is_told.errs (page_about PageOfBundle (Stops Rule at.0) at.1.value at.1.bytes at.1.held at.1.spells at.1.means.right)
+  rule (Some (asks.DrawnPage digits)) right s =
+      let at = about_rule bundle_or_proof_format (one (DrawnPageMeans digits)) told right s in
+      drawn_page_broken digits at.0 at.1.is_told.errs (page_about (DrawnPageOfBundle digits) (Stops Rule at.0) at.1.value at.1.bytes at.1.held at.1.spells at.1.means.right)
   rule (Some (asks.Panel it)) right s = absurd ((about_rule pool_format (one (PanelMeans it.nodes)) told right s).1.means.right)
   rule (Some (asks.Loosen it)) right s = absurd ((about_rule pool_format (one (LoosenMeans it.nodes)) told right s).1.means.right)
   rule (Some (asks.Lottery it)) right s = absurd ((about_rule pool_format (one (LotteryMeans it.limits)) told right s).1.means.right)
@@ -432,6 +546,7 @@ module _ (told : Told) where
   check (Some (asks.Prove it)) right s =
       let at = about_refused pool_or_bundle_format (ProvesWithin it.pivots it.nodes) told right s in
       given_fails at.1.value at.1.bytes at.1.held at.1.spells it.pivots it.nodes at.0 at.1.is_told.out at.1.means
+  check (Some (asks.Why it)) right s = absurd ((about_refused pool_or_proof_format (explains it.pivots it.nodes) told right s).1.means.right)
   check (Some (asks.Verify it)) right s =
       let is = (about_refused proof_format (one VerifyMeans) told right s).1 in
       (is.value, held_proof is.value is.bytes is.held is.spells, λ valid. not_valid is.means.right.refusal (sym is.means.right.refuses ∙ valid))
@@ -441,6 +556,12 @@ module _ (told : Told) where
   check (Some (asks.ShortDraw tickets seal digits)) right s = absurd ((about_refused bundle_format (one (ShortDrawMeans tickets seal digits)) told right s).1.means.right)
   check (Some (asks.Question it)) right s = absurd ((about_refused bundle_format (one (QuestionMeans it)) told right s).1.means.right)
   check (Some (asks.Explain it)) right s = absurd ((about_refused any_format Explains told right s).1.means)
+  check (Some (asks.Page it)) right s =
+      let at = about_refused bundle_or_proof_format (one PageMeans) told right s in
+      absurd (not_about PageOfBundle (Prints Rejected at.0) (λ bundle never. never) (λ never. never) (page_about PageOfBundle (Prints Rejected at.0) at.1.value at.1.bytes at.1.held at.1.spells at.1.means.right))
+  check (Some (asks.DrawnPage digits)) right s =
+      let at = about_refused bundle_or_proof_format (one (DrawnPageMeans digits)) told right s in
+      absurd (not_about (DrawnPageOfBundle digits) (Prints Rejected at.0) (λ bundle never. never) (λ never. never) (page_about (DrawnPageOfBundle digits) (Prints Rejected at.0) at.1.value at.1.bytes at.1.held at.1.spells at.1.means.right))
   check (Some (asks.Panel it)) right s = absurd ((about_refused pool_format (one (PanelMeans it.nodes)) told right s).1.means.right)
   check (Some (asks.Loosen it)) right s = absurd ((about_refused pool_format (one (LoosenMeans it.nodes)) told right s).1.means.right)
   check (Some (asks.Lottery it)) right s = absurd ((about_refused pool_format (one (LotteryMeans it.limits)) told right s).1.means.right)

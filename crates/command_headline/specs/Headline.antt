@@ -18,10 +18,12 @@ use Rattle.command_meanings.specs.Make.{sizes_of}
 use Rattle.command_loosen.specs.Loosening.{PrintsLoosening, SpendsSearch}
 use Rattle.command_meanings.specs.Panel.{PrintsFirstPanel, SpendsVisits}
 use Rattle.command_meanings.specs.Prove.{PassesProofWidth, SpendsProofBudget}
-use Rattle.command_meanings.specs.Seal.{seal_line}
+use Rattle.command_meanings.specs.Seal.{bundle_seal, seal_line}
 use Rattle.command_meanings.specs.Verify.{shown_line}
 use Rattle.command_proofs.specs.declared.verify.Verify.{Verify}
 use Rattle.command_shell.specs.Answers.{Saying}
+use Rattle.command_page.specs.Inputs.{bundle_or_proof_format}
+use Rattle.command_page.specs.Page.{PrintsDrawnPage, PrintsPage}
 use Rattle.command_shell.specs.Formats.{bundle_format, pool_format, pool_or_bundle_format, proof_format}
 use Rattle.command_shell.specs.Lines.{input_limit, input_line}
 use Rattle.command_shell.specs.Outcomes.{IsTold, IsTooLong}
@@ -29,6 +31,8 @@ use Rattle.command_shell.specs.Subjects.{Format}
 use Rattle.command_shell.specs.Told.{Bytes, Told, Gains, GainsLine, HasFaulted, HeldAll, HeldMore, IsUntouched}
 use Rattle.command_questions.specs.Questions.{question_text}
 use Rattle.command_questions.specs.declared.questions.Question.{Question}
+use Rattle.command_why.specs.PoolsAndProofs.{pool_of as pool_of_proof, pool_or_proof_format}
+use Rattle.command_why.specs.Why.{PrintsWhy, SpendsWhyBudget}
 use Rattle.command_stores.specs.Imports.{ReadsFile}
 use Rattle.command_stores.specs.Steps.{stored_text}
 use Rattle.command_stores.specs.StoreTold.{KeepsTables, StoreTold}
@@ -51,6 +55,8 @@ use Rattle.define_made_pools.specs.MadePools.{made_pool}
 use Rattle.define_made_pools.specs.Summary.{summary_text}
 use Rattle.define_offices.specs.Commands.{Change, Command, Incomplete, Keep, Lines, Refusal, Refuses, Replies, Solve, SolvedWith}
 use Rattle.define_offices.specs.declared.Part.TheVariants as part
+use Rattle.define_desk.specs.Desk.{IsIsolated}
+use Rattle.define_offices.specs.Facts.{IsTables}
 use Rattle.define_offices.specs.Lines.{rule_line}
 use Rattle.define_offices.specs.Pools.{pool_of}
 use Rattle.define_offices.specs.Steps.{Comes, applied}
@@ -113,6 +119,14 @@ pub record HeldProof (source : Bytes) (proof : Proof) : Type 0 where
 -- the source held the text of this pool, or of a bundle over it
 abbrev pub HeldEither : Bytes → Pool → Type 0
 HeldEither source pool = HeldPool source pool ⊎ ((answer : Answer) × HeldBundle source (record { pool = pool; answer = answer }))
+
+-- the source held the text of this bundle, or of a proof of its lottery
+abbrev pub HeldBundleOrProof : Bytes → Bundle → Type 0
+HeldBundleOrProof source bundle = HeldBundle source bundle ⊎ ((trees : List (List TreeLine)) × HeldProof source (OfLottery bundle.pool bundle.answer trees))
+
+-- the source held the text of this pool, or of a proof over it
+abbrev pub HeldPoolOrProof : Bytes → Pool → Type 0
+HeldPoolOrProof source pool = HeldPool source pool ⊎ ((proof : Proof) × HeldProof source proof × (pool_of_proof proof ≡ pool))
 
 -- ---- a lottery is answered
 
@@ -184,6 +198,22 @@ pub record TellsShortDrawn (tickets : ℕ) (seal digits : List ℕ) (told : Told
   pub out : Gains told.out text
   pub drawn : PrintsShortDrawn tickets seal digits bundle text
 
+-- `page` printed the page about the bundle that the source held, by itself or in a proof
+pub record TellsPage (told : Told) : Type 0 where
+  pub bundle : Bundle
+  pub held : HeldBundleOrProof told.source bundle
+  pub text : List ℕ
+  pub out : Gains told.out text
+  pub page : PrintsPage bundle text
+
+-- and with digits of dice the page with the panel that they draw from it
+pub record TellsDrawnPage (digits : List ℕ) (told : Told) : Type 0 where
+  pub bundle : Bundle
+  pub held : HeldBundleOrProof told.source bundle
+  pub text : List ℕ
+  pub out : Gains told.out text
+  pub page : PrintsDrawnPage digits bundle text
+
 -- `seal` printed the seal of the bundle that the source held
 pub record TellsSeal (told : Told) : Type 0 where
   pub bundle : Bundle
@@ -214,6 +244,15 @@ pub record TellsLoosening (nodes : ℕ) (told : Told) : Type 0 where
   pub out : Gains told.out text
   pub loosening : PrintsLoosening nodes pool text
 
+-- `why` printed a quota panel of the pool that the source held; or quotas of it that can't be met together, so that it has none (by the law
+-- `conflict_leaves_no_panel` of `define_conflicts`)
+pub record TellsWhy (told : Told) : Type 0 where
+  pub pool : Pool
+  pub held : HeldPoolOrProof told.source pool
+  pub text : List ℕ
+  pub out : Gains told.out text
+  pub why : PrintsWhy pool text
+
 -- the source held this bundle, whose weights sum to the total, and out gained the text that answers a question about it
 pub record TellsAnswer (question : Question) (told : Told) : Type 0 where
   pub bundle : Bundle
@@ -232,8 +271,11 @@ DoneAlone (Some (asks.Bundle it)) told = TellsItsBundle told
 DoneAlone (Some (asks.Seal it)) told = TellsSeal told
 DoneAlone (Some (asks.Draw seal digits)) told = TellsDrawn seal digits told
 DoneAlone (Some (asks.ShortDraw tickets seal digits)) told = TellsShortDrawn tickets seal digits told
+DoneAlone (Some (asks.Page it)) told = TellsPage told
+DoneAlone (Some (asks.DrawnPage digits)) told = TellsDrawnPage digits told
 DoneAlone (Some (asks.Panel it)) told = TellsPanel it.nodes told
 DoneAlone (Some (asks.Loosen it)) told = TellsLoosening it.nodes told
+DoneAlone (Some (asks.Why it)) told = TellsWhy told
 DoneAlone (Some (asks.Lottery it)) told = TellsBundle told
 DoneAlone (Some (asks.Check it)) told = TellsValid told
 DoneAlone (Some (asks.Question it)) told = TellsAnswer it told
@@ -263,6 +305,15 @@ abbrev pub HeldNoText : {Value : Type 0} → Format Value → Told → Type 0
 HeldNoText format told =
     ((bytes : List ℕ) × (fault : Fault) × HeldAll told.source bytes × (format.read bytes ≡ Err fault)) ⊎ HeldMore told.source input_limit
 
+-- for `page`: no bundle and no proof, or a bundle whose weights don't sum to its total
+abbrev pub HeldNoPage : Told → Type 0
+HeldNoPage told =
+    HeldNoText bundle_or_proof_format told ⊎ ((bundle : Bundle) × HeldBundleOrProof told.source bundle × (TotalAgrees bundle.answer.lottery → ⊥))
+
+-- the source held a proof that there is no quota panel, and errs gained the line that it has no lottery
+abbrev pub HasNoLottery : Told → Type 0
+HasNoLottery told = (pool : Pool) × (lines : List TreeLine) × HeldProof told.source (OfNoPanel pool lines) × GainsLine told.errs no_lottery_line
+
 -- status 3: the input is outside its format, or too long
 abbrev pub WrongAlone : Option Asked → Told → Type 0
 WrongAlone (Some (asks.Prove it)) told = HeldNoText pool_or_bundle_format told
@@ -277,22 +328,26 @@ WrongAlone (Some (asks.ShortDraw tickets seal digits)) told =
     HeldNoText bundle_format told ⊎ ((bundle : Bundle) × HeldBundle told.source bundle × (TotalAgrees bundle.answer.lottery → ⊥))
 WrongAlone (Some (asks.Question it)) told =
     HeldNoText bundle_format told ⊎ ((bundle : Bundle) × HeldBundle told.source bundle × (TotalAgrees bundle.answer.lottery → ⊥))
+WrongAlone (Some (asks.Page it)) told = HeldNoPage told
+WrongAlone (Some (asks.DrawnPage digits)) told = HeldNoPage told
 -- for `explain` the bytes are none of the three texts
 WrongAlone (Some (asks.Explain it)) told =
     ((bytes : List ℕ) × HeldAll told.source bytes × (IsText bytes → ⊥)) ⊎ HeldMore told.source input_limit
 WrongAlone (Some (asks.Panel it)) told = HeldNoText pool_format told
 WrongAlone (Some (asks.Loosen it)) told = HeldNoText pool_format told
+WrongAlone (Some (asks.Why it)) told = HeldNoText pool_or_proof_format told
 WrongAlone (Some (asks.Lottery it)) told = HeldNoText pool_format told
 WrongAlone (Some (asks.Check it)) told = HeldNoText bundle_format told
 -- `make` and words that ask for nothing never have status 3; for imports see `TextIsWrong`
 WrongAlone other told = ⊥
 
--- status 4: an operation or a total passed its limit, and errs gained the line that says which. For `prove` the line may name any operation
--- whose result is too great, not only one of the run
+-- status 4: an operation or a total passed its limit, and errs gained the line that says which. For `prove` and `why` the line may name any
+-- operation whose result is too great, not only one of the run
 abbrev pub PassedAlone : Option Asked → Told → Type 0
 PassedAlone (Some (asks.Lottery it)) told = (pool : Pool) × HeldPool told.source pool × (line : List ℕ) × GainsLine told.errs line × PassesWidth it.limits pool line
 PassedAlone (Some (asks.Make it)) told = (line : List ℕ) × GainsLine told.errs line × PassesWidth it.limits (made_pool it.seed it.volunteers) line
 PassedAlone (Some (asks.Prove it)) told = (line : List ℕ) × GainsLine told.errs line × PassesProofWidth line
+PassedAlone (Some (asks.Why it)) told = (line : List ℕ) × GainsLine told.errs line × PassesProofWidth line
 PassedAlone other told = ⊥
 
 -- status 5: a budget was spent, and errs gained the line that says which. For `prove` the lines of spent turns of peeling and of a lost
@@ -304,6 +359,7 @@ SpentAlone (Some (asks.Lottery it)) told = (pool : Pool) × HeldPool told.source
 SpentAlone (Some (asks.Make it)) told = (line : List ℕ) × GainsLine told.errs line × SpendsBudget it.limits (made_pool it.seed it.volunteers) line
 SpentAlone (Some (asks.Check it)) told = (bundle : Bundle) × HeldBundle told.source bundle × (line : List ℕ) × GainsLine told.errs line × SpendsStage it.nodes bundle line
 SpentAlone (Some (asks.Prove it)) told = (left : Left) × SpendsOn (unspent it.pivots it.nodes) left × (line : List ℕ) × GainsLine told.errs line × SpendsProofBudget left line
+SpentAlone (Some (asks.Why it)) told = (left : Left) × SpendsOn (unspent it.pivots it.nodes) left × (line : List ℕ) × GainsLine told.errs line × SpendsWhyBudget left line
 SpentAlone other told = ⊥
 
 -- status 6: a rule was broken, and errs gained the line that says which
@@ -311,7 +367,11 @@ abbrev pub BrokenAlone : Option Asked → Told → Type 0
 BrokenAlone (Some (asks.Draw seal digits)) told = (bundle : Bundle) × HeldBundle told.source bundle × (line : List ℕ) × GainsLine told.errs line × RefusesDraw seal digits bundle line
 BrokenAlone (Some (asks.ShortDraw tickets seal digits)) told =
     (bundle : Bundle) × HeldBundle told.source bundle × (line : List ℕ) × GainsLine told.errs line × RefusesShortDraw tickets seal digits bundle line
-BrokenAlone (Some (asks.Bundle it)) told = (pool : Pool) × (lines : List TreeLine) × HeldProof told.source (OfNoPanel pool lines) × GainsLine told.errs no_lottery_line
+BrokenAlone (Some (asks.Bundle it)) told = HasNoLottery told
+BrokenAlone (Some (asks.Page it)) told = HasNoLottery told
+-- the digits draw nothing, as `draw` says
+BrokenAlone (Some (asks.DrawnPage digits)) told =
+    HasNoLottery told ⊎ ((bundle : Bundle) × HeldBundleOrProof told.source bundle × (line : List ℕ) × GainsLine told.errs line × RefusesDraw (bundle_seal bundle) digits bundle line)
 BrokenAlone other told = ⊥
 
 -- status 11: the certificate or the proof doesn't hold. For `prove`: with some trees, the bundle is a proof that is refused for the printed
@@ -554,6 +614,12 @@ pub record KeepsDesk (path : List ℕ) (connections : ℕ) (told : DeskTold) : T
   pub memory : told.store.call.status ≡ 12 → IsUnopened told
   -- there is no other status
   pub statuses : IsTrue (is_serve_status told.store.call.status)
+
+-- A volunteer's reply tells nothing of others: over tables with the same view for a key, each request with this key alone gets the same reply of
+-- the desk. The view has the phases of the rounds, what is published, and what is told of the row with this key (`view` of
+-- `define_desk`)
+abbrev pub TellsNothingOfOthers : Type 0
+TellsNothingOfOthers = (one other : Tables) → IsTables one → IsTables other → (key : List ℕ) → IsIsolated one other key
 
 -- ---- every call
 

@@ -6,7 +6,9 @@
 ghost use Rattle.std.specs.Prelude.{ℕ, List};
 ghost use Rattle.command_desk.specs.DeskTold.{DeskTold};
 ghost use Rattle.command_office.specs.Office.{OfficeIsRight};
-ghost use Rattle.command_headline.specs.Headline.{Headline, WorkersChangeNothing};
+ghost use Rattle.command_headline.specs.Headline.{Headline, TellsNothingOfOthers, WorkersChangeNothing};
+
+use office_desk::desk_is_isolated;
 
 /// Every call that satisfies the contract of `office` keeps the promises of `Headline`.
 pub fn headline()
@@ -17,3 +19,11 @@ pub fn headline()
 pub fn workers_change_nothing()
     ensures { WorkersChangeNothing }
 {}
+
+/// What the desk replies to a volunteer's key tells nothing of other volunteers. Each visit of `serve` is answered by the desk of these
+/// definitions, over the tables that were loaded (`IsAttended` of `office_http`).
+pub fn volunteers_are_isolated()
+    ensures { TellsNothingOfOthers }
+{
+    desk_is_isolated();
+}

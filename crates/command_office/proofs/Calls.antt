@@ -5,6 +5,8 @@ use Rattle.command_desk.specs.DeskTold.{DeskTold, desk_told}
 use Rattle.command_desk.specs.ServeOutcomes.{SilentServeOutcome}
 use Rattle.office_http.specs.Visits.{LinkTold}
 use Rattle.outside.specs.Links.{DoorLinks}
+use Rattle.command_page.specs.Inputs.{bundle_or_proof_format}
+use Rattle.command_page.specs.Page.{DrawnPageMeans}
 use Rattle.command_meanings.specs.Draw.{DrawMeans}
 use Rattle.command_shell.specs.Formats.{bundle_format}
 use Rattle.command_shell.specs.Told.{Told, object}
@@ -65,3 +67,8 @@ pub short_draws_so : (tickets : ℕ) (seal digits given_seal given_digits : List
 short_draws_so tickets seal digits given_seal given_digits told same_seal same_digits answers =
     subst (λ one. Answers bundle_format (ShortDrawMeans tickets given_seal one) told) same_digits
     (subst (λ one. Answers bundle_format (ShortDrawMeans tickets one digits) told) same_seal answers)
+
+-- and for a page with equal digits
+pub pages_so : (digits given : List ℕ) (told : Told) → digits ≡ given → Answers bundle_or_proof_format (DrawnPageMeans digits) told →
+    Answers bundle_or_proof_format (DrawnPageMeans given) told
+pages_so digits given told same answers = subst (λ one. Answers bundle_or_proof_format (DrawnPageMeans one) told) same answers

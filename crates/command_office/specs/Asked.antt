@@ -83,6 +83,11 @@ prove_asked given =
     option_and_then (λ nodes. prove_from given (record { pivots = pivots; nodes = nodes }) (text_of (codes "store") given)) (number_of (codes "nodes") given))
     (number_of (codes "pivots") given)
 
+abbrev pub why_asked : Given → Option Asked
+why_asked given =
+    option_and_then (λ pivots. option_map (λ nodes. asks.Why (record { pivots = pivots; nodes = nodes })) (number_of (codes "nodes") given))
+    (number_of (codes "pivots") given)
+
 -- without a store a draw is from a bundle
 abbrev pub draw_from : Given → List ℕ → List ℕ → Option (List ℕ) → Option Asked
 draw_from given seal digits (Some store) = option_and_then (λ round. step_asked (steps.Draw round seal digits) given) (round_in given)
@@ -117,6 +122,11 @@ short_draw_asked given =
     option_and_then (λ tickets.
     option_and_then (λ seal. option_map (λ digits. asks.ShortDraw tickets seal digits) (text_of (codes "digits") given)) (text_of (codes "seal") given))
     (tickets_in given)
+
+-- with the digits of dice the page shows the panel that they draw
+abbrev pub page_from : Option (List ℕ) → Asked
+page_from (Some digits) = asks.DrawnPage digits
+page_from None = asks.Page (record {})
 
 -- without a store a seal is that of a bundle
 abbrev pub seal_from : Given → Option (List ℕ) → Option Asked
@@ -162,6 +172,8 @@ command_asked name.Chances given = Some (asks.Question question.Chances)
 command_asked name.Explain given = Some (asks.Explain (record {}))
 command_asked name.Panel given = option_map (λ nodes. asks.Panel (record { nodes = nodes })) (number_of (codes "nodes") given)
 command_asked name.Loosen given = option_map (λ nodes. asks.Loosen (record { nodes = nodes })) (number_of (codes "nodes") given)
+command_asked name.Why given = why_asked given
+command_asked name.Page given = Some (page_from (text_of (codes "drawn") given))
 command_asked name.Lottery given =
     option_and_then (λ limits. option_map (λ workers. asks.Lottery (record { limits = limits; workers = workers })) (workers_in given)) (limits_in given)
 command_asked name.Check given = option_map (λ nodes. asks.Check (record { nodes = nodes })) (number_of (codes "nodes") given)

@@ -5,6 +5,8 @@
 use Rattle.std.specs.Prelude.{ℕ, List, [], ◌∷◌, codes, Option, Some, None}
 use Rattle.command_bundles.specs.ShortDraw.{ShortDrawMeans}
 use Rattle.command_loosen.specs.Loosening.{LoosenMeans}
+use Rattle.command_page.specs.Inputs.{bundle_or_proof_format}
+use Rattle.command_page.specs.Page.{DrawnPageMeans, PageMeans}
 use Rattle.command_meanings.specs.Check.{CheckMeans}
 use Rattle.command_meanings.specs.Draw.{DrawMeans}
 use Rattle.command_meanings.specs.ItsBundle.{BundleMeans}
@@ -30,6 +32,8 @@ use Rattle.command_stores.specs.StoreOutcomes.{SilentStoreOutcome, TextStoreOutc
 use Rattle.command_stores.specs.StoreTold.{IsLeftAlone, StoreTold}
 use Rattle.command_desk.specs.DeskTold.{DeskTold}
 use Rattle.command_desk.specs.ServeOutcomes.{SilentServeOutcome}
+use Rattle.command_why.specs.PoolsAndProofs.{pool_in, pool_or_proof_format}
+use Rattle.command_why.specs.Why.{ExplainsWithin}
 use Rattle.command_office.specs.Asked.{asked}
 use Rattle.command_office.specs.Steps.{step_command}
 use Rattle.command_office.specs.declared.asked.Asked.{Asked}
@@ -52,11 +56,15 @@ abbrev pub AnswersAlone : Option Asked → Told → Type 0
 AnswersAlone None told = IsUsage told
 -- the run that makes a proof has no definition, so nothing says which of the statuses 0, 1, 4, 5 and 11 comes
 AnswersAlone (Some (asks.Prove it)) told = TextOutcome (About pool_or_bundle_format (ProvesWithin it.pivots it.nodes)) told
+-- so is the search of `why`: nothing says which of the conflicts of the pool is told, nor which of the statuses 0, 4 and 5 comes
+AnswersAlone (Some (asks.Why it)) told = TextOutcome (About pool_or_proof_format (λ about. ExplainsWithin it.pivots it.nodes (pool_in about))) told
 AnswersAlone (Some (asks.Verify it)) told = Answers proof_format VerifyMeans told
 AnswersAlone (Some (asks.Bundle it)) told = Answers proof_format BundleMeans told
 AnswersAlone (Some (asks.Seal it)) told = Answers bundle_format SealMeans told
 AnswersAlone (Some (asks.Draw seal digits)) told = Answers bundle_format (DrawMeans seal digits) told
 AnswersAlone (Some (asks.ShortDraw tickets seal digits)) told = Answers bundle_format (ShortDrawMeans tickets seal digits) told
+AnswersAlone (Some (asks.Page it)) told = Answers bundle_or_proof_format PageMeans told
+AnswersAlone (Some (asks.DrawnPage digits)) told = Answers bundle_or_proof_format (DrawnPageMeans digits) told
 AnswersAlone (Some (asks.Panel it)) told = Answers pool_format (PanelMeans it.nodes) told
 AnswersAlone (Some (asks.Loosen it)) told = Answers pool_format (LoosenMeans it.nodes) told
 -- no meaning names the number of workers, neither here nor for `make` nor for a solve over a store, so it changes nothing that is told

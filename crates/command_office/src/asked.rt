@@ -13,6 +13,7 @@ ghost use Rattle.command_office.specs.Asked.{
   limits_from as words_of_limits,
   limits_in,
   make_asked as words_of_make,
+  page_from as words_of_page_from,
   prove_asked as words_of_prove,
   prove_from as words_of_prove_from,
   question_asked as words_of_question,
@@ -25,6 +26,7 @@ ghost use Rattle.command_office.specs.Asked.{
   text_asked as words_of_text,
   tickets_in,
   volunteers_in,
+  why_asked as words_of_why,
   workers_from as words_of_workers,
   workers_in,
 };
@@ -34,10 +36,12 @@ use command_bundles::{Check, Seal};
 use command_desk::Serve;
 use command_explain::Explain;
 use command_loosen::Loosen;
+use command_page::Page;
 use command_pools::{FirstPanel, Lottery, Make, Volunteers};
 use command_proofs::{ItsBundle, Prove, Verify};
 use command_questions::{InTickets, Question};
 use command_stores::{Import, ProveRound, StoreText};
+use command_why::Why;
 use command_words::{CommandName, Given, Word, WordsStop, read_words};
 use define_runs::{Limits, Workers};
 use short_draws::TicketCount;
@@ -77,6 +81,15 @@ pub enum Asked<'a> {
     Panel(FirstPanel),
     /// The least loosening of a pool's quotas.
     Loosen(Loosen),
+    /// Quotas of a pool that can't be met together, or a quota panel.
+    Why(Why),
+    /// A page about the lottery of a bundle.
+    Page(Page),
+    /// A page about the lottery of a bundle, and about the panel that dice draw from it.
+    DrawnPage {
+        /// The digits of dice.
+        digits: Word<'a>,
+    },
     /// The lottery of a pool, by the stated run.
     Lottery(Lottery),
     /// The verdict on the certificate of a bundle.
@@ -170,6 +183,8 @@ fn asked_by<'a>(given: &Given<'a>) -> Option<Asked<'a>>
             let nodes = given.number("nodes")?;
             Some(Asked::Loosen(Loosen { nodes }))
         }
+        CommandName::Why => why_of(given),
+        CommandName::Page => Some(page_from(given.text("drawn"))),
         CommandName::Lottery => {
             let limits = limits_of(given)?;
             let workers = workers_of(given)?;
@@ -240,6 +255,24 @@ fn prove_of<'a>(given: &Given<'a>) -> Option<Asked<'a>>
     let pivots = given.number("pivots")?;
     let nodes = given.number("nodes")?;
     prove_from(given, Prove { pivots, nodes }, given.text("store"))
+}
+
+/// Returns the page about a bundle, with the panel that the digits draw if there are any.
+fn page_from<'a>(drawn: Option<Word<'a>>) -> Asked<'a>
+    ensures { result ≡ words_of_page_from drawn.entry }
+{
+    match drawn {
+        Some(digits) => Asked::DrawnPage { digits },
+        None => Asked::Page(Page),
+    }
+}
+
+fn why_of<'a>(given: &Given<'a>) -> Option<Asked<'a>>
+    ensures { result ≡ words_of_why given.now }
+{
+    let pivots = given.number("pivots")?;
+    let nodes = given.number("nodes")?;
+    Some(Asked::Why(Why { pivots, nodes }))
 }
 
 fn prove_from<'a>(given: &Given<'a>, prove: Prove, store: Option<Word<'a>>) -> Option<Asked<'a>>

@@ -12,6 +12,7 @@ use crate::asked::{Asked, read_asked};
 use crate::steps::command_of;
 use command_bundles::{Draw, ShortDraw};
 use command_desk::call_serve;
+use command_page::DrawnPage;
 use command_pools::{call_lottery, call_make};
 use command_shell::{Resources, Status, call, refuse_words, want_memory};
 use command_stores::{call_import, call_prove_round, call_step, call_text};
@@ -105,8 +106,16 @@ fn run<R: Threads + Sync, W: Watch + Sync, S: Source, O: Sink, E: Sink, K: Keepe
             };
             call(alloc, &draw, source, out, errs)
         }
+        Asked::Page(page) => call(alloc, &page, source, out, errs),
+        Asked::DrawnPage { digits } => {
+            let page = DrawnPage {
+                digits: digits.as_str(),
+            };
+            call(alloc, &page, source, out, errs)
+        }
         Asked::Panel(panel) => call(alloc, &panel, source, out, errs),
         Asked::Loosen(loosen) => call(alloc, &loosen, source, out, errs),
+        Asked::Why(why) => call(alloc, &why, source, out, errs),
         Asked::Lottery(lottery) => call_lottery(resources, &lottery, source, out, errs),
         Asked::Check(check) => call(alloc, &check, source, out, errs),
         Asked::Question(question) => call(alloc, &question, source, out, errs),

@@ -1,4 +1,3 @@
 pub mod Numbers
-pub mod SummedCounts
 pub mod Rows
 pub mod OneAnswer

@@ -1,15 +1,16 @@
 -- What `chances` prints: the chance of each volunteer, the chances added up for each value, and the least and greatest chance. `counts` is
--- each volunteer's count, which is the chance times the total. Over Decimals.
-use Rattle.std.specs.Prelude.{ℕ, ◌==◌, List, [], ◌∷◌, ◌++◌, codes, count_by, filter, length, map, slice_index}
+-- each volunteer's count, which is the chance times the total. Over the numbers of `chance_numbers`.
+use Rattle.std.specs.Prelude.{ℕ, ◌==◌, List, [], ◌∷◌, ◌++◌, codes, count_by, map, slice_index}
 use Rattle.std.specs.Fmt.{decimal}
-use Rattle.std.specs.List.{enumerate_from, flat_map, range_with_len, sum_by}
+use Rattle.std.specs.List.{enumerate_from, flat_map}
 use Rattle.frac128.specs.Fractions.{fraction_text, lowest_of}
 use Rattle.define_bundles.specs.BundleText.{Bundle}
 use Rattle.define_lines.specs.Lines.{line_of}
 use Rattle.define_made_pools.specs.Summary.{greatest, least, number_line}
 use Rattle.define_pools.specs.Lottery.{counts}
 use Rattle.define_pools.specs.Pool.{BoundedValue, Category, Pool, Volunteer, volunteer}
-use Rattle.command_questions.specs.Decimals.{fixed_point, ten_thousandths}
+use Rattle.chance_numbers.specs.Decimals.{fixed_point, ten_thousandths}
+use Rattle.chance_numbers.specs.Sums.{count_with}
 
 -- ---- the volunteers
 
@@ -23,12 +24,6 @@ chance_lines volunteers counts total =
     map (λ (i, volunteer). chance_line volunteer.id (slice_index counts i) total) (enumerate_from 0 volunteers)
 
 -- ---- the values
-
--- the counts of those who have the value at `value_place` of the category at `category_place`, added up
-abbrev pub count_with : List Volunteer → List ℕ → ℕ → ℕ → ℕ
-count_with volunteers counts category_place value_place =
-    sum_by (slice_index counts)
-    (filter (λ i. slice_index (volunteer volunteers i).values category_place == value_place) (range_with_len 0 (length volunteers)))
 
 -- the line of a value: its category, its bounds, and the sum of the chances, which is the number of members with it that is expected
 abbrev pub sum_line : List ℕ → BoundedValue → ℕ → ℕ → List ℕ

@@ -1,4 +1,3 @@
-pub mod Decimals
 pub mod Dice
 pub mod Tickets
 pub mod Chances

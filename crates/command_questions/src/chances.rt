@@ -2,16 +2,17 @@
 
 ghost use Rattle.std.specs.Prelude.{◌≡◌, ◌==◌, ◌+◌, ◌*◌, ◌<◌, ◌≤◌, ◌^◌, ◌++◌, ◌∷◌, [], count_by, length, slice_index, EachIndex, IfOk, OnOk};
 ghost use Rattle.define_lines.specs.Lines.{text_of};
-ghost use Rattle.define_made_pools.specs.Summary.{greatest as words_of_greatest, least as words_of_least};
-ghost use Rattle.define_pools.specs.Lottery.{TotalAgrees, counts as counts_in};
+ghost use Rattle.define_pools.specs.Lottery.{TotalAgrees};
 ghost use Rattle.command_questions.specs.Chances.{chance_line, chance_lines, end_lines, lines_of_chances, lines_of_counts, number_line_of, number_with as words_of_number, sum_line, sum_lines, value_lines};
 
-use crate::decimals::{fixed_point, fraction_text, ten_thousandths};
 use crate::dice::push_number;
-use crate::sums::{Sum, sum_text, sum_with};
 use bundle_text::Bundle;
+use chance_numbers::{
+    Sum, counts_of, fixed_point, fraction_text, greatest, least, sum_text, sum_with,
+    ten_thousandths,
+};
 use itoa::Buffer;
-use pool_model::{BoundedValue, Category, Lottery, Name, Pool, Volunteer, chances};
+use pool_model::{BoundedValue, Category, Name, Pool, Volunteer};
 use std::alloc::{AllocError, Global};
 use text_lines::push_line;
 
@@ -29,18 +30,6 @@ pub(crate) fn chances_text(alloc: Global, bundle: &Bundle) -> Result<Vec<u8>, Al
         &counts,
         lottery.total().unsigned_abs(),
     )
-}
-
-/// Returns each volunteer's count.
-fn counts_of(alloc: Global, pool: &Pool, lottery: &Lottery) -> Result<Vec<u128>, AllocError>
-    requires { TotalAgrees lottery.now }
-    ensures { IfOk result (λ counts. counts.items ≡ counts_in pool.now lottery.now) }
-{
-    let counts = chances(alloc, pool, lottery)?;
-    counts
-        .iter()
-        .map(|count| count.unsigned_abs())
-        .collect(alloc)
 }
 
 /// Returns the text for each volunteer's count.
@@ -245,22 +234,4 @@ fn number_with(counts: &[u128], count: u128) -> usize
     ensures { result ≡ words_of_number counts.now count }
 {
     counts.iter().filter(|other| **other == count).count()
-}
-
-/// Returns the least count, or 0 if there is none. Each is at most the total.
-fn least(counts: &[u128], total: u128) -> u128
-    requires within { EachIndex counts.now (λ i. slice_index counts.now i ≤ total) }
-    ensures value { result ≡ words_of_least counts.now }
-    ensures within { result ≤ total }
-{
-    counts.iter().copied().min().unwrap_or(0)
-}
-
-/// Returns the greatest count, or 0 if there is none. Each is at most the total.
-fn greatest(counts: &[u128], total: u128) -> u128
-    requires within { EachIndex counts.now (λ i. slice_index counts.now i ≤ total) }
-    ensures value { result ≡ words_of_greatest counts.now }
-    ensures within { result ≤ total }
-{
-    counts.iter().copied().max().unwrap_or(0)
 }

@@ -210,7 +210,7 @@ const USAGE_ROWS: &[(&[&str], &[u8], u8, &[u8], &[u8])] = &[
         FOUR,
         2,
         b"",
-        b"error: 'sortition' requires a subcommand but one was not provided\n  [subcommands: prove, keep, verify, bundle, explain, seal, dice, tickets, draw, chances, short, short-draw, import-charter, import-rules, import-register, solve, drop, next-round, show, report, pool, serve, panel, loosen, lottery, check, make, help]\n\nUsage: sortition <COMMAND>\n\nFor more information, try '--help'.\n",
+        b"error: 'sortition' requires a subcommand but one was not provided\n  [subcommands: prove, keep, verify, bundle, explain, why, page, seal, dice, tickets, draw, chances, short, short-draw, import-charter, import-rules, import-register, solve, drop, next-round, show, report, pool, serve, panel, loosen, lottery, check, make, help]\n\nUsage: sortition <COMMAND>\n\nFor more information, try '--help'.\n",
     ),
     (
         &["panel", "--nodes", "x"],
@@ -499,7 +499,7 @@ const CHECK_ROWS: &[(&[&str], &[u8], u8, &[u8], &[u8])] = &[
     (&["check"], FOUR, 3, b"", b"input\t1\t13\n"),
 ];
 
-/// Rows as in `ROWS`, for `verify` and `bundle`.
+/// Rows as in `ROWS`, for `verify`, `bundle`, `why`, `loosen` and `page`.
 const PROOF_ROWS: &[(&[&str], &[u8], u8, &[u8], &[u8])] = &[
     (&["verify"], FOUR_PROOF, 0, b"valid\n", b""),
     (&["verify"], COUPLE_PROOF, 0, b"valid\tnone\n", b""),
@@ -509,6 +509,40 @@ const PROOF_ROWS: &[(&[&str], &[u8], u8, &[u8], &[u8])] = &[
     (&["bundle"], DOUBLED_PROOF, 0, FOUR_BUNDLE, b""),
     (&["bundle"], COUPLE_PROOF, 6, b"", b"rule\tNoLottery\n"),
     (&["bundle"], FOUR, 3, b"", b"input\t1\t21\n"),
+    (
+        &["why"],
+        SHORT,
+        0,
+        b"gender female: at least 2; 1 available, 0 of them seated\nthese together miss by 1\neach is needed: without it the others can be met\n",
+        b"",
+    ),
+    (&["why"], FOUR, 0, b"a panel exists\na\nc\n", b""),
+    (&["why"], FOUR_PROOF, 0, b"a panel exists\na\nc\n", b""),
+    (&["why"], FOUR_BUNDLE, 3, b"", b"input\t1\t1\n"),
+    (
+        &["loosen"],
+        SHORT,
+        0,
+        b"loosen\t1\nbound\tgender\tfemale\t1\t2\npanel\ta\tb\n",
+        b"",
+    ),
+    (
+        &["loosen", "--nodes", "2"],
+        SHORT,
+        5,
+        b"",
+        b"spent\tnodes\t2\t0\t0\t0\n",
+    ),
+    (&["loosen"], NOBODY, 1, b"no panel\n", b""),
+    (&["page"], COUPLE_PROOF, 6, b"", b"rule\tNoLottery\n"),
+    (&["page"], TOTAL_OF_THREE, 3, b"", b"input\t0\t14\n"),
+    (
+        &["page", "--drawn", "x"],
+        FOUR_PROOF,
+        6,
+        b"",
+        b"rule\tBadDigit\t1\n",
+    ),
 ];
 
 /// Rows as in `ROWS`, for `prove`.

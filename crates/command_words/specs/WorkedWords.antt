@@ -82,7 +82,7 @@ pub record ShortGives : Type 0 where
   pub no_seal : GiveNothing (codes "short-draw" ∷ codes "--digits" ∷ codes "97" ∷ [])
   pub no_digits : GiveNothing (codes "short-draw" ∷ codes "--seal" ∷ codes "s" ∷ [])
 
--- the budget of the searches of `panel`, `loosen` and `check`: from 0 to 10 ^ 12 visits
+-- the budget of the searches of `panel`, `loosen` and `check`: from 0 to 10 ^ 12 visits; and of `why`, that of `prove`
 pub record SearchesGive : Type 0 where
   pub panel : Give (codes "panel" ∷ []) name.Panel (number (codes "nodes") 50000000 ∷ [])
   pub panel_least : Give (codes "panel" ∷ codes "--nodes" ∷ codes "0" ∷ []) name.Panel (number (codes "nodes") 0 ∷ [])
@@ -92,6 +92,11 @@ pub record SearchesGive : Type 0 where
   pub loosen_least : Give (codes "loosen" ∷ codes "--nodes" ∷ codes "0" ∷ []) name.Loosen (number (codes "nodes") 0 ∷ [])
   pub loosen_most : Give (codes "loosen" ∷ codes "--nodes" ∷ codes "1000000000000" ∷ []) name.Loosen (number (codes "nodes") 1000000000000 ∷ [])
   pub loosen_more : GiveNothing (codes "loosen" ∷ codes "--nodes" ∷ codes "1000000000001" ∷ [])
+  pub why : Give (codes "why" ∷ []) name.Why (number (codes "pivots") 1000000 ∷ number (codes "nodes") 200000 ∷ [])
+  pub why_least : Give (codes "why" ∷ codes "--pivots" ∷ codes "0" ∷ codes "--nodes" ∷ codes "0" ∷ []) name.Why (number (codes "pivots") 0 ∷ number (codes "nodes") 0 ∷ [])
+  pub why_most : Give (codes "why" ∷ codes "--pivots" ∷ codes "1000000000" ∷ codes "--nodes" ∷ codes "1000000000000" ∷ []) name.Why
+      (number (codes "pivots") 1000000000 ∷ number (codes "nodes") 1000000000000 ∷ [])
+  pub why_more : GiveNothing (codes "why" ∷ codes "--nodes" ∷ codes "1000000000001" ∷ [])
   pub check : Give (codes "check" ∷ []) name.Check (number (codes "nodes") 50000000 ∷ [])
   pub check_least : Give (codes "check" ∷ codes "--nodes" ∷ codes "0" ∷ []) name.Check (number (codes "nodes") 0 ∷ [])
   pub check_most : Give (codes "check" ∷ codes "--nodes" ∷ codes "1000000000000" ∷ []) name.Check (number (codes "nodes") 1000000000000 ∷ [])
@@ -200,3 +205,9 @@ pub record ServeGives : Type 0 where
   pub greater_port : GiveNothing (codes "serve" ∷ codes "--store" ∷ codes "s" ∷ codes "--port" ∷ codes "65536" ∷ [])
   pub nobody : GiveNothing (codes "serve" ∷ codes "--store" ∷ codes "s" ∷ codes "--port" ∷ codes "1" ∷ codes "--connections" ∷ codes "0" ∷ [])
   pub more : GiveNothing (codes "serve" ∷ codes "--store" ∷ codes "s" ∷ codes "--port" ∷ codes "1" ∷ codes "--connections" ∷ codes "1000001" ∷ [])
+
+-- the digits of dice may be given
+pub record PageGives : Type 0 where
+  pub absent : Give (codes "page" ∷ []) name.Page []
+  pub digits : Give (codes "page" ∷ codes "--drawn" ∷ codes "97" ∷ []) name.Page (text (codes "drawn") (codes "97") ∷ [])
+  pub no_value : GiveNothing (codes "page" ∷ codes "--drawn" ∷ [])

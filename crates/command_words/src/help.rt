@@ -31,14 +31,18 @@ To check what was published:
   verify           Checks a proof, by additions
   bundle           Prints the bundle of a proof
   chances          Prints each volunteer's chance in a bundle
+  page             Prints a page to look at, with pictures of the lottery
   check            Checks the certificate of a bundle
   explain          Says in words what a text holds, or what is wrong with a file
+
+If no panel meets the quotas:
+  why              Says in words which quotas can't be met together
+  loosen           Prints which bounds to move least
 
 To make a lottery without a store:
   prove            Makes the lottery of a pool, with a proof of it
   lottery          Makes the lottery of a pool by the stated run, of up to some 30 people
   panel            Prints the first panel of a pool that meets the quotas
-  loosen           Prints which bounds to move least, if no panel meets the quotas
   make             Makes a pool from a number, and tells of its lottery
 
 `sortition help COMMAND` prints the options of a command, and an example.

@@ -71,24 +71,8 @@ const PROOF_COMMANDS: &[TableCommand] = &[
                 missing: Missing::Absent,
             },
             ROUND,
-            OptionWords {
-                name: "pivots",
-                help: "The most pivots that the run may make, up to 1000000000",
-                form: Form::Number {
-                    least: 0,
-                    most: MOST_PIVOTS,
-                },
-                missing: Missing::Default("1000000"),
-            },
-            OptionWords {
-                name: "nodes",
-                help: "The most nodes that the run's searches may look at together, up to 1000000000000",
-                form: Form::Number {
-                    least: 0,
-                    most: MOST_NODES,
-                },
-                missing: Missing::Default("200000"),
-            },
+            PROOF_PIVOTS,
+            PROOF_NODES,
         ],
     },
     CommandWords {
@@ -118,6 +102,25 @@ const PROOF_COMMANDS: &[TableCommand] = &[
         help: "Says in words what the text on standard input holds, or what is wrong with the file",
         example: "Example: sortition explain < people.csv",
         options: &[],
+    },
+    CommandWords {
+        command: CommandName::Why,
+        name: "why",
+        help: "Says which quotas can't be met together, of the pool or the proof on standard input",
+        example: "Example: sortition why < city.pool",
+        options: &[PROOF_PIVOTS, PROOF_NODES],
+    },
+    CommandWords {
+        command: CommandName::Page,
+        name: "page",
+        help: "Prints a page to look at, about the lottery of the bundle or of the proof on standard input",
+        example: "Example: sortition page < city.bundle > city.html",
+        options: &[OptionWords {
+            name: "drawn",
+            help: "The digits of the dice, if the panel that they draw is to be shown",
+            form: Form::Text,
+            missing: Missing::Absent,
+        }],
     },
 ];
 
@@ -431,6 +434,26 @@ const PIVOTS: TableOption = OptionWords {
         most: MOST_PIVOTS,
     },
     missing: Missing::Default("100000"),
+};
+
+const PROOF_PIVOTS: TableOption = OptionWords {
+    name: "pivots",
+    help: "The most pivots that the run may make, up to 1000000000",
+    form: Form::Number {
+        least: 0,
+        most: MOST_PIVOTS,
+    },
+    missing: Missing::Default("1000000"),
+};
+
+const PROOF_NODES: TableOption = OptionWords {
+    name: "nodes",
+    help: "The most nodes that the run's searches may look at together, up to 1000000000000",
+    form: Form::Number {
+        least: 0,
+        most: MOST_NODES,
+    },
+    missing: Missing::Default("200000"),
 };
 
 const NODES: TableOption = OptionWords {

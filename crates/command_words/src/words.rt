@@ -31,6 +31,10 @@ pub enum CommandName {
     Panel,
     /// The least loosening of a pool's quotas.
     Loosen,
+    /// Quotas of a pool that can't be met together.
+    Why,
+    /// A page about the lottery of a bundle.
+    Page,
     /// The lottery of a pool by the stated run.
     Lottery,
     /// The verdict on the certificate of a bundle.

@@ -9,6 +9,7 @@ ghost use Rattle.command_words.specs.WorkedWords.{
   MakeGives,
   NextRoundGives,
   OthersGive,
+  PageGives,
   PlainGive,
   ProveGives,
   SealGives,
@@ -36,5 +37,6 @@ pub fn words_are_worked()
     ensures lottery { LotteryGives }
     ensures make { MakeGives }
     ensures others { OthersGive }
+    ensures page { PageGives }
     ensures serve { ServeGives }
 {}

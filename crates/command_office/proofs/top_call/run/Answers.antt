@@ -1,5 +1,5 @@
 use Rattle.std.proofs.Common.{refl}
-use Rattle.command_office.proofs.Calls.{as_asked, draws_so, imports_so, leaves, proofs_so, serves_so, short_draws_so, shut, steps_so, texts_so}
+use Rattle.command_office.proofs.Calls.{as_asked, draws_so, imports_so, leaves, pages_so, proofs_so, serves_so, short_draws_so, shut, steps_so, texts_so}
 use Rattle.command_office.proofs.top_call.run.Goals as goal
 
 pub returns-in-Prove : goal.returns-in-Prove
@@ -20,11 +20,20 @@ returns-in-Draw g c = as_asked _ _ _ c.in-Draw.is (shut _ _ _ _ (leaves _ _ _ _ 
 pub returns-in-ShortDraw : goal.returns-in-ShortDraw
 returns-in-ShortDraw g c = as_asked _ _ _ c.in-ShortDraw.is (shut _ _ _ _ (leaves _ _ _ _ _ (short_draws_so _ _ _ _ _ _ c.as_str-in-ShortDraw.ensures c.as_str-in-ShortDraw-2.ensures c.call-in-ShortDraw.ensures)))
 
+pub returns-in-Page : goal.returns-in-Page
+returns-in-Page g c = as_asked _ _ _ c.in-Page.is (shut _ _ _ _ (leaves _ _ _ _ _ c.call-in-Page.ensures))
+
+pub returns-in-DrawnPage : goal.returns-in-DrawnPage
+returns-in-DrawnPage g c = as_asked _ _ _ c.in-DrawnPage.is (shut _ _ _ _ (leaves _ _ _ _ _ (pages_so _ _ _ c.as_str-in-DrawnPage.ensures c.call-in-DrawnPage.ensures)))
+
 pub returns-in-Panel : goal.returns-in-Panel
 returns-in-Panel g c = as_asked _ _ _ c.in-Panel.is (shut _ _ _ _ (leaves _ _ _ _ _ c.call-in-Panel.ensures))
 
 pub returns-in-Loosen : goal.returns-in-Loosen
 returns-in-Loosen g c = as_asked _ _ _ c.in-Loosen.is (shut _ _ _ _ (leaves _ _ _ _ _ c.call-in-Loosen.ensures))
+
+pub returns-in-Why : goal.returns-in-Why
+returns-in-Why g c = as_asked _ _ _ c.in-Why.is (shut _ _ _ _ (leaves _ _ _ _ _ c.call-in-Why.ensures))
 
 pub returns-in-Lottery : goal.returns-in-Lottery
 returns-in-Lottery g c = as_asked _ _ _ c.in-Lottery.is (shut _ _ _ _ (leaves _ _ _ _ _ c.call_lottery.ensures))

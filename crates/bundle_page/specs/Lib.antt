@@ -1,0 +1,4 @@
+pub mod Markup
+pub mod Numbers
+pub mod Drawn
+pub mod Page

@@ -1,0 +1,24 @@
+-- Templates with their values, and the HTML of names and numbers.
+use Rattle.std.specs.Prelude.{ℕ, ◌==◌, if◌then◌else◌, List, [], ◌∷◌, ◌++◌, codes}
+use Rattle.std.specs.List.{flat_map}
+use Rattle.chance_numbers.specs.Decimals.{fixed_point}
+
+-- the template with the next value in place of each `~`, and with nothing there if there is none
+unfoldable pub filled : List ℕ → List (List ℕ) → List ℕ
+filled [] values = []
+filled (byte ∷ template) [] = if byte == 126 then filled template [] else byte ∷ filled template []
+filled (byte ∷ template) (value ∷ values) =
+    if byte == 126 then value ++ filled template values else byte ∷ filled template (value ∷ values)
+
+-- a byte of a name in HTML: the four bytes of its markup are written by name
+abbrev pub escaped_byte : ℕ → List ℕ
+escaped_byte byte =
+    if byte == 38 then codes "&amp;"
+    else (if byte == 60 then codes "&lt;" else (if byte == 62 then codes "&gt;" else (if byte == 34 then codes "&quot;" else byte ∷ [])))
+
+abbrev pub escaped : List ℕ → List ℕ
+escaped name = flat_map escaped_byte name
+
+-- a part of 1 in per cent, from ten-thousandths
+abbrev pub percent : ℕ → List ℕ
+percent part = fixed_point 2 part ++ codes " %"

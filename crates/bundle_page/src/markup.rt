@@ -1,0 +1,69 @@
+//! Lines of HTML.
+
+ghost use Rattle.std.specs.Prelude.{◌≡◌, ◌++◌, ◌∷◌, [], map, IfOk, OnOk};
+ghost use Rattle.define_lines.specs.Lines.{text_of};
+ghost use Rattle.bundle_page.specs.Markup.{escaped as words_of_escaped, escaped_byte, filled, percent as words_of_percent};
+
+use chance_numbers::fixed_point;
+use std::alloc::{AllocError, Global};
+use text_lines::end_line;
+
+/// The byte of a template that stands for a value.
+const PLACE: u8 = b'~';
+
+/// Appends a template with its values, and LF.
+pub(crate) fn fill(text: &mut Vec<u8>, template: &[u8], values: &[&[u8]]) -> Result<(), AllocError>
+    ensures { OnOk result (text.new.items ≡ text.old.items ++ text_of (filled template.now (map (λ value. value.now) values.now) ∷ [])) }
+{
+    put_values(text, template, values)?;
+    end_line(text)
+}
+
+/// Appends a template with its values.
+fn put_values(text: &mut Vec<u8>, template: &[u8], values: &[&[u8]]) -> Result<(), AllocError>
+    ensures { OnOk result (text.new.items ≡ text.old.items ++ filled template.now (map (λ value. value.now) values.now)) }
+{
+    let mut next = 0;
+    for byte in template {
+        if *byte != PLACE {
+            text.push(*byte)?;
+        } else if next < values.len() {
+            text.extend_from_slice(values[next])?;
+            next += 1;
+        }
+    }
+    Ok(())
+}
+
+/// Returns a name with its markup escaped.
+pub(crate) fn escaped(alloc: Global, name: &[u8]) -> Result<Vec<u8>, AllocError>
+    ensures { IfOk result (λ text. text.items ≡ words_of_escaped name.now) }
+{
+    let mut text = Vec::new(alloc);
+    for byte in name {
+        push_escaped(&mut text, *byte)?;
+    }
+    Ok(text)
+}
+
+/// Appends a byte of a name.
+fn push_escaped(text: &mut Vec<u8>, byte: u8) -> Result<(), AllocError>
+    ensures { OnOk result (text.new.items ≡ text.old.items ++ escaped_byte byte) }
+{
+    match byte {
+        b'&' => text.extend_from_slice(b"&amp;"),
+        b'<' => text.extend_from_slice(b"&lt;"),
+        b'>' => text.extend_from_slice(b"&gt;"),
+        b'"' => text.extend_from_slice(b"&quot;"),
+        _ => text.extend_from_slice(&[byte]),
+    }
+}
+
+/// Returns a part of 1 in per cent, from ten-thousandths.
+pub(crate) fn percent(alloc: Global, part: u128) -> Result<Vec<u8>, AllocError>
+    ensures { IfOk result (λ text. text.items ≡ words_of_percent part) }
+{
+    let mut text = fixed_point(alloc, 2, part)?;
+    text.extend_from_slice(b" %")?;
+    Ok(text)
+}

@@ -1,0 +1,70 @@
+//! The numbers of a value: how many volunteers have it, its bounds, and the seats that are expected.
+
+ghost use Rattle.std.specs.Prelude.{◌≡◌, ◌≤◌, ◌^◌, length, slice_index, EachIndex};
+ghost use Rattle.bundle_page.specs.Numbers.{share_of as words_of_share, volunteers_with as words_of_volunteers};
+
+use chance_numbers::{rounded_sum, sum_with};
+use pool_model::{BoundedValue, Volunteer};
+
+/// How many volunteers and how many seats there are.
+#[derive(Clone, Copy, Debug)]
+pub(crate) struct Sizes {
+    pub(crate) volunteers: usize,
+    pub(crate) seats: usize,
+}
+
+/// The numbers of a value.
+#[derive(Clone, Copy, Debug)]
+pub(crate) struct Share {
+    /// How many volunteers have the value.
+    pub(crate) volunteers: usize,
+    /// The least number of seats for them.
+    pub(crate) lower: usize,
+    /// The greatest number of seats for them.
+    pub(crate) upper: usize,
+    /// The seats that are expected for them, in ten-thousandths of a seat.
+    pub(crate) expected: u128,
+}
+
+/// Returns the numbers of the value at `value_place` of the category at `place`.
+pub(crate) fn share_of(
+    volunteers: &[Volunteer],
+    counts: &[u128],
+    total: u128,
+    place: usize,
+    value_place: usize,
+    value: &BoundedValue,
+) -> Share
+    requires each { length counts.now ≡ length volunteers.now }
+    requires few { length volunteers.now ≤ 400 }
+    requires within { EachIndex counts.now (λ i. slice_index counts.now i ≤ total) }
+    requires some { 1 ≤ total }
+    requires most { total ≤ 10 ^ 38 }
+    ensures value { result ≡ words_of_share volunteers.now counts.now total place value_place value.now }
+    ensures few { result.expected ≤ 4010000 }
+{
+    let sum = sum_with(volunteers, counts, total, place, value_place);
+    Share {
+        volunteers: volunteers_with(volunteers, place, value_place),
+        lower: value.lower(),
+        upper: value.upper(),
+        expected: rounded_sum(sum, total),
+    }
+}
+
+/// Returns how many volunteers have the value at `value_place` of the category at `place`.
+fn volunteers_with(volunteers: &[Volunteer], place: usize, value_place: usize) -> usize
+    ensures { result ≡ words_of_volunteers volunteers.now place value_place }
+{
+    volunteers
+        .iter()
+        .filter(|volunteer| value_at(volunteer, place) == value_place)
+        .count()
+}
+
+/// Returns which value a volunteer has of the category at `place`.
+pub(crate) fn value_at(volunteer: &Volunteer, place: usize) -> usize
+    ensures { result ≡ slice_index volunteer.now.values place }
+{
+    volunteer.values().get(place).copied().unwrap_or(0)
+}

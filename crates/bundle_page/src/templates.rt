@@ -1,0 +1,152 @@
+//! The fixed texts of the page. A `~` stands for a value; the definitions of the page say which.
+
+/// From the first line to the words below the title: seats, volunteers, volunteers, seats, panels, tickets.
+pub(crate) const OPENING: &[u8] = b"<!DOCTYPE html>
+<html lang=\"en\">
+<head>
+<meta charset=\"utf-8\">
+<meta name=\"viewport\" content=\"width=device-width, initial-scale=1\">
+<meta name=\"color-scheme\" content=\"light dark\">
+<title>The lottery for a panel of ~ from ~ volunteers</title>
+<style>
+:root{--paper:#fdfcf9;--ink:#1d2329;--soft:#59636e;--line:#d5d9dd;--pool:#8b96a1;--seats:#7fb2e5;--mean:#0b4a8f;--equal:#b3541e}
+@media(prefers-color-scheme:dark){:root{--paper:#14181c;--ink:#e8eaed;--soft:#a5afb9;--line:#39424b;--pool:#76828e;--seats:#2f6aa8;--mean:#a9d3ff;--equal:#f0a06a}}
+@media print{:root{--paper:#fff;--ink:#000;--soft:#444;--line:#bbb;--pool:#888;--seats:#8bbbe8;--mean:#003a7a;--equal:#a04000}h2,h3{break-after:avoid}tr,tbody.value,figure{break-inside:avoid}.key li::before,svg{print-color-adjust:exact}}
+body{margin:0;background:var(--paper);color:var(--ink);font:1rem/1.5 system-ui,sans-serif}
+main{max-width:46rem;margin:0 auto;padding:1.5rem 1rem 3rem}
+h1{font-size:1.9rem;line-height:1.2}
+h2{margin-top:2.6rem;border-top:2px solid var(--ink);padding-top:.7rem}
+h3{margin:1.8rem 0 .3rem}
+h3,th,code{overflow-wrap:anywhere}
+.lead{font-size:1.15rem}
+.members{columns:6rem;list-style:none;padding:0;font-weight:600}
+table{width:100%;table-layout:fixed;border-collapse:collapse;font-variant-numeric:tabular-nums}
+th,td{padding:.3rem 0;text-align:right}
+th:first-child{text-align:left}
+thead th:first-child{width:31%}
+thead th{color:var(--soft);font-size:.85rem;border-bottom:1px solid var(--line);overflow-wrap:normal}
+.chances td{border-bottom:1px solid var(--line);overflow-wrap:anywhere}
+.chances tbody th{border-bottom:1px solid var(--line)}
+td[colspan]{padding:0 0 .6rem}
+svg{display:block;width:100%;height:1.5rem;border-left:1px solid var(--line)}
+path,polyline{fill:none;vector-effect:non-scaling-stroke;stroke-width:3px}
+.pool{fill:var(--pool)}
+.seats{fill:var(--seats);stroke:var(--seats);vector-effect:non-scaling-stroke}
+.mean{stroke:var(--mean)}
+.equal{stroke:var(--equal);stroke-width:2px;stroke-dasharray:7 5}
+.grid{stroke:var(--line);stroke-width:1px}
+.curve{height:18rem;border:0}
+figure{margin:1rem 0}
+.axis{display:flex;justify-content:space-between;margin:.2rem 0;color:var(--soft);font-size:.85rem}
+.key{list-style:none;padding:0}
+.key li{padding-left:2.1em}
+.key li::before{content:\"\";display:inline-block;width:1.5em;height:.7em;margin:0 .6em 0 -2.1em;background:var(--pool)}
+.key .s::before{background:var(--seats)}
+.key .m::before{background:var(--mean);height:3px;vertical-align:.25em}
+.key .e::before{background:none;border-top:2px dashed var(--equal);height:0;vertical-align:.25em}
+</style>
+</head>
+<body>
+<main>
+<h1>The lottery for the panel</h1>
+<p class=\"lead\"><strong>~</strong> people volunteered for the <strong>~</strong> seats of the panel. The lottery has <strong>~</strong> possible panels, with <strong>~</strong> tickets among them. Dice that are thrown in public draw one ticket, and with it the panel.</p>";
+
+/// The heading of the panel that was drawn, to its members.
+pub(crate) const DRAWN: &[u8] = b"<h2>The panel that was drawn</h2>
+<p>The digits of the dice drew a panel of these members:</p>
+<ul class=\"members\">";
+
+/// A member of the drawn panel: the id.
+pub(crate) const MEMBER: &[u8] = b"<li>~</li>";
+
+/// Behind the members, to the head of the table of values.
+pub(crate) const DRAWN_TABLE: &[u8] = b"</ul>
+<table>
+<thead><tr><th scope=\"col\">value</th><th scope=\"col\">members</th><th scope=\"col\">seats</th></tr></thead>
+<tbody>";
+
+/// The row of a value: its category, its name, the members who have it, and its bounds.
+pub(crate) const DRAWN_VALUE: &[u8] =
+    b"<tr><th scope=\"row\">~: ~</th><td>~</td><td>~ to ~</td></tr>";
+
+/// Behind the table of values.
+pub(crate) const END_OF_DRAWN: &[u8] = b"</tbody>
+</table>";
+
+/// The words above the bars.
+pub(crate) const QUOTAS: &[u8] = b"<h2>Volunteers and seats</h2>
+<p>For each value of a category there is a least and a greatest number of seats. The seats expected are those that a panel has on average over all tickets.</p>
+<ul class=\"key\">
+<li>the part of the volunteers who have the value</li>
+<li class=\"s\">the part of the seats that may be theirs, from the least to the greatest number</li>
+<li class=\"m\">the part of the seats that is expected</li>
+</ul>
+<p>The width of a picture stands for all volunteers, and for all seats.</p>";
+
+/// The heading of a category and the head of its table: its name.
+pub(crate) const CATEGORY: &[u8] = b"<h3>~</h3>
+<table>
+<thead><tr><th scope=\"col\">value</th><th scope=\"col\">volunteers</th><th scope=\"col\">seats</th><th scope=\"col\">expected</th></tr></thead>";
+
+/// The numbers of a value: its name, the volunteers who have it, its bounds, and the seats expected.
+pub(crate) const NUMBERS: &[u8] =
+    b"<tbody class=\"value\"><tr><th scope=\"row\">~</th><td>~</td><td>~ to ~</td><td>~</td></tr>";
+
+/// The picture of a value, in words: its width, then name, volunteers, all volunteers, bounds, all seats, and the seats expected.
+pub(crate) const WORDS: &[u8] =
+    b"<tr><td colspan=\"4\"><svg role=\"img\" viewBox=\"0 0 ~ 30\" preserveAspectRatio=\"none\"><title>~: ~ of ~ volunteers, ~ to ~ of ~ seats, ~ seats expected</title>";
+
+/// The shapes of this picture: the width of the volunteers, the place and the width of the bounds, and the place of the seats expected.
+pub(crate) const SHAPES: &[u8] =
+    b"<rect class=\"pool\" width=\"~\" height=\"13\"/><rect class=\"seats\" x=\"~\" y=\"17\" width=\"~\" height=\"13\"/><path class=\"mean\" d=\"M~ 13v17\"/></svg></td></tr></tbody>";
+
+/// Behind the values of a category.
+pub(crate) const END_OF_CATEGORY: &[u8] = b"</table>";
+
+/// Above the points of the curve: the least and the greatest chance, that of an equal lottery, the width of the picture, and the height of the equal chance.
+pub(crate) const CURVE: &[u8] = b"<h2>The chances</h2>
+<p>The chances go from ~ to ~. A plain equal lottery, which looks at no category, would give everybody ~.</p>
+<figure>
+<p class=\"axis\" aria-hidden=\"true\">100 %</p>
+<svg class=\"curve\" role=\"img\" viewBox=\"0 -100 ~ 10200\" preserveAspectRatio=\"none\"><title>The chances of all volunteers in rising order as a curve, and the chance in a plain equal lottery as a level line</title>
+<path class=\"grid\" d=\"M0 0H400M0 2500H400M0 5000H400M0 7500H400M0 10000H400\"/>
+<path class=\"equal\" d=\"M0 ~H400\"/>
+<polyline class=\"mean\" points=\"";
+
+/// Two points of the curve: place and height, the next place and the height.
+pub(crate) const POINT: &[u8] = b"~,~ ~,~";
+
+/// Behind the points of the curve, to the head of the table of chances.
+pub(crate) const TABLE: &[u8] = b"\"/></svg>
+<p class=\"axis\" aria-hidden=\"true\"><span>the least chance</span><span>the greatest</span></p>
+<figcaption>
+<ul class=\"key\">
+<li class=\"m\">the chances in this lottery, in rising order. The lines behind them are at 0, 25, 50, 75 and 100 %</li>
+<li class=\"e\">the chance in a plain equal lottery</li>
+</ul>
+</figcaption>
+</figure>
+<h2>The chance of each volunteer</h2>
+<table class=\"chances\">
+<thead><tr><th scope=\"col\">volunteer</th><th scope=\"col\">chance</th><th scope=\"col\">exactly</th></tr></thead>
+<tbody>";
+
+/// The row of a volunteer: id, chance, and the chance in lowest terms.
+pub(crate) const CHANCE: &[u8] = b"<tr><th scope=\"row\">~</th><td>~</td><td>~</td></tr>";
+
+/// Behind the table of chances, to the last line: the seal.
+pub(crate) const CLOSING: &[u8] = b"</tbody>
+</table>
+<h2>The seal</h2>
+<p><code>~</code></p>
+<p>It is the SHA-256 digest of the file that holds the volunteers, the quotas and the lottery, which is called the bundle. If one byte of the bundle is changed, its seal is another.</p>
+<h2>How to check this page</h2>
+<ol>
+<li><code>sortition seal</code> reads the bundle and prints its seal. So does <code>sha256sum</code>. Both print the one above.</li>
+<li><code>sortition page</code> reads the bundle and prints this page again, byte for byte. <code>sortition chances</code> prints the same numbers.</li>
+<li><code>sortition verify</code> reads the proof that was published with the bundle. If it prints <code>valid</code>, every panel meets the quotas, and no other lottery over such panels gives a greater least chance, or the same least chance and a greater second one, and so on.</li>
+<li>When the dice are thrown, anybody can read their digits. <code>sortition draw</code> reads the bundle, is given the seal and the digits, and prints the panel.</li>
+</ol>
+</main>
+</body>
+</html>";

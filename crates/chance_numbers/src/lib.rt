@@ -1,0 +1,14 @@
+//! The numbers about a bundle that commands print: each volunteer's count, which is the chance times the total, the sums of the chances of
+//! those who have a value, and their texts as fractions and decimals. Stands on the lotteries of `pool_model` and on `frac128`. Above:
+//! `command_questions`, which prints them as lines, and `command_page`, which prints them as a page.
+//!
+//! Promises: each call returns the number, or the text, of the definitions: the chances of `define_pools`, and those in `specs`.
+#![tactic(auto)]
+
+mod counts;
+mod decimals;
+mod sums;
+
+pub use counts::{counts_of, greatest, least};
+pub use decimals::{fixed_point, fraction_text, power_of_ten, ten_thousandths};
+pub use sums::{Sum, rounded_sum, sum_text, sum_with};

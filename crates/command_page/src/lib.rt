@@ -1,0 +1,15 @@
+//! The command `page`: one HTML file about the lottery of a bundle, or of the bundle that a proof holds, and with the digits of dice about
+//! the panel that they draw from it. Stands on `bundle_page`, which makes the page, on `sealed_draw`, which seals and draws, on the command
+//! `draw` of `command_bundles`, which tells why nothing is drawn, on the texts of bundles and proofs, and on the shell. Above:
+//! `command_office`.
+//!
+//! Promises: `Page` and `DrawnPage` answer as `specs/Page.antt` says, and the laws that each has one answer.
+#![tactic(auto)]
+
+mod drawn_pages;
+mod inputs;
+mod pages;
+
+pub use drawn_pages::{DrawnPage, drawn_page_has_one_answer};
+pub use inputs::BundleOrProof;
+pub use pages::{Page, page_has_one_answer};

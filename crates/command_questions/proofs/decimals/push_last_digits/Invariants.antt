@@ -1,7 +1,0 @@
-use Rattle.std.proofs.Common.{◌≡◌, ◌-◌, ◌++◌}
-use Rattle.command_questions.specs.Decimals.{last_digits}
-use Rattle.command_questions.proofs.decimals.push_last_digits.Given as goal
-
--- the digits so far and those that are left are all of them
-abbrev pub invariant-loop-place : goal.invariant-loop-place
-invariant-loop-place l = l.text.items ++ last_digits (l.count - l.place) l.number ≡ l.fn.text.items ++ last_digits l.count l.number

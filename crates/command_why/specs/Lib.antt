@@ -1,0 +1,2 @@
+pub mod PoolsAndProofs
+pub mod Why

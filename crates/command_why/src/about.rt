@@ -1,0 +1,33 @@
+//! What `why` reads: a pool, or a proof over one. The readers of `command_shell` read them.
+
+use command_shell::Subject;
+use pool_model::Pool;
+use proof_model::Proof;
+use std::alloc::Global;
+use text_lines::TextStop;
+
+/// A text that begins with this word is read as a proof's.
+const PROOF: &[u8] = b"proof";
+
+/// A pool, or a proof over one. A text that begins with `proof` is read as a proof's, and any other as a pool's.
+#[derive(Drop)]
+pub enum PoolOrProof {
+    /// A pool.
+    Pool(Pool),
+    /// A proof.
+    Proof(Proof),
+}
+
+impl Subject for PoolOrProof {
+    ghost use Rattle.command_why.specs.PoolsAndProofs.{pool_or_proof_format};
+
+    ghost format = { pool_or_proof_format };
+
+    fn read(alloc: Global, bytes: &[u8]) -> Result<PoolOrProof, TextStop> {
+        if bytes.starts_with(PROOF) {
+            Ok(PoolOrProof::Proof(Proof::read(alloc, bytes)?))
+        } else {
+            Ok(PoolOrProof::Pool(Pool::read(alloc, bytes)?))
+        }
+    }
+}

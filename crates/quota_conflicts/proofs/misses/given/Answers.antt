@@ -1,0 +1,20 @@
+use Rattle.std.proofs.Common.{ℕ, ◌+◌, get_or, sym, ap₂, ◌∙◌}
+use Rattle.define_pools.specs.declared.Standing.{Standing}
+use Rattle.define_pools.specs.declared.Standing.TheVariants.{Open}
+use Rattle.define_conflicts.specs.declared.Side.TheVariants.{AtLeast, AtMost}
+use Rattle.define_conflicts.specs.LeastMisses.{given_by, weights_for}
+use Rattle.quota_conflicts.proofs.Sums.{all_read, one_more, sum_returned}
+use Rattle.quota_conflicts.proofs.misses.given.Goals as goal
+
+pub loop-i-preserved : goal.loop-i-preserved
+loop-i-preserved c =
+    let gives = λ (p : ℕ × Standing). given_by p.1 (weights_for c.args.pool.now AtLeast c.args.weighted.now p.0) (weights_for c.args.pool.now AtMost c.args.weighted.now p.0) in
+    c.in_ok-all.ensures.1
+    ∙ ap₂ (λ m n. m + n) c.loop-i.invariant (c.given_by.ensures ∙ ap₂ (given_by (get_or c.args.standings.now c.loop-i.i Open)) c.in_ok-least.ensures c.in_ok-most.ensures)
+    ∙ sym (one_more gives c.args.standings.now c.loop-i.i Open c.loop-i-test.true)
+
+pub returns : goal.returns
+returns c =
+    let gives = λ (p : ℕ × Standing). given_by p.1 (weights_for c.args.pool.now AtLeast c.args.weighted.now p.0) (weights_for c.args.pool.now AtMost c.args.weighted.now p.0) in
+    sum_returned c.checked_add-2.result _ _ _ c.checked_add-2.ensures
+    (ap₂ (λ m n. m + n) c.in_ok-weighed_bounds.ensures (c.loop-i.invariant ∙ all_read gives c.args.standings.now c.loop-i.i c.loop-i-test.false))

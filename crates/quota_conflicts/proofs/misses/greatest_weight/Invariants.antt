@@ -1,0 +1,11 @@
+use Rattle.std.proofs.Common.{◌≤◌, leb, take}
+use Rattle.std.specs.Prelude.{IsTrue}
+use Rattle.std.specs.List.{list_all}
+use Rattle.quota_conflicts.proofs.misses.greatest_weight.Given as goal
+
+-- no weight read so far passes `greatest`
+abbrev pub invariant-loop-it : goal.invariant-loop-it
+invariant-loop-it l = record {
+  light : IsTrue (list_all (λ it. leb it.weight l.greatest) (take l.it-index l.weighted));
+  some : 1 ≤ l.greatest;
+}

@@ -1,0 +1,13 @@
+use Rattle.std.proofs.Common.{◌≡◌, ◌≤◌, ◌&&◌, count_by}
+use Rattle.std.specs.List.{range_with_len}
+use Rattle.define_pools.specs.Pool.{volunteer}
+use Rattle.define_conflicts.specs.ConflictText.{is_available}
+use Rattle.define_conflicts.specs.Quotas.{counts}
+use Rattle.quota_conflicts.proofs.texts.available.Given as goal
+
+-- the number among the first `i` volunteers
+abbrev pub invariant-loop-i : goal.invariant-loop-i
+invariant-loop-i l = record {
+  number : l.number ≡ count_by (λ i. counts l.pool l.counted i && is_available (volunteer l.pool.volunteers i).standing) (range_with_len 0 l.i);
+  few : l.number ≤ l.i;
+}

@@ -1,0 +1,9 @@
+-- By how many people a tree shows that selections miss quotas: by 1 if it shows no more.
+use Rattle.std.specs.Prelude.{◌≤◌, ℕ, List, Option, unwrap_or}
+use Rattle.define_conflicts.specs.Quotas.{MissBy}
+use Rattle.define_conflicts.specs.declared.Quota.{Quota}
+use Rattle.define_pools.specs.Pool.{Pool}
+
+pub record IsShown (pool : Pool) (quotas : List Quota) (least : Option ℕ) : Type 0 where
+  pub misses : MissBy pool quotas (unwrap_or least 1)
+  pub some : 1 ≤ unwrap_or least 1

@@ -1,0 +1,26 @@
+//! Why a pool has no quota panel: quotas that can't be met together, as few as can be found; or a quota panel. Stands on the engine of
+//! `prove` (`proof_branching`, `proof_program`, `proof_stages`, `proof_table`, `proof_limits`), which searches, on `pool_model` and
+//! `proof_model`, and on the definitions of `define_conflicts`. `command_why` stands on it.
+//!
+//! Promises: what `why` returns is checked by this crate itself, by adding and comparing whole numbers (`misses`, `covers`). So a conflict
+//! is one, whatever the search did, and a panel is a quota panel. `conflict_text` writes exactly the text of a conflict. Which of several
+//! conflicts is found is no promise.
+#![tactic(auto)]
+
+mod answers;
+mod checks;
+mod covers;
+mod kept;
+mod lines;
+mod misses;
+mod needs;
+mod quotas;
+mod searches;
+mod selections;
+mod shrinking;
+mod texts;
+
+pub use answers::{Explanation, why};
+pub use checks::Conflict;
+pub use define_conflicts::{Counted, Quota, Side};
+pub use texts::conflict_text;

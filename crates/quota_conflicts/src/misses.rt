@@ -1,0 +1,147 @@
+//! What weighted quotas ask for and what can be given, and so by how many people each selection misses them at least. Whole numbers of at
+//! least 0 are multiplied, added and compared; a sum that doesn't fit its type answers None. `covers` and `checks` use `least_miss`.
+
+ghost use Rattle.std.specs.Prelude.{◌≡◌, ◌≤◌, ◌<◌, ◌*◌, length, nat_le, IfSome, IsTrue};
+ghost use Rattle.std.specs.List.{list_all};
+ghost use Rattle.define_conflicts.specs.LeastMisses.{asked as asked_of, given as given_of, given_by as given_by_one, is_side as is_same_side, quotas_of, taken_by as taken_by_one, weighed_bound as weighed_bound_of, weighed_bounds as weighed_bounds_of, weights_for as weights_for_one};
+ghost use Rattle.define_conflicts.specs.Quotas.{MissAt};
+
+use crate::quotas::{bound, counts};
+use define_conflicts::{Side, WeightedQuota, asking_more_misses};
+use pool_model::{Pool, Standing};
+
+/// Returns by how many people each selection that keeps the standings misses the quotas at least, if that is shown by the weights: what is
+/// asked for beyond what can be given, over the greatest weight, rounded up.
+pub(crate) fn least_miss(
+    pool: &Pool,
+    weighted: &[WeightedQuota],
+    standings: &[Standing],
+) -> Option<usize>
+    requires { length standings.now ≡ length pool.now.volunteers }
+    ensures misses { IfSome result (MissAt pool.now (quotas_of weighted.now) standings.now) }
+    ensures some { IfSome result (λ least. 1 ≤ least) }
+{
+    asking_more_misses();
+    let asked = asked(pool, weighted, standings)?;
+    let given = given(pool, weighted, standings)?;
+    if asked <= given {
+        return None;
+    }
+    let greatest = greatest_weight(weighted);
+    Some(rounds(asked - given, greatest) + 1)
+}
+
+/// Returns how many times `greatest` is less than `more`.
+fn rounds(more: usize, greatest: usize) -> usize
+    requires some { 1 ≤ more }
+    requires greatest { 1 ≤ greatest }
+    ensures less { greatest * result < more }
+    ensures few { result < more }
+{
+    (more - 1) / greatest
+}
+
+/// Returns a number from 1 on that no weight passes: the greatest weight, or 1.
+fn greatest_weight(weighted: &[WeightedQuota]) -> usize
+    ensures light { IsTrue (list_all (λ it. nat_le it.weight result) weighted.now) }
+    ensures some { 1 ≤ result }
+{
+    let mut greatest = 1;
+    for it in weighted {
+        greatest = greatest.max(it.weight);
+    }
+    greatest
+}
+
+/// Returns what is asked of a selection that keeps the standings, or None if that doesn't fit.
+fn asked(pool: &Pool, weighted: &[WeightedQuota], standings: &[Standing]) -> Option<usize>
+    requires { length standings.now ≡ length pool.now.volunteers }
+    ensures { IfSome result (λ sum. sum ≡ asked_of pool.now weighted.now standings.now) }
+{
+    let mut taken: usize = 0;
+    for (i, standing) in standings.iter().enumerate() {
+        let most = weights_for(pool, Side::AtMost, weighted, i)?;
+        taken = taken.checked_add(taken_by(*standing, most))?;
+    }
+    weighed_bounds(pool, Side::AtLeast, weighted)?.checked_add(taken)
+}
+
+/// Returns what a selection that keeps the standings can give, or None if that doesn't fit.
+fn given(pool: &Pool, weighted: &[WeightedQuota], standings: &[Standing]) -> Option<usize>
+    requires { length standings.now ≡ length pool.now.volunteers }
+    ensures { IfSome result (λ sum. sum ≡ given_of pool.now weighted.now standings.now) }
+{
+    let mut all: usize = 0;
+    for (i, standing) in standings.iter().enumerate() {
+        let least = weights_for(pool, Side::AtLeast, weighted, i)?;
+        let most = weights_for(pool, Side::AtMost, weighted, i)?;
+        all = all.checked_add(given_by(*standing, least, most))?;
+    }
+    weighed_bounds(pool, Side::AtMost, weighted)?.checked_add(all)
+}
+
+/// Returns what a volunteer takes from every selection, given the weights of the quotas with greatest numbers that count them.
+fn taken_by(standing: Standing, most: usize) -> usize
+    ensures { result ≡ taken_by_one standing most }
+{
+    match standing {
+        Standing::Seated => most,
+        Standing::Open | Standing::Gone => 0,
+    }
+}
+
+/// Returns the most that a volunteer gives to a selection.
+fn given_by(standing: Standing, least: usize, most: usize) -> usize
+    ensures { result ≡ given_by_one standing least most }
+{
+    match standing {
+        Standing::Open => least.saturating_sub(most),
+        Standing::Seated => least,
+        Standing::Gone => 0,
+    }
+}
+
+/// Returns the sum of the bounds of a side's quotas, each times its weight.
+fn weighed_bounds(pool: &Pool, side: Side, weighted: &[WeightedQuota]) -> Option<usize>
+    ensures { IfSome result (λ sum. sum ≡ weighed_bounds_of pool.now side weighted.now) }
+{
+    let mut sum: usize = 0;
+    for it in weighted {
+        sum = sum.checked_add(weighed_bound(pool, side, it)?)?;
+    }
+    Some(sum)
+}
+
+/// Returns the bound of a quota of this side, times its weight; 0 for one of the other side.
+fn weighed_bound(pool: &Pool, side: Side, it: &WeightedQuota) -> Option<usize>
+    ensures { IfSome result (λ product. product ≡ weighed_bound_of pool.now side it.now) }
+{
+    if is_side(side, it.quota.side) {
+        it.weight.checked_mul(bound(pool, it.quota))
+    } else {
+        Some(0)
+    }
+}
+
+/// Returns the sum of the weights of the quotas of a side that count volunteer `i`.
+fn weights_for(pool: &Pool, side: Side, weighted: &[WeightedQuota], i: usize) -> Option<usize>
+    requires { i < length pool.now.volunteers }
+    ensures { IfSome result (λ sum. sum ≡ weights_for_one pool.now side weighted.now i) }
+{
+    let mut sum: usize = 0;
+    for it in weighted {
+        if is_side(side, it.quota.side) && counts(pool, it.quota.counted, i) {
+            sum = sum.checked_add(it.weight)?;
+        }
+    }
+    Some(sum)
+}
+
+fn is_side(side: Side, other: Side) -> bool
+    ensures { result ≡ is_same_side side other }
+{
+    match (side, other) {
+        (Side::AtLeast, Side::AtLeast) | (Side::AtMost, Side::AtMost) => true,
+        _ => false,
+    }
+}
