@@ -52,8 +52,8 @@ figure{margin:1rem 0}
 <p class=\"lead\"><strong>~</strong> people volunteered for the <strong>~</strong> seats of the panel. The lottery has <strong>~</strong> possible panels, with <strong>~</strong> tickets among them. Dice that are thrown in public draw one ticket, and with it the panel.</p>";
 
 /// The heading of the panel that was drawn, to its members.
-pub(crate) const DRAWN: &[u8] = b"<h2>The panel that was drawn</h2>
-<p>The digits of the dice drew a panel of these members:</p>
+pub(crate) const DRAWN: &[u8] = b"<h2>The panel that the digits draw</h2>
+<p>Of all tickets of this lottery, the digits that were given draw the ticket of the panel of these members. A draw in another number of tickets isn't shown here.</p>
 <ul class=\"members\">";
 
 /// A member of the drawn panel: the id.
@@ -105,7 +105,7 @@ pub(crate) const END_OF_CATEGORY: &[u8] = b"</table>";
 
 /// Above the points of the curve: the least and the greatest chance, that of an equal lottery, the width of the picture, and the height of the equal chance.
 pub(crate) const CURVE: &[u8] = b"<h2>The chances</h2>
-<p>The chances go from ~ to ~. A plain equal lottery, which looks at no category, would give everybody ~.</p>
+<p>The chances go from ~ to ~. A plain equal lottery of all seats among all of these volunteers, which looks at no category, at no household, and not at who has a seat or is gone, would give everybody ~.</p>
 <figure>
 <p class=\"axis\" aria-hidden=\"true\">100 %</p>
 <svg class=\"curve\" role=\"img\" viewBox=\"0 -100 ~ 10200\" preserveAspectRatio=\"none\"><title>The chances of all volunteers in rising order as a curve, and the chance in a plain equal lottery as a level line</title>
@@ -143,8 +143,8 @@ pub(crate) const CLOSING: &[u8] = b"</tbody>
 <h2>How to check this page</h2>
 <ol>
 <li><code>sortition seal</code> reads the bundle and prints its seal. So does <code>sha256sum</code>. Both print the one above.</li>
-<li><code>sortition page</code> reads the bundle and prints this page again, byte for byte. <code>sortition chances</code> prints the same numbers.</li>
-<li><code>sortition verify</code> reads the proof that was published with the bundle. If it prints <code>valid</code>, every panel meets the quotas, and no other lottery over such panels gives a greater least chance, or the same least chance and a greater second one, and so on.</li>
+<li><code>sortition page</code> reads the bundle and prints this page again, byte for byte; with <code>--drawn</code> and the digits, if the page shows a panel that they draw. <code>sortition chances</code> prints the same chances.</li>
+<li><code>sortition bundle</code> reads the proof that was published with the bundle, and prints this bundle: its seal is the one above. <code>sortition verify</code> reads the same proof. If it prints <code>valid</code>, every panel meets the quotas, and no other lottery over such panels gives a greater least chance, or the same least chance and a greater second one, and so on.</li>
 <li>When the dice are thrown, anybody can read their digits. <code>sortition draw</code> reads the bundle, is given the seal and the digits, and prints the panel.</li>
 </ol>
 </main>

@@ -1,4 +1,4 @@
--- What one call of `serve` told of the outside: what a call over a store tells, and the door before and after. The links of a door are seen
+-- What a call of the program told of the outside: what a call over a store tells, and the door before and after. The links of a door are seen
 -- by what they tell. Over StoreTold. ServeOutcomes and the contract of `office` cite it.
 use Rattle.std.specs.Prelude.{◌≤◌, ℕ, List, length, map, Option, IfSome, option_map}
 use Rattle.command_shell.specs.Told.{Object, object}

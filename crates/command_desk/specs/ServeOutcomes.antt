@@ -17,7 +17,7 @@ kept_before keeper = kept keeper.object.before keeper.object.faults_before
 abbrev pub kept_after : Keeper → Kept
 kept_after keeper = kept keeper.object.after keeper.object.faults_after
 
--- the keeper was attached at `path`, and then links were attended, in the order in which the door gave them
+-- the keeper was attached at `path`, and links were attended, in the order in which the door gave them
 pub record HasServed (path : List ℕ) (connections : ℕ) (told : DeskTold) (visits : List Visit) : Type 0 where
   pub attached : IsAttached path told.store.keeper
   pub attended : AreAttended told.door.before (kept_before told.store.keeper) visits told.door.after (kept_after told.store.keeper)
@@ -35,11 +35,11 @@ pub data ServeOutcome (path : List ℕ) (connections : ℕ) (told : DeskTold) : 
   Done : (visits : List Visit) → HasServed path connections told visits → IsAtEnd connections told.door visits → IsPrinted 0 (served_line visits) told.store.call → ServeOutcome path connections told
   -- 8: out counted a fault while the line was told. What the visits changed is kept
   WriteFault : (visits : List Visit) → HasServed path connections told visits → IsAtEnd connections told.door visits → IsCutOff (served_line visits) told.store.call → ServeOutcome path connections told
-  -- 9: the keeper counted a fault when it was attached, and the door was left alone
+  -- 9: the keeper counted a fault when it was attached, and the door gave no link
   KeeperFault : IsUntouched told.door → HasFailed path told.store.keeper → IsStopped 9 keeper_fault_line told.store.call → ServeOutcome path connections told
   -- 10: the door counted a fault, as it was opened or at a later link. What the visits changed is kept
   DoorFault : (visits : List Visit) → HasServed path connections told visits → HasFaulted told.door → IsStopped 10 door_fault_line told.store.call → ServeOutcome path connections told
-  -- 12: memory was wanting before the door was opened; it was left alone
+  -- 12: memory was wanting, and the door gave no link
   WantOfMemory : IsUntouched told.door → HasStoredNothing path told.store.keeper → IsStopped 12 want_of_memory_line told.store.call → ServeOutcome path connections told
 
 -- how a call of `serve` ends, which reads no input: the source is untouched

@@ -244,8 +244,8 @@ pub record TellsLoosening (nodes : ℕ) (told : Told) : Type 0 where
   pub out : Gains told.out text
   pub loosening : PrintsLoosening nodes pool text
 
--- `why` printed a quota panel of the pool that the source held; or quotas of it that can't be met together, so that it has none (by the law
--- `conflict_leaves_no_panel` of `define_conflicts`)
+-- `why` printed a quota panel of the pool that the source held; or quotas of it that can't be met together: the pool with these alone has no
+-- quota panel (`IsConflict` of `define_conflicts`), and more quotas leave no more panels
 pub record TellsWhy (told : Told) : Type 0 where
   pub pool : Pool
   pub held : HeldPoolOrProof told.source pool
@@ -350,8 +350,8 @@ PassedAlone (Some (asks.Prove it)) told = (line : List ℕ) × GainsLine told.er
 PassedAlone (Some (asks.Why it)) told = (line : List ℕ) × GainsLine told.errs line × PassesProofWidth line
 PassedAlone other told = ⊥
 
--- status 5: a budget was spent, and errs gained the line that says which. For `prove` the lines of spent turns of peeling and of a lost
--- step have no condition
+-- status 5: a budget was spent, and errs gained the line that says which. For `prove` and `why`
+-- nothing says what a search leaves of its budget, so each of their lines is right at any time
 abbrev pub SpentAlone : Option Asked → Told → Type 0
 SpentAlone (Some (asks.Panel it)) told = (pool : Pool) × HeldPool told.source pool × (line : List ℕ) × GainsLine told.errs line × SpendsVisits it.nodes pool line
 SpentAlone (Some (asks.Loosen it)) told = (pool : Pool) × HeldPool told.source pool × (line : List ℕ) × GainsLine told.errs line × SpendsSearch it.nodes pool line
@@ -501,7 +501,7 @@ NumberPassed (Some (asks.ProveRound store proving)) told =
     (pool : Pool) × IsRoundPool proving.round told pool × (line : List ℕ) × GainsLine told.call.errs line × PassesProofWidth line
 NumberPassed other told = PassedAlone other told.call
 
--- status 5: a budget was spent. Over a store only `solve` and `prove` of an open round have it. For `prove` see `SpentAlone`
+-- status 5: a budget was spent. Over a store only `solve` and `prove` of an open round have it. For `prove` and `why` see `SpentAlone`
 abbrev pub BudgetSpent : Option Asked → StoreTold → Type 0
 BudgetSpent (Some (asks.Step store (steps.Solve round limits workers))) told =
     (pool : Pool) × IsRoundPool round told pool × (line : List ℕ) × GainsLine told.call.errs line × SpendsBudget limits pool line
@@ -553,7 +553,7 @@ pub record Keeps (it : Option Asked) (told : StoreTold) : Type 0 where
   pub text : told.call.status ≡ 3 → TextIsWrong it told
   -- status 4 comes only if a number passed its limit
   pub number : told.call.status ≡ 4 → NumberPassed it told
-  -- status 5 comes only if a budget was spent; see `SpentAlone` for `prove`
+  -- status 5 comes only if a budget was spent; see `SpentAlone` for `prove` and `why`
   pub budget : told.call.status ≡ 5 → BudgetSpent it told
   -- status 6 comes only if a rule was broken
   pub rule : told.call.status ≡ 6 → RuleBroken it told
@@ -585,14 +585,14 @@ pub record Keeps (it : Option Asked) (told : StoreTold) : Type 0 where
 abbrev pub Serves : List ℕ → ℕ → DeskTold → Type 0
 Serves path connections told = (visits : List Visit) × HasServed path connections told visits
 
--- and out gained the line that counts them. They are as many as `connections`, or no link is still to come
+-- and out gained the line that counts them. They are as many as `connections`, or, as far as the door tells, no link is still to come
 pub record TellsServed (path : List ℕ) (connections : ℕ) (told : DeskTold) : Type 0 where
   pub visits : List Visit
   pub served : HasServed path connections told visits
   pub ended : IsAtEnd connections told.door visits
   pub out : Gains told.store.call.out (served_line visits)
 
--- the door was left alone, and the tables are as before
+-- the door gave and took back no link and counted no fault, and the tables are as before
 pub record IsUnopened (told : DeskTold) : Type 0 where
   pub door : IsUntouched told.door
   pub tables : KeepsTables told.store.keeper
@@ -606,11 +606,11 @@ pub record KeepsDesk (path : List ℕ) (connections : ℕ) (told : DeskTold) : T
   pub done : told.store.call.status ≡ 0 → TellsServed path connections told
   -- status 8 comes only if out counted a fault, and what the visits changed is kept
   pub write_fault : told.store.call.status ≡ 8 → HasFaulted told.store.call.out × Serves path connections told
-  -- status 9 comes only if the keeper of the store counted a fault before the door was opened
+  -- status 9 comes only if the keeper of the store counted a fault when it was attached; no link was given
   pub keeper_fault : told.store.call.status ≡ 9 → HasFaulted told.store.keeper.object × IsUnopened told
   -- status 10 comes only if the door counted a fault, and what the visits changed is kept
   pub door_fault : told.store.call.status ≡ 10 → HasFaulted told.door × Serves path connections told
-  -- status 12, want of memory, comes only before the door is opened
+  -- status 12, want of memory, comes only if no link was given
   pub memory : told.store.call.status ≡ 12 → IsUnopened told
   -- there is no other status
   pub statuses : IsTrue (is_serve_status told.store.call.status)

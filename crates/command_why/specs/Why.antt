@@ -2,7 +2,7 @@
 -- else a quota panel.
 --
 -- The search for quotas is no definition. So the meaning doesn't say which of several conflicts is found, nor whether one is found within the
--- budget. At 4, any operation that passes 2^62 is right. At 5, a lost step is always right.
+-- budget, nor what a search leaves of its budget. So at 4 any operation that passes 2^62 is right, and at 5 each of the lines, at any time.
 use Rattle.std.specs.Prelude.{◌≡◌, ℕ, IsTrue, List, [], ◌∷◌, ◌++◌, codes}
 use Rattle.std.specs.List.{flat_map}
 use Rattle.define_conflicts.specs.Conflicts.{IsConflict}
