@@ -23,7 +23,7 @@ request_answered left before after faults now sent request bytes all asked fault
     sends left before after faults now sent bytes all fault (served tables request).reply is.replies
     (FromTables tables (served tables request).tables loaded (Asks request, asked, refl) is.leaves)
 request_answered left before after faults now sent request bytes all asked fault (Fails says same) =
-    sends left before after faults now sent bytes all fault unavailable says (Unavailable refl same)
+    sends left before after faults now sent bytes all fault unavailable says (Unavailable request asked refl same)
 request_answered left before after faults now sent request bytes all asked fault (WantsMemory says same) =
     sends left before after faults now sent bytes all fault out_of_memory says (NoMemory refl same)
 

@@ -5,6 +5,7 @@ use Rattle.std.specs.Io.KnownBytes.{Appends}
 use Rattle.outside.specs.Content.{AppendsPart}
 use Rattle.outside.specs.Faults.{Rose}
 use Rattle.define_offices.specs.Tables.{Tables}
+use Rattle.define_desk.specs.Requests.{AreAsking, Asks, Request}
 use Rattle.define_desk.specs.Desk.{Serves, leaving}
 use Rattle.define_desk.specs.Replies.{Reply, out_of_memory, reply_text, unavailable}
 use Rattle.office_core.specs.Acting.{IsLoaded}
@@ -46,8 +47,8 @@ pub data IsReply (bytes : List ℕ) (before after : Option Tables) (reply : Repl
   FromTables : (tables left : Tables) → IsLoaded before tables → Serves tables bytes (leaving left reply) → after ≡ option_map (λ told. left) before → IsReply bytes before after reply
   -- the desk's over any tables. None were loaded
   FromBytes : ((tables : Tables) → Serves tables bytes (leaving tables reply)) → after ≡ before → IsReply bytes before after reply
-  -- 503: the keeper failed
-  Unavailable : reply ≡ unavailable → after ≡ before → IsReply bytes before after reply
+  -- 503: the bytes ask for something, and the keeper failed
+  Unavailable : (request : Request) → AreAsking bytes (Asks request) → reply ≡ unavailable → after ≡ before → IsReply bytes before after reply
   -- 507: memory was wanting, which may come at any time
   NoMemory : reply ≡ out_of_memory → after ≡ before → IsReply bytes before after reply
 
