@@ -19,6 +19,6 @@ escaped_byte byte =
 abbrev pub escaped : List ℕ → List ℕ
 escaped name = flat_map escaped_byte name
 
--- a part of 1 in per cent, from ten-thousandths
+-- ten-thousandths, written in per cent
 abbrev pub percent : ℕ → List ℕ
 percent part = fixed_point 2 part ++ codes " %"

@@ -5,24 +5,40 @@ use Rattle.std.specs.Fmt.{decimal}
 use Rattle.std.specs.List.{enumerate_from, flat_map}
 use Rattle.frac128.specs.Fractions.{fraction_text, lowest_of}
 use Rattle.define_bundles.specs.BundleText.{Bundle}
+use Rattle.define_draws.specs.Draw.{Drawn}
 use Rattle.define_lines.specs.Lines.{text_of}
 use Rattle.define_pools.specs.Lists.{rising}
 use Rattle.define_pools.specs.Lottery.{counts}
 use Rattle.define_pools.specs.Pool.{Category, Pool, Volunteer}
 use Rattle.chance_numbers.specs.Decimals.{fixed_point, ten_thousandths}
 use Rattle.bundle_page.specs.declared.shares.Share.{Share}
-use Rattle.bundle_page.specs.declared.shares.Sizes.{Sizes}
-use Rattle.bundle_page.specs.declared.templates.TheConstants.{CATEGORY, CHANCE, CLOSING, CURVE, END_OF_CATEGORY, NUMBERS, OPENING, POINT, QUOTAS, SHAPES, TABLE, WORDS}
+use Rattle.bundle_page.specs.declared.sizes.Sizes.{Sizes}
+use Rattle.bundle_page.specs.declared.templates.TheConstants.{CATEGORY, CHANCE, CLOSING, CURVE, CURVE_WORDS, END_OF_CATEGORY, HEAD, LEAD, NUMBERS, PLAIN_HEADING, PLAIN_TITLE, POINT, QUOTAS, ROUND_HEADING, SHAPES, TABLE, WORDS}
 use Rattle.bundle_page.specs.Drawn.{drawn_text}
 use Rattle.bundle_page.specs.Markup.{escaped, filled, percent}
-use Rattle.bundle_page.specs.Numbers.{equal_chance, rounded, share_of, sizes_of}
+use Rattle.bundle_page.specs.Numbers.{equal_chance, rounded, seats_left, share_of, sizes_of}
 
 -- ---- the head
 
-abbrev pub opening : Sizes → ℕ → ℕ → List ℕ
-opening sizes panels total =
-    filled OPENING.now
-    (decimal sizes.seats ∷ decimal sizes.volunteers ∷ decimal sizes.volunteers ∷ decimal sizes.seats ∷ decimal panels ∷ decimal total ∷ [])
+-- from the first line to the heading
+abbrev pub head_with : List ℕ → List ℕ → List ℕ
+head_with title heading = text_of (filled HEAD.now (title ∷ heading ∷ []) ∷ [])
+
+-- the head of a page that names no round
+abbrev pub plain_head : Sizes → List ℕ
+plain_head sizes = head_with (filled PLAIN_TITLE.now (decimal sizes.seats ∷ decimal sizes.volunteers ∷ [])) PLAIN_HEADING.now
+
+-- the title and the heading of the page of a round: the assembly's title, and the round's number
+abbrev pub round_heading : List ℕ → ℕ → List ℕ
+round_heading title number = filled ROUND_HEADING.now (escaped title ∷ decimal number ∷ [])
+
+abbrev pub round_head : List ℕ → ℕ → List ℕ
+round_head title number = head_with (round_heading title number) (round_heading title number)
+
+-- the words below the heading
+abbrev pub lead : Sizes → ℕ → ℕ → List ℕ
+lead sizes panels total =
+    filled LEAD.now (decimal sizes.volunteers ∷ decimal sizes.seats ∷ decimal panels ∷ decimal total ∷ [])
 
 -- ---- the categories. `name` and `expected` are the texts of a value's name, and of the seats expected
 
@@ -36,7 +52,7 @@ words_part name expected share sizes =
     (decimal (sizes.volunteers * sizes.seats) ∷ name ∷ decimal share.volunteers ∷ decimal sizes.volunteers ∷ decimal share.lower
     ∷ decimal share.upper ∷ decimal sizes.seats ∷ expected ∷ [])
 
--- the bars: a volunteer is as wide as there are seats, and a seat as there are volunteers
+-- the bars of a value, in a picture whose width is the seats times the volunteers: a volunteer takes `seats` of it, and a seat `volunteers`
 abbrev pub shapes_part : Share → Sizes → List ℕ
 shapes_part share sizes =
     filled SHAPES.now
@@ -65,11 +81,18 @@ category_lines pool counts total =
 
 -- ---- the curve. `chances` are in ten-thousandths and in rising order
 
-abbrev pub curve_start : List ℕ → Sizes → List ℕ
-curve_start chances sizes =
+abbrev pub curve_words : List ℕ → Sizes → List ℕ
+curve_words chances sizes =
+    filled CURVE_WORDS.now
+    (percent (slice_index chances 0) ∷ percent (slice_index chances (length chances - 1)) ∷ percent (equal_chance sizes) ∷ decimal sizes.open_count
+    ∷ decimal (seats_left sizes) ∷ decimal sizes.seated_count ∷ decimal sizes.gone_count ∷ [])
+
+-- the equal lottery's chances in rising order are three level lines: those who are gone, the open volunteers, and those who are seated
+abbrev pub curve_start : Sizes → List ℕ
+curve_start sizes =
     filled CURVE.now
-    (percent (slice_index chances 0) ∷ percent (slice_index chances (length chances - 1)) ∷ percent (equal_chance sizes)
-    ∷ decimal sizes.volunteers ∷ decimal (10000 - equal_chance sizes) ∷ [])
+    (decimal sizes.volunteers ∷ decimal sizes.gone_count ∷ decimal sizes.gone_count ∷ decimal (10000 - equal_chance sizes) ∷ decimal (sizes.gone_count + sizes.open_count)
+    ∷ decimal (sizes.gone_count + sizes.open_count) ∷ decimal sizes.volunteers ∷ [])
 
 -- a step of the curve: a level line from one place to the next
 abbrev pub point_line : ℕ → ℕ → List ℕ
@@ -81,7 +104,7 @@ point_lines chances = map (λ (place, chance). point_line place chance) (enumera
 
 abbrev pub curve_parts : List ℕ → ℕ → Sizes → List (List ℕ)
 curve_parts counts total sizes =
-    curve_start (rising (rounded counts total)) sizes ∷ point_lines (rising (rounded counts total))
+    curve_words (rising (rounded counts total)) sizes ∷ curve_start sizes ∷ point_lines (rising (rounded counts total))
 
 -- ---- the volunteers
 
@@ -95,7 +118,7 @@ chance_lines volunteers counts total =
 
 -- ---- the page
 
--- what is below the title, and below the part about a drawn panel if there is one
+-- what is below the words of the head, and below the part about a draw if there is one
 abbrev pub lower_lines : Pool → List ℕ → ℕ → List ℕ → List (List ℕ)
 lower_lines pool counts total seal =
     filled QUOTAS.now [] ∷ category_lines pool counts total
@@ -103,20 +126,24 @@ lower_lines pool counts total seal =
     ++ filled TABLE.now [] ∷ chance_lines pool.volunteers counts total
     ++ filled CLOSING.now (seal ∷ []) ∷ []
 
--- the page about a lottery with so many panels. `drawn` is the part about a drawn panel
-abbrev pub text_of_counts : Pool → List ℕ → ℕ → ℕ → List ℕ → List ℕ → List ℕ
-text_of_counts pool counts total panels seal drawn =
-    text_of (opening (sizes_of pool) panels total ∷ []) ++ drawn ++ text_of (lower_lines pool counts total seal)
+-- the page about a lottery of `panels` panels, with this head. `drawn` is the part about a draw
+abbrev pub text_of_counts : List ℕ → Pool → List ℕ → ℕ → ℕ → List ℕ → List ℕ → List ℕ
+text_of_counts head pool counts total panels seal drawn =
+    head ++ text_of (lead (sizes_of pool) panels total ∷ []) ++ drawn ++ text_of (lower_lines pool counts total seal)
 
-abbrev pub page_with : Bundle → List ℕ → List ℕ → List ℕ
-page_with bundle seal drawn =
+abbrev pub page_with : List ℕ → Bundle → List ℕ → List ℕ → List ℕ
+page_with head bundle seal drawn =
     let lottery = bundle.answer.lottery in
-    text_of_counts bundle.pool (counts bundle.pool lottery) lottery.total (length lottery.rows) seal drawn
+    text_of_counts head bundle.pool (counts bundle.pool lottery) lottery.total (length lottery.rows) seal drawn
+
+-- the part about what these digits draw from a bundle with this seal, in this number of tickets
+abbrev pub drawn_part : Bundle → List ℕ → List ℕ → ℕ → Drawn → List ℕ
+drawn_part bundle seal digits tickets drawn = drawn_text bundle.pool bundle.answer.lottery.total seal digits tickets drawn
 
 -- the page about a bundle with this seal
 abbrev pub page_text : Bundle → List ℕ → List ℕ
-page_text bundle seal = page_with bundle seal []
+page_text bundle seal = page_with (plain_head (sizes_of bundle.pool)) bundle seal []
 
--- the page about a bundle with this seal, from which this panel was drawn
-abbrev pub drawn_page_text : Bundle → List ℕ → List ℕ → List ℕ
-drawn_page_text bundle seal panel = page_with bundle seal (drawn_text bundle.pool panel)
+-- the page about a bundle with this seal, and about a draw from it
+abbrev pub drawn_page_text : Bundle → List ℕ → List ℕ → ℕ → Drawn → List ℕ
+drawn_page_text bundle seal digits tickets drawn = page_with (plain_head (sizes_of bundle.pool)) bundle seal (drawn_part bundle seal digits tickets drawn)

@@ -2,11 +2,11 @@
 
 ghost use Rattle.std.specs.Prelude.{◌≡◌, ◌≤◌, ◌^◌, ◌++◌, ◌∷◌, [], length, slice_index, EachIndex, OnOk};
 ghost use Rattle.define_lines.specs.Lines.{text_of};
-ghost use Rattle.bundle_page.specs.Numbers.{sizes_of};
 ghost use Rattle.bundle_page.specs.Page.{category_lines, category_parts, numbers_part, shapes_part, value_lines, value_parts, words_part};
 
 use crate::markup::{escaped, fill};
-use crate::shares::{Share, Sizes, share_of};
+use crate::shares::{Share, share_of};
+use crate::sizes::{Sizes, sizes_of};
 use crate::templates::{CATEGORY, END_OF_CATEGORY, NUMBERS, SHAPES, WORDS};
 use chance_numbers::fixed_point;
 use itoa::Buffer;
@@ -74,22 +74,12 @@ fn push_values(
     requires most { total ≤ 10 ^ 38 }
     ensures { OnOk result (text.new.items ≡ text.old.items ++ text_of (value_lines pool.now counts.now total place category.now)) }
 {
-    let sizes = sizes(pool);
+    let sizes = sizes_of(pool);
     for (value_place, value) in category.values().iter().enumerate() {
         let share = share_of(pool.volunteers(), counts, total, place, value_place, value);
         push_value(alloc, text, value.name(), share, sizes)?;
     }
     Ok(())
-}
-
-/// Returns how many volunteers and seats there are.
-pub(crate) fn sizes(pool: &Pool) -> Sizes
-    ensures { result ≡ sizes_of pool.now }
-{
-    Sizes {
-        volunteers: pool.volunteers().len(),
-        seats: pool.size(),
-    }
 }
 
 /// Appends the part of a value with these numbers.

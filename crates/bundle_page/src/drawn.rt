@@ -1,29 +1,85 @@
-//! The part of the page about a panel that was drawn: its members, and for each value how many of them have it, beside its bounds.
+//! The part of the page about a draw: the digits and the ticket that they name, the members of its panel, and for each value how many of
+//! them have it, beside its bounds.
 
 ghost use Rattle.std.specs.Prelude.{◌≡◌, ◌++◌, ◌∷◌, [], map, slice_index, IfOk, OnOk};
 ghost use Rattle.define_lines.specs.Lines.{text_of};
 ghost use Rattle.define_pools.specs.Pool.{members_with as words_of_members, volunteer};
 ghost use Rattle.bundle_page.specs.Markup.{escaped as words_of_escaped};
-ghost use Rattle.bundle_page.specs.Drawn.{drawn_category_lines, drawn_line, drawn_text as words_of_drawn, drawn_value_lines, member_line};
+ghost use Rattle.bundle_page.specs.Drawn.{check_words, draw_words, drawn_category_lines, drawn_line, drawn_value_lines, member_line, seen_draw};
+ghost use Rattle.bundle_page.specs.Page.{drawn_part as words_of_part};
 
 use crate::markup::{escaped, fill};
 use crate::shares::value_at;
-use crate::templates::{DRAWN, DRAWN_TABLE, DRAWN_VALUE, END_OF_DRAWN, MEMBER};
+use crate::templates::{
+    CHECK, CHECK_SHORT, DRAWN, DRAWN_TABLE, DRAWN_VALUE, END_OF_DRAWN, MEMBER, MEMBERS,
+};
+use bundle_text::Bundle;
 use itoa::Buffer;
 use pool_model::{BoundedValue, Category, Name, Pool, Volunteer};
+use sealed_draw::Draw;
 use std::alloc::{AllocError, Global};
 
-/// Returns the part about this panel.
-pub(crate) fn drawn_text(alloc: Global, pool: &Pool, panel: &[usize]) -> Result<Vec<u8>, AllocError>
-    ensures { IfOk result (λ text. text.items ≡ words_of_drawn pool.now panel.now) }
+/// Returns the part about what these digits draw from a bundle with this seal, in this number of tickets.
+pub fn drawn_part(
+    alloc: Global,
+    bundle: &Bundle,
+    seal: &[u8],
+    digits: &[u8],
+    tickets: u128,
+    drawn: &Draw,
+) -> Result<Vec<u8>, AllocError>
+    ensures { IfOk result (λ text. text.items ≡ words_of_part bundle.now seal.now digits.now tickets (seen_draw drawn.now)) }
 {
     let mut text = Vec::new(alloc);
-    fill(&mut text, DRAWN, &[])?;
-    push_members(alloc, &mut text, pool.volunteers(), panel)?;
+    push_draw_words(&mut text, seal, digits, tickets, drawn)?;
+    push_check_words(&mut text, bundle, tickets)?;
+    fill(&mut text, MEMBERS, &[])?;
+    push_members(
+        alloc,
+        &mut text,
+        bundle.pool().volunteers(),
+        drawn.panel.members(),
+    )?;
     fill(&mut text, DRAWN_TABLE, &[])?;
-    push_drawn_categories(alloc, &mut text, pool, panel)?;
+    push_drawn_categories(alloc, &mut text, bundle.pool(), drawn.panel.members())?;
     fill(&mut text, END_OF_DRAWN, &[])?;
     Ok(text)
+}
+
+/// Appends the draw in words.
+fn push_draw_words(
+    text: &mut Vec<u8>,
+    seal: &[u8],
+    digits: &[u8],
+    tickets: u128,
+    drawn: &Draw,
+) -> Result<(), AllocError>
+    ensures { OnOk result (text.new.items ≡ text.old.items ++ text_of (draw_words seal.now digits.now tickets (seen_draw drawn.now) ∷ [])) }
+{
+    let (mut all, mut used, mut ticket) = (Buffer::new(), Buffer::new(), Buffer::new());
+    fill(
+        text,
+        DRAWN,
+        &[
+            digits,
+            all.format(tickets).as_bytes(),
+            used.format(drawn.used).as_bytes(),
+            ticket.format(drawn.ticket.unsigned_abs()).as_bytes(),
+            seal,
+        ],
+    )
+}
+
+/// Appends how to check a draw from a bundle in this number of tickets.
+fn push_check_words(text: &mut Vec<u8>, bundle: &Bundle, tickets: u128) -> Result<(), AllocError>
+    ensures { OnOk result (text.new.items ≡ text.old.items ++ text_of (check_words bundle.now.answer.lottery.total tickets ∷ [])) }
+{
+    let total = bundle.answer().lottery().total().unsigned_abs();
+    if tickets == total {
+        return fill(text, CHECK, &[]);
+    }
+    let mut number = Buffer::new();
+    fill(text, CHECK_SHORT, &[number.format(total).as_bytes()])
 }
 
 /// Appends a line for each member.
@@ -97,7 +153,7 @@ fn push_drawn_values(
     Ok(())
 }
 
-/// Appends the row of a value that so many members have.
+/// Appends the row of a value that `members` members of the drawn panel have.
 fn push_drawn_value(
     alloc: Global,
     text: &mut Vec<u8>,

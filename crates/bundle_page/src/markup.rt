@@ -2,7 +2,7 @@
 
 ghost use Rattle.std.specs.Prelude.{◌≡◌, ◌++◌, ◌∷◌, [], map, IfOk, OnOk};
 ghost use Rattle.define_lines.specs.Lines.{text_of};
-ghost use Rattle.bundle_page.specs.Markup.{escaped as words_of_escaped, escaped_byte, filled, percent as words_of_percent};
+ghost use Rattle.bundle_page.specs.Markup.{escaped as words_of_escaped, escaped_byte, filled as words_of_filled, percent as words_of_percent};
 
 use chance_numbers::fixed_point;
 use std::alloc::{AllocError, Global};
@@ -13,15 +13,28 @@ const PLACE: u8 = b'~';
 
 /// Appends a template with its values, and LF.
 pub(crate) fn fill(text: &mut Vec<u8>, template: &[u8], values: &[&[u8]]) -> Result<(), AllocError>
-    ensures { OnOk result (text.new.items ≡ text.old.items ++ text_of (filled template.now (map (λ value. value.now) values.now) ∷ [])) }
+    ensures { OnOk result (text.new.items ≡ text.old.items ++ text_of (words_of_filled template.now (map (λ value. value.now) values.now) ∷ [])) }
 {
     put_values(text, template, values)?;
     end_line(text)
 }
 
+/// Returns a template with its values.
+pub(crate) fn filled(
+    alloc: Global,
+    template: &[u8],
+    values: &[&[u8]],
+) -> Result<Vec<u8>, AllocError>
+    ensures { IfOk result (λ text. text.items ≡ words_of_filled template.now (map (λ value. value.now) values.now)) }
+{
+    let mut text = Vec::new(alloc);
+    put_values(&mut text, template, values)?;
+    Ok(text)
+}
+
 /// Appends a template with its values.
 fn put_values(text: &mut Vec<u8>, template: &[u8], values: &[&[u8]]) -> Result<(), AllocError>
-    ensures { OnOk result (text.new.items ≡ text.old.items ++ filled template.now (map (λ value. value.now) values.now)) }
+    ensures { OnOk result (text.new.items ≡ text.old.items ++ words_of_filled template.now (map (λ value. value.now) values.now)) }
 {
     let mut next = 0;
     for byte in template {

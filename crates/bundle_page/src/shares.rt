@@ -6,13 +6,6 @@ ghost use Rattle.bundle_page.specs.Numbers.{share_of as words_of_share, voluntee
 use chance_numbers::{rounded_sum, sum_with};
 use pool_model::{BoundedValue, Volunteer};
 
-/// How many volunteers and how many seats there are.
-#[derive(Clone, Copy, Debug)]
-pub(crate) struct Sizes {
-    pub(crate) volunteers: usize,
-    pub(crate) seats: usize,
-}
-
 /// The numbers of a value.
 #[derive(Clone, Copy, Debug)]
 pub(crate) struct Share {

@@ -1,13 +1,13 @@
 //! The fixed texts of the page. A `~` stands for a value; the definitions of the page say which.
 
-/// From the first line to the words below the title: seats, volunteers, volunteers, seats, panels, tickets.
-pub(crate) const OPENING: &[u8] = b"<!DOCTYPE html>
+/// From the first line to the heading: the title of the document, and the heading.
+pub(crate) const HEAD: &[u8] = b"<!DOCTYPE html>
 <html lang=\"en\">
 <head>
 <meta charset=\"utf-8\">
 <meta name=\"viewport\" content=\"width=device-width, initial-scale=1\">
 <meta name=\"color-scheme\" content=\"light dark\">
-<title>The lottery for a panel of ~ from ~ volunteers</title>
+<title>~</title>
 <style>
 :root{--paper:#fdfcf9;--ink:#1d2329;--soft:#59636e;--line:#d5d9dd;--pool:#8b96a1;--seats:#7fb2e5;--mean:#0b4a8f;--equal:#b3541e}
 @media(prefers-color-scheme:dark){:root{--paper:#14181c;--ink:#e8eaed;--soft:#a5afb9;--line:#39424b;--pool:#76828e;--seats:#2f6aa8;--mean:#a9d3ff;--equal:#f0a06a}}
@@ -48,12 +48,35 @@ figure{margin:1rem 0}
 </head>
 <body>
 <main>
-<h1>The lottery for the panel</h1>
-<p class=\"lead\"><strong>~</strong> people volunteered for the <strong>~</strong> seats of the panel. The lottery has <strong>~</strong> possible panels, with <strong>~</strong> tickets among them. Dice that are thrown in public draw one ticket, and with it the panel.</p>";
+<h1>~</h1>";
 
-/// The heading of the panel that was drawn, to its members.
+/// The title of the document of a page that names no round: seats, volunteers.
+pub(crate) const PLAIN_TITLE: &[u8] = b"The lottery for a panel of ~ from ~ volunteers";
+
+/// The heading of such a page.
+pub(crate) const PLAIN_HEADING: &[u8] = b"The lottery for the panel";
+
+/// The title and the heading of the page of a round: the assembly's title, and the round's number.
+pub(crate) const ROUND_HEADING: &[u8] = b"~: the lottery of round ~";
+
+/// The words below the heading: volunteers, seats, panels, tickets.
+pub(crate) const LEAD: &[u8] =
+    b"<p class=\"lead\"><strong>~</strong> people volunteered for the <strong>~</strong> seats of the panel. The lottery has <strong>~</strong> possible panels, with <strong>~</strong> tickets among them. Dice that are thrown in public draw one ticket, and with it the panel.</p>";
+
+/// The draw, to its members: the digits, the tickets in all, how many digits were read, the ticket, and the seal.
 pub(crate) const DRAWN: &[u8] = b"<h2>The panel that the digits draw</h2>
-<p>Of all tickets of this lottery, the digits that were given draw the ticket of the panel of these members. A draw in another number of tickets isn't shown here.</p>
+<p>The digits of the dice are <code>~</code>. There are <strong>~</strong> tickets in all, which are numbered from 0. The first <strong>~</strong> digits were read, and name the ticket <strong>~</strong>. The seal of the lottery is <code>~</code>.</p>";
+
+/// How to check a draw in the lottery's own tickets.
+pub(crate) const CHECK: &[u8] =
+    b"<p>To check it, give this seal and these digits to <code>sortition draw</code>. It reads the bundle, and prints the same ticket and the same members.</p>";
+
+/// How to check a draw in another number of tickets: the tickets of the lottery.
+pub(crate) const CHECK_SHORT: &[u8] =
+    b"<p>The lottery itself has ~ tickets. This draw is in another number of them, in which the chances differ a little from those below. To check it, give this number, this seal and these digits to <code>sortition short-draw</code>. It reads the bundle, and prints the same ticket and the same members.</p>";
+
+/// Above the members.
+pub(crate) const MEMBERS: &[u8] = b"<p>It is a ticket of the panel of these members:</p>
 <ul class=\"members\">";
 
 /// A member of the drawn panel: the id.
@@ -103,14 +126,16 @@ pub(crate) const SHAPES: &[u8] =
 /// Behind the values of a category.
 pub(crate) const END_OF_CATEGORY: &[u8] = b"</table>";
 
-/// Above the points of the curve: the least and the greatest chance, that of an equal lottery, the width of the picture, and the height of the equal chance.
-pub(crate) const CURVE: &[u8] = b"<h2>The chances</h2>
-<p>The chances go from ~ to ~. A plain equal lottery of all seats among all of these volunteers, which looks at no category, at no household, and not at who has a seat or is gone, would give everybody ~.</p>
-<figure>
+/// The words above the curve: the least and the greatest chance; the equal chance, how many have it, and for how many seats; how many are seated, and how many are gone.
+pub(crate) const CURVE_WORDS: &[u8] = b"<h2>The chances</h2>
+<p>The chances go from ~ to ~. A plain equal lottery, which looks at no category and at no household, would give ~ to each of the ~ volunteers who are neither seated nor gone, for ~ seats. Of the others ~ are seated, with a seat for sure, and ~ are gone, with none.</p>";
+
+/// Above the points of the curve: the width of the picture, and the level lines of the equal lottery: the end of the first, the start, height and end of the second, and the start and end of the third.
+pub(crate) const CURVE: &[u8] = b"<figure>
 <p class=\"axis\" aria-hidden=\"true\">100 %</p>
-<svg class=\"curve\" role=\"img\" viewBox=\"0 -100 ~ 10200\" preserveAspectRatio=\"none\"><title>The chances of all volunteers in rising order as a curve, and the chance in a plain equal lottery as a level line</title>
+<svg class=\"curve\" role=\"img\" viewBox=\"0 -100 ~ 10200\" preserveAspectRatio=\"none\"><title>The chances of all volunteers in rising order as a curve, and those in a plain equal lottery as level lines</title>
 <path class=\"grid\" d=\"M0 0H400M0 2500H400M0 5000H400M0 7500H400M0 10000H400\"/>
-<path class=\"equal\" d=\"M0 ~H400\"/>
+<path class=\"equal\" d=\"M0 10000H~M~ ~H~M~ 0H~\"/>
 <polyline class=\"mean\" points=\"";
 
 /// Two points of the curve: place and height, the next place and the height.
@@ -122,7 +147,7 @@ pub(crate) const TABLE: &[u8] = b"\"/></svg>
 <figcaption>
 <ul class=\"key\">
 <li class=\"m\">the chances in this lottery, in rising order. The lines behind them are at 0, 25, 50, 75 and 100 %</li>
-<li class=\"e\">the chance in a plain equal lottery</li>
+<li class=\"e\">the chances in a plain equal lottery, in rising order</li>
 </ul>
 </figcaption>
 </figure>
@@ -143,7 +168,7 @@ pub(crate) const CLOSING: &[u8] = b"</tbody>
 <h2>How to check this page</h2>
 <ol>
 <li><code>sortition seal</code> reads the bundle and prints its seal. So does <code>sha256sum</code>. Both print the one above.</li>
-<li><code>sortition page</code> reads the bundle and prints this page again, byte for byte; with <code>--drawn</code> and the digits, if the page shows a panel that they draw. <code>sortition chances</code> prints the same chances.</li>
+<li><code>sortition page</code> reads the bundle and prints this page again, byte for byte, with a heading of its own if this one names a round; give it <code>--drawn</code> and the digits if the page shows a panel that they draw. <code>sortition chances</code> prints the same chances.</li>
 <li><code>sortition bundle</code> reads the proof that was published with the bundle, and prints this bundle: its seal is the one above. <code>sortition verify</code> reads the same proof. If it prints <code>valid</code>, every panel meets the quotas, and no other lottery over such panels gives a greater least chance, or the same least chance and a greater second one, and so on.</li>
 <li>When the dice are thrown, anybody can read their digits. <code>sortition draw</code> reads the bundle, is given the seal and the digits, and prints the panel.</li>
 </ol>

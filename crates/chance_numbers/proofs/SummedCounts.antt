@@ -55,7 +55,7 @@ decimal_parts (suc count) high low some small fits =
 
 -- ---- fractions of sums
 
--- a whole number and a rest over a total, in lowest terms
+-- `whole + rest / total` in lowest terms is `rest / total` in lowest terms with `whole` added
 pub lowest_of_sum : (whole rest total : ℕ) → rest < total →
     lowest_of (whole * total + rest) total ≡ record { num = whole * (lowest_of rest total).den + (lowest_of rest total).num; den = (lowest_of rest total).den }
 lowest_of_sum whole rest total less =
@@ -126,7 +126,7 @@ greatest_within (x ∷ xs) total each = greatest_from x total xs (each 0 (omega 
 
 -- ---- the parts of a numerator
 
--- `whole * den + num`, from the quotients and the rests of `den` and `num` by `base`
+-- `whole * den + num` can be computed from the quotients and the rests of `den` and `num` by `base`
 pub numerator_is : (whole num den base : ℕ) →
     (whole * (den / base) + num / base + (whole * (den % base) + num % base) / base) * base + (whole * (den % base) + num % base) % base ≡ whole * den + num
 numerator_is whole num den base =
@@ -138,7 +138,7 @@ numerator_is whole num den base =
 
 -- ---- rounding a sum
 
--- a whole number and a rest over a total, rounded to ten-thousandths
+-- rounding `whole + rest / total` to ten-thousandths gives `whole * 10000` plus the rounded `rest / total`
 pub rounded_is : (whole rest total : ℕ) → rest < total → whole * 10000 + ten_thousandths rest total ≡ ten_thousandths (whole * total + rest) total
 rounded_is whole rest total less =
     let some : 0 < 2 * total = omega arith in

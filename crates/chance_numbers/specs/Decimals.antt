@@ -7,7 +7,7 @@ abbrev pub last_digits : ℕ → ℕ → List ℕ
 last_digits zero number = []
 last_digits (suc count) number = last_digits count (number / 10) ++ (48 + number % 10) ∷ []
 
--- the text of `number / 10 ^ places`, with so many places after the point
+-- the text of `number / 10 ^ places`, with `places` digits after the point
 abbrev pub fixed_point : ℕ → ℕ → List ℕ
 fixed_point places number = decimal (number / 10 ^ places) ++ 46 ∷ last_digits places number
 

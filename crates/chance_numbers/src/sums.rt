@@ -98,7 +98,7 @@ pub fn sum_text(alloc: Global, sum: Sum, total: u128) -> Result<Vec<u8>, AllocEr
     lowest_text(alloc, sum, total)
 }
 
-/// Does what `sum_text` does: the rest is brought to lowest terms, and the whole number added.
+/// Returns the text that `sum_text` returns. It brings the rest to lowest terms, and adds the whole number.
 fn lowest_text(alloc: Global, sum: Sum, total: u128) -> Result<Vec<u8>, AllocError>
     requires rest { sum.rest < total }
     requires few { sum.whole ≤ 400 }

@@ -18,7 +18,7 @@ use Rattle.command_desk.proofs.Counting.{broken_more, served_more}
 pub no_turn : (links : Option (DoorLinks LinkTold)) (kept : Kept) → AreUnderWay links kept (record { served = 0; broken = 0 }) 0 links kept
 no_turn links kept = record { visits = []; attended = none_attended links links kept kept refl refl; counted = record { served = refl; broken = refl }; number = refl }
 
--- one more turn was made
+-- if the turns so far are counted, and one more is made and counted, the turns are counted again
 pub one_turn : (links between after : Option (DoorLinks LinkTold)) (before kept left : Kept) (counts more : Counts) (turns : ℕ) (ended : Result ℕ LinkFault) →
     AreUnderWay links before counts turns between kept → TakesTurn between after kept left (Ok (Some ended)) →
     more.served ≡ counts.served + cond (is_ok ended) 1 0 → more.broken ≡ counts.broken + cond (is_err ended) 1 0 → AreUnderWay links before more (turns + 1) after left
@@ -44,7 +44,7 @@ all_turns connections turns door before after counts way all none =
     let within : length way.visits ≤ connections = omega (arith, number) in
     (way.visits, way.attended, within, record { all = inl number; no_fault = none }, way.counted)
 
--- no link came any more
+-- if no link is to come at a turn, the serving ends with the counts so far
 pub last_turn : (connections turns : ℕ) (door : Door) (between : Option (DoorLinks LinkTold)) (before kept after : Kept) (counts : Counts) → AreUnderWay door.before before counts turns between kept →
     turns < connections → TakesTurn between door.after kept after (Ok None) → HasNoFault door → ServesDoor connections door before after (Ok counts)
 last_turn connections turns door between before kept after counts way fewer (same, left, none_comes) none =
@@ -54,7 +54,7 @@ last_turn connections turns door between before kept after counts way fewer (sam
     let ended : IfSome door.after (λ links. links.coming ≡ []) = subst (λ (links : Option (DoorLinks LinkTold)). IfSome links (λ told. told.coming ≡ [])) (sym same) none_comes in
     (way.visits, attended, within, record { all = inr ended; no_fault = none }, way.counted)
 
--- the door failed
+-- if the door fails at a turn, the serving ends with its failure
 pub failed_turn : (connections turns : ℕ) (door : Door) (between : Option (DoorLinks LinkTold)) (before kept after : Kept) (counts : Counts) (failed : Failed) → AreUnderWay door.before before counts turns between kept →
     turns ≤ connections → TakesTurn between door.after kept after (Err failed) → HasFaulted door → ServesDoor connections door before after (Err failed)
 failed_turn connections turns door between before kept after counts failed way fewer (same, left) faulted =
@@ -65,7 +65,7 @@ failed_turn connections turns door between before kept after counts failed way f
 
 -- ---- the door is opened first
 
--- it was opened: links and faults are as before
+-- if opening the door leaves its links and faults as they were, what the serving does from there it does from the start
 pub opened : {L : Type 0} (sees : L → LinkTold) (connections : ℕ) (links between after : Option (DoorLinks L)) (faults faults_between faults_after : ℕ) (before left : Kept) (result : Result Counts Failed) →
     between ≡ links → faults_between ≡ faults → ServesDoor connections (door_told sees between after faults_between faults_after) before left result →
     ServesDoor connections (door_told sees links after faults faults_after) before left result
@@ -73,7 +73,7 @@ opened {L} sees connections links between after faults faults_between faults_aft
     subst (λ (l : Option (DoorLinks L)). ServesDoor connections (door_told sees l after faults faults_after) before left result) same
     (subst (λ (f : ℕ). ServesDoor connections (door_told sees between after f faults_after) before left result) none served)
 
--- it was not
+-- if opening the door fails, no link is attended, and the serving ends with the failure
 pub not_opened : {L : Type 0} (sees : L → LinkTold) (connections : ℕ) (links after : Option (DoorLinks L)) (faults faults_after : ℕ) (kept : Kept) (failed : Failed) → after ≡ links → Rose faults faults_after →
     ServesDoor connections (door_told sees links after faults faults_after) kept kept (Err failed)
 not_opened {L} sees connections links after faults faults_after kept failed same rose =

@@ -69,7 +69,7 @@ one_attended {L} sees (Some told) between after link left before kept ended gave
       (turned sees told.coming told.given told.back link left (visit (sees link) before (sees left) kept ended) refl gave);
 }
 
--- if no link is to come, none is seen to come
+-- if no link is to come, the list of links to come, as contracts see them, is empty
 no_first : {L : Type 0} (sees : L → LinkTold) (coming : List L) → None ≡ first_of coming → map sees coming ≡ []
 no_first sees [] none = refl
 no_first sees (first ∷ rest) none = absurd (cc)
@@ -82,7 +82,7 @@ no_next : {L : Type 0} (coming : List L) (given : ℕ) (back : List L) → None 
 no_next {L} [] given back none = let count : given + min 1 0 ≡ given = omega arith in ap (λ (n : ℕ). parts {L = L} [] n back) count
 no_next (first ∷ rest) given back none = absurd (cc)
 
--- and the door is as before
+-- if no link is to come, asking for the next one leaves the door as it was
 pub none_given : {L : Type 0} (links after : Option (DoorLinks L)) → IfSome links (λ told. None ≡ first_of told.coming) → after ≡ option_map after_next links → after ≡ links
 none_given None after none next = next
 none_given {L} (Some told) after none next = next ∙ ap (λ (l : DoorLinks L). Some l) (no_next told.coming told.given told.back none)

@@ -1,7 +1,7 @@
--- What a call of the program told of the outside: what a call over a store tells, and the door before and after. The links of a door are seen
--- by what they tell. Over StoreTold. ServeOutcomes and the contract of `office` cite it.
-use Rattle.std.specs.Prelude.{◌≤◌, ℕ, List, length, map, Option, IfSome, option_map}
-use Rattle.command_shell.specs.Told.{Object, object}
+-- What a call of the program told of the outside: what a call over a store tells, and the door and its port before and after. The links of
+-- a door are seen by what they tell. Over StoreTold. ServeOutcomes and the contract of `office` cite it.
+use Rattle.std.specs.Prelude.{◌≡◌, ◌≤◌, ℕ, List, length, map, Option, IfSome, option_map}
+use Rattle.command_shell.specs.Told.{IsUntouched, Object, object}
 use Rattle.command_stores.specs.StoreTold.{StoreTold}
 use Rattle.office_http.specs.Visits.{LinkTold}
 use Rattle.outside.specs.Links.{DoorLinks}
@@ -18,12 +18,26 @@ abbrev pub door_told : {L : Type 0} → (L → LinkTold) → Option (DoorLinks L
 door_told sees before after faults_before faults_after =
     object (option_map (seen_links sees) before) (option_map (seen_links sees) after) faults_before faults_after
 
+-- the port at which a door listens before and after the call, if it does
+pub record Ports : Type 0 where
+  pub before : Option ℕ
+  pub after : Option ℕ
+
+abbrev pub ports : Option ℕ → Option ℕ → Ports
+ports before after = record { before = before; after = after }
+
 pub record DeskTold : Type 0 where
   pub store : StoreTold
   pub door : Door
+  pub ports : Ports
 
-abbrev pub desk_told : StoreTold → Door → DeskTold
-desk_told store door = record { store = store; door = door }
+abbrev pub desk_told : StoreTold → Door → Ports → DeskTold
+desk_told store door ports = record { store = store; door = door; ports = ports }
+
+-- the door gave and took back no link and counted no fault, and wasn't opened at another port
+pub record IsUnopened (told : DeskTold) : Type 0 where
+  pub links : IsUntouched told.door
+  pub port : told.ports.after ≡ told.ports.before
 
 -- no more links came back than were given, if the door tells its links
 abbrev pub NoMoreBack : {L : Type 0} → Option (DoorLinks L) → Type 0

@@ -1,13 +1,13 @@
 -- How a call of `serve` ends. Over DeskTold and Serving, and the outcomes of the shell and of calls over a store. The contract of `office`
 -- cites it.
-use Rattle.std.specs.Prelude.{◌≡◌, ◌⊎◌, ◌≤◌, ℕ, List, [], length, IfSome}
+use Rattle.std.specs.Prelude.{◌≡◌, ◌⊎◌, ◌≤◌, ℕ, List, [], length, Option, Some, IfSome}
 use Rattle.command_shell.specs.Lines.{door_fault_line, keeper_fault_line, want_of_memory_line}
 use Rattle.command_shell.specs.Outcomes.{IsCutOff, IsPrinted, IsStopped}
 use Rattle.command_shell.specs.Told.{HasFaulted, HasNoFault, IsUntouched}
 use Rattle.command_stores.specs.StoreOutcomes.{HasFailed, HasStoredNothing}
 use Rattle.command_stores.specs.StoreTold.{IsAttached, Keeper}
 use Rattle.office_http.specs.Visits.{Kept, Visit, kept}
-use Rattle.command_desk.specs.DeskTold.{DeskTold, Door}
+use Rattle.command_desk.specs.DeskTold.{DeskTold, Door, IsUnopened}
 use Rattle.command_desk.specs.Serving.{AreAttended, served_line}
 
 -- what the keeper told as the call began, and what it tells afterwards
@@ -28,21 +28,21 @@ pub record IsAtEnd (connections : ℕ) (door : Door) (visits : List Visit) : Typ
   pub all : (length visits ≡ connections) ⊎ IfSome door.after (λ links. links.coming ≡ [])
   pub no_fault : HasNoFault door
 
--- how a call of `serve` ends over the store at `path`, which attends at most `connections` links. A fault of the keeper at a link is the reply 503
--- to that link, and a fault of a link is counted; neither ends the call
-pub data ServeOutcome (path : List ℕ) (connections : ℕ) (told : DeskTold) : Type 0 where
-  -- 0: the line was told
-  Done : (visits : List Visit) → HasServed path connections told visits → IsAtEnd connections told.door visits → IsPrinted 0 (served_line visits) told.store.call → ServeOutcome path connections told
+-- how a call of `serve` ends over the store at `path`, which opens the door at `port` and attends at most `connections` links. A fault of
+-- the keeper at a link is the reply 503 to that link, and a fault of a link is counted; neither ends the call
+pub data ServeOutcome (path : List ℕ) (port connections : ℕ) (told : DeskTold) : Type 0 where
+  -- 0: the line was told. The door listens at the port
+  Done : (visits : List Visit) → told.ports.after ≡ Some port → HasServed path connections told visits → IsAtEnd connections told.door visits → IsPrinted 0 (served_line visits) told.store.call → ServeOutcome path port connections told
   -- 8: out counted a fault while the line was told. What the visits changed is kept
-  WriteFault : (visits : List Visit) → HasServed path connections told visits → IsAtEnd connections told.door visits → IsCutOff (served_line visits) told.store.call → ServeOutcome path connections told
-  -- 9: the keeper counted a fault when it was attached, and the door gave no link
-  KeeperFault : IsUntouched told.door → HasFailed path told.store.keeper → IsStopped 9 keeper_fault_line told.store.call → ServeOutcome path connections told
+  WriteFault : (visits : List Visit) → told.ports.after ≡ Some port → HasServed path connections told visits → IsAtEnd connections told.door visits → IsCutOff (served_line visits) told.store.call → ServeOutcome path port connections told
+  -- 9: the keeper counted a fault when it was attached, and the door wasn't opened
+  KeeperFault : IsUnopened told → HasFailed path told.store.keeper → IsStopped 9 keeper_fault_line told.store.call → ServeOutcome path port connections told
   -- 10: the door counted a fault, as it was opened or at a later link. What the visits changed is kept
-  DoorFault : (visits : List Visit) → HasServed path connections told visits → HasFaulted told.door → IsStopped 10 door_fault_line told.store.call → ServeOutcome path connections told
-  -- 12: memory was wanting, and the door gave no link
-  WantOfMemory : IsUntouched told.door → HasStoredNothing path told.store.keeper → IsStopped 12 want_of_memory_line told.store.call → ServeOutcome path connections told
+  DoorFault : (visits : List Visit) → HasServed path connections told visits → HasFaulted told.door → IsStopped 10 door_fault_line told.store.call → ServeOutcome path port connections told
+  -- 12: memory was wanting, and the door wasn't opened
+  WantOfMemory : IsUnopened told → HasStoredNothing path told.store.keeper → IsStopped 12 want_of_memory_line told.store.call → ServeOutcome path port connections told
 
 -- how a call of `serve` ends, which reads no input: the source is untouched
-pub record SilentServeOutcome (path : List ℕ) (connections : ℕ) (told : DeskTold) : Type 0 where
+pub record SilentServeOutcome (path : List ℕ) (port connections : ℕ) (told : DeskTold) : Type 0 where
   pub source : IsUntouched told.store.call.source
-  pub ends : ServeOutcome path connections told
+  pub ends : ServeOutcome path port connections told

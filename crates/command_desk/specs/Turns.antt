@@ -21,7 +21,7 @@ pub record AreCounted (visits : List Visit) (counts : Counts) : Type 0 where
   pub served : counts.served ≡ served_of visits
   pub broken : counts.broken ≡ broken_of visits
 
--- the visits up to now, if there were so many turns
+-- `turns` visits were made up to now, and are counted
 pub record AreUnderWay (links : Option (DoorLinks LinkTold)) (before : Kept) (counts : Counts) (turns : ℕ) (links_now : Option (DoorLinks LinkTold)) (now : Kept) : Type 0 where
   pub visits : List Visit
   pub attended : AreAttended links before visits links_now now

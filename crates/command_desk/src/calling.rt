@@ -6,7 +6,7 @@ ghost use Rattle.command_shell.specs.Answers.{status_number};
 ghost use Rattle.command_stores.specs.StoreTold.{MayBeAttached, keeper_told, store_told};
 ghost use Rattle.office_core.specs.Keeping.{HasCause, at};
 ghost use Rattle.office_http.specs.Visits.{link_told};
-ghost use Rattle.command_desk.specs.DeskTold.{NoMoreBack, desk_told, door_told};
+ghost use Rattle.command_desk.specs.DeskTold.{NoMoreBack, desk_told, door_told, ports};
 ghost use Rattle.command_desk.specs.ServeOutcomes.{SilentServeOutcome};
 ghost use Rattle.command_desk.specs.Rooms.{IsRoom};
 
@@ -38,13 +38,14 @@ pub fn call_serve<R: Threads + Sync, W: Watch + Sync, K: Keeper, D: Door, O: Sin
     errs: &mut E,
 ) -> Status
     requires { NoMoreBack (D.links door.old) }
-    ensures { (source : Bytes) → IsUntouched source → SilentServeOutcome path.now serve.connections (desk_told (store_told
+    ensures { (source : Bytes) → IsUntouched source → SilentServeOutcome path.now serve.port serve.connections (desk_told (store_told
         (told (status_number result) source
         (object (O.written out.old) (O.written out.new) (O.faults out.old) (O.faults out.new))
         (object (E.written errs.old) (E.written errs.new) (E.faults errs.old) (E.faults errs.new)))
         (keeper_told (object (K.tables keeper.old) (K.tables keeper.new) (K.faults keeper.old) (K.faults keeper.new)) (K.place keeper.old) (K.place keeper.new)))
         (door_told (λ link. link_told (D.Link.left link) (D.Link.written link) (D.Link.faults link))
-        (D.links door.old) (D.links door.new) (D.faults door.old) (D.faults door.new))) }
+        (D.links door.old) (D.links door.new) (D.faults door.old) (D.faults door.new))
+        (ports (D.opened_at door.old) (D.opened_at door.new))) }
 {
     match open_store(resources.alloc, path, keeper) {
         Ok(room) => match serve_door(resources, serve, keeper, door) {

@@ -19,7 +19,7 @@ pub(crate) fn room_for_line(alloc: Global) -> Result<Vec<u8>, AllocError>
     Vec::with_capacity(alloc, ROOM)
 }
 
-/// Returns the answer that so many links were served and so many broken. It takes no memory.
+/// Returns the answer that `served` links ended with a reply and `broken` with a fault. It takes no memory.
 pub(crate) fn served_answer(room: Vec<u8>, served: usize, broken: usize) -> Answer
     requires { IsRoom room }
     ensures { saying result ≡ Prints printed.Done (numbers_line served broken) }

@@ -26,6 +26,7 @@ pub(crate) fn visit_next<R: Threads + Sync, W: Watch + Sync, K: Keeper, D: Door>
     ensures back { NoMoreBack (D.links door.new) }
     ensures cause { OnErr result (Rose (D.faults door.old) (D.faults door.new)) }
     ensures none { OnOk result (D.faults door.new ≡ D.faults door.old) }
+    ensures port { D.opened_at door.new ≡ D.opened_at door.old }
     ensures place { K.place keeper.new ≡ K.place keeper.old }
 {
     match door.next()? {

@@ -44,15 +44,15 @@ abbrev pub IsText : List ℕ → Type 0
 IsText bytes =
     MatchBool (begins_as_bundle bytes) (IsSomeBundle bytes) (MatchBool (begins_as_proof bytes) (IsSomeProof bytes) (IsSomePool bytes))
 
--- what is known is that `Text` holds, or else that it doesn't
+-- `Right` says that `Text` holds, and `Faulty` that it doesn't
 abbrev pub Decides : AnyText → Type 0 → Type 0
 Decides Right Text = Text
 Decides (Faulty fault) Text = ¬ Text
 
--- the bytes are a text if they are known to be right, and else none
+-- `Right` says that the bytes are a text, and `Faulty` that they are none
 abbrev pub IsRightOrFaulty : List ℕ → AnyText → Type 0
 IsRightOrFaulty bytes text = Decides text (IsText bytes)
 
--- any bytes can be read so
+-- the format of any bytes: reading them gives `Right` or `Faulty`, and never fails
 abbrev pub any_format : Format AnyText
 any_format = record { read = λ bytes. Ok (looked_at bytes); spells = λ text bytes. IsRightOrFaulty bytes text }

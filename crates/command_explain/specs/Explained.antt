@@ -1,5 +1,5 @@
--- What `explain` answers: status 0 exactly if the bytes are a right text, else status 3, with the line of their first fault and words behind
--- it. What the words are isn't said. Over AnyTexts.
+-- What `explain` answers: status 0 exactly if the bytes are a right text, else status 3, with the line of their first fault and words
+-- behind it. What the words are isn't said. Over AnyTexts.
 use Rattle.std.specs.Prelude.{◌≡◌, ℕ, List}
 use Rattle.std.specs.Io.{StartsWith}
 use Rattle.command_shell.specs.Answers.{IsRight, RightAnswers, Saying, no_answer}

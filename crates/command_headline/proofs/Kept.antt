@@ -79,16 +79,16 @@ wants_keep it told want = let twelve = want.call.stopped.status in record {
 
 -- ---- the desk
 
-serve_keeps : (path : List ℕ) (connections : ℕ) (told : DeskTold) → ServeOutcome path connections told → KeepsDesk path connections told
-serve_keeps path connections told (Done visits has end printed) = let status = printed.status in record {
-  done = λ s. record { visits = visits; served = has; ended = end; out = printed.out };
+serve_keeps : (path : List ℕ) (port connections : ℕ) (told : DeskTold) → ServeOutcome path port connections told → KeepsDesk path port connections told
+serve_keeps path port connections told (Done visits opened has end printed) = let status = printed.status in record {
+  done = λ s. record { opened = opened; visits = visits; served = has; ended = end; out = printed.out };
   write_fault = λ s. absurd (cc (status, s));
   keeper_fault = λ s. absurd (cc (status, s));
   door_fault = λ s. absurd (cc (status, s));
   memory = λ s. absurd (cc (status, s));
   statuses = ap is_serve_status status;
 }
-serve_keeps path connections told (WriteFault visits has end cut) = let status = cut.status in record {
+serve_keeps path port connections told (WriteFault visits opened has end cut) = let status = cut.status in record {
   done = λ s. absurd (cc (status, s));
   write_fault = λ s. (cut.faulted, (visits, has));
   keeper_fault = λ s. absurd (cc (status, s));
@@ -96,7 +96,7 @@ serve_keeps path connections told (WriteFault visits has end cut) = let status =
   memory = λ s. absurd (cc (status, s));
   statuses = ap is_serve_status status;
 }
-serve_keeps path connections told (KeeperFault untouched failed stopped) = let status = stopped.status in record {
+serve_keeps path port connections told (KeeperFault untouched failed stopped) = let status = stopped.status in record {
   done = λ s. absurd (cc (status, s));
   write_fault = λ s. absurd (cc (status, s));
   keeper_fault = λ s. (failed.faulted, record { door = untouched; tables = failed.same });
@@ -104,7 +104,7 @@ serve_keeps path connections told (KeeperFault untouched failed stopped) = let s
   memory = λ s. absurd (cc (status, s));
   statuses = ap is_serve_status status;
 }
-serve_keeps path connections told (DoorFault visits has faulted stopped) = let status = stopped.status in record {
+serve_keeps path port connections told (DoorFault visits has faulted stopped) = let status = stopped.status in record {
   done = λ s. absurd (cc (status, s));
   write_fault = λ s. absurd (cc (status, s));
   keeper_fault = λ s. absurd (cc (status, s));
@@ -112,7 +112,7 @@ serve_keeps path connections told (DoorFault visits has faulted stopped) = let s
   memory = λ s. absurd (cc (status, s));
   statuses = ap is_serve_status status;
 }
-serve_keeps path connections told (WantOfMemory untouched nothing stopped) = let status = stopped.status in record {
+serve_keeps path port connections told (WantOfMemory untouched nothing stopped) = let status = stopped.status in record {
   done = λ s. absurd (cc (status, s));
   write_fault = λ s. absurd (cc (status, s));
   keeper_fault = λ s. absurd (cc (status, s));
@@ -122,8 +122,8 @@ serve_keeps path connections told (WantOfMemory untouched nothing stopped) = let
 }
 
 -- if memory is wanting while the words are read, no desk is opened
-serve_wants : (path : List ℕ) (connections : ℕ) (told : DeskTold) → LeavesDoor (LeavesStore WantsMemory) told → KeepsDesk path connections told
-serve_wants path connections told want = let status = want.call.call.stopped.status in record {
+serve_wants : (path : List ℕ) (port connections : ℕ) (told : DeskTold) → LeavesDoor (LeavesStore WantsMemory) told → KeepsDesk path port connections told
+serve_wants path port connections told want = let status = want.call.call.stopped.status in record {
   done = λ s. absurd (cc (status, s));
   write_fault = λ s. absurd (cc (status, s));
   keeper_fault = λ s. absurd (cc (status, s));
@@ -135,11 +135,11 @@ serve_wants path connections told want = let status = want.call.call.stopped.sta
 -- ---- every call
 
 asks_promise : (told : DeskTold) (it : Option Asked) → EndsRightly it told → Promises it told
-asks_promise told (Some (asks.Serve path serve)) right = serve_keeps path serve.connections told right.ends
+asks_promise told (Some (asks.Serve path serve)) right = serve_keeps path serve.port serve.connections told right.ends
 asks_promise told other right = (right.door, asks_keep told.store other right.call)
 
 wants_promise : (told : DeskTold) (it : Option Asked) → LeavesDoor (LeavesStore WantsMemory) told → Promises it told
-wants_promise told (Some (asks.Serve path serve)) want = serve_wants path serve.connections told want
+wants_promise told (Some (asks.Serve path serve)) want = serve_wants path serve.port serve.connections told want
 wants_promise told other want = (want.door, wants_keep other told.store want.call)
 
 pub keeps : (words : List (List ℕ)) (told : DeskTold) → OfficeIsRight words told → Headline words told

@@ -25,7 +25,7 @@ use Rattle.command_headline.specs.Headline.{HadBundle, Opened, SolvesRound}
 use Rattle.command_headline.proofs.Leximin.{leximin}
 
 module _ (tables : Tables) (number : ℕ) (proof : Proof) where
-  -- what keeping a proof comes to
+  -- the outcomes that keeping a proof may have
   pub data KeepComes (outcome : Outcome) : Type 0 where
     -- the proof is valid and of the round's pool
     Kept : (pool : Pool) → IsOpenWith tables number pool → verdict proof ≡ Valid → is_same_pool (proof_pool proof) pool ≡ true → outcome ≡ answered number pool (shown proof) → KeepComes outcome

@@ -28,6 +28,7 @@ use Rattle.command_meanings.specs.Draw.{DrawMeans}
 use Rattle.command_meanings.specs.ItsBundle.{BundleMeans}
 use Rattle.command_meanings.specs.Lottery.{LotteryMeans}
 use Rattle.command_meanings.specs.Make.{MakeMeans}
+use Rattle.command_loosen.specs.LoosenByProof.{LoosensWithin}
 use Rattle.command_loosen.specs.Loosening.{LoosenMeans}
 use Rattle.command_meanings.specs.Panel.{PanelMeans}
 use Rattle.command_meanings.specs.Prove.{IsGiven, ProvesWithin, given_in, pool_in}
@@ -103,7 +104,8 @@ module _ (told : Told) where
   abbrev explains : ℕ → ℕ → PoolOrProof → Saying → Type 0
   explains pivots nodes about = ExplainsWithin pivots nodes (pool_asked about)
 
-  -- an answer about a page is right for the bundle that the source held, by itself or in a proof; or it is right for a proof without a lottery
+  -- an answer about a page is right for the bundle that the source held, by itself or in a proof; or it is right for a proof without a
+  -- lottery
   abbrev PageAbout : (Bundle → RightAnswers) → Saying → Type 0
   PageAbout Means answer =
       ((bundle : Bundle) × HeldBundleOrProof told.source bundle × IsRight (Means bundle) answer)
@@ -126,9 +128,9 @@ module _ (told : Told) where
   page_done text out (inl (bundle, held, right)) = record { bundle = bundle; held = held; text = text; out = out; page = right }
   page_done text out (inr (pool, lines, held, right)) = absurd right
 
-  drawn_page_done : (digits text : List ℕ) → Gains told.out text → PageAbout (DrawnPageOfBundle digits) (Prints Done text) → TellsDrawnPage digits told
-  drawn_page_done digits text out (inl (bundle, held, right)) = record { bundle = bundle; held = held; text = text; out = out; page = right }
-  drawn_page_done digits text out (inr (pool, lines, held, right)) = absurd right
+  drawn_page_done : (tickets : Option ℕ) (digits text : List ℕ) → Gains told.out text → PageAbout (DrawnPageOfBundle tickets digits) (Prints Done text) → TellsDrawnPage tickets digits told
+  drawn_page_done tickets digits text out (inl (bundle, held, right)) = record { bundle = bundle; held = held; text = text; out = out; page = right }
+  drawn_page_done tickets digits text out (inr (pool, lines, held, right)) = absurd right
 
   wrong_total : (Means : Bundle → RightAnswers) (line : List ℕ) →
       ((bundle : Bundle) → IsRight (Means bundle) (Stops Input line) → TotalAgrees bundle.answer.lottery → ⊥) → PageAbout Means (Stops Input line) → HeldNoPage told
@@ -139,10 +141,11 @@ module _ (told : Told) where
   page_broken line gained (inl (bundle, held, right)) = absurd right
   page_broken line gained (inr (pool, lines, held, right)) = (pool, lines, held, subst (GainsLine told.errs) right gained)
 
-  drawn_page_broken : (digits line : List ℕ) → GainsLine told.errs line → PageAbout (DrawnPageOfBundle digits) (Stops Rule line) →
-      BrokenAlone (Some (asks.DrawnPage digits)) told
-  drawn_page_broken digits line gained (inl (bundle, held, right)) = inr (bundle, held, line, gained, right)
-  drawn_page_broken digits line gained (inr (pool, lines, held, right)) = inl (pool, lines, held, subst (GainsLine told.errs) right gained)
+  drawn_page_broken : (tickets : Option ℕ) (digits line : List ℕ) → GainsLine told.errs line → PageAbout (DrawnPageOfBundle tickets digits) (Stops Rule line) →
+      BrokenAlone (Some (asks.DrawnPage tickets digits)) told
+  drawn_page_broken None digits line gained (inl (bundle, held, right)) = inr (bundle, held, line, gained, right)
+  drawn_page_broken (Some tickets) digits line gained (inl (bundle, held, right)) = inr (bundle, held, line, gained, right)
+  drawn_page_broken tickets digits line gained (inr (pool, lines, held, right)) = inl (pool, lines, held, subst (GainsLine told.errs) right gained)
 
   -- if an answer is about a given pool or bundle, the source held that pool, or the bundle whose lottery is proved
   held_given : (about : PoolOrBundle) (its : Answer) (bytes : List ℕ) → HeldAll told.source bytes → IsTextOfEither about bytes → IsGiven (given_in about) its →
@@ -254,14 +257,17 @@ module _ (told : Told) where
   done (Some (asks.Page it)) right s =
       let at = about_done bundle_or_proof_format (one PageMeans) told right s in
       page_done at.0 at.1.is_told.out (page_about PageOfBundle (Prints Done at.0) at.1.value at.1.bytes at.1.held at.1.spells at.1.means.right)
-  done (Some (asks.DrawnPage digits)) right s =
-      let at = about_done bundle_or_proof_format (one (DrawnPageMeans digits)) told right s in
-      drawn_page_done digits at.0 at.1.is_told.out (page_about (DrawnPageOfBundle digits) (Prints Done at.0) at.1.value at.1.bytes at.1.held at.1.spells at.1.means.right)
+  done (Some (asks.DrawnPage tickets digits)) right s =
+      let at = about_done bundle_or_proof_format (one (DrawnPageMeans tickets digits)) told right s in
+      drawn_page_done tickets digits at.0 at.1.is_told.out (page_about (DrawnPageOfBundle tickets digits) (Prints Done at.0) at.1.value at.1.bytes at.1.held at.1.spells at.1.means.right)
   done (Some (asks.Panel it)) right s =
       let at = about_done pool_format (one (PanelMeans it.nodes)) told right s in
       record { pool = at.1.value; held = held_pool at.1.value at.1.bytes at.1.held at.1.spells; text = at.0; out = at.1.is_told.out; panel = at.1.means.right }
   done (Some (asks.Loosen it)) right s =
       let at = about_done pool_format (one (LoosenMeans it.nodes)) told right s in
+      record { pool = at.1.value; held = held_pool at.1.value at.1.bytes at.1.held at.1.spells; text = at.0; out = at.1.is_told.out; loosening = at.1.means.right }
+  done (Some (asks.LoosenByProof it)) right s =
+      let at = about_done pool_format (LoosensWithin it.pivots it.nodes) told right s in
       record { pool = at.1.value; held = held_pool at.1.value at.1.bytes at.1.held at.1.spells; text = at.0; out = at.1.is_told.out; loosening = at.1.means.right }
   done (Some (asks.Lottery it)) right s = lottery_told it.limits right s
   done (Some (asks.Check it)) right s = valid_told it.nodes right s
@@ -290,15 +296,18 @@ module _ (told : Told) where
   no_panel (Some (asks.Page it)) right s =
       let at = about_no_panel bundle_or_proof_format (one PageMeans) told right s in
       absurd (not_about PageOfBundle (Prints NoPanel at.0) (λ bundle never. never) (λ never. never) (page_about PageOfBundle (Prints NoPanel at.0) at.1.value at.1.bytes at.1.held at.1.spells at.1.means.right))
-  no_panel (Some (asks.DrawnPage digits)) right s =
-      let at = about_no_panel bundle_or_proof_format (one (DrawnPageMeans digits)) told right s in
-      absurd (not_about (DrawnPageOfBundle digits) (Prints NoPanel at.0) (λ bundle never. never) (λ never. never) (page_about (DrawnPageOfBundle digits) (Prints NoPanel at.0) at.1.value at.1.bytes at.1.held at.1.spells at.1.means.right))
+  no_panel (Some (asks.DrawnPage tickets digits)) right s =
+      let at = about_no_panel bundle_or_proof_format (one (DrawnPageMeans tickets digits)) told right s in
+      absurd (not_about (DrawnPageOfBundle tickets digits) (Prints NoPanel at.0) (λ bundle never. never) (λ never. never) (page_about (DrawnPageOfBundle tickets digits) (Prints NoPanel at.0) at.1.value at.1.bytes at.1.held at.1.spells at.1.means.right))
   no_panel (Some (asks.Panel it)) right s =
       let is = (about_no_panel pool_format (one (PanelMeans it.nodes)) told right s).1 in
       (is.value, held_pool is.value is.bytes is.held is.spells, is.means.right.none)
   no_panel (Some (asks.Loosen it)) right s =
-      let is = (about_no_panel pool_format (one (LoosenMeans it.nodes)) told right s).1 in
-      (is.value, held_pool is.value is.bytes is.held is.spells, is.means.right.none)
+      let at = about_no_panel pool_format (one (LoosenMeans it.nodes)) told right s in
+      (at.1.value, held_pool at.1.value at.1.bytes at.1.held at.1.spells, at.0, at.1.is_told.out, at.1.means.right)
+  no_panel (Some (asks.LoosenByProof it)) right s =
+      let at = about_no_panel pool_format (LoosensWithin it.pivots it.nodes) told right s in
+      (at.1.value, held_pool at.1.value at.1.bytes at.1.held at.1.spells, at.0, at.1.is_told.out, at.1.means.right)
   no_panel (Some (asks.Lottery it)) right s =
       let is = (about_no_panel pool_format (one (LotteryMeans it.limits)) told right s).1 in
       (is.value, held_pool is.value is.bytes is.held is.spells, is.means.right.finds.none)
@@ -355,12 +364,12 @@ module _ (told : Told) where
   no_page (OfValue line is) =
       wrong_total PageOfBundle line (λ bundle right. right.total) (page_about PageOfBundle (Stops Input line) is.value is.bytes is.held is.spells is.means.right)
 
-  no_drawn_page : (digits : List ℕ) → IsInput bundle_or_proof_format (one (DrawnPageMeans digits)) told → HeldNoPage told
-  no_drawn_page digits (NoText bytes fault held fails) = inl (inl (bytes, fault, held, fails))
-  no_drawn_page digits (Long held) = inl (inr held)
-  no_drawn_page digits (OfValue line is) =
-      wrong_total (DrawnPageOfBundle digits) line (λ bundle right. right.total)
-      (page_about (DrawnPageOfBundle digits) (Stops Input line) is.value is.bytes is.held is.spells is.means.right)
+  no_drawn_page : (tickets : Option ℕ) (digits : List ℕ) → IsInput bundle_or_proof_format (one (DrawnPageMeans tickets digits)) told → HeldNoPage told
+  no_drawn_page tickets digits (NoText bytes fault held fails) = inl (inl (bytes, fault, held, fails))
+  no_drawn_page tickets digits (Long held) = inl (inr held)
+  no_drawn_page tickets digits (OfValue line is) =
+      wrong_total (DrawnPageOfBundle tickets digits) line (λ bundle right. right.total)
+      (page_about (DrawnPageOfBundle tickets digits) (Stops Input line) is.value is.bytes is.held is.spells is.means.right)
 
   no_short_draw : (tickets : ℕ) (seal digits : List ℕ) → IsInput bundle_format (one (ShortDrawMeans tickets seal digits)) told → WrongAlone (Some (asks.ShortDraw tickets seal digits)) told
   no_short_draw tickets seal digits (NoText bytes fault held fails) = inl (inl (bytes, fault, held, fails))
@@ -393,8 +402,9 @@ module _ (told : Told) where
   text (Some (asks.Question it)) right s = no_answer it (about_input bundle_format (one (QuestionMeans it)) told right s)
   text (Some (asks.Explain it)) right s = no_right_text (about_input any_format Explains told right s)
   text (Some (asks.Page it)) right s = no_page (about_input bundle_or_proof_format (one PageMeans) told right s)
-  text (Some (asks.DrawnPage digits)) right s = no_drawn_page digits (about_input bundle_or_proof_format (one (DrawnPageMeans digits)) told right s)
+  text (Some (asks.DrawnPage tickets digits)) right s = no_drawn_page tickets digits (about_input bundle_or_proof_format (one (DrawnPageMeans tickets digits)) told right s)
   text (Some (asks.Panel it)) right s = no_text pool_format (one (PanelMeans it.nodes)) (λ value line means. means.right) (about_input pool_format (one (PanelMeans it.nodes)) told right s)
+  text (Some (asks.LoosenByProof it)) right s = no_text pool_format (LoosensWithin it.pivots it.nodes) (λ value line means. means.right) (about_input pool_format (LoosensWithin it.pivots it.nodes) told right s)
   text (Some (asks.Loosen it)) right s = no_text pool_format (one (LoosenMeans it.nodes)) (λ value line means. means.right) (about_input pool_format (one (LoosenMeans it.nodes)) told right s)
   text (Some (asks.Lottery it)) right s = no_text pool_format (one (LotteryMeans it.limits)) (λ value line means. means.right) (about_input pool_format (one (LotteryMeans it.limits)) told right s)
   text (Some (asks.Check it)) right s = no_text bundle_format (one (CheckMeans it.nodes)) (λ value line means. means.right) (about_input bundle_format (one (CheckMeans it.nodes)) told right s)
@@ -420,10 +430,12 @@ module _ (told : Told) where
   number (Some (asks.Page it)) right s =
       let at = about_wide bundle_or_proof_format (one PageMeans) told right s in
       absurd (not_about PageOfBundle (Stops Wide at.0) (λ bundle never. never) (λ never. never) (page_about PageOfBundle (Stops Wide at.0) at.1.value at.1.bytes at.1.held at.1.spells at.1.means.right))
-  number (Some (asks.DrawnPage digits)) right s =
-      let at = about_wide bundle_or_proof_format (one (DrawnPageMeans digits)) told right s in
-      absurd (not_about (DrawnPageOfBundle digits) (Stops Wide at.0) (λ bundle never. never) (λ never. never) (page_about (DrawnPageOfBundle digits) (Stops Wide at.0) at.1.value at.1.bytes at.1.held at.1.spells at.1.means.right))
+  number (Some (asks.DrawnPage tickets digits)) right s =
+      let at = about_wide bundle_or_proof_format (one (DrawnPageMeans tickets digits)) told right s in
+      absurd (not_about (DrawnPageOfBundle tickets digits) (Stops Wide at.0) (λ bundle never. never) (λ never. never) (page_about (DrawnPageOfBundle tickets digits) (Stops Wide at.0) at.1.value at.1.bytes at.1.held at.1.spells at.1.means.right))
   number (Some (asks.Panel it)) right s = absurd ((about_wide pool_format (one (PanelMeans it.nodes)) told right s).1.means.right)
+  number (Some (asks.LoosenByProof it)) right s =
+      let at = about_wide pool_format (LoosensWithin it.pivots it.nodes) told right s in (at.0, at.1.is_told.errs, at.1.means.right)
   number (Some (asks.Loosen it)) right s = absurd ((about_wide pool_format (one (LoosenMeans it.nodes)) told right s).1.means.right)
   number (Some (asks.Lottery it)) right s =
       let at = about_wide pool_format (one (LotteryMeans it.limits)) told right s in
@@ -451,12 +463,14 @@ module _ (told : Told) where
   budget (Some (asks.Page it)) right s =
       let at = about_spent bundle_or_proof_format (one PageMeans) told right s in
       absurd (not_about PageOfBundle (Stops Spent at.0) (λ bundle never. never) (λ never. never) (page_about PageOfBundle (Stops Spent at.0) at.1.value at.1.bytes at.1.held at.1.spells at.1.means.right))
-  budget (Some (asks.DrawnPage digits)) right s =
-      let at = about_spent bundle_or_proof_format (one (DrawnPageMeans digits)) told right s in
-      absurd (not_about (DrawnPageOfBundle digits) (Stops Spent at.0) (λ bundle never. never) (λ never. never) (page_about (DrawnPageOfBundle digits) (Stops Spent at.0) at.1.value at.1.bytes at.1.held at.1.spells at.1.means.right))
+  budget (Some (asks.DrawnPage tickets digits)) right s =
+      let at = about_spent bundle_or_proof_format (one (DrawnPageMeans tickets digits)) told right s in
+      absurd (not_about (DrawnPageOfBundle tickets digits) (Stops Spent at.0) (λ bundle never. never) (λ never. never) (page_about (DrawnPageOfBundle tickets digits) (Stops Spent at.0) at.1.value at.1.bytes at.1.held at.1.spells at.1.means.right))
   budget (Some (asks.Panel it)) right s =
       let at = about_spent pool_format (one (PanelMeans it.nodes)) told right s in
       (at.1.value, held_pool at.1.value at.1.bytes at.1.held at.1.spells, at.0, at.1.is_told.errs, at.1.means.right)
+  budget (Some (asks.LoosenByProof it)) right s =
+      let at = about_spent pool_format (LoosensWithin it.pivots it.nodes) told right s in (at.1.means.left, at.1.means.spends, at.0, at.1.is_told.errs, at.1.means.right)
   budget (Some (asks.Loosen it)) right s =
       let at = about_spent pool_format (one (LoosenMeans it.nodes)) told right s in
       (at.1.value, held_pool at.1.value at.1.bytes at.1.held at.1.spells, at.0, at.1.is_told.errs, at.1.means.right)
@@ -497,10 +511,11 @@ module _ (told : Told) where
   rule (Some (asks.Page it)) right s =
       let at = about_rule bundle_or_proof_format (one PageMeans) told right s in
       page_broken at.0 at.1.is_told.errs (page_about PageOfBundle (Stops Rule at.0) at.1.value at.1.bytes at.1.held at.1.spells at.1.means.right)
-  rule (Some (asks.DrawnPage digits)) right s =
-      let at = about_rule bundle_or_proof_format (one (DrawnPageMeans digits)) told right s in
-      drawn_page_broken digits at.0 at.1.is_told.errs (page_about (DrawnPageOfBundle digits) (Stops Rule at.0) at.1.value at.1.bytes at.1.held at.1.spells at.1.means.right)
+  rule (Some (asks.DrawnPage tickets digits)) right s =
+      let at = about_rule bundle_or_proof_format (one (DrawnPageMeans tickets digits)) told right s in
+      drawn_page_broken tickets digits at.0 at.1.is_told.errs (page_about (DrawnPageOfBundle tickets digits) (Stops Rule at.0) at.1.value at.1.bytes at.1.held at.1.spells at.1.means.right)
   rule (Some (asks.Panel it)) right s = absurd ((about_rule pool_format (one (PanelMeans it.nodes)) told right s).1.means.right)
+  rule (Some (asks.LoosenByProof it)) right s = absurd ((about_rule pool_format (LoosensWithin it.pivots it.nodes) told right s).1.means.right)
   rule (Some (asks.Loosen it)) right s = absurd ((about_rule pool_format (one (LoosenMeans it.nodes)) told right s).1.means.right)
   rule (Some (asks.Lottery it)) right s = absurd ((about_rule pool_format (one (LotteryMeans it.limits)) told right s).1.means.right)
   rule (Some (asks.Check it)) right s = absurd ((about_rule bundle_format (one (CheckMeans it.nodes)) told right s).1.means.right)
@@ -559,10 +574,11 @@ module _ (told : Told) where
   check (Some (asks.Page it)) right s =
       let at = about_refused bundle_or_proof_format (one PageMeans) told right s in
       absurd (not_about PageOfBundle (Prints Rejected at.0) (λ bundle never. never) (λ never. never) (page_about PageOfBundle (Prints Rejected at.0) at.1.value at.1.bytes at.1.held at.1.spells at.1.means.right))
-  check (Some (asks.DrawnPage digits)) right s =
-      let at = about_refused bundle_or_proof_format (one (DrawnPageMeans digits)) told right s in
-      absurd (not_about (DrawnPageOfBundle digits) (Prints Rejected at.0) (λ bundle never. never) (λ never. never) (page_about (DrawnPageOfBundle digits) (Prints Rejected at.0) at.1.value at.1.bytes at.1.held at.1.spells at.1.means.right))
+  check (Some (asks.DrawnPage tickets digits)) right s =
+      let at = about_refused bundle_or_proof_format (one (DrawnPageMeans tickets digits)) told right s in
+      absurd (not_about (DrawnPageOfBundle tickets digits) (Prints Rejected at.0) (λ bundle never. never) (λ never. never) (page_about (DrawnPageOfBundle tickets digits) (Prints Rejected at.0) at.1.value at.1.bytes at.1.held at.1.spells at.1.means.right))
   check (Some (asks.Panel it)) right s = absurd ((about_refused pool_format (one (PanelMeans it.nodes)) told right s).1.means.right)
+  check (Some (asks.LoosenByProof it)) right s = absurd ((about_refused pool_format (LoosensWithin it.pivots it.nodes) told right s).1.means.right)
   check (Some (asks.Loosen it)) right s = absurd ((about_refused pool_format (one (LoosenMeans it.nodes)) told right s).1.means.right)
   check (Some (asks.Lottery it)) right s = absurd ((about_refused pool_format (one (LotteryMeans it.limits)) told right s).1.means.right)
   check (Some (asks.Check it)) right s =

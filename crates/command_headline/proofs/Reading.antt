@@ -16,15 +16,15 @@ pub its_status : (answer : Saying) (told : Told) → IsTold answer told → told
 its_status (Prints printed text) told is = is.status
 its_status (Stops cause line) told is = is.status
 
--- ---- how an answer of each status begins
+-- ---- what an answer of each status is
 
--- an answer with status 0 prints what its command is for
+-- an answer with status 0 is `Prints Done text`
 pub is_done : (answer : Saying) → status_of answer ≡ 0 → (text : List ℕ) × (answer ≡ Prints Done text)
 is_done (Prints Done text) s = (text, refl)
 is_done (Stops Input line) s = absurd (cc)
 is_done answer s = absurd (cc)
 
--- an answer with status 1 prints that there is no panel
+-- an answer with status 1 is `Prints NoPanel text`
 pub is_no_panel : (answer : Saying) → status_of answer ≡ 1 → (text : List ℕ) × (answer ≡ Prints NoPanel text)
 is_no_panel (Prints NoPanel text) s = (text, refl)
 is_no_panel (Stops Input line) s = absurd (cc)

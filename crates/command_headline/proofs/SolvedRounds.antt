@@ -23,7 +23,7 @@ use Rattle.command_headline.proofs.Leximin.{leximin}
 use Rattle.command_headline.proofs.Plain.{solve_plain}
 
 module _ (tables : Tables) (number : ℕ) (limits : Limits) where
-  -- the round is open and has this pool, and the run over it ends so
+  -- the round is open and has the pool `pool`, and the run over this pool ends with `ending`
   pub record Ran (ending : Ending) : Type 0 where
     pub pool : Pool
     pub open_now : named_round tables.rounds number ≡ Some Open
@@ -55,7 +55,7 @@ module _ (tables : Tables) (number : ℕ) (limits : Limits) where
   same_stop n pool (run.PivotsSpent stood) ending h = cc
   same_stop n pool (run.NodesSpent stood) ending h = cc
 
-  -- If the outcome of a solve is that the run stops, the run over the round's pool ends so.
+  -- If the outcome of a solve is that the run stops with `ending`, the run over the round's pool ends with it.
   pub solve_stops : (ending : Ending) → Comes tables (Solve number limits) (Stops ending) → Ran ending
   solve_stops ending (AtOnce h) = absurd (false≢true (solve_plain tables number (named_round tables.rounds number) (Stops ending) h))
   solve_stops ending (ByRun n l pool own same needs ends comes) = subst Ran (same_stop n pool own ending comes) (ran n l pool own same needs ends)

@@ -4,8 +4,9 @@
 -- ProofText), what the words ask for (Asked), what was read and printed (Told), and the limits and lines that the imports below name.
 --
 -- Most promises say what holds if a call has some status; only those on `check` and `verify` also say when the status is 0. When the other
--- statuses come is said by the contract of `office` (Office). That out is untouched at status 2 to 7, 9, 10 and 12, and errs at 0, 1 and 11, is
--- said only by `IsStopped` and `IsPrinted` (command_shell/specs/Outcomes.antt). What is promised of `serve` is in `KeepsDesk`, near the end.
+-- statuses come is said by the contract of `office` (Office). That out is untouched at status 2 to 7, 9, 10 and 12, and errs at 0, 1 and
+-- 11, is said only by `IsStopped` and `IsPrinted` (command_shell/specs/Outcomes.antt). What is promised of `serve` is in `KeepsDesk`, near
+-- the end.
 use Rattle.std.specs.List.{list_all, list_any}
 use Rattle.std.specs.Prelude.{◌≡◌, ◌≢◌, ◌↔◌, ◌⊎◌, ◌≤◌, ◌==◌, ℕ, nat_lt, Bool, IsTrue, IsFalse, List, [], ◌∷◌, length, Option, Some, None, Ok, Err, option_map}
 use Rattle.command_bundles.specs.declared.check.Check.{Check}
@@ -15,7 +16,8 @@ use Rattle.command_meanings.specs.Draw.{PrintsDrawn, RefusesDraw}
 use Rattle.command_meanings.specs.ItsBundle.{no_lottery_line}
 use Rattle.command_meanings.specs.Lottery.{PassesWidth, SpendsBudget}
 use Rattle.command_meanings.specs.Make.{sizes_of}
-use Rattle.command_loosen.specs.Loosening.{PrintsLoosening, SpendsSearch}
+use Rattle.command_loosen.specs.LoosenByProof.{PrintsLeast, PrintsNone}
+use Rattle.command_loosen.specs.Loosening.{PrintsLoosening, PrintsNoTeam, SpendsSearch}
 use Rattle.command_meanings.specs.Panel.{PrintsFirstPanel, SpendsVisits}
 use Rattle.command_meanings.specs.Prove.{PassesProofWidth, SpendsProofBudget}
 use Rattle.command_meanings.specs.Seal.{bundle_seal, seal_line}
@@ -28,7 +30,7 @@ use Rattle.command_shell.specs.Formats.{bundle_format, pool_format, pool_or_bund
 use Rattle.command_shell.specs.Lines.{input_limit, input_line}
 use Rattle.command_shell.specs.Outcomes.{IsTold, IsTooLong}
 use Rattle.command_shell.specs.Subjects.{Format}
-use Rattle.command_shell.specs.Told.{Bytes, Told, Gains, GainsLine, HasFaulted, HeldAll, HeldMore, IsUntouched}
+use Rattle.command_shell.specs.Told.{Bytes, Told, Gains, GainsLine, HasFaulted, HeldAll, HeldMore}
 use Rattle.command_questions.specs.Questions.{question_text}
 use Rattle.command_questions.specs.declared.questions.Question.{Question}
 use Rattle.command_why.specs.PoolsAndProofs.{pool_of as pool_of_proof, pool_or_proof_format}
@@ -36,7 +38,7 @@ use Rattle.command_why.specs.Why.{PrintsWhy, SpendsWhyBudget}
 use Rattle.command_stores.specs.Imports.{ReadsFile}
 use Rattle.command_stores.specs.Steps.{stored_text}
 use Rattle.command_stores.specs.StoreTold.{KeepsTables, StoreTold}
-use Rattle.command_desk.specs.DeskTold.{DeskTold}
+use Rattle.command_desk.specs.DeskTold.{DeskTold, IsUnopened}
 use Rattle.command_desk.specs.ServeOutcomes.{HasServed, IsAtEnd}
 use Rattle.command_desk.specs.Serving.{served_line}
 use Rattle.command_stores.specs.declared.imports.Import.{Import}
@@ -206,13 +208,13 @@ pub record TellsPage (told : Told) : Type 0 where
   pub out : Gains told.out text
   pub page : PrintsPage bundle text
 
--- and with digits of dice the page with the panel that they draw from it
-pub record TellsDrawnPage (digits : List ℕ) (told : Told) : Type 0 where
+-- and with digits of dice the page with the panel that they draw from it, in a round number of tickets if there is one
+pub record TellsDrawnPage (tickets : Option ℕ) (digits : List ℕ) (told : Told) : Type 0 where
   pub bundle : Bundle
   pub held : HeldBundleOrProof told.source bundle
   pub text : List ℕ
   pub out : Gains told.out text
-  pub page : PrintsDrawnPage digits bundle text
+  pub page : PrintsDrawnPage tickets digits bundle text
 
 -- `seal` printed the seal of the bundle that the source held
 pub record TellsSeal (told : Told) : Type 0 where
@@ -244,8 +246,16 @@ pub record TellsLoosening (nodes : ℕ) (told : Told) : Type 0 where
   pub out : Gains told.out text
   pub loosening : PrintsLoosening nodes pool text
 
--- `why` printed a quota panel of the pool that the source held; or quotas of it that can't be met together: the pool with these alone has no
--- quota panel (`IsConflict` of `define_conflicts`), and more quotas leave no more panels
+-- `loosen-by-proof` printed a least loosening of the quotas of the pool that the source held
+pub record TellsLeast (told : Told) : Type 0 where
+  pub pool : Pool
+  pub held : HeldPool told.source pool
+  pub text : List ℕ
+  pub out : Gains told.out text
+  pub loosening : PrintsLeast pool text
+
+-- `why` printed a quota panel of the pool that the source held; or quotas of it that can't be met together, so that it has none (`no_panel`
+-- of `IsConflict`, in `define_conflicts`)
 pub record TellsWhy (told : Told) : Type 0 where
   pub pool : Pool
   pub held : HeldPoolOrProof told.source pool
@@ -272,9 +282,10 @@ DoneAlone (Some (asks.Seal it)) told = TellsSeal told
 DoneAlone (Some (asks.Draw seal digits)) told = TellsDrawn seal digits told
 DoneAlone (Some (asks.ShortDraw tickets seal digits)) told = TellsShortDrawn tickets seal digits told
 DoneAlone (Some (asks.Page it)) told = TellsPage told
-DoneAlone (Some (asks.DrawnPage digits)) told = TellsDrawnPage digits told
+DoneAlone (Some (asks.DrawnPage tickets digits)) told = TellsDrawnPage tickets digits told
 DoneAlone (Some (asks.Panel it)) told = TellsPanel it.nodes told
 DoneAlone (Some (asks.Loosen it)) told = TellsLoosening it.nodes told
+DoneAlone (Some (asks.LoosenByProof it)) told = TellsLeast told
 DoneAlone (Some (asks.Why it)) told = TellsWhy told
 DoneAlone (Some (asks.Lottery it)) told = TellsBundle told
 DoneAlone (Some (asks.Check it)) told = TellsValid told
@@ -286,11 +297,13 @@ DoneAlone other told = ⊥
 
 -- ---- status 1: there is no quota panel
 
--- what status 1 means for each command: the pool that the source held, or the made pool, has no quota panel
+-- what status 1 means for each command: the pool that the source held, or the made pool, has no quota panel; for `loosen` and
+-- `loosen-by-proof` it has none whatever its bounds are
 abbrev pub NoneAlone : Option Asked → Told → Type 0
 NoneAlone (Some (asks.Lottery it)) told = (pool : Pool) × HeldPool told.source pool × (panels pool ≡ [])
 NoneAlone (Some (asks.Panel it)) told = (pool : Pool) × HeldPool told.source pool × (panels pool ≡ [])
-NoneAlone (Some (asks.Loosen it)) told = (pool : Pool) × HeldPool told.source pool × (panels pool ≡ [])
+NoneAlone (Some (asks.Loosen it)) told = (pool : Pool) × HeldPool told.source pool × (text : List ℕ) × Gains told.out text × PrintsNoTeam it.nodes pool text
+NoneAlone (Some (asks.LoosenByProof it)) told = (pool : Pool) × HeldPool told.source pool × (text : List ℕ) × Gains told.out text × PrintsNone pool text
 NoneAlone (Some (asks.Prove it)) told = (pool : Pool) × HeldEither told.source pool × (panels pool ≡ [])
 NoneAlone (Some (asks.Make it)) told = panels (made_pool it.seed it.volunteers) ≡ []
 -- no other command without a store has status 1, nor have words that ask for nothing; for a solve see `TellsNone`
@@ -320,21 +333,22 @@ WrongAlone (Some (asks.Prove it)) told = HeldNoText pool_or_bundle_format told
 WrongAlone (Some (asks.Verify it)) told = HeldNoText proof_format told
 WrongAlone (Some (asks.Bundle it)) told = HeldNoText proof_format told
 WrongAlone (Some (asks.Seal it)) told = HeldNoText bundle_format told
--- for `draw` also a bundle whose weights don't sum to its total
+-- status 3 of `draw` also means a bundle whose weights don't sum to its total
 WrongAlone (Some (asks.Draw seal digits)) told =
     HeldNoText bundle_format told ⊎ ((bundle : Bundle) × HeldBundle told.source bundle × (TotalAgrees bundle.answer.lottery → ⊥))
--- and so for `short-draw`, and for a question about a bundle
+-- the same for `short-draw`, and for a question about a bundle
 WrongAlone (Some (asks.ShortDraw tickets seal digits)) told =
     HeldNoText bundle_format told ⊎ ((bundle : Bundle) × HeldBundle told.source bundle × (TotalAgrees bundle.answer.lottery → ⊥))
 WrongAlone (Some (asks.Question it)) told =
     HeldNoText bundle_format told ⊎ ((bundle : Bundle) × HeldBundle told.source bundle × (TotalAgrees bundle.answer.lottery → ⊥))
 WrongAlone (Some (asks.Page it)) told = HeldNoPage told
-WrongAlone (Some (asks.DrawnPage digits)) told = HeldNoPage told
+WrongAlone (Some (asks.DrawnPage tickets digits)) told = HeldNoPage told
 -- for `explain` the bytes are none of the three texts
 WrongAlone (Some (asks.Explain it)) told =
     ((bytes : List ℕ) × HeldAll told.source bytes × (IsText bytes → ⊥)) ⊎ HeldMore told.source input_limit
 WrongAlone (Some (asks.Panel it)) told = HeldNoText pool_format told
 WrongAlone (Some (asks.Loosen it)) told = HeldNoText pool_format told
+WrongAlone (Some (asks.LoosenByProof it)) told = HeldNoText pool_format told
 WrongAlone (Some (asks.Why it)) told = HeldNoText pool_or_proof_format told
 WrongAlone (Some (asks.Lottery it)) told = HeldNoText pool_format told
 WrongAlone (Some (asks.Check it)) told = HeldNoText bundle_format told
@@ -347,6 +361,7 @@ abbrev pub PassedAlone : Option Asked → Told → Type 0
 PassedAlone (Some (asks.Lottery it)) told = (pool : Pool) × HeldPool told.source pool × (line : List ℕ) × GainsLine told.errs line × PassesWidth it.limits pool line
 PassedAlone (Some (asks.Make it)) told = (line : List ℕ) × GainsLine told.errs line × PassesWidth it.limits (made_pool it.seed it.volunteers) line
 PassedAlone (Some (asks.Prove it)) told = (line : List ℕ) × GainsLine told.errs line × PassesProofWidth line
+PassedAlone (Some (asks.LoosenByProof it)) told = (line : List ℕ) × GainsLine told.errs line × PassesProofWidth line
 PassedAlone (Some (asks.Why it)) told = (line : List ℕ) × GainsLine told.errs line × PassesProofWidth line
 PassedAlone other told = ⊥
 
@@ -359,8 +374,14 @@ SpentAlone (Some (asks.Lottery it)) told = (pool : Pool) × HeldPool told.source
 SpentAlone (Some (asks.Make it)) told = (line : List ℕ) × GainsLine told.errs line × SpendsBudget it.limits (made_pool it.seed it.volunteers) line
 SpentAlone (Some (asks.Check it)) told = (bundle : Bundle) × HeldBundle told.source bundle × (line : List ℕ) × GainsLine told.errs line × SpendsStage it.nodes bundle line
 SpentAlone (Some (asks.Prove it)) told = (left : Left) × SpendsOn (unspent it.pivots it.nodes) left × (line : List ℕ) × GainsLine told.errs line × SpendsProofBudget left line
+SpentAlone (Some (asks.LoosenByProof it)) told = (left : Left) × SpendsOn (unspent it.pivots it.nodes) left × (line : List ℕ) × GainsLine told.errs line × SpendsWhyBudget left line
 SpentAlone (Some (asks.Why it)) told = (left : Left) × SpendsOn (unspent it.pivots it.nodes) left × (line : List ℕ) × GainsLine told.errs line × SpendsWhyBudget left line
 SpentAlone other told = ⊥
+
+-- the digits draw nothing from the bundle, as `draw` says, or as `short-draw` says in a round number of tickets
+abbrev pub RefusesPage : Option ℕ → List ℕ → Bundle → List ℕ → Type 0
+RefusesPage None digits bundle line = RefusesDraw (bundle_seal bundle) digits bundle line
+RefusesPage (Some tickets) digits bundle line = RefusesShortDraw tickets (bundle_seal bundle) digits bundle line
 
 -- status 6: a rule was broken, and errs gained the line that says which
 abbrev pub BrokenAlone : Option Asked → Told → Type 0
@@ -369,9 +390,8 @@ BrokenAlone (Some (asks.ShortDraw tickets seal digits)) told =
     (bundle : Bundle) × HeldBundle told.source bundle × (line : List ℕ) × GainsLine told.errs line × RefusesShortDraw tickets seal digits bundle line
 BrokenAlone (Some (asks.Bundle it)) told = HasNoLottery told
 BrokenAlone (Some (asks.Page it)) told = HasNoLottery told
--- the digits draw nothing, as `draw` says
-BrokenAlone (Some (asks.DrawnPage digits)) told =
-    HasNoLottery told ⊎ ((bundle : Bundle) × HeldBundleOrProof told.source bundle × (line : List ℕ) × GainsLine told.errs line × RefusesDraw (bundle_seal bundle) digits bundle line)
+BrokenAlone (Some (asks.DrawnPage tickets digits)) told =
+    HasNoLottery told ⊎ ((bundle : Bundle) × HeldBundleOrProof told.source bundle × (line : List ℕ) × GainsLine told.errs line × RefusesPage tickets digits bundle line)
 BrokenAlone other told = ⊥
 
 -- status 11: the certificate or the proof doesn't hold. For `prove`: with some trees, the bundle is a proof that is refused for the printed
@@ -409,8 +429,8 @@ pub record TellsReply (command : Command) (told : StoreTold) : Type 0 where
   pub out : Gains told.call.out text
   pub kept : told.keeper.object.after ≡ option_map (λ kept. applied kept change) told.keeper.object.before
 
--- what a solve or a proof did to a round of these tables. An open round got a bundle whose lottery is leximin greatest over the quota panels
--- of the round's pool. A round past open has its bundle, and stays
+-- what a solve or a proof did to a round of these tables. An open round got a bundle whose lottery is leximin greatest over the quota
+-- panels of the round's pool. A round past open has its bundle, and stays
 pub data SolvesRound (round : ℕ) (tables : Tables) (change : Option Change) : Type 0 where
   Opened : (pool : Pool) (answer : Answer) → named_round tables.rounds round ≡ Some Open → pool_of tables round ≡ Ok pool →
       Certifies pool answer.lottery answer.stages → IsLeximin pool answer.lottery → change ≡ Some (SolvedWith round (record { pool = pool; answer = answer })) →
@@ -471,7 +491,7 @@ pub record IsRoundPool (round : ℕ) (told : StoreTold) (pool : Pool) : Type 0 w
   pub open_now : named_round tables.rounds round ≡ Some Open
   pub is : pool_of tables round ≡ Ok pool
 
--- status 1: the pool has no quota panel. Over a store only `solve`, `prove` and `keep` have it
+-- status 1: the pool has no quota panel. Over a store only `solve`, `prove` and `keep` can end with it
 abbrev pub TellsNone : Option Asked → StoreTold → Type 0
 TellsNone (Some (asks.Step store (steps.Solve round limits workers))) told = (pool : Pool) × IsRoundPool round told pool × (panels pool ≡ [])
 TellsNone (Some (asks.Import store (import.Proof round))) told = (pool : Pool) × IsRoundPool round told pool × (panels pool ≡ [])
@@ -488,12 +508,13 @@ pub record HeldFault (file : Import) (told : StoreTold) : Type 0 where
   pub reads : ReadsFile file tables bytes (Err fault)
   pub errs : GainsLine told.call.errs (input_line (record { line = fault.place; kind = fault.kind }))
 
--- status 3: the input is outside its format, or too long. Over a store only an import and `keep` have it
+-- status 3: the input is outside its format, or too long. Over a store only an import and `keep` can end with it
 abbrev pub TextIsWrong : Option Asked → StoreTold → Type 0
 TextIsWrong (Some (asks.Import store file)) told = HeldFault file told ⊎ HeldMore told.call.source input_limit
 TextIsWrong other told = WrongAlone other told.call
 
--- status 4: a number passed its limit. Over a store only `solve` and `prove` of an open round have it. For `prove` see `PassedAlone`
+-- status 4: a number passed its limit. Over a store only `solve` and `prove` of an open round can end with it. For `prove` alone see
+-- `PassedAlone`
 abbrev pub NumberPassed : Option Asked → StoreTold → Type 0
 NumberPassed (Some (asks.Step store (steps.Solve round limits workers))) told =
     (pool : Pool) × IsRoundPool round told pool × (line : List ℕ) × GainsLine told.call.errs line × PassesWidth limits pool line
@@ -501,7 +522,8 @@ NumberPassed (Some (asks.ProveRound store proving)) told =
     (pool : Pool) × IsRoundPool proving.round told pool × (line : List ℕ) × GainsLine told.call.errs line × PassesProofWidth line
 NumberPassed other told = PassedAlone other told.call
 
--- status 5: a budget was spent. Over a store only `solve` and `prove` of an open round have it. For `prove` and `why` see `SpentAlone`
+-- status 5: a budget was spent. Over a store only `solve` and `prove` of an open round can end with it. For `prove` and `why` alone see
+-- `SpentAlone`
 abbrev pub BudgetSpent : Option Asked → StoreTold → Type 0
 BudgetSpent (Some (asks.Step store (steps.Solve round limits workers))) told =
     (pool : Pool) × IsRoundPool round told pool × (line : List ℕ) × GainsLine told.call.errs line × SpendsBudget limits pool line
@@ -528,7 +550,7 @@ pub record TellsRefusal (Refused : Tables → Refusal → Type 0) (told : StoreT
 abbrev pub RuleBroken : Option Asked → StoreTold → Type 0
 RuleBroken (Some (asks.Step store step)) told = TellsRefusal (λ tables refusal. Comes tables (step_command step) (Refuses refusal)) told
 RuleBroken (Some (asks.Import store file)) told = TellsRefusal (RefusesImport file told.call.source) told
--- for `prove`: every solve of the round is refused so
+-- for `prove`: a solve of the round is refused for this, whatever its limits
 RuleBroken (Some (asks.ProveRound store proving)) told = TellsRefusal (λ tables refusal. (limits : Limits) → Comes tables (Solve proving.round limits) (Refuses refusal)) told
 RuleBroken (Some (asks.Text store text)) told = TellsRefusal (λ tables refusal. stored_text text tables ≡ Err refusal) told
 RuleBroken other told = BrokenAlone other told.call
@@ -585,38 +607,40 @@ pub record Keeps (it : Option Asked) (told : StoreTold) : Type 0 where
 abbrev pub Serves : List ℕ → ℕ → DeskTold → Type 0
 Serves path connections told = (visits : List Visit) × HasServed path connections told visits
 
--- and out gained the line that counts them. They are as many as `connections`, or, as far as the door tells, no link is still to come
-pub record TellsServed (path : List ℕ) (connections : ℕ) (told : DeskTold) : Type 0 where
+-- the door listens at `port`, links were attended, and out gained the line that counts them. They are as many as `connections`, or, as far
+-- as the door tells, no link is still to come
+pub record TellsServed (path : List ℕ) (port connections : ℕ) (told : DeskTold) : Type 0 where
+  pub opened : told.ports.after ≡ Some port
   pub visits : List Visit
   pub served : HasServed path connections told visits
   pub ended : IsAtEnd connections told.door visits
   pub out : Gains told.store.call.out (served_line visits)
 
--- the door gave and took back no link and counted no fault, and the tables are as before
-pub record IsUnopened (told : DeskTold) : Type 0 where
-  pub door : IsUntouched told.door
+-- the door wasn't opened: it gave and took back no link and counted no fault; and the tables are as before
+pub record ServesNothing (told : DeskTold) : Type 0 where
+  pub door : IsUnopened told
   pub tables : KeepsTables told.store.keeper
 
 -- `number` is one of the statuses of `serve`
 abbrev pub is_serve_status : ℕ → Bool
 is_serve_status number = list_any (λ status. number == status) (0 ∷ 8 ∷ 9 ∷ 10 ∷ 12 ∷ [])
 
-pub record KeepsDesk (path : List ℕ) (connections : ℕ) (told : DeskTold) : Type 0 where
-  -- status 0: links were attended and counted
-  pub done : told.store.call.status ≡ 0 → TellsServed path connections told
+pub record KeepsDesk (path : List ℕ) (port connections : ℕ) (told : DeskTold) : Type 0 where
+  -- status 0: links that came to the port were attended and counted
+  pub done : told.store.call.status ≡ 0 → TellsServed path port connections told
   -- status 8 comes only if out counted a fault, and what the visits changed is kept
   pub write_fault : told.store.call.status ≡ 8 → HasFaulted told.store.call.out × Serves path connections told
   -- status 9 comes only if the keeper of the store counted a fault when it was attached; no link was given
-  pub keeper_fault : told.store.call.status ≡ 9 → HasFaulted told.store.keeper.object × IsUnopened told
+  pub keeper_fault : told.store.call.status ≡ 9 → HasFaulted told.store.keeper.object × ServesNothing told
   -- status 10 comes only if the door counted a fault, and what the visits changed is kept
   pub door_fault : told.store.call.status ≡ 10 → HasFaulted told.door × Serves path connections told
   -- status 12, want of memory, comes only if no link was given
-  pub memory : told.store.call.status ≡ 12 → IsUnopened told
+  pub memory : told.store.call.status ≡ 12 → ServesNothing told
   -- there is no other status
   pub statuses : IsTrue (is_serve_status told.store.call.status)
 
--- A volunteer's reply tells nothing of others: over tables with the same view for a key, each request with this key alone gets the same reply of
--- the desk. The view has the phases of the rounds, what is published, and what is told of the row with this key (`view` of
+-- A volunteer's reply tells nothing of others: over tables with the same view for a key, each request with this key alone gets the same
+-- reply of the desk. The view has the phases of the rounds, what is published, and what is told of the row with this key (`view` of
 -- `define_desk`)
 abbrev pub TellsNothingOfOthers : Type 0
 TellsNothingOfOthers = (one other : Tables) → IsTables one → IsTables other → (key : List ℕ) → IsIsolated one other key
@@ -625,8 +649,8 @@ TellsNothingOfOthers = (one other : Tables) → IsTables one → IsTables other 
 
 -- the promises of a call whose words ask for `it`, or for nothing. Only `serve` opens the door
 abbrev pub Promises : Option Asked → DeskTold → Type 0
-Promises (Some (asks.Serve path serve)) told = KeepsDesk path serve.connections told
-Promises other told = IsUntouched told.door × Keeps other told.store
+Promises (Some (asks.Serve path serve)) told = KeepsDesk path serve.port serve.connections told
+Promises other told = IsUnopened told × Keeps other told.store
 
 -- the promises, for every call with these words
 abbrev pub Headline : List (List ℕ) → DeskTold → Type 0

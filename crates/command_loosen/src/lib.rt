@@ -1,11 +1,15 @@
-//! The command `loosen`: the bounds that are moved least in all so that a pool has a quota panel. Stands on `quota_loosen`, which searches,
+//! The commands `loosen` and `loosen-by-proof`: the bounds that are moved least in all so that a pool has a quota panel. Stands on
+//! `quota_loosen`, which searches all counts, `loosening_by_proof`, which searches by integer programs, `command_why` for how such a search stops,
 //! `define_loosenings`, which says what is found, the lines of `command_meanings` and `text_lines`, and the shell. Above: `command_office`.
 //!
-//! Promises: `Loosen` answers as `specs/Loosening.antt` says, and the law that it has one answer.
+//! Promises: `Loosen` answers as `specs/Loosening.antt` says, and the law that it has one answer. `LoosenByProof` answers as
+//! `specs/LoosenByProof.antt` says, and the law that the totals of both are equal.
 #![tactic(auto)]
 
 mod lines;
 mod loosen;
+mod loosen_by_proof;
 mod worked;
 
 pub use loosen::{Loosen, loosen_has_one_answer};
+pub use loosen_by_proof::{LoosenByProof, loosen_totals_are_equal};

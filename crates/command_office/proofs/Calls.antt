@@ -1,7 +1,7 @@
 -- If the words ask for a command, an outcome that is right for the command is right for the words.
 use Rattle.std.proofs.Common.{◌≡◌, ℕ, List, Option, Some, refl, subst, sym}
 use Rattle.command_bundles.specs.ShortDraw.{ShortDrawMeans}
-use Rattle.command_desk.specs.DeskTold.{DeskTold, desk_told}
+use Rattle.command_desk.specs.DeskTold.{DeskTold, desk_told, ports}
 use Rattle.command_desk.specs.ServeOutcomes.{SilentServeOutcome}
 use Rattle.office_http.specs.Visits.{LinkTold}
 use Rattle.outside.specs.Links.{DoorLinks}
@@ -29,8 +29,9 @@ pub leaves : (Right : Told → Type 0) (call : Told) (kept : Option Tables) (fau
 leaves Right call kept faults place right = record { keeper = record { object = record { same = refl; no_fault = refl }; place = refl }; call = right }
 
 -- a call that is right and leaves the door alone
-pub shut : (Right : StoreTold → Type 0) (call : StoreTold) (links : Option (DoorLinks LinkTold)) (faults : ℕ) → Right call → LeavesDoor Right (desk_told call (object links links faults faults))
-shut Right call links faults right = record { door = record { same = refl; no_fault = refl }; call = right }
+pub shut : (Right : StoreTold → Type 0) (call : StoreTold) (links : Option (DoorLinks LinkTold)) (faults : ℕ) (port : Option ℕ) → Right call →
+    LeavesDoor Right (desk_told call (object links links faults faults) (ports port port))
+shut Right call links faults port right = record { door = record { links = record { same = refl; no_fault = refl }; port = refl }; call = right }
 
 pub as_asked : (asked it : Asked) (told : DeskTold) → asked ≡ it → EndsRightly (Some it) told → EndsRightly (Some asked) told
 as_asked asked it told is right = subst (λ one. EndsRightly (Some one) told) (sym is) right
@@ -49,8 +50,8 @@ proofs_so path store proving told same right = subst (λ p. SilentStoreOutcome p
 pub texts_so : (path store : List ℕ) (text : StoreText) (told : StoreTold) → path ≡ store → SilentStoreOutcome path (TextMeans text) told → SilentStoreOutcome store (TextMeans text) told
 texts_so path store text told same right = subst (λ p. SilentStoreOutcome p (TextMeans text) told) same right
 
-pub serves_so : (path store : List ℕ) (connections : ℕ) (told : DeskTold) → path ≡ store → SilentServeOutcome path connections told → SilentServeOutcome store connections told
-serves_so path store connections told same right = subst (λ p. SilentServeOutcome p connections told) same right
+pub serves_so : (path store : List ℕ) (port connections : ℕ) (told : DeskTold) → path ≡ store → SilentServeOutcome path port connections told → SilentServeOutcome store port connections told
+serves_so path store port connections told same right = subst (λ p. SilentServeOutcome p port connections told) same right
 
 -- an outcome that is right for a draw is right for a draw with an equal seal and equal digits
 pub draws_so : (seal digits given_seal given_digits : List ℕ) (told : Told) → seal ≡ given_seal → digits ≡ given_digits →
@@ -59,16 +60,14 @@ draws_so seal digits given_seal given_digits told same_seal same_digits answers 
     subst (λ one. Answers bundle_format (DrawMeans given_seal one) told) same_digits
     (subst (λ one. Answers bundle_format (DrawMeans one digits) told) same_seal answers)
 
--- and for a draw in a number of tickets
-
--- and for a draw in a number of tickets
+-- an outcome that is right for a draw in a number of tickets is right for one with an equal seal and equal digits
 pub short_draws_so : (tickets : ℕ) (seal digits given_seal given_digits : List ℕ) (told : Told) → seal ≡ given_seal → digits ≡ given_digits →
     Answers bundle_format (ShortDrawMeans tickets seal digits) told → Answers bundle_format (ShortDrawMeans tickets given_seal given_digits) told
 short_draws_so tickets seal digits given_seal given_digits told same_seal same_digits answers =
     subst (λ one. Answers bundle_format (ShortDrawMeans tickets given_seal one) told) same_digits
     (subst (λ one. Answers bundle_format (ShortDrawMeans tickets one digits) told) same_seal answers)
 
--- and for a page with equal digits
-pub pages_so : (digits given : List ℕ) (told : Told) → digits ≡ given → Answers bundle_or_proof_format (DrawnPageMeans digits) told →
-    Answers bundle_or_proof_format (DrawnPageMeans given) told
-pages_so digits given told same answers = subst (λ one. Answers bundle_or_proof_format (DrawnPageMeans one) told) same answers
+-- an outcome that is right for a page with the digits of dice is right for a page with equal digits
+pub pages_so : (tickets : Option ℕ) (digits given : List ℕ) (told : Told) → digits ≡ given → Answers bundle_or_proof_format (DrawnPageMeans tickets digits) told →
+    Answers bundle_or_proof_format (DrawnPageMeans tickets given) told
+pages_so tickets digits given told same answers = subst (λ one. Answers bundle_or_proof_format (DrawnPageMeans tickets one) told) same answers

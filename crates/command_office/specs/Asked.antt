@@ -88,6 +88,11 @@ why_asked given =
     option_and_then (λ pivots. option_map (λ nodes. asks.Why (record { pivots = pivots; nodes = nodes })) (number_of (codes "nodes") given))
     (number_of (codes "pivots") given)
 
+abbrev pub loosen_by_proof_asked : Given → Option Asked
+loosen_by_proof_asked given =
+    option_and_then (λ pivots. option_map (λ nodes. asks.LoosenByProof (record { pivots = pivots; nodes = nodes })) (number_of (codes "nodes") given))
+    (number_of (codes "pivots") given)
+
 -- without a store a draw is from a bundle
 abbrev pub draw_from : Given → List ℕ → List ℕ → Option (List ℕ) → Option Asked
 draw_from given seal digits (Some store) = option_and_then (λ round. step_asked (steps.Draw round seal digits) given) (round_in given)
@@ -123,10 +128,33 @@ short_draw_asked given =
     option_and_then (λ seal. option_map (λ digits. asks.ShortDraw tickets seal digits) (text_of (codes "digits") given)) (text_of (codes "seal") given))
     (tickets_in given)
 
--- with the digits of dice the page shows the panel that they draw
-abbrev pub page_from : Option (List ℕ) → Asked
-page_from (Some digits) = asks.DrawnPage digits
-page_from None = asks.Page (record {})
+-- the page about a bundle with the panel that the digits draw, in a number of tickets if there is one
+abbrev pub drawn_page_from : List ℕ → Option ℕ → Option Asked
+drawn_page_from digits (Some number) = option_map (λ tickets. asks.DrawnPage (Some tickets) digits) (tickets_from number)
+drawn_page_from digits None = Some (asks.DrawnPage None digits)
+
+-- the page about a bundle without a panel. It takes no number of tickets
+abbrev pub plain_page_from : Option ℕ → Option Asked
+plain_page_from (Some number) = None
+plain_page_from None = Some (asks.Page (record {}))
+
+abbrev pub page_from : Option (List ℕ) → Option ℕ → Option Asked
+page_from (Some digits) tickets = drawn_page_from digits tickets
+page_from None tickets = plain_page_from tickets
+
+-- the page of a round. It takes no digits and no number of tickets
+abbrev pub round_page_from : Given → Option (List ℕ) → Option ℕ → Option Asked
+round_page_from given (Some digits) tickets = None
+round_page_from given None (Some number) = None
+round_page_from given None None = option_and_then (λ round. text_asked (texts.Page round) given) (round_in given)
+
+-- without a store a page is about a bundle
+abbrev pub page_by : Given → Option (List ℕ) → Option ℕ → Option (List ℕ) → Option Asked
+page_by given digits tickets (Some store) = round_page_from given digits tickets
+page_by given digits tickets None = page_from digits tickets
+
+abbrev pub page_asked : Given → Option Asked
+page_asked given = page_by given (text_of (codes "drawn") given) (number_of (codes "tickets") given) (text_of (codes "store") given)
 
 -- without a store a seal is that of a bundle
 abbrev pub seal_from : Given → Option (List ℕ) → Option Asked
@@ -173,7 +201,8 @@ command_asked name.Explain given = Some (asks.Explain (record {}))
 command_asked name.Panel given = option_map (λ nodes. asks.Panel (record { nodes = nodes })) (number_of (codes "nodes") given)
 command_asked name.Loosen given = option_map (λ nodes. asks.Loosen (record { nodes = nodes })) (number_of (codes "nodes") given)
 command_asked name.Why given = why_asked given
-command_asked name.Page given = Some (page_from (text_of (codes "drawn") given))
+command_asked name.LoosenByProof given = loosen_by_proof_asked given
+command_asked name.Page given = page_asked given
 command_asked name.Lottery given =
     option_and_then (λ limits. option_map (λ workers. asks.Lottery (record { limits = limits; workers = workers })) (workers_in given)) (limits_in given)
 command_asked name.Check given = option_map (λ nodes. asks.Check (record { nodes = nodes })) (number_of (codes "nodes") given)

@@ -4,6 +4,7 @@
 -- untouched (`Outcomes`); and a text outside its format (`Subjects`).
 use Rattle.std.specs.Prelude.{ℕ, List, [], ◌∷◌, codes, Option, Some, None}
 use Rattle.command_bundles.specs.ShortDraw.{ShortDrawMeans}
+use Rattle.command_loosen.specs.LoosenByProof.{LoosensWithin}
 use Rattle.command_loosen.specs.Loosening.{LoosenMeans}
 use Rattle.command_page.specs.Inputs.{bundle_or_proof_format}
 use Rattle.command_page.specs.Page.{DrawnPageMeans, PageMeans}
@@ -30,7 +31,7 @@ use Rattle.command_stores.specs.ProvedRounds.{ProvesRound}
 use Rattle.command_stores.specs.Steps.{StepMeans, TextMeans}
 use Rattle.command_stores.specs.StoreOutcomes.{SilentStoreOutcome, TextStoreOutcome}
 use Rattle.command_stores.specs.StoreTold.{IsLeftAlone, StoreTold}
-use Rattle.command_desk.specs.DeskTold.{DeskTold}
+use Rattle.command_desk.specs.DeskTold.{DeskTold, IsUnopened}
 use Rattle.command_desk.specs.ServeOutcomes.{SilentServeOutcome}
 use Rattle.command_why.specs.PoolsAndProofs.{pool_in, pool_or_proof_format}
 use Rattle.command_why.specs.Why.{ExplainsWithin}
@@ -64,9 +65,10 @@ AnswersAlone (Some (asks.Seal it)) told = Answers bundle_format SealMeans told
 AnswersAlone (Some (asks.Draw seal digits)) told = Answers bundle_format (DrawMeans seal digits) told
 AnswersAlone (Some (asks.ShortDraw tickets seal digits)) told = Answers bundle_format (ShortDrawMeans tickets seal digits) told
 AnswersAlone (Some (asks.Page it)) told = Answers bundle_or_proof_format PageMeans told
-AnswersAlone (Some (asks.DrawnPage digits)) told = Answers bundle_or_proof_format (DrawnPageMeans digits) told
+AnswersAlone (Some (asks.DrawnPage tickets digits)) told = Answers bundle_or_proof_format (DrawnPageMeans tickets digits) told
 AnswersAlone (Some (asks.Panel it)) told = Answers pool_format (PanelMeans it.nodes) told
 AnswersAlone (Some (asks.Loosen it)) told = Answers pool_format (LoosenMeans it.nodes) told
+AnswersAlone (Some (asks.LoosenByProof it)) told = TextOutcome (About pool_format (LoosensWithin it.pivots it.nodes)) told
 -- no meaning names the number of workers, neither here nor for `make` nor for a solve over a store, so it changes nothing that is told
 AnswersAlone (Some (asks.Lottery it)) told = Answers pool_format (LotteryMeans it.limits) told
 AnswersAlone (Some (asks.Check it)) told = Answers bundle_format (CheckMeans it.nodes) told
@@ -98,13 +100,13 @@ AnswersRightly other told = LeavesStore (AnswersAlone other) told
 
 -- a call that opens no desk leaves the door alone
 pub record LeavesDoor (Right : StoreTold → Type 0) (told : DeskTold) : Type 0 where
-  pub door : IsUntouched told.door
+  pub door : IsUnopened told
   pub call : Right told.store
 
 -- the outcomes that a call may have if its words ask for this command, or for nothing
 abbrev pub EndsRightly : Option Asked → DeskTold → Type 0
 -- each link that the door gave was attended by the desk over the store's tables
-EndsRightly (Some (asks.Serve store serve)) told = SilentServeOutcome store serve.connections told
+EndsRightly (Some (asks.Serve store serve)) told = SilentServeOutcome store serve.port serve.connections told
 EndsRightly other told = LeavesDoor (AnswersRightly other) told
 
 -- status 12: memory was wanting while the words were read, so the source is untouched

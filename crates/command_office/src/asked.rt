@@ -12,8 +12,12 @@ ghost use Rattle.command_office.specs.Asked.{
   in_tickets_asked as words_of_in_tickets,
   limits_from as words_of_limits,
   limits_in,
+  loosen_by_proof_asked as words_of_loosen_by_proof,
   make_asked as words_of_make,
+  drawn_page_from as words_of_drawn_page,
+  page_asked as words_of_page,
   page_from as words_of_page_from,
+  round_page_from as words_of_round_page,
   prove_asked as words_of_prove,
   prove_from as words_of_prove_from,
   question_asked as words_of_question,
@@ -35,7 +39,7 @@ use crate::steps::Step;
 use command_bundles::{Check, Seal};
 use command_desk::Serve;
 use command_explain::Explain;
-use command_loosen::Loosen;
+use command_loosen::{Loosen, LoosenByProof};
 use command_page::Page;
 use command_pools::{FirstPanel, Lottery, Make, Volunteers};
 use command_proofs::{ItsBundle, Prove, Verify};
@@ -47,8 +51,10 @@ use define_runs::{Limits, Workers};
 use short_draws::TicketCount;
 use std::alloc::Global;
 
-/// The text for a number that `clap` accepts and that is out of its range. No words lead to it, since `clap` tests the ranges.
-const OUT_OF_RANGE: &str = "error: a number is out of its range\n";
+/// The text for options that don't go together, or a number that `clap` accepts and that is out of its range. No words lead to the second,
+/// since `clap` tests the ranges.
+const OUT_OF_RANGE: &str =
+    "error: these options don't go together, or a number is out of its range\n";
 
 /// What the words of a call ask for. Texts are borrowed from the words.
 #[derive(Debug, Drop)]
@@ -83,10 +89,14 @@ pub enum Asked<'a> {
     Loosen(Loosen),
     /// Quotas of a pool that can't be met together, or a quota panel.
     Why(Why),
+    /// A least loosening of a pool's quotas, shown by sums.
+    LoosenByProof(LoosenByProof),
     /// A page about the lottery of a bundle.
     Page(Page),
     /// A page about the lottery of a bundle, and about the panel that dice draw from it.
     DrawnPage {
+        /// The number of tickets, if the draw is in a round number of them.
+        tickets: Option<TicketCount>,
         /// The digits of dice.
         digits: Word<'a>,
     },
@@ -152,7 +162,8 @@ pub(crate) fn read_asked<'a>(alloc: Global, words: &'a [String]) -> Result<Asked
     }
 }
 
-/// Returns the command with the values that the words give, or None if a value is missing or out of its range.
+/// Returns the command with the values that the words give, or None if a value is missing or out of its range, or options
+/// don't go together.
 fn asked_by<'a>(given: &Given<'a>) -> Option<Asked<'a>>
     ensures { result ≡ words_of_asked given.now }
 {
@@ -184,7 +195,8 @@ fn asked_by<'a>(given: &Given<'a>) -> Option<Asked<'a>>
             Some(Asked::Loosen(Loosen { nodes }))
         }
         CommandName::Why => why_of(given),
-        CommandName::Page => Some(page_from(given.text("drawn"))),
+        CommandName::LoosenByProof => loosen_by_proof_of(given),
+        CommandName::Page => page_of(given),
         CommandName::Lottery => {
             let limits = limits_of(given)?;
             let workers = workers_of(given)?;
@@ -257,13 +269,63 @@ fn prove_of<'a>(given: &Given<'a>) -> Option<Asked<'a>>
     prove_from(given, Prove { pivots, nodes }, given.text("store"))
 }
 
-/// Returns the page about a bundle, with the panel that the digits draw if there are any.
-fn page_from<'a>(drawn: Option<Word<'a>>) -> Asked<'a>
-    ensures { result ≡ words_of_page_from drawn.entry }
+/// Returns the page about a bundle, or about a round of a store if the words name one.
+fn page_of<'a>(given: &Given<'a>) -> Option<Asked<'a>>
+    ensures { result ≡ words_of_page given.now }
+{
+    let drawn = given.text("drawn");
+    let tickets = given.number("tickets");
+    match given.text("store") {
+        Some(_) => round_page_from(given, drawn, tickets),
+        None => page_from(drawn, tickets),
+    }
+}
+
+/// Returns the page about a round, which takes no digits and no number of tickets.
+fn round_page_from<'a>(
+    given: &Given<'a>,
+    drawn: Option<Word<'a>>,
+    tickets: Option<u64>,
+) -> Option<Asked<'a>>
+    ensures { result ≡ words_of_round_page given.now drawn.entry tickets }
 {
     match drawn {
-        Some(digits) => Asked::DrawnPage { digits },
-        None => Asked::Page(Page),
+        Some(_) => None,
+        None => match tickets {
+            Some(_) => None,
+            None => {
+                let round = round_of(given)?;
+                text_of(given, StoreText::Page { round })
+            }
+        },
+    }
+}
+
+/// Returns the page about a bundle, with the panel that the digits draw if there are any. A number of tickets needs digits.
+fn page_from<'a>(drawn: Option<Word<'a>>, tickets: Option<u64>) -> Option<Asked<'a>>
+    ensures { result ≡ words_of_page_from drawn.entry tickets }
+{
+    match drawn {
+        Some(digits) => drawn_page_from(digits, tickets),
+        None => match tickets {
+            Some(_) => None,
+            None => Some(Asked::Page(Page)),
+        },
+    }
+}
+
+fn drawn_page_from<'a>(digits: Word<'a>, tickets: Option<u64>) -> Option<Asked<'a>>
+    ensures { result ≡ words_of_drawn_page digits.entry tickets }
+{
+    match tickets {
+        Some(number) => {
+            let tickets = Some(TicketCount::new(number)?);
+            Some(Asked::DrawnPage { tickets, digits })
+        }
+        None => Some(Asked::DrawnPage {
+            tickets: None,
+            digits,
+        }),
     }
 }
 
@@ -273,6 +335,14 @@ fn why_of<'a>(given: &Given<'a>) -> Option<Asked<'a>>
     let pivots = given.number("pivots")?;
     let nodes = given.number("nodes")?;
     Some(Asked::Why(Why { pivots, nodes }))
+}
+
+fn loosen_by_proof_of<'a>(given: &Given<'a>) -> Option<Asked<'a>>
+    ensures { result ≡ words_of_loosen_by_proof given.now }
+{
+    let pivots = given.number("pivots")?;
+    let nodes = given.number("nodes")?;
+    Some(Asked::LoosenByProof(LoosenByProof { pivots, nodes }))
 }
 
 fn prove_from<'a>(given: &Given<'a>, prove: Prove, store: Option<Word<'a>>) -> Option<Asked<'a>>

@@ -4,7 +4,7 @@ ghost use Rattle.std.specs.Prelude.{map, string_bytes, Some};
 ghost use Rattle.command_shell.specs.Told.{object, told};
 ghost use Rattle.command_shell.specs.Answers.{status_number};
 ghost use Rattle.command_stores.specs.StoreTold.{keeper_told, store_told};
-ghost use Rattle.command_desk.specs.DeskTold.{NoMoreBack, desk_told, door_told};
+ghost use Rattle.command_desk.specs.DeskTold.{NoMoreBack, desk_told, door_told, ports};
 ghost use Rattle.office_http.specs.Visits.{link_told};
 ghost use Rattle.command_office.specs.Office.{EndsRightly, OfficeIsRight};
 
@@ -49,7 +49,8 @@ pub fn office<R: Threads + Sync, S: Source, O: Sink, E: Sink, K: Keeper, D: Door
         (object (E.written errs.old) (E.written errs.new) (E.faults errs.old) (E.faults errs.new)))
         (keeper_told (object (K.tables keeper.old) (K.tables keeper.new) (K.faults keeper.old) (K.faults keeper.new)) (K.place keeper.old) (K.place keeper.new)))
         (door_told (λ link. link_told (D.Link.left link) (D.Link.written link) (D.Link.faults link))
-        (D.links door.old) (D.links door.new) (D.faults door.old) (D.faults door.new))) }
+        (D.links door.old) (D.links door.new) (D.faults door.old) (D.faults door.new))
+        (ports (D.opened_at door.old) (D.opened_at door.new))) }
 {
     match read_asked(alloc, words) {
         Ok(asked) => {
@@ -79,7 +80,8 @@ fn run<R: Threads + Sync, W: Watch + Sync, S: Source, O: Sink, E: Sink, K: Keepe
         (object (E.written errs.old) (E.written errs.new) (E.faults errs.old) (E.faults errs.new)))
         (keeper_told (object (K.tables keeper.old) (K.tables keeper.new) (K.faults keeper.old) (K.faults keeper.new)) (K.place keeper.old) (K.place keeper.new)))
         (door_told (λ link. link_told (D.Link.left link) (D.Link.written link) (D.Link.faults link))
-        (D.links door.old) (D.links door.new) (D.faults door.old) (D.faults door.new))) }
+        (D.links door.old) (D.links door.new) (D.faults door.old) (D.faults door.new))
+        (ports (D.opened_at door.old) (D.opened_at door.new))) }
 {
     let alloc = resources.alloc;
     match asked {
@@ -107,8 +109,9 @@ fn run<R: Threads + Sync, W: Watch + Sync, S: Source, O: Sink, E: Sink, K: Keepe
             call(alloc, &draw, source, out, errs)
         }
         Asked::Page(page) => call(alloc, &page, source, out, errs),
-        Asked::DrawnPage { digits } => {
+        Asked::DrawnPage { tickets, digits } => {
             let page = DrawnPage {
+                tickets,
                 digits: digits.as_str(),
             };
             call(alloc, &page, source, out, errs)
@@ -116,6 +119,7 @@ fn run<R: Threads + Sync, W: Watch + Sync, S: Source, O: Sink, E: Sink, K: Keepe
         Asked::Panel(panel) => call(alloc, &panel, source, out, errs),
         Asked::Loosen(loosen) => call(alloc, &loosen, source, out, errs),
         Asked::Why(why) => call(alloc, &why, source, out, errs),
+        Asked::LoosenByProof(loosen) => call(alloc, &loosen, source, out, errs),
         Asked::Lottery(lottery) => call_lottery(resources, &lottery, source, out, errs),
         Asked::Check(check) => call(alloc, &check, source, out, errs),
         Asked::Question(question) => call(alloc, &question, source, out, errs),

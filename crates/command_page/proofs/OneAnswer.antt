@@ -1,8 +1,9 @@
 -- `page` has at most one right answer, with digits and without: a page, the line of a wrong total, the line of a refused draw, or the line
 -- of a proof without a lottery.
-use Rattle.std.proofs.Common.{◌∙◌, ℕ, List, Option, Some, None, Result, Ok, Err, ap, sym, rules}
+use Rattle.std.proofs.Common.{◌≡◌, ◌∙◌, ℕ, List, Option, Some, None, Result, Ok, Err, ap, sym, rules}
 use Rattle.define_bundles.specs.BundleText.{Bundle}
-use Rattle.define_draws.specs.Draw.{Drawn, Refused}
+use Rattle.define_draws.specs.Draw.{Drawn, Refused, draw}
+use Rattle.define_pools.specs.Lottery.{TotalAgrees}
 use Rattle.bundle_page.specs.Page.{drawn_page_text}
 use Rattle.command_shell.specs.declared.status.Printed.TheVariants.{Done}
 use Rattle.command_shell.specs.declared.status.Cause.TheVariants.{Input, Rule}
@@ -11,7 +12,7 @@ use Rattle.command_meanings.specs.Draw.{refused_draw_line}
 use Rattle.command_meanings.specs.Seal.{bundle_seal}
 use Rattle.command_page.specs.declared.inputs.BundleOrProof.{BundleOrProof}
 use Rattle.command_page.specs.Inputs.{bundle_in}
-use Rattle.command_page.specs.Page.{DrawnPageMeans, DrawnPageOfBundle, PageMeans, PageOfBundle, WithoutLottery, about}
+use Rattle.command_page.specs.Page.{DrawnPageMeans, DrawnPageOfBundle, PageMeans, PageOfBundle, WithoutLottery, about, draw_means, lottery_in}
 
 about_once : (Means : Bundle → RightAnswers) → ((bundle : Bundle) → HasOneAnswer (Means bundle)) → (it : Option Bundle) → HasOneAnswer (about Means it)
 about_once Means once (Some bundle) = once bundle
@@ -31,21 +32,39 @@ bundle_once bundle first second x y = search rules
 pub page_once : (input : BundleOrProof) → HasOneAnswer (PageMeans input)
 page_once input = about_once PageOfBundle bundle_once (bundle_in input)
 
-abbrev said : Bundle → Result Drawn Refused → Saying
-said bundle (Ok drawn) = Prints Done (drawn_page_text bundle (bundle_seal bundle) drawn.panel)
-said bundle (Err refused) = Stops Rule (refused_draw_line (bundle_seal bundle) (bundle_seal bundle) refused)
+-- what is said of a draw out of `tickets` tickets
+abbrev said : Bundle → List ℕ → ℕ → Result Drawn Refused → Saying
+said bundle digits tickets (Ok drawn) = Prints Done (drawn_page_text bundle (bundle_seal bundle) digits tickets drawn)
+said bundle digits tickets (Err refused) = Stops Rule (refused_draw_line (bundle_seal bundle) (bundle_seal bundle) refused)
 
-drawn_once : (digits : List ℕ) (bundle : Bundle) → HasOneAnswer (DrawnPageOfBundle digits bundle)
-drawn_once digits bundle (Prints Done a) (Stops Input b) x y = absurd (y.total x.total)
-drawn_once digits bundle (Stops Rule a) (Stops Input b) x y = absurd (y.total x.total)
-drawn_once digits bundle (Stops Input a) (Prints Done b) x y = absurd (x.total y.total)
-drawn_once digits bundle (Stops Input a) (Stops Rule b) x y = absurd (x.total y.total)
-drawn_once digits bundle (Stops Input a) (Stops Input b) x y = ap (Stops Input) (x.line ∙ sym y.line)
-drawn_once digits bundle (Prints Done a) (Prints Done b) x y = (ap (Prints Done) x.page ∙ ap (said bundle) (sym x.draws)) ∙ sym (ap (Prints Done) y.page ∙ ap (said bundle) (sym y.draws))
-drawn_once digits bundle (Prints Done a) (Stops Rule b) x y = absurd (cc (x.draws, y.draws))
-drawn_once digits bundle (Stops Rule a) (Prints Done b) x y = absurd (cc (x.draws, y.draws))
-drawn_once digits bundle (Stops Rule a) (Stops Rule b) x y = (ap (Stops Rule) x.line ∙ ap (said bundle) (sym x.draws)) ∙ sym (ap (Stops Rule) y.line ∙ ap (said bundle) (sym y.draws))
-drawn_once digits bundle first second x y = search rules
+-- the weights sum to the total where a draw is refused, and the line is the refusal's
+pub record Refuses (tickets : Option ℕ) (digits : List ℕ) (bundle : Bundle) (text : List ℕ) : Type 0 where
+  pub refused : Refused
+  pub total : TotalAgrees bundle.answer.lottery
+  pub draws : draw (lottery_in tickets bundle.answer.lottery) (bundle_seal bundle) (bundle_seal bundle) digits ≡ Err refused
+  pub line : text ≡ refused_draw_line (bundle_seal bundle) (bundle_seal bundle) refused
 
-pub drawn_page_once : (digits : List ℕ) (input : BundleOrProof) → HasOneAnswer (DrawnPageMeans digits input)
-drawn_page_once digits input = about_once (DrawnPageOfBundle digits) (drawn_once digits) (bundle_in input)
+refuses : (tickets : Option ℕ) (digits : List ℕ) (bundle : Bundle) (text : List ℕ) → (draw_means tickets (bundle_seal bundle) digits bundle).rule text → Refuses tickets digits bundle text
+refuses None digits bundle text it = record { refused = it.refused; total = it.total; draws = it.draws; line = it.line }
+refuses (Some tickets) digits bundle text it = record { refused = it.refused; total = it.total; draws = it.draws; line = it.line }
+
+drawn_once : (tickets : Option ℕ) (digits : List ℕ) (bundle : Bundle) → HasOneAnswer (DrawnPageOfBundle tickets digits bundle)
+drawn_once tickets digits bundle (Prints Done a) (Stops Input b) x y = absurd (y.total x.total)
+drawn_once tickets digits bundle (Stops Rule a) (Stops Input b) x y = absurd (y.total (refuses tickets digits bundle a x).total)
+drawn_once tickets digits bundle (Stops Input a) (Prints Done b) x y = absurd (x.total y.total)
+drawn_once tickets digits bundle (Stops Input a) (Stops Rule b) x y = absurd (x.total (refuses tickets digits bundle b y).total)
+drawn_once tickets digits bundle (Stops Input a) (Stops Input b) x y = ap (Stops Input) (x.line ∙ sym y.line)
+drawn_once tickets digits bundle (Prints Done a) (Prints Done b) x y =
+    let says = said bundle digits (lottery_in tickets bundle.answer.lottery).total in
+    (ap (Prints Done) x.page ∙ ap says (sym x.draws)) ∙ sym (ap (Prints Done) y.page ∙ ap says (sym y.draws))
+drawn_once tickets digits bundle (Prints Done a) (Stops Rule b) x y = let other = refuses tickets digits bundle b y in absurd (cc (x.draws, other.draws))
+drawn_once tickets digits bundle (Stops Rule a) (Prints Done b) x y = let one = refuses tickets digits bundle a x in absurd (cc (one.draws, y.draws))
+drawn_once tickets digits bundle (Stops Rule a) (Stops Rule b) x y =
+    let one = refuses tickets digits bundle a x in
+    let other = refuses tickets digits bundle b y in
+    let says = said bundle digits 0 in
+    (ap (Stops Rule) one.line ∙ ap says (sym one.draws)) ∙ sym (ap (Stops Rule) other.line ∙ ap says (sym other.draws))
+drawn_once tickets digits bundle first second x y = search rules
+
+pub drawn_page_once : (tickets : Option ℕ) (digits : List ℕ) (input : BundleOrProof) → HasOneAnswer (DrawnPageMeans tickets digits input)
+drawn_page_once tickets digits input = about_once (DrawnPageOfBundle tickets digits) (drawn_once tickets digits) (bundle_in input)

@@ -1,12 +1,14 @@
 -- What `page` answers: the page about a bundle, or about the bundle that a proof holds; with the digits of dice, also about the panel that
--- they draw. Nothing is verified. Over Inputs, and the pages of `bundle_page`.
+-- they draw, from all tickets or in a round number of them. Nothing is verified. Over Inputs, and the pages of `bundle_page`.
 use Rattle.std.specs.Prelude.{◌≡◌, ℕ, List, Option, Some, None, Ok}
 use Rattle.define_bundles.specs.BundleText.{Bundle}
 use Rattle.define_draws.specs.Draw.{Drawn, draw}
-use Rattle.define_pools.specs.Lottery.{TotalAgrees}
+use Rattle.define_pools.specs.Lottery.{Lottery, TotalAgrees}
+use Rattle.define_short_draws.specs.Short.{shortened}
 use Rattle.bundle_page.specs.Page.{drawn_page_text, page_text}
 use Rattle.command_shell.specs.Answers.{RightAnswers, no_answer}
-use Rattle.command_meanings.specs.Draw.{HasWrongTotal, RefusesDraw}
+use Rattle.command_bundles.specs.ShortDraw.{ShortDrawMeans}
+use Rattle.command_meanings.specs.Draw.{DrawMeans, HasWrongTotal}
 use Rattle.command_meanings.specs.ItsBundle.{no_lottery_line}
 use Rattle.command_meanings.specs.Seal.{bundle_seal}
 use Rattle.command_page.specs.declared.inputs.BundleOrProof.{BundleOrProof}
@@ -29,21 +31,31 @@ PageOfBundle bundle = record no_answer {
 
 -- ---- with digits
 
--- the weights sum to the total, the digits draw a panel, and the text is the page with this panel
-pub record PrintsDrawnPage (digits : List ℕ) (bundle : Bundle) (text : List ℕ) : Type 0 where
+-- the lottery that the digits draw from: the bundle's, or the bundle's in a round number of tickets
+abbrev pub lottery_in : Option ℕ → Lottery → Lottery
+lottery_in None lottery = lottery
+lottery_in (Some tickets) lottery = shortened lottery tickets
+
+-- what `draw` answers, or `short-draw` in a round number of tickets
+abbrev pub draw_means : Option ℕ → List ℕ → List ℕ → Bundle → RightAnswers
+draw_means None given digits bundle = DrawMeans given digits bundle
+draw_means (Some tickets) given digits bundle = ShortDrawMeans tickets given digits bundle
+
+-- the weights sum to the total, the digits draw a panel, and the text is the page with this draw
+pub record PrintsDrawnPage (tickets : Option ℕ) (digits : List ℕ) (bundle : Bundle) (text : List ℕ) : Type 0 where
   pub drawn : Drawn
   pub total : TotalAgrees bundle.answer.lottery
-  pub draws : draw bundle.answer.lottery (bundle_seal bundle) (bundle_seal bundle) digits ≡ Ok drawn
-  pub page : text ≡ drawn_page_text bundle (bundle_seal bundle) drawn.panel
+  pub draws : draw (lottery_in tickets bundle.answer.lottery) (bundle_seal bundle) (bundle_seal bundle) digits ≡ Ok drawn
+  pub page : text ≡ drawn_page_text bundle (bundle_seal bundle) digits (lottery_in tickets bundle.answer.lottery).total drawn
 
-abbrev pub DrawnPageOfBundle : List ℕ → Bundle → RightAnswers
-DrawnPageOfBundle digits bundle = record no_answer {
+abbrev pub DrawnPageOfBundle : Option ℕ → List ℕ → Bundle → RightAnswers
+DrawnPageOfBundle tickets digits bundle = record no_answer {
   -- status 0
-  done = PrintsDrawnPage digits bundle;
+  done = PrintsDrawnPage tickets digits bundle;
   -- status 3
   input = HasWrongTotal bundle;
-  -- status 6: as `draw` refuses
-  rule = RefusesDraw (bundle_seal bundle) digits bundle;
+  -- status 6: as `draw` or `short-draw` refuses, given the bundle's own seal
+  rule = (draw_means tickets (bundle_seal bundle) digits bundle).rule;
 }
 
 -- ---- about a bundle or a proof
@@ -62,5 +74,5 @@ about Means None = WithoutLottery
 abbrev pub PageMeans : BundleOrProof → RightAnswers
 PageMeans input = about PageOfBundle (bundle_in input)
 
-abbrev pub DrawnPageMeans : List ℕ → BundleOrProof → RightAnswers
-DrawnPageMeans digits input = about (DrawnPageOfBundle digits) (bundle_in input)
+abbrev pub DrawnPageMeans : Option ℕ → List ℕ → BundleOrProof → RightAnswers
+DrawnPageMeans tickets digits input = about (DrawnPageOfBundle tickets digits) (bundle_in input)

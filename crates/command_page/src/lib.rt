@@ -1,7 +1,7 @@
 //! The command `page`: one HTML file about the lottery of a bundle, or of the bundle that a proof holds, and with the digits of dice about
-//! the panel that they draw from it. Stands on `bundle_page`, which makes the page, on `sealed_draw`, which seals and draws, on the command
-//! `draw` of `command_bundles`, which tells why nothing is drawn, on the texts of bundles and proofs, and on the shell. Above:
-//! `command_office`.
+//! the panel that they draw from it, from all tickets or in a round number of them. Stands on `bundle_page`, which makes the page, on
+//! `sealed_draw` and `short_draws`, which seal and draw, on the commands `draw` and `short-draw` of `command_bundles`, which tell why nothing
+//! is drawn, on the texts of bundles and proofs, and on the shell. Above: `command_office`.
 //!
 //! Promises: `Page` and `DrawnPage` answer as `specs/Page.antt` says, and the laws that each has one answer.
 #![tactic(auto)]

@@ -1,4 +1,4 @@
-//! The answers of `prove` if no proof is made. `making` and `proving` return them.
+//! The answers of `prove` if no proof is made. `making` and `proving` return them, and so does `command_why`, whose lines are the same.
 
 ghost use Rattle.std.specs.Prelude.{◌≡◌, codes, IfOk};
 ghost use Rattle.command_shell.specs.declared.status.Cause.TheVariants as cause;
@@ -33,15 +33,15 @@ pub(crate) fn stopped(alloc: Global, left: &Budget, stop: &ProveStop) -> Result<
     }
 }
 
-/// Returns the answer that a step of the run was lost, or that its proof is refused.
-pub(crate) fn lost(alloc: Global) -> Result<Answer, AllocError>
+/// Returns the answer that a step of the run was lost, or that what it made is refused. Fails for want of memory.
+pub fn lost(alloc: Global) -> Result<Answer, AllocError>
     ensures { IfOk result (λ answer. saying answer ≡ Stops cause.Spent (proof_spent_line (codes "lost") 0)) }
 {
     spent(alloc, b"lost", 0)
 }
 
-/// Returns the answer that the result of an operation exceeds 2^62 in absolute value.
-fn wide(alloc: Global, pass: &Pass) -> Result<Answer, AllocError>
+/// Returns the answer that the result of an operation exceeds 2^62 in absolute value. Fails for want of memory.
+pub fn wide(alloc: Global, pass: &Pass) -> Result<Answer, AllocError>
     ensures passes { Passes pass.now }
     ensures line { IfOk result (λ answer. saying answer ≡ Stops cause.Wide (proof_wide_line pass.now)) }
 {
@@ -52,8 +52,8 @@ fn wide(alloc: Global, pass: &Pass) -> Result<Answer, AllocError>
     })
 }
 
-/// Returns the answer that the limit called `what` is spent; it was `most`.
-fn spent(alloc: Global, what: &[u8], most: u64) -> Result<Answer, AllocError>
+/// Returns the answer that the limit called `what` is spent; it was `most`. Fails for want of memory.
+pub fn spent(alloc: Global, what: &[u8], most: u64) -> Result<Answer, AllocError>
     ensures { IfOk result (λ answer. saying answer ≡ Stops cause.Spent (proof_spent_line what.now most)) }
 {
     Ok(Answer::Stops {

@@ -25,12 +25,19 @@ const WITHDRAWN: &str = "{\"id\":\"a\",\"withdrawn\":true}";
 
 const NOT_FOUND: &str = "404 Not Found";
 
-/// The first round is open.
+/// Requests and replies while the first round is open.
 const OPEN: &[Row] = &[
     ("GET /me", "office-key: abc", STATUS_OK, "", OWN),
     (
         "GET /me",
         "office-key: abd",
+        "401 Unauthorized",
+        "WWW-Authenticate: office-key\r\n",
+        "{\"status\":401}",
+    ),
+    (
+        "GET /me",
+        "office-key: abc\r\noffice-key: abc",
         "401 Unauthorized",
         "WWW-Authenticate: office-key\r\n",
         "{\"status\":401}",
@@ -67,7 +74,7 @@ const OPEN: &[Row] = &[
     ),
 ];
 
-/// The first round is solved.
+/// Requests and replies while the first round is solved.
 const SOLVED: &[Row] = &[(
     "GET /public/bundle/1",
     "Host: h",
@@ -76,7 +83,7 @@ const SOLVED: &[Row] = &[(
     "{\"status\":404}",
 )];
 
-/// The first round is sealed.
+/// Requests and replies while the first round is sealed.
 const SEALED: &[Row] = &[
     (
         "POST /me/withdraw",
@@ -232,7 +239,8 @@ fn what_fails_at_a_desk(rt: HostRuntime) -> Result<(), AllocError> {
     Ok(())
 }
 
-/// Serves a link with the request, of which these calls fail, and returns the three digits of the reply's status, or a text without a reply.
+/// Serves a link with the request, of which these calls fail, and returns the three digits of the reply's status, or a text without a
+/// reply.
 fn status_of<R: Threads + Sync>(
     rt: &R,
     alloc: Global,
@@ -293,6 +301,7 @@ const BODIES: &[(&str, usize, &str)] = &[
     ("000000000000000000", 0, "401"),
     ("0000000000000000000", 0, "400"),
     ("", 0, "400"),
+    ("12x", 12, "400"),
     ("+5", 5, "400"),
     ("2\r\nContent-length: 2", 2, "400"),
     ("2\r\nTransfer-Encoding: chunked", 2, "400"),
@@ -321,14 +330,22 @@ fn sizes_of_requests(rt: HostRuntime) -> Result<(), AllocError> {
     Ok(())
 }
 
-/// A withdrawal that is cut at each byte is 400, and nothing is withdrawn. If the link fails as it is read, nothing is withdrawn either; if it
-/// fails as the reply is written, the withdrawal is kept.
+/// A question or a withdrawal that is cut at each byte is 400, and nothing is withdrawn. If the link fails as it is read, nothing is withdrawn
+/// either; if it fails as the reply is written, the withdrawal is kept.
 #[test]
 fn withdrawals_that_are_cut(rt: HostRuntime) -> Result<(), AllocError> {
     let alloc = rt.alloc();
     let own = "GET /me HTTP/1.1\r\noffice-key: abc\r\n\r\n";
     let whole = "POST /me/withdraw HTTP/1.1\r\noffice-key: abc\r\nContent-Length: 3\r\n\r\nabc";
     let mut keeper = filled(&rt, alloc, &[])?;
+    let refused =
+        "0 served\t1\tbroken\t0\n|HTTP/1.1 400 Bad Request\r\nContent-Type: application/json\r\nContent-Length: 14\r\nConnection: close\r\n\r\n{\"status\":400}";
+    for cut in 0..own.len() {
+        let mut links = Vec::new(alloc);
+        links.push(link(alloc, own.get(..cut).unwrap_or(""), &[])?)?;
+        let told = served(&rt, alloc, &mut keeper, SERVE, links, &[])?;
+        assert_eq!(rt; told.as_str(), refused, "{cut}");
+    }
     for cut in 0..whole.len() {
         let begun = whole.get(..cut).unwrap_or("");
         let told = status_of(&rt, alloc, &mut keeper, begun, &[])?;

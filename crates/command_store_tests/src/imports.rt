@@ -98,8 +98,8 @@ const FAULTY_RULES: &[Row] = &[
     ),
 ];
 
-/// Registers for these rules, whose one category `gender` has the value `f`. Where a kind has a second row, that file has a higher kind in the
-/// same record and a lower one in a later record.
+/// Registers for these rules, whose one category `gender` has the value `f`. Where a kind has a second row, that file has a higher kind in
+/// the same record and a lower one in a later record.
 const REGISTERS: &[Row] = &[
     (REGISTER, b"id,key,gender\n\xff,k,f\n", "3 input\t2\t1\n"),
     (REGISTER, b"id,key,gender\n,\xff,x\n", "3 input\t2\t1\n"),
@@ -130,7 +130,7 @@ const REGISTERS: &[Row] = &[
     ),
 ];
 
-/// Rules with so many values of one category.
+/// Rules with `count` values of one category, and the row `last`.
 fn values(alloc: Global, count: u32, last: &str) -> Result<String, AllocError> {
     let mut rules = String::from_str(alloc, "category,name,min,max\n")?;
     for number in 0..count {
@@ -141,7 +141,7 @@ fn values(alloc: Global, count: u32, last: &str) -> Result<String, AllocError> {
     Ok(rules)
 }
 
-/// Rules with so many categories of one value each.
+/// Rules with `count` categories of one value each, and the row `last`.
 fn categories(alloc: Global, count: u32, last: &str) -> Result<String, AllocError> {
     let mut rules = String::from_str(alloc, "category,name,min,max\n")?;
     for number in 0..count {
@@ -162,7 +162,7 @@ fn housed(alloc: Global) -> Result<String, AllocError> {
     Ok(rows)
 }
 
-/// A charter of so many bytes, most of them blank lines.
+/// A charter of `size` bytes, most of them blank lines.
 fn charter(alloc: Global, size: usize) -> Result<Vec<u8>, AllocError> {
     let mut charter = vec![in alloc; b'\n'; size]?;
     for (byte, written) in charter.iter_mut().zip(b"title=\"Long\"\nsize=2") {

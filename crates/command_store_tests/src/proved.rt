@@ -8,7 +8,7 @@ use std::alloc::AllocError;
 type Row = (&'static str, &'static str, &'static str);
 
 /// A proof of the lottery over two women and two men. Its bundle has the seal of `stores`.
-const PROOF: &str =
+pub(crate) const PROOF: &str =
     "proof\t1\nbundle\t1\npool\t1\nsize\t2\ncategory\tgender\nvalue\tfemale\t1\t1\nvalue\tmale\t1\t1\nvolunteer\ta\tfemale\nvolunteer\tb\tfemale\nvolunteer\tc\tmale\nvolunteer\td\tmale\nend\ntotal\t2\npanel\t1\t0\t2\npanel\t1\t1\t3\nstage\t1\t1\t1\t0\t0\nstage\t0\t-1\t-1\t1\t1\ndone\ntree\t1\nbound\t1\t1\t1\ntree\t2\nbound\t1\t2\t1\t3\t-1\nclose\n";
 
 /// `PROOF` with the factor 2 in the first stage's tree, which then doesn't show the cap.
@@ -71,8 +71,8 @@ const FILLED: &[Row] = &[
     ),
 ];
 
-/// A round that keeps a given proof. One that isn't valid, one of another pool and a text that is none leave it open. Once it keeps a proof,
-/// no other changes it.
+/// A round that keeps a given proof. One that isn't valid, one of another pool and a text that is none leave it open. Once it keeps a
+/// proof, no other changes it.
 const KEPT: &[Row] = &[
     ("keep --store s", BUNDLE, "3 input\t1\t21\n"),
     ("keep --store s", DOUBLED, "11 refused\t1\t12\t20\n"),

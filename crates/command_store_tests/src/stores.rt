@@ -1,13 +1,14 @@
 //! Calls of `office` over a store in memory: an assembly from its imports to a second round, and a keeper that fails at each of its calls.
 
+use crate::proved::PROOF;
 use command_office::office;
 use office_keeper::MapKeeper;
 use outside::{MemDoor, MemSink, MemSource, NoWatch};
 use std::alloc::{AllocError, Global};
 use std::thread::Threads;
 
-/// A call, and what it tells. After `<` is the file on standard input, and after `>` the word `full` if no byte can be written to `out`. What is
-/// told is the status, a blank, and what `out` and `errs` gain. At status 2 what `errs` gains is left out.
+/// A call, and what it tells. After `<` is the file on standard input, and after `>` the word `full` if no byte can be written to `out`.
+/// What is told is the status, a blank, and what `out` and `errs` gain. At status 2 what `errs` gains is left out.
 type Row = (&'static str, &'static str);
 
 pub(crate) const BUNDLE: &str = "\
@@ -259,6 +260,7 @@ fn many_rows(alloc: Global, last_key: &str) -> Result<String, AllocError> {
 fn written(file: &str) -> &'static str {
     match file {
         "charter" => "title = \"River\"\nsize = 2\n",
+        "proof" => PROOF,
         "lake" => "title = \"Lake\"\nsize = 2\n",
         "rules" => "category,name,min,max\ngender,female,1,1\ngender,male,1,1\n",
         "more" => "category,name,min,max\ngender,female,1,1\ngender,other,1,1\n",
@@ -391,36 +393,60 @@ fn an_assembly_over_a_store(rt: HostRuntime) -> Result<(), AllocError> {
     Ok(())
 }
 
-/// Commands that change the store.
-const CHANGING: &[Row] = &[
-    ("import-charter --store s < charter", "0 charter\tset\n"),
-    ("import-rules --store s < rules", "0 rules\tset\n"),
-    ("import-register --store s < register", ADDED),
-    ("solve --store s", "0 solved\t1\t2\t2\n"),
-    ("seal --store s", SEAL_TOLD),
-    (DRAW, DRAW_TOLD),
-    ("drop --store s --id a", "0 dropped\t1\ta\n"),
-    ("next-round --store s", "0 round\t2\n"),
+/// Commands over a store, and how many calls of the keeper each makes: it is attached, it loads, and it stores.
+type FailingRow = (&'static str, &'static str, usize);
+
+/// An assembly. A command that changes nothing makes no third call, and the desk makes its second one for a connection.
+const CHANGING: &[FailingRow] = &[
+    ("import-charter --store s < charter", "0 charter\tset\n", 3),
+    ("import-rules --store s < rules", "0 rules\tset\n", 3),
+    ("import-register --store s < register", ADDED, 3),
+    ("pool --store s", POOL, 2),
+    ("solve --store s", "0 solved\t1\t2\t2\n", 3),
+    ("show --store s", BUNDLE, 2),
+    ("seal --store s", SEAL_TOLD, 3),
+    (DRAW, DRAW_TOLD, 3),
+    ("report --store s", REPORT, 2),
+    ("drop --store s --id a", "0 dropped\t1\ta\n", 3),
+    ("next-round --store s", "0 round\t2\n", 3),
+    ("prove --store s --round 2", "0 solved\t2\t1\t1\n", 3),
+    ("serve --store s --port 80", "0 served\t0\tbroken\t0\n", 1),
 ];
 
-/// The calls of the keeper that fail. Each command is given four times: it fails as the keeper is attached, as it loads, and as it stores, and
-/// then it is done. So a command makes nine calls.
-const FAILING: &[u64] = &[
-    1, 3, 6, 10, 12, 15, 19, 21, 24, 28, 30, 33, 37, 39, 42, 46, 48, 51, 55, 57, 60, 64, 66, 69,
+/// An assembly whose first round keeps a given proof.
+const KEEPING: &[FailingRow] = &[
+    ("import-charter --store s < charter", "0 charter\tset\n", 3),
+    ("import-rules --store s < rules", "0 rules\tset\n", 3),
+    ("import-register --store s < register", ADDED, 3),
+    ("keep --store s < proof", "0 solved\t1\t2\t2\n", 3),
+];
+
+/// Assemblies, and the calls of the keeper that fail in each. A command is given once for each of its calls, which fails, and once more.
+const FAILING: &[(&[FailingRow], &[u64])] = &[
+    (
+        CHANGING,
+        &[
+            1, 3, 6, 10, 12, 15, 19, 21, 24, 28, 30, 33, 35, 38, 42, 44, 47, 49, 52, 56, 58, 61,
+            65, 67, 70, 72, 75, 79, 81, 84, 88, 90, 93, 97,
+        ],
+    ),
+    (KEEPING, &[1, 3, 6, 10, 12, 15, 19, 21, 24, 28, 30, 33]),
 ];
 
 /// A keeper that fails at each of its calls: the status is 9, and the command given again is done as if nothing had been.
 #[test]
 fn a_keeper_that_fails(rt: HostRuntime) -> Result<(), AllocError> {
     let alloc = rt.alloc();
-    let mut keeper = MapKeeper::new(alloc, FAILING)?;
-    for (call, want) in CHANGING {
-        for _ in 0..3 {
+    for (rows, failing) in FAILING {
+        let mut keeper = MapKeeper::new(alloc, failing)?;
+        for (call, want, calls) in *rows {
+            for _ in 0..*calls {
+                let told = told(&rt, alloc, &mut keeper, call)?;
+                assert_eq!(rt; told.as_str(), "9 keeper fault\n", "{call}");
+            }
             let told = told(&rt, alloc, &mut keeper, call)?;
-            assert_eq!(rt; told.as_str(), "9 keeper fault\n", "{call}");
+            assert_eq!(rt; told.as_str(), *want, "{call}");
         }
-        let told = told(&rt, alloc, &mut keeper, call)?;
-        assert_eq!(rt; told.as_str(), *want, "{call}");
     }
     Ok(())
 }

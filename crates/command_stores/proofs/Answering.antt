@@ -41,7 +41,7 @@ answered path Means told (Prints printed text) is (inl whole) = Answered (Prints
 answered path Means told (Prints printed text) is (inr cut) = WriteFault printed text is cut
 answered path Means told (StopsBy cause line) is stopped = Answered (StopsBy cause line) is stopped
 
--- If a call settles, and then tells that, the call ends so.
+-- If a call settles, and then tells how, it ends as `StoreOutcome` says.
 pub ends : (path : List ℕ) (Means : StoreMeaning) (kept : Keeper) (call : Told) (settled : Result Answer KeeperStop) → Settles path Means kept settled → TellsSettled settled call → StoreOutcome path Means (store_told call kept)
 ends path Means kept call (Ok answer) settles tells = answered path Means (store_told call kept) (saying answer) settles tells
 ends path Means kept call (Err Failed) settles tells = KeeperFault settles tells
@@ -87,7 +87,7 @@ module _ (path : List ℕ) (Means : StoreMeaning) (before loaded after : Option 
   settles_attached (Err Failed) it = failed it
   settles_attached (Err OutOfMemory) it = wanting it
 
--- If the tables could not be loaded, the call ends so.
+-- If the tables could not be loaded, the call settles with the stop of the keeper.
 pub not_loaded : (path : List ℕ) (Means : StoreMeaning) (before after : Option Tables) (faults faults_after : ℕ) (place place_after : Place) (stop : KeeperStop) →
     MayBeAttached path (keeper_told (object before after faults faults_after) place place_after) → after ≡ before → HasCause {T = Tables} faults faults_after (Err stop) →
     Settles path Means (keeper_told (object before after faults faults_after) place place_after) (Err stop)

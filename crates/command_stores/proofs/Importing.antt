@@ -47,13 +47,13 @@ module _ (path : List ℕ) (Means : List ℕ → StoreMeaning) (call : Told) (be
   abbrev kept : Keeper
   kept = keeper_told (object before after faults faults_after) place place_after
 
-  -- If the keeper could not be attached, the call ends so.
+  -- If the keeper could not be attached, the call ends as `TextStoreOutcome` says.
   pub not_attached : (stop : KeeperStop) → IsUntouched call.source → after ≡ before → place_after ≡ place → HasCause {T = ⊤} faults faults_after (Err stop) → TellsSettled (Err stop) call →
       TextStoreOutcome path Means (store_told call kept)
   not_attached Failed alone same stays cause stopped = NotAttached alone (record { faulted = cause.1; place = inr stays; same = same }) stopped
   not_attached OutOfMemory alone same stays cause stopped = NoMemory (record { no_fault = cause; place = inr stays; same = same }) stopped
 
-  -- If the keeper was attached and the source gave no input, the call ends so.
+  -- If the keeper was attached and the source gave no input, the call ends as `TextStoreOutcome` says.
   pub no_file : (stop : ReadStop) → after ≡ before → place_after ≡ at place path → faults_after ≡ faults → HasNoInput stop call.source → TellsNoInput stop call →
       TextStoreOutcome path Means (store_told call kept)
   no_file unread.TooLong same there none (held, no_fault) stopped =

@@ -2,3 +2,4 @@ mod Answering
 mod Once
 mod Importing
 mod RoundProofs
+mod KeptRounds

@@ -1,3 +1,4 @@
+pub mod Pages
 pub mod StoreTold
 pub mod StoreOutcomes
 pub mod Steps

@@ -19,6 +19,7 @@ use Rattle.define_offices.specs.Pools.{pool_of}
 use Rattle.define_offices.specs.Steps.{Comes}
 use Rattle.define_offices.specs.Tables.{Tables}
 use Rattle.define_reports.specs.Report.{report_of}
+use Rattle.command_stores.specs.Pages.{page_of}
 use Rattle.command_stores.specs.declared.texts.StoreText.{StoreText}
 use Rattle.command_stores.specs.declared.texts.StoreText.TheVariants as text
 use Rattle.office_pools.specs.declared.PoolStop.{PoolStop}
@@ -92,6 +93,7 @@ pool_text (Err refusal) = Err refusal
 abbrev pub stored_text : StoreText → Tables → Result (List ℕ) Refusal
 stored_text (text.Report round) tables = report_of tables round
 stored_text (text.Pool round) tables = pool_text (pool_of tables round)
+stored_text (text.Page round) tables = page_of tables round
 
 -- the answer is this text of the tables, and the tables stay
 pub record TextMeans (it : StoreText) (tables : Tables) (answer : Saying) (change : Option Change) : Type 0 where

@@ -96,8 +96,8 @@ pub record IsOnlyAttached (path : List ℕ) (keeper : Keeper) : Type 0 where
   pub same : KeepsTables keeper
   pub no_fault : HasNoFault keeper.object
 
--- how a call over the store at `path` ends that reads its source. `Means` says for each text which answers are right. The keeper is attached
--- before the source is read, and the tables are loaded after it
+-- how a call over the store at `path` ends that reads its source. `Means` says for each text which answers are right. The keeper is
+-- attached before the source is read, and the tables are loaded after it
 pub data TextStoreOutcome (path : List ℕ) (Means : List ℕ → StoreMeaning) (told : StoreTold) : Type 0 where
   -- the text was read, and the call ends as one that reads nothing
   Read : (bytes : List ℕ) → IsInput told.call.source bytes → StoreOutcome path (Means bytes) told → TextStoreOutcome path Means told

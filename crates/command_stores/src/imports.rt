@@ -50,8 +50,8 @@ pub(crate) enum FileStop {
     OutOfMemory,
 }
 
-/// Makes one call of an import over the store at `path`. The keeper is attached, the file is read from the source, the tables are loaded, and
-/// then the file is judged.
+/// Makes one call of an import over the store at `path`. The keeper is attached, the file is read from the source, the tables are loaded,
+/// and then the file is judged.
 pub fn call_import<R: Threads + Sync, W: Watch + Sync, K: Keeper, S: Source, O: Sink, E: Sink>(
     resources: &Resources<'_, R, W>,
     import: Import,

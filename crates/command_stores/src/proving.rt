@@ -40,8 +40,8 @@ pub struct ProveRound {
     pub prove: Prove,
 }
 
-/// Makes one call of `prove` over the store at `path`. An open round keeps the lottery of a valid proof of its pool. Any other round answers
-/// as to a solve.
+/// Makes one call of `prove` over the store at `path`. An open round keeps the lottery of a valid proof of its pool. Any other round
+/// answers as to a solve.
 pub fn call_prove_round<R: Threads + Sync, W: Watch + Sync, K: Keeper, O: Sink, E: Sink>(
     resources: &Resources<'_, R, W>,
     proving: ProveRound,

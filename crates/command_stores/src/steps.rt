@@ -25,8 +25,8 @@ use proof_verify::Verdict;
 use std::alloc::{AllocError, Global};
 use std::thread::Threads;
 
-/// Makes one call of a command of the office over the store at `path`. The answer is the outcome of the command over the store's tables. Its text
-/// is made before the change is stored, so nothing can want memory after that.
+/// Makes one call of a command of the office over the store at `path`. The answer is the outcome of the command over the store's tables.
+/// Its text is made before the change is stored, so nothing can want memory after that.
 pub fn call_step<R: Threads + Sync, W: Watch + Sync, K: Keeper, O: Sink, E: Sink>(
     resources: &Resources<'_, R, W>,
     command: &Command,

@@ -1,16 +1,18 @@
-//! Calls that print a text made of the tables of a store, and change nothing: the report and the pool of a round.
+//! Calls that print a text made of the tables of a store, and change nothing: the report, the pool and the page of a round.
 
-ghost use Rattle.std.specs.Prelude.{◌≡◌, IfOk, IfSome, OnOk};
+ghost use Rattle.std.specs.Prelude.{◌≡◌, ℕ, IfOk, IfSome, List, OnOk, Result};
 ghost use Rattle.command_shell.specs.Told.{Bytes, IsUntouched, object, told};
 ghost use Rattle.command_shell.specs.Answers.{status_number, saying};
 ghost use Rattle.office_pools.specs.declared.PoolStop.TheVariants.{OutOfMemory};
 ghost use Rattle.round_reports.specs.Rounds.{TellsReport};
+ghost use Rattle.define_offices.specs.Commands.{Refusal as SeenRefusal};
 ghost use Rattle.define_offices.specs.Pools.{pool_of as pool_of_round};
 ghost use Rattle.command_stores.specs.StoreOutcomes.{Settles, SilentStoreOutcome};
 ghost use Rattle.command_stores.specs.StoreTold.{keeper_told, store_told};
 ghost use Rattle.command_stores.specs.Steps.{TextMeans, pool_text, refusal_of, refused_by, stored_text, text_or_refusal};
 
 use crate::calling::{answer_or_want, load_at, tell_settled};
+use crate::pages::page_answer;
 use crate::refusals::refusal_answer;
 use command_shell::{Answer, Printed, Status};
 use office_core::{Keeper, KeeperStop, PoolStop, Refusal, Tables, pool_of};
@@ -29,6 +31,11 @@ pub enum StoreText {
     },
     /// The pool of a round.
     Pool {
+        /// The round's number.
+        round: usize,
+    },
+    /// The page of a round that is past `Open`.
+    Page {
         /// The round's number.
         round: usize,
     },
@@ -71,21 +78,23 @@ fn settle_text<K: Keeper>(
 fn answer_text(alloc: Global, tables: &Tables, text: StoreText) -> Result<Answer, AllocError>
     ensures { IfOk result (λ answer. saying answer ≡ text_or_refusal (stored_text text tables.now)) }
 {
-    match text_in(alloc, tables, text) {
+    match text {
+        StoreText::Report { round } => made_answer(alloc, round_report(alloc, tables, round)),
+        StoreText::Pool { round } => made_answer(alloc, round_pool(alloc, tables, round)),
+        StoreText::Page { round } => page_answer(alloc, tables, round),
+    }
+}
+
+/// Returns a text that was made as an answer, or the refusal without one.
+fn made_answer(alloc: Global, made: Result<Vec<u8>, PoolStop>) -> Result<Answer, AllocError>
+    ensures { (is : Result (List ℕ) SeenRefusal) → TellsReport is made → IfOk result (λ answer. saying answer ≡ text_or_refusal is) }
+{
+    match made {
         Ok(text) => Ok(Answer::Prints {
             printed: Printed::Done,
             text,
         }),
         Err(stop) => stop_answer(alloc, stop),
-    }
-}
-
-fn text_in(alloc: Global, tables: &Tables, text: StoreText) -> Result<Vec<u8>, PoolStop>
-    ensures { TellsReport (stored_text text tables.now) result }
-{
-    match text {
-        StoreText::Report { round } => round_report(alloc, tables, round),
-        StoreText::Pool { round } => round_pool(alloc, tables, round),
     }
 }
 

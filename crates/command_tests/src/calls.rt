@@ -3,8 +3,9 @@
 use crate::texts::{
     APART, BARRED, COUPLE, COUPLE_PROOF, CROSSED, DOUBLED_PROOF, EITHER, EITHER_BUNDLE, FAMILY,
     FIVE, FIVE_BUNDLE, FOUR, FOUR_BUNDLE, FOUR_BUNDLE_PROVED, FOUR_PROOF, FOUR_PROVED, LATER,
-    MEN_LEFT, NOBODY, ONE_WOMAN, ONE_WOMAN_BUNDLE, PAIR, PASSED_CAP, REPLACED, SHORT, SHORT_PROVED,
-    SIX, SURE_BUNDLE, TOTAL_OF_THREE, WIDE_BUNDLE, WOMEN_GONE, WRONG_TOTAL,
+    MEN_LEFT, MORE_BUNDLE, NOBODY, ONE_WOMAN, ONE_WOMAN_BUNDLE, PAIR, PASSED_CAP, REPLACED, SHORT,
+    SHORT_PROVED, SIX, STRANGER_BUNDLE, SURE_BUNDLE, TOTAL_OF_THREE, WIDE_BUNDLE, WOMEN_GONE,
+    WRONG_TOTAL,
 };
 use command_office::{no_words, office};
 use office_keeper::MapKeeper;
@@ -210,7 +211,14 @@ const USAGE_ROWS: &[(&[&str], &[u8], u8, &[u8], &[u8])] = &[
         FOUR,
         2,
         b"",
-        b"error: 'sortition' requires a subcommand but one was not provided\n  [subcommands: prove, keep, verify, bundle, explain, why, page, seal, dice, tickets, draw, chances, short, short-draw, import-charter, import-rules, import-register, solve, drop, next-round, show, report, pool, serve, panel, loosen, lottery, check, make, help]\n\nUsage: sortition <COMMAND>\n\nFor more information, try '--help'.\n",
+        b"error: 'sortition' requires a subcommand but one was not provided\n  [subcommands: prove, keep, verify, bundle, explain, why, loosen-by-proof, page, seal, dice, tickets, draw, chances, short, short-draw, import-charter, import-rules, import-register, solve, drop, next-round, show, report, pool, serve, panel, loosen, lottery, check, make, help]\n\nUsage: sortition <COMMAND>\n\nFor more information, try '--help'.\n",
+    ),
+    (
+        &["page", "--store", "s", "--drawn", "97"],
+        FOUR,
+        2,
+        b"",
+        b"error: these options don't go together, or a number is out of its range\n",
     ),
     (
         &["panel", "--nodes", "x"],
@@ -497,9 +505,11 @@ const CHECK_ROWS: &[(&[&str], &[u8], u8, &[u8], &[u8])] = &[
         b"spent\tnodes\t0\t1\t0\t0\n",
     ),
     (&["check"], FOUR, 3, b"", b"input\t1\t13\n"),
+    (&["check"], MORE_BUNDLE, 3, b"", b"input\t18\t17\n"),
+    (&["check"], STRANGER_BUNDLE, 3, b"", b"input\t14\t15\n"),
 ];
 
-/// Rows as in `ROWS`, for `verify`, `bundle`, `why`, `loosen` and `page`.
+/// Rows as in `ROWS`, for `verify`, `bundle`, `why`, `loosen`, `loosen-by-proof` and `page`.
 const PROOF_ROWS: &[(&[&str], &[u8], u8, &[u8], &[u8])] = &[
     (&["verify"], FOUR_PROOF, 0, b"valid\n", b""),
     (&["verify"], COUPLE_PROOF, 0, b"valid\tnone\n", b""),
@@ -534,6 +544,21 @@ const PROOF_ROWS: &[(&[&str], &[u8], u8, &[u8], &[u8])] = &[
         b"spent\tnodes\t2\t0\t0\t0\n",
     ),
     (&["loosen"], NOBODY, 1, b"no panel\n", b""),
+    (
+        &["loosen-by-proof"],
+        SHORT,
+        0,
+        b"loosen\t1\nbound\tgender\tfemale\t1\t2\npanel\ta\tb\n",
+        b"",
+    ),
+    (
+        &["loosen-by-proof", "--nodes", "0"],
+        SHORT,
+        5,
+        b"",
+        b"spent\tnodes\t0\n",
+    ),
+    (&["loosen-by-proof"], NOBODY, 1, b"no panel\n", b""),
     (&["page"], COUPLE_PROOF, 6, b"", b"rule\tNoLottery\n"),
     (&["page"], TOTAL_OF_THREE, 3, b"", b"input\t0\t14\n"),
     (
@@ -655,18 +680,46 @@ fn the_third_worker_starts_while_two_are_held(rt: HostRuntime) -> Result<(), All
     Ok(())
 }
 
-/// A text that is cut off has its fault in the line after its last whole line, of kind 12 (the end is missing). A text above 16 MiB is too
-/// long.
+/// Texts that are cut off: the words of a call, the whole text, and the kinds of the fault, each with the number of whole lines from which
+/// on it is the kind.
+const CUT: &[(&[&str], &[u8], &[(usize, u8)])] = &[
+    (&["lottery"], FOUR, &[(0, 12)]),
+    (&["prove"], FOUR, &[(0, 12)]),
+    (&["check"], FOUR_BUNDLE, &[(0, 17), (1, 12), (11, 17)]),
+    (
+        &["verify"],
+        FOUR_PROOF,
+        &[(0, 23), (2, 12), (12, 17), (18, 23)],
+    ),
+];
+
+/// Returns the kind of the fault of a text that is cut off behind this many whole lines.
+fn kind_after(kinds: &[(usize, u8)], lines: usize) -> u8 {
+    let mut found = 0;
+    for (from, kind) in kinds {
+        if *from <= lines {
+            found = *kind;
+        }
+    }
+    found
+}
+
+/// A text that is cut off has its fault in the line after its last whole line. A text above 16 MiB is too long.
 #[test]
 fn each_cut_is_told(rt: HostRuntime) -> Result<(), AllocError> {
     let alloc = rt.alloc();
-    let mut line = 1;
-    for (length, byte) in FOUR.iter().enumerate() {
-        let told = answer_of(&rt, alloc, &asking(&["lottery"], &FOUR[..length]))?;
-        let errs = format!(in alloc; "input\t{line}\t12\n")?;
-        assert!(rt; told.status == 3 && told.errs.written() == errs.as_bytes());
-        if *byte == b'\n' {
-            line = usize::saturating_add(line, 1);
+    for (words, text, kinds) in CUT {
+        let mut lines = 0;
+        for (length, byte) in text.iter().enumerate() {
+            let told = answer_of(&rt, alloc, &asking(words, &text[..length]))?;
+            let line = usize::saturating_add(lines, 1);
+            let kind = kind_after(kinds, lines);
+            let errs = format!(in alloc; "input\t{line}\t{kind}\n")?;
+            assert!(rt; told.status == 3 && told.errs.written() == errs.as_bytes());
+            assert!(rt; told.out.written().is_empty());
+            if *byte == b'\n' {
+                lines = line;
+            }
         }
     }
     let long = vec![in alloc; b'x'; 16_777_217]?;
@@ -707,6 +760,30 @@ fn each_failing_is_told(rt: HostRuntime) -> Result<(), AllocError> {
         );
         assert_eq!(rt; told.errs.written(), *errs, "{reads:?} {puts:?} {room}");
     }
+    // `out` takes too few bytes, or the put of a line fails: it has the bytes up to there.
+    let mut line = 1;
+    let mut begun = 0;
+    for (length, byte) in FOUR_BUNDLE.iter().enumerate() {
+        let call = Call {
+            room: length,
+            ..asking(&["lottery"], FOUR)
+        };
+        let told = answer_of(&rt, alloc, &call)?;
+        assert!(rt; told.status == 8 && told.out.written() == &FOUR_BUNDLE[..length]);
+        assert_eq!(rt; told.errs.written(), b"write fault\n".as_slice());
+        if *byte == b'\n' {
+            let call = Call {
+                puts: &[line],
+                ..asking(&["lottery"], FOUR)
+            };
+            let told = answer_of(&rt, alloc, &call)?;
+            assert!(rt; told.status == 8 && told.errs.written() == b"write fault\n".as_slice());
+            assert!(rt; FOUR_BUNDLE.get(..begun) == Some(told.out.written()));
+            line = u64::saturating_add(line, 1);
+            begun = usize::saturating_add(length, 1);
+        }
+    }
+    assert_eq!(rt; line, 18);
     let call = Call {
         lines: &[1],
         ..asking(&["lottery", "--bits", "1"], EITHER)

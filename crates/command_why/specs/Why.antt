@@ -1,8 +1,9 @@
--- What `why` answers about a pool, given by itself or in a proof: quotas of it that can't be met together, so that it has no quota panel; or
--- else a quota panel.
+-- What `why` answers about a pool, given by itself or in a proof: quotas of it that can't be met together, so that it has no quota panel;
+-- or else a quota panel.
 --
--- The search for quotas is no definition. So the meaning doesn't say which of several conflicts is found, nor whether one is found within the
--- budget, nor what a search leaves of its budget. So at 4 any operation that passes 2^62 is right, and at 5 each of the lines, at any time.
+-- The search for quotas is no definition. So the meaning doesn't say which of several conflicts is found, nor whether one is found within
+-- the budget, nor what a search leaves of its budget. So at 4 any operation that passes 2^62 is right, and at 5 each of the lines, at any
+-- time.
 use Rattle.std.specs.Prelude.{◌≡◌, ℕ, IsTrue, List, [], ◌∷◌, ◌++◌, codes}
 use Rattle.std.specs.List.{flat_map}
 use Rattle.define_conflicts.specs.Conflicts.{IsConflict}
@@ -45,7 +46,7 @@ StopMeans left = record no_answer {
   spent = SpendsWhyBudget left;
 }
 
--- what is right to answer, if the search leaves `left` of its budget. Status 0 is the only one beside those of a search that stops
+-- what is right to answer, if the search leaves `left` of its budget: status 0, or a status of a search that stops
 abbrev pub WhyMeans : Left → Pool → RightAnswers
 WhyMeans left pool = record (StopMeans left) { done = PrintsWhy pool }
 

@@ -82,7 +82,7 @@ pub record ShortGives : Type 0 where
   pub no_seal : GiveNothing (codes "short-draw" ∷ codes "--digits" ∷ codes "97" ∷ [])
   pub no_digits : GiveNothing (codes "short-draw" ∷ codes "--seal" ∷ codes "s" ∷ [])
 
--- the budget of the searches of `panel`, `loosen` and `check`: from 0 to 10 ^ 12 visits; and of `why`, that of `prove`
+-- the budget of the searches of `panel`, `loosen` and `check`: from 0 to 10 ^ 12 visits; and of `why` and `loosen-by-proof`, that of `prove`
 pub record SearchesGive : Type 0 where
   pub panel : Give (codes "panel" ∷ []) name.Panel (number (codes "nodes") 50000000 ∷ [])
   pub panel_least : Give (codes "panel" ∷ codes "--nodes" ∷ codes "0" ∷ []) name.Panel (number (codes "nodes") 0 ∷ [])
@@ -96,6 +96,8 @@ pub record SearchesGive : Type 0 where
   pub why_least : Give (codes "why" ∷ codes "--pivots" ∷ codes "0" ∷ codes "--nodes" ∷ codes "0" ∷ []) name.Why (number (codes "pivots") 0 ∷ number (codes "nodes") 0 ∷ [])
   pub why_most : Give (codes "why" ∷ codes "--pivots" ∷ codes "1000000000" ∷ codes "--nodes" ∷ codes "1000000000000" ∷ []) name.Why
       (number (codes "pivots") 1000000000 ∷ number (codes "nodes") 1000000000000 ∷ [])
+  pub by_proof : Give (codes "loosen-by-proof" ∷ []) name.LoosenByProof (number (codes "pivots") 1000000 ∷ number (codes "nodes") 200000 ∷ [])
+  pub by_proof_more : GiveNothing (codes "loosen-by-proof" ∷ codes "--pivots" ∷ codes "1000000001" ∷ [])
   pub why_more : GiveNothing (codes "why" ∷ codes "--nodes" ∷ codes "1000000000001" ∷ [])
   pub check : Give (codes "check" ∷ []) name.Check (number (codes "nodes") 50000000 ∷ [])
   pub check_least : Give (codes "check" ∷ codes "--nodes" ∷ codes "0" ∷ []) name.Check (number (codes "nodes") 0 ∷ [])
@@ -206,8 +208,12 @@ pub record ServeGives : Type 0 where
   pub nobody : GiveNothing (codes "serve" ∷ codes "--store" ∷ codes "s" ∷ codes "--port" ∷ codes "1" ∷ codes "--connections" ∷ codes "0" ∷ [])
   pub more : GiveNothing (codes "serve" ∷ codes "--store" ∷ codes "s" ∷ codes "--port" ∷ codes "1" ∷ codes "--connections" ∷ codes "1000001" ∷ [])
 
--- the digits of dice may be given
+-- the digits of dice may be given, with a number of tickets; or a store
 pub record PageGives : Type 0 where
-  pub absent : Give (codes "page" ∷ []) name.Page []
-  pub digits : Give (codes "page" ∷ codes "--drawn" ∷ codes "97" ∷ []) name.Page (text (codes "drawn") (codes "97") ∷ [])
+  pub absent : Give (codes "page" ∷ []) name.Page (number (codes "round") 1 ∷ [])
+  pub digits : Give (codes "page" ∷ codes "--drawn" ∷ codes "97" ∷ []) name.Page (text (codes "drawn") (codes "97") ∷ number (codes "round") 1 ∷ [])
+  pub tickets : Give (codes "page" ∷ codes "--tickets" ∷ codes "1000" ∷ codes "--drawn" ∷ codes "97" ∷ []) name.Page
+      (text (codes "drawn") (codes "97") ∷ number (codes "tickets") 1000 ∷ number (codes "round") 1 ∷ [])
+  pub store : Give (codes "page" ∷ codes "--store" ∷ codes "s" ∷ codes "--round" ∷ codes "2" ∷ []) name.Page
+      (text (codes "store") (codes "s") ∷ number (codes "round") 2 ∷ [])
   pub no_value : GiveNothing (codes "page" ∷ codes "--drawn" ∷ [])

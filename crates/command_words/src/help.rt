@@ -31,13 +31,14 @@ To check what was published:
   verify           Checks a proof, by additions
   bundle           Prints the bundle of a proof
   chances          Prints each volunteer's chance in a bundle
-  page             Prints a page to look at, with pictures of the lottery
+  page             Prints a page to look at, with pictures of the lottery, also of a round in a store
   check            Checks the certificate of a bundle
   explain          Says in words what a text holds, or what is wrong with a file
 
 If no panel meets the quotas:
   why              Says in words which quotas can't be met together
-  loosen           Prints which bounds to move least
+  loosen-by-proof  Prints which bounds to move least
+  loosen           Prints which bounds to move least, by the stated search, for up to some 30 people
 
 To make a lottery without a store:
   prove            Makes the lottery of a pool, with a proof of it

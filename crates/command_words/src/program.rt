@@ -1,4 +1,4 @@
-//! Builds the program of a table for `clap`.
+//! Builds the program as `clap` knows it: with a subcommand for each command of a table. `reading` parses words by it.
 
 ghost use Rattle.std.specs.Prelude.{◌≡◌, false, IfOk, map};
 ghost use Rattle.clap.specs.Words.{app_of, new_app, rule_of};

@@ -111,16 +111,41 @@ const PROOF_COMMANDS: &[TableCommand] = &[
         options: &[PROOF_PIVOTS, PROOF_NODES],
     },
     CommandWords {
+        command: CommandName::LoosenByProof,
+        name: "loosen-by-proof",
+        help: "Prints which bounds to move least so that the pool on standard input has a quota panel; for large pools",
+        example: "Example: sortition loosen-by-proof < city.pool",
+        options: &[PROOF_PIVOTS, PROOF_NODES],
+    },
+    CommandWords {
         command: CommandName::Page,
         name: "page",
-        help: "Prints a page to look at, about the lottery of the bundle or of the proof on standard input",
+        help: "Prints a page to look at, about the lottery of the bundle or of the proof on standard input, or of a round of the store",
         example: "Example: sortition page < city.bundle > city.html",
-        options: &[OptionWords {
-            name: "drawn",
-            help: "The digits of the dice, if the panel that they draw is to be shown",
-            form: Form::Text,
-            missing: Missing::Absent,
-        }],
+        options: &[
+            OptionWords {
+                name: "drawn",
+                help: "The digits of the dice, if the panel that they draw from standard input is to be shown",
+                form: Form::Text,
+                missing: Missing::Absent,
+            },
+            OptionWords {
+                name: "tickets",
+                help: "The number of tickets, 1 to 1000000000, if the digits draw in a round number of them",
+                form: Form::Number {
+                    least: 1,
+                    most: MOST_TICKETS,
+                },
+                missing: Missing::Absent,
+            },
+            OptionWords {
+                name: "store",
+                help: "The file of the store, if the page is of a round in it; without --drawn and --tickets",
+                form: Form::Text,
+                missing: Missing::Absent,
+            },
+            ROUND,
+        ],
     },
 ];
 
@@ -300,7 +325,7 @@ const RUN_COMMANDS: &[TableCommand] = &[
     CommandWords {
         command: CommandName::Loosen,
         name: "loosen",
-        help: "Prints which bounds to move least so that the pool on standard input has a quota panel",
+        help: "Prints which bounds to move least so that the pool on standard input has a quota panel; for small pools",
         example: "Example: sortition loosen < city.pool",
         options: &[NODES],
     },

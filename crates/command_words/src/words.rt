@@ -33,7 +33,9 @@ pub enum CommandName {
     Loosen,
     /// Quotas of a pool that can't be met together.
     Why,
-    /// A page about the lottery of a bundle.
+    /// A least loosening of a pool's quotas, with a proof that was checked.
+    LoosenByProof,
+    /// A page about the lottery of a bundle, or of a round of a store.
     Page,
     /// The lottery of a pool by the stated run.
     Lottery,

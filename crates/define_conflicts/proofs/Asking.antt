@@ -124,7 +124,7 @@ module _ (selection : List ℕ) (l m : ℕ → ℕ) where
 
 -- ---- selections
 
--- the parts of 'is a selection'
+-- what `is_selection_at` tests, as three facts
 pub record Selected (all : List Standing) (selection : List ℕ) : Type 0 where
   pub up : is_increasing selection ≡ true
   pub below : list_all (λ i. ltb i (length all)) selection ≡ true
@@ -138,7 +138,7 @@ selection_parts all selection is =
 
 module _ (pool : Pool) (weighted : List WeightedQuota) (all : List Standing) (selection : List ℕ) (is : is_selection_at all selection ≡ true) where
   -- what is asked for is at most what is given and what is missed
-  asked_or_missed : asked pool weighted all ≤ given pool weighted all + weighed_misses pool selection weighted
+  pub asked_or_missed : asked pool weighted all ≤ given pool weighted all + weighed_misses pool selection weighted
   asked_or_missed =
       let parts = selection_parts all selection is in
       let l = weights_for pool AtLeast weighted in
@@ -152,7 +152,7 @@ module _ (pool : Pool) (weighted : List WeightedQuota) (all : List Standing) (se
       omega (arith, quotas, volunteers, least, most, taken, gives_all)
 
   -- misses times weights of at most `greatest` are at most the misses times `greatest`
-  few_misses : (greatest : ℕ) → list_all (λ it. leb it.weight greatest) weighted ≡ true → weighed_misses pool selection weighted ≤ misses pool selection (quotas_of weighted) * greatest
+  pub few_misses : (greatest : ℕ) → list_all (λ it. leb it.weight greatest) weighted ≡ true → weighed_misses pool selection weighted ≤ misses pool selection (quotas_of weighted) * greatest
   few_misses greatest light =
       let one : WeightedQuota → ℕ = λ it. miss pool selection it.quota in
       let each = total_le (λ it. it.weight * one it) (λ it. one it * greatest) weighted

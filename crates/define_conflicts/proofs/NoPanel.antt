@@ -1,5 +1,5 @@
--- If each selection misses some quotas, the pool with only these quotas has no quota panel: a quota panel of that pool is a selection that
--- meets them.
+-- If each selection misses some quotas, the pool with only these quotas has no quota panel, and neither has the pool: a quota panel of
+-- either is a selection that meets them.
 use Rattle.std.proofs.Common.{◌≡◌, ℕ, zero, suc, ◌+◌, ◌-◌, ◌≤◌, ◌<◌, Bool, true, false, cond, ◌&&◌, ◌||◌, eqb, leb, ltb, List, [], ◌∷◌, map, length, get_or, count_by, Option, None, refl, sym, ap, ◌∙◌, subst, arith, ◌⊎◌, inl, inr, ⊎_elim}
 use Rattle.std.specs.Prelude.{slice_index}
 use Rattle.std.specs.List.{AllByRecursion, enumerate_from, list_all, list_any}
@@ -71,7 +71,8 @@ same_side AtMost = refl
 -- ---- the quotas are among those that are kept
 
 module _ (pool : Pool) where
-  -- a quota of this side and these counted people is among `quotas`, as far as `only` asks for it
+  -- what `only` keeps of the quotas of `side`: the size always, a value if `quotas` has it on this side, a household if `quotas` has it for
+  -- each member
   Named : List Quota → Side → Counted → Type 0
   Named quotas side Everybody = Unit {0}
   Named quotas side (WithValue category value) = has_value quotas side category value ≡ true
@@ -280,3 +281,107 @@ no_panels pool quotas least of_pool missing some =
     refuted panel is =
         let least_missed = missing panel (selected pool quotas panel is) in
         let none = none_missed pool quotas panel is of_pool in omega (arith, least_missed, none, some)
+
+-- ---- a quota panel of the pool itself
+
+module _ (pool : Pool) (panel : List ℕ) (is : is_quota_panel pool panel ≡ true) where
+  own_parts : Parts pool panel
+  own_parts = quota_parts pool panel is
+
+  own_standings : (first : ℕ) (volunteers : List Volunteer) → list_all (λ (i, volunteer). allows volunteer.standing (includes panel i)) (enumerate_from first volunteers) ≡ true →
+      keeps panel first (map (λ volunteer. volunteer.standing) volunteers) ≡ true
+  own_standings first [] h = refl
+  own_standings first (one ∷ volunteers) h =
+      let A = allows one.standing (includes panel first) in
+      let parts = and_parts A (list_all (λ (i, volunteer). allows volunteer.standing (includes panel i)) (enumerate_from (first + 1) volunteers)) h in
+      and_from A (keeps panel (first + 1) (map (λ volunteer. volunteer.standing) volunteers)) parts.0 (own_standings (first + 1) volunteers parts.1)
+
+  pub own_selected : is_selection pool panel ≡ true
+  own_selected =
+      let many : length (standings pool) ≡ length pool.volunteers = length-map pool.volunteers (λ (volunteer : Volunteer). volunteer.standing) in
+      let B : ℕ → Bool = λ n. list_all (λ i. ltb i n) panel in
+      and_from (is_increasing panel && B (length (standings pool))) (keeps panel 0 (standings pool))
+      (and_from (is_increasing panel) (B (length (standings pool))) own_parts.up (subst (λ n. B n ≡ true) (sym many) own_parts.below))
+      (own_standings 0 pool.volunteers own_parts.standings)
+
+  abbrev own_within : ℕ × Category → Bool
+  own_within (place, category) = list_all (λ (value_place, value). is_within value (members_with pool.volunteers panel place value_place)) (enumerate_from 0 category.values)
+
+  module _ (c v : ℕ) (in_categories : c < length pool.categories) (in_values : v < length (category_at pool c).values) where
+    own_category : own_within (c, category_at pool c) ≡ true
+    own_category =
+        let here : 0 + c ≡ c = omega arith in
+        subst (λ n. own_within (n, category_at pool c) ≡ true) here
+        (enumerated-each own_within 0 pool.categories own_parts.quotas c (record { name = []; values = [] }) in_categories)
+
+    own_value : is_within (value_at pool c v) (members_with pool.volunteers panel c v) ≡ true
+    own_value =
+        let here : 0 + v ≡ v = omega arith in
+        let within : ℕ × BoundedValue → Bool = λ (value_place, value). is_within value (members_with pool.volunteers panel c value_place) in
+        subst (λ n. is_within (value_at pool c v) (members_with pool.volunteers panel c n) ≡ true) here
+        (enumerated-each within 0 (category_at pool c).values own_category v (record { name = []; lower = 0; upper = 0 }) in_values)
+
+    own_value_met : (side : Side) → missed side (bound_of pool side (WithValue c v)) (count_by (counts pool (WithValue c v)) panel) ≡ 0
+    own_value_met AtLeast =
+        let many = members_with pool.volunteers panel c v in
+        let value = value_at pool c v in
+        let least = leb-true value.lower many (and_parts (leb value.lower many) (leb many value.upper) own_value).0 in omega (arith, least)
+    own_value_met AtMost =
+        let many = members_with pool.volunteers panel c v in
+        let value = value_at pool c v in
+        let most = leb-true many value.upper (and_parts (leb value.lower many) (leb many value.upper) own_value).1 in omega (arith, most)
+
+  module _ (member : ℕ) where
+    abbrev shares : ℕ → Bool
+    shares i = share_household pool.volunteers member i
+
+    -- two volunteers of the member's household share it
+    shares_too : (i j : ℕ) → shares i ≡ true → shares j ≡ true → share_household pool.volunteers i j ≡ true
+    shares_too i j h k =
+        let own = (volunteer pool.volunteers member).household in
+        subst (λ name. is_same_household name (volunteer pool.volunteers j).household ≡ true) (same_name own (volunteer pool.volunteers i).household h) k
+
+    own_few : count_by shares panel ≤ 1
+    own_few =
+        let each = each_map (λ i. leb (count_by (share_household pool.volunteers i) panel) 1 ≡ true) (λ i. shares i ≡ true → count_by shares panel ≤ 1)
+        (λ i e h. let le = leb-true (count_by (share_household pool.volunteers i) panel) 1 e in
+        let fewer = fewer_pass shares (share_household pool.volunteers i) (λ j k. shares_too i j h k) panel in omega (arith, le, fewer)) panel
+        (each_from_list_all (λ i. leb (count_by (share_household pool.volunteers i) panel) 1) panel own_parts.households) in
+        let same = count_by-total shares panel in
+        ⊎_elim (λ (no : total (λ i. one_if (shares i)) panel ≡ 0). let r : count_by shares panel ≤ 1 = omega (arith, no, same) in r)
+        (λ (one : count_by shares panel ≤ 1). one) (none_or_one shares (count_by shares panel) panel each)
+
+    pub own_household_met : (side : Side) → missed side (bound_of pool side (OfHousehold member)) (count_by (counts pool (OfHousehold member)) panel) ≡ 0
+    own_household_met AtLeast = omega arith
+    own_household_met AtMost = let le = own_few in omega (arith, le)
+
+  pub own_size_met : (side : Side) → missed side (bound_of pool side Everybody) (count_by (counts pool Everybody) panel) ≡ 0
+  own_size_met AtLeast = let many = everybody_counts panel in let size = own_parts.size in omega (arith, many, size)
+  own_size_met AtMost = let many = everybody_counts panel in let size = own_parts.size in omega (arith, many, size)
+
+  own_met : (side : Side) (counted : Counted) → is_counted_of pool counted ≡ true → missed side (bound_of pool side counted) (count_by (counts pool counted) panel) ≡ 0
+  own_met side Everybody of_pool = own_size_met side
+  own_met side (WithValue c v) of_pool =
+      let both = and_parts (ltb c (length pool.categories)) (ltb v (length (category_at pool c).values)) of_pool in
+      own_value_met c v (ltb-true c (length pool.categories) both.0) (ltb-true v (length (category_at pool c).values) both.1) side
+  own_met side (OfHousehold member) of_pool = own_household_met member side
+
+  own_none_missed : (quotas : List Quota) → list_all (is_quota_of pool) quotas ≡ true → misses pool panel quotas ≡ 0
+  own_none_missed quotas of_pool =
+      let each = each_map (λ quota. is_quota_of pool quota ≡ true) (λ quota. miss pool panel quota ≡ 0) (λ quota own. own_met quota.side quota.counted own) quotas
+      (each_from_list_all (is_quota_of pool) quotas of_pool) in
+      sum_by-is-total (miss pool panel) quotas ∙ zero_sum quotas each
+    where
+      zero_sum : (xs : List Quota) → AllByRecursion (λ quota. miss pool panel quota ≡ 0) xs → total (miss pool panel) xs ≡ 0
+      zero_sum [] h = refl
+      zero_sum (x ∷ xs) h = let rest = zero_sum xs h.1 in omega (arith, h.0, rest)
+
+pub pool_has_none : (pool : Pool) (quotas : List Quota) (least : ℕ) → list_all (is_quota_of pool) quotas ≡ true → MissBy pool quotas least → 1 ≤ least → panels pool ≡ []
+pool_has_none pool quotas least of_pool missing some =
+    none_pass (is_quota_panel pool) (choices pool.size (everybody pool))
+    (each_everywhere (λ panel. is_quota_panel pool panel ≡ false) (λ panel. false_from_ne_true (is_quota_panel pool panel) (λ is. refuted panel is)) (choices pool.size (everybody pool)))
+  where
+    refuted : (panel : List ℕ) → is_quota_panel pool panel ≡ true → ⊥
+    refuted panel is =
+        let least_missed = missing panel (own_selected pool panel is) in
+        let none = own_none_missed pool panel is quotas of_pool in omega (arith, least_missed, none, some)

@@ -12,7 +12,7 @@ use Rattle.define_conflicts.specs.Quotas.{MissAt, is_selection_at, keeps, misses
 use Rattle.define_conflicts.proofs.Asking.{selection_parts}
 
 module _ (selection : List ℕ) where
-  -- if `standing` allows the selection to have volunteer `first + i` as it does, the selection keeps `all` with this standing for them
+  -- if the selection keeps `all`, and keeps `standing` for volunteer `first + i`, it keeps `all` with this standing in place `i`
   keeps_set : (first i : ℕ) (all : List Standing) (standing : Standing) → keeps selection first all ≡ true → allows standing (includes selection (first + i)) ≡ true → keeps selection first (set all i standing) ≡ true
   keeps_set first i [] standing h k = refl
   keeps_set first zero (one ∷ all) standing h k =
@@ -25,7 +25,7 @@ module _ (selection : List ℕ) where
       and_from (allows one (includes selection first)) (keeps selection (first + 1) (set all i standing)) parts.0
       (keeps_set (first + 1) i all standing parts.1 (subst (λ j. allows standing (includes selection j) ≡ true) next k))
 
-  selection_set : (i : ℕ) (all : List Standing) (standing : Standing) → is_selection_at all selection ≡ true → allows standing (includes selection i) ≡ true → is_selection_at (set all i standing) selection ≡ true
+  pub selection_set : (i : ℕ) (all : List Standing) (standing : Standing) → is_selection_at all selection ≡ true → allows standing (includes selection i) ≡ true → is_selection_at (set all i standing) selection ≡ true
   selection_set i all standing is h =
       let parts = selection_parts all selection is in
       let B : ℕ → Bool = λ n. list_all (λ j. ltb j n) selection in

@@ -8,10 +8,12 @@ use Rattle.define_conflicts.specs.Quotas.{Conflict, EachNeeded, MissBy, is_quota
 pub record IsConflict (pool : Pool) (conflict : Conflict) : Type 0 where
   -- the quotas are the pool's
   pub of_pool : IsTrue (list_all (is_quota_of pool) conflict.quotas)
-  -- each selection misses them by at least so many people in all, and this is at least 1
+  -- each selection misses them by at least `known_miss conflict` people in all, and this is at least 1
   pub misses : MissBy pool conflict.quotas (known_miss conflict)
   pub some : 1 ≤ known_miss conflict
   -- the pool with only these quotas has no quota panel
   pub none : panels (only pool conflict.quotas) ≡ []
-  -- if it is said that each is needed, then without any one of them some selection meets the others
+  -- so the pool has no quota panel
+  pub no_panel : panels pool ≡ []
+  -- if the conflict says that each quota is needed, then for each quota some selection meets all the others
   pub needed : IsTrue conflict.is_each_needed → EachNeeded pool conflict.quotas

@@ -1,7 +1,7 @@
 -- Quotas, selections, by how many people a selection misses quotas, and conflicts. Over Pool of `define_pools`. An auditor of `why` reads
 -- this file and OnlyQuotas.
-use Rattle.std.specs.Prelude.{ℕ, ◌-◌, ◌==◌, ◌≤◌, ◌<◌, nat_lt, Bool, true, ◌&&◌, IsTrue, List, [], length, count_by, sum_by, slice_index, slice_index_or, Option, unwrap_or}
-use Rattle.std.specs.List.{enumerate_from, list_all, remove}
+use Rattle.std.specs.Prelude.{ℕ, ◌-◌, ◌==◌, ◌≤◌, ◌<◌, nat_lt, Bool, false, true, ◌&&◌, ◌||◌, IsTrue, List, [], length, count_by, sum_by, slice_index, slice_index_or, Option, unwrap_or}
+use Rattle.std.specs.List.{enumerate_from, list_all, list_any, remove}
 use Rattle.define_additions.specs.Leaves.{standings}
 use Rattle.define_pools.specs.declared.Standing.{Standing}
 use Rattle.define_pools.specs.Lists.{includes, is_increasing}
@@ -98,11 +98,22 @@ MissBy pool quotas least = MissAt pool quotas (standings pool) least
 abbrev pub meets : Pool → List ℕ → List Quota → Bool
 meets pool selection quotas = list_all (λ quota. miss pool selection quota == 0) quotas
 
--- some selection meets all quotas but the one at place `place`
+-- a quota counts everybody: it is of the size
+abbrev pub is_everybody : Counted → Bool
+is_everybody Everybody = true
+is_everybody (WithValue category value) = false
+is_everybody (OfHousehold member) = false
+
+-- one of the quotas is of the size
+abbrev pub names_size : List Quota → Bool
+names_size quotas = list_any (λ quota. is_everybody quota.counted) quotas
+
+-- some selection meets all quotas but the one at place `place`, and has the panel's size if no quota is of the size
 pub record IsNeeded (pool : Pool) (quotas : List Quota) (place : ℕ) : Type 0 where
   pub selection : List ℕ
   pub is : IsTrue (is_selection pool selection)
   pub others : IsTrue (meets pool selection (remove quotas place))
+  pub size : IsTrue (names_size quotas || length selection == pool.size)
 
 -- each of the quotas is needed for the conflict: without it, some selection meets the others
 abbrev pub EachNeeded : Pool → List Quota → Type 0

@@ -53,10 +53,13 @@ pub struct WeightedQuota {
     pub weight: usize,
 }
 
-/// If each selection misses some quotas of a pool by at least 1, then the pool with only these quotas has no quota panel.
+/// If each selection misses some quotas of a pool by at least 1, then the pool with only these quotas has no quota panel, and neither has
+/// the pool itself.
 pub fn conflict_leaves_no_panel()
-    ensures { (pool : Pool) (quotas : List Quota) (least : ℕ) → IsTrue (list_all (is_quota_of pool) quotas) → MissBy pool quotas least → 1 ≤ least →
+    ensures only { (pool : Pool) (quotas : List Quota) (least : ℕ) → IsTrue (list_all (is_quota_of pool) quotas) → MissBy pool quotas least → 1 ≤ least →
         panels (only pool quotas) ≡ [] }
+    ensures whole { (pool : Pool) (quotas : List Quota) (least : ℕ) → IsTrue (list_all (is_quota_of pool) quotas) → MissBy pool quotas least → 1 ≤ least →
+        panels pool ≡ [] }
 {}
 
 /// If quotas with weights of at most `greatest` ask for more than can be given, and by more than `greatest` times `misses`, then each

@@ -127,7 +127,7 @@ pub record Served : Type 0 where
   pub tables : Tables
   pub reply : Reply
 
--- this reply, and these tables afterwards
+-- the reply `reply`, with the tables `tables` afterwards
 abbrev pub leaving : Tables → Reply → Served
 leaving tables reply = record { tables = tables; reply = reply }
 
@@ -170,8 +170,8 @@ served_by tables TooLarge = leaving tables too_large
 served_by tables NoRequest = leaving tables bad_request
 served_by tables (Asks request) = served tables request
 
--- what the desk replies to `bytes`, all that come over a connection, and the tables afterwards. A keeper that fails, and want of memory, have
--- replies of their own
+-- what the desk replies to `bytes`, all that come over a connection, and the tables afterwards. A keeper that fails, and want of memory,
+-- have replies of their own
 abbrev pub Serves : Tables → List ℕ → Served → Type 0
 Serves tables bytes result = (asking : Asking) × AreAsking bytes asking × (result ≡ served_by tables asking)
 

@@ -52,7 +52,8 @@ is_encoded fields = list_any (λ field. is_name (codes "transfer-encoding") fiel
 abbrev pub is_number : List ℕ → Bool
 is_number text = nat_lt 0 (length text) && nat_le (length text) 18 && list_all is_ascii_digit text
 
--- the size of the body by the values of the fields `Content-Length`: 0 if there is none, and no size if there are two or the one is no number
+-- the size of the body by the values of the fields `Content-Length`: 0 if there is none, and no size if there are two or the one is no
+-- number
 abbrev pub size_by : List (List ℕ) → Option ℕ
 size_by [] = Some 0
 size_by (value ∷ []) = if is_number value then Some (digits_value 10 value) else None
@@ -98,7 +99,7 @@ asking_by head rest = asking_with head rest (body_size head.fields)
 abbrev pub asking_without : List ℕ → Asking
 asking_without bytes = if nat_le most_of_head (length bytes) then TooLarge else NoRequest
 
--- `bytes`, all that come over a connection, ask for this. Only one thing is asked for by them, since they have at most one head
+-- `bytes`, all that come over a connection, ask for `asking`. They ask for one thing only, since they have at most one head
 pub data AreAsking (bytes : List ℕ) (asking : Asking) : Type 0 where
   Headless : whole_head bytes ≡ None → asking ≡ asking_without bytes → AreAsking bytes asking
   Headed : (size : ℕ) (head : RequestHead) → whole_head bytes ≡ Some size → IsHead (take size bytes) head → asking ≡ asking_by head (drop size bytes) → AreAsking bytes asking

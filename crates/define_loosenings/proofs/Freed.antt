@@ -154,7 +154,7 @@ module _ (pool : Pool) (alike : ℕ → ℕ → Bool) where
         (each_map (λ counts. is_quota_panel (freed pool) (first_panel free counts) ≡ true) (λ counts. is_team pool (first_panel all counts) ≡ true)
         (λ counts fits. (team_of_panel (freed pool) (first_panel free counts) fits).0) (compositions free) (first_panels_fit (freed pool) alike (freed_makes pool alike makes)))
 
-    -- and these members have these counts
+    -- the first members of each team's counts have these counts
     pub first_teams_compose : AllByRecursion (λ counts. composition_of all (first_panel all counts) ≡ counts) (team_counts all)
     first_teams_compose = subst (λ xs. AllByRecursion (λ counts. composition_of all (first_panel all counts) ≡ counts) xs) (sym team_counts_same)
         (first_panels_compose (freed pool) alike (freed_makes pool alike makes))

@@ -54,7 +54,7 @@ own_data-float None (Some d) id phase round withdrawn = refl
 own_data-float (Some c) None id phase round withdrawn = refl
 own_data-float (Some c) (Some d) id phase round withdrawn = refl
 
--- texts of the same parts
+-- if the parts are equal, the texts are equal
 pub own_text_same : (c c' : Option (List ℕ)) (d d' : Option Bool) (i i' p p' : List ℕ) (r r' : ℕ) (w w' : Bool) → c ≡ c' → d ≡ d' → i ≡ i' → p ≡ p' → r ≡ r' → w ≡ w' →
     own_text c d i p r w ≡ own_text c' d' i' p' r' w'
 own_text_same c c' d d' i i' p p' r r' w w' ec ed ei ep er ew =

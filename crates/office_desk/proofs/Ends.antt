@@ -86,7 +86,7 @@ unknown_with before tables key None sent loaded f tells is =
     subst (λ (serves : Served). EndsAs before serves before sent) (sym whole) (left_so before tables unknown_key sent loaded is)
 unknown_with before tables key (Some entry) sent loaded f tells is = absurd (cc)
 
--- nobody's key
+-- if the key is nobody's, a withdrawal by it ends with the reply `unknown_key`, and the tables stay
 pub unknown_ends : (before : Option Tables) (tables : Tables) (key : List ℕ) (sent : Sent) → IfSome before (λ kept. tables ≡ kept) → TellsWithdrawn (with_hash tables.register (seal_of key)) None →
     sent ≡ sent_of unknown_key → EndsAs before (withdrawal tables (key ∷ [])) before sent
 unknown_ends before tables key sent loaded tells is = unknown_with before tables key (with_hash tables.register (seal_of key)) sent loaded refl tells is

@@ -210,7 +210,7 @@ reply_is tables place entry = by entry.withdrawn (may_at tables place)
     by false true = refl
     by false false = refl
 
--- the reply to a withdrawal over tables in which the key's row was found so
+-- the reply to a withdrawal, if looking for the key's row in the tables returned `found`
 abbrev pub reply_found : Tables → Option (ℕ × Entry) → Reply
 reply_found tables found = (withdrawal_by tables (option_map (λ (at : ℕ × Entry). at.1) found) (withdraw_at tables found)).reply
 

@@ -5,7 +5,7 @@ use Rattle.std.proofs.Math.Seq.{drop-cons}
 use Rattle.define_pools.specs.Pool.{Volunteer}
 use Rattle.define_desk.specs.Desk.{number_of}
 
--- one volunteer of the rest
+-- the search from volunteer `i` on finds this volunteer if they have the id, and else goes on at the next one
 pub number_step : (id : List ℕ) (volunteers : List Volunteer) (i : ℕ) (v : Volunteer) (b : Bool) → i < length volunteers → v ≡ get_or volunteers i v → bytes_eq id v.id ≡ b →
     number_of id (drop i volunteers) i ≡ cond b (Some i) (number_of id (drop (i + 1) volunteers) (i + 1))
 number_step id volunteers i v b inside is e =

@@ -1,5 +1,5 @@
--- Whether the volunteer of a row is seated in the pool of an open round, by what is published of the round before and by whether this volunteer
--- dropped out of it.
+-- Whether the volunteer of a row is seated in the pool of an open round, by what is published of the round before and by whether this
+-- volunteer dropped out of it.
 use Rattle.std.proofs.Common.{◌≡◌, ℕ, zero, suc, ◌+◌, ◌<◌, ◌≤◌, Bool, true, false, cond, eqb, not, ◌&&◌, ◌||◌, List, [], ◌∷◌, length, get_or, map, filter, Option, Some, None, Result, Ok, Err, refl, sym, ap, ◌∙◌, arith, subst}
 use Rattle.std.specs.List.{range_with_len}
 use Rattle.std.specs.Prelude.{IsTrue, is_some}

@@ -17,7 +17,7 @@ own_text chance drawn id phase round withdrawn =
     ++ codes ",\"withdrawn\":" ++ truth withdrawn
     ++ codes "}"
 
--- with the text of the panel
+-- the text of the body for a draw; `panel` is the text of the panel's part
 abbrev pub draw_text : List ℕ → List ℕ → List ℕ → List ℕ → List ℕ
 draw_text digits panel seal ticket =
     codes "{\"digits\":" ++ quoted digits ++ codes ",\"panel\":" ++ panel ++ codes ",\"seal\":" ++ quoted seal ++ codes ",\"ticket\":" ++ quoted ticket ++ codes "}"

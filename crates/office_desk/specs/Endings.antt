@@ -5,11 +5,11 @@ use Rattle.define_desk.specs.Replies.{Reply, out_of_memory, unavailable}
 use Rattle.define_desk.specs.Desk.{Served}
 use Rattle.office_desk.specs.Sent.{Sent, sent_of}
 
--- this reply is sent, or that memory ran out
+-- `sent` is the reply `reply`, or the reply that memory ran out
 abbrev pub IsSentFor : Reply → Sent → Type 0
 IsSentFor reply sent = (sent ≡ sent_of reply) ⊎ (sent ≡ sent_of out_of_memory)
 
--- what is served is sent, and the tables that the keeper tells are left so; or they are as before
+-- `serves.reply` is sent and the keeper, if it tells tables, tells `serves.tables`; or a refusal is sent and the tables are as before
 pub data EndsAs (before : Option Tables) (serves : Served) (after : Option Tables) (sent : Sent) : Type 0 where
   Done : sent ≡ sent_of serves.reply → after ≡ option_map (λ told. serves.tables) before → EndsAs before serves after sent
   Failed : sent ≡ sent_of unavailable → after ≡ before → EndsAs before serves after sent

@@ -1,5 +1,5 @@
--- What a visit of the desk says: what the link gains, by the bytes that come over it and by the tables that the keeper loads, and the tables
--- afterwards. The promises of `attend` and of `serve` cite it.
+-- What a visit of the desk says: what the link gains, by the bytes that come over it and by the tables that the keeper loads, and the
+-- tables afterwards. The promises of `attend` and of `serve` cite it.
 use Rattle.std.specs.Prelude.{◌≡◌, ℕ, List, Option, IfSome, Result, Ok, Err, option_map}
 use Rattle.std.specs.Io.KnownBytes.{Appends}
 use Rattle.outside.specs.Content.{AppendsPart}
@@ -10,6 +10,7 @@ use Rattle.define_desk.specs.Desk.{Serves, leaving}
 use Rattle.define_desk.specs.Replies.{Reply, out_of_memory, reply_text, unavailable}
 use Rattle.office_core.specs.Acting.{IsLoaded}
 use Rattle.office_desk.specs.Answers.{HasFault}
+use Rattle.office_requests.specs.Reads.{LosesAtMost, most_read}
 use Rattle.office_http.specs.declared.attending.LinkFault.{LinkFault}
 
 -- what a link tells: the bytes that are left to read and those that were written, if it tells them, and its count of faults
@@ -79,6 +80,7 @@ abbrev pub EndsBy : Visit → Result ℕ LinkFault → Type 0
 EndsBy it (Ok status) = EndsWith it status
 EndsBy it (Err fault) = IsBroken it
 
--- the visit ended as the desk over HTTP must
-abbrev pub IsAttended : Visit → Type 0
-IsAttended it = EndsBy it it.ended
+-- the visit ended as the desk over HTTP must, and no more of the link was read than one request may have
+pub record IsAttended (it : Visit) : Type 0 where
+  pub ends : EndsBy it it.ended
+  pub read : LosesAtMost most_read it.link.left it.link_after.left

@@ -2,6 +2,7 @@
 
 ghost use Rattle.std.specs.Prelude.{◌≡◌, IfOk, OnErr, OnOk};
 ghost use Rattle.outside.specs.Faults.{Rose};
+ghost use Rattle.office_requests.specs.Reads.{LosesAtMost, most_read};
 ghost use Rattle.office_http.specs.Answers.{IsAnswerTo};
 ghost use Rattle.office_http.specs.Visits.{IsAttended, kept, link_told, visit};
 
@@ -53,6 +54,7 @@ fn answer_link<R: Threads + Sync, L: Link, K: Keeper, W: Watch + Sync>(
     ensures cause { OnErr result (Rose (L.faults link.old) (L.faults link.new)) }
     ensures none { OnOk result (L.faults link.new ≡ L.faults link.old) }
     ensures unwritten { L.written link.new ≡ L.written link.old }
+    ensures read { LosesAtMost most_read (L.left link.old) (L.left link.new) }
     ensures place { K.place keeper.new ≡ K.place keeper.old }
 {
     match read_asking(alloc, link) {

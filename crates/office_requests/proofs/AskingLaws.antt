@@ -2,27 +2,26 @@
 use Rattle.std.proofs.Common.{◌≡◌, ℕ, ◌+◌, ◌-◌, ◌<◌, ◌≤◌, nat_le, nat_lt, cond, Bool, false, true, List, [], ◌++◌, length, take, drop, Option, Some, None, Result, Ok, IfOk, refl, sym, ap, subst, ◌∙◌, append-nil, append_assoc, length-append, length-drop, arith}
 use Rattle.std.specs.Io.KnownBytes.{Consumes, IsAtEnd}
 use Rattle.std.proofs.KnownBytes.{Consumes-trans}
-use Rattle.outside.specs.Content.{LosesFront}
 use Rattle.std.proofs.lemmas.Bool.Decides.{nat_tests}
 use Rattle.std.proofs.lemmas.List.{drop-append-le, take-append-le}
 use Rattle.define_desk.specs.Requests as desk
-use Rattle.define_desk.specs.Requests.{head_size, most_of_head, whole_head}
+use Rattle.define_desk.specs.Requests.{head_size, most_of_body, most_of_head, whole_head}
 use Rattle.office_requests.specs.Askings.{IsAskedOver}
-use Rattle.office_requests.specs.Heads.{AskTogether, Headed, IsWanted, Misheaded}
-use Rattle.office_requests.specs.Reads.{ReadsFront, Skips}
+use Rattle.office_requests.specs.Heads.{AskTogether, Headed, IsWanted, Misheaded, body_after}
+use Rattle.office_requests.specs.Reads.{LosesAtMost, ReadsFront, Skips, most_read}
 use Rattle.office_requests.specs.declared.heads.Wanted.{Wanted}
 use Rattle.office_requests.specs.declared.heads.Wanted.TheVariants.{TooLarge, NoRequest, Asks}
 use Rattle.office_requests.proofs.HeadSizes.{head_size-le, whole_head-found, whole_head-full, whole_head-none}
 
 -- ---- from the bytes that were read to all
 
--- the bytes that were read ask for this, whatever follows
+-- if the bytes that were read ask for `asking`, whatever follows them, then `asking` is asked over the link
 pub decided : (old new : Option (List ℕ)) (front : List ℕ) (asking : desk.Asking) → Consumes old new front → ((more : List ℕ) → desk.AreAsking (front ++ more) asking) → IsAskedOver old asking
 decided None new front asking read h = (front ++ [], tt, h [])
 decided (Some told) None front asking read h = absurd read
 decided (Some told) (Some rest) front asking read h = (front ++ rest, sym read, h rest)
 
--- the bytes that were read ask for this, and they are all
+-- if the bytes that were read are all, and ask for `asking`, then `asking` is asked over the link
 pub ended : (old new : Option (List ℕ)) (front : List ℕ) (asking : desk.Asking) → Consumes old new front → IsAtEnd new → desk.AreAsking front asking → IsAskedOver old asking
 ended None new front asking read none h = (front, tt, h)
 ended (Some told) None front asking read none h = absurd read
@@ -62,7 +61,7 @@ headed bytes more size asking few found asks =
     together (bytes ++ more) (drop size bytes ++ more) size asking (whole_head-found bytes more size (most_of_head - length bytes) all found)
     (drop-append-le size bytes more within) (subst P (sym (take-append-le size bytes more within)) asks)
 
--- the head alone tells
+-- if a head asks for `asking`, whatever follows it, then `asking` is asked over the link
 pub asked_by_head : (old new : Option (List ℕ)) (bytes : List ℕ) (size : ℕ) (asking : desk.Asking) → Consumes old new bytes → length bytes ≤ most_of_head → head_size bytes ≡ Some size
     → ((rest : List ℕ) → AskTogether (take size bytes) rest asking) → IsAskedOver old asking
 asked_by_head old new bytes size asking read few found asks =
@@ -160,9 +159,14 @@ asked_cut old mid new bytes slice size head wanted request body count false fron
     let lacking : length bytes - size + length skips.0 < body = omega (arith, skips.2.0, missing) in
     asked_without_body old new bytes skips.0 size body request (Consumes-trans old mid new bytes skips.0 front.read skips.1) skips.2.1 front.within (sym front.head_is ∙ some) (λ rest. here rest) lacking
 
--- the link lost bytes twice
-pub lost_twice : (a b c : Option (List ℕ)) → LosesFront a b → LosesFront b c → LosesFront a c
-lost_twice a b c first second = (first.0 ++ second.0, Consumes-trans a b c first.0 second.0 first.1 second.1)
+-- what is at most the bytes of a head is at most what is read for a request
+pub lost_once : (a b : Option (List ℕ)) → LosesAtMost most_of_head a b → LosesAtMost most_read a b
+lost_once a b (bytes, read, few) = (bytes, read, omega arith)
+
+-- the bytes of a head were read, and then a part of a body
+pub lost_twice : (a b c : Option (List ℕ)) (count body come : ℕ) → LosesAtMost most_of_head a b → LosesAtMost count b c → count ≡ body - come → body ≤ most_of_body → LosesAtMost most_read a c
+lost_twice a b c count body come (first, read, few) (second, then, less) missing small =
+    (first ++ second, Consumes-trans a b c first second read then, omega (arith, length-append first second, few, less, missing, small))
 
 pub fits_at : (old new : Option (List ℕ)) (bytes : List ℕ) (head : Option ℕ) (size : ℕ) → ReadsFront old new bytes head → head ≡ Some size → size ≤ length bytes
 fits_at old new bytes head size front some = head_size-le bytes size (sym front.head_is ∙ some)
@@ -173,3 +177,10 @@ none_left (Some n) h = absurd (h n refl)
 
 pub wanted_ok : {E : Type 0} (result : Result Wanted E) (head : List ℕ) (wanted : Wanted) → result ≡ Ok wanted → IfOk result (IsWanted head) → IsWanted head wanted
 wanted_ok {E} result head wanted is h = let P : Result Wanted E → Type 0 = λ r. IfOk r (IsWanted head) in subst P is h
+
+pub small_body : {E : Type 0} (result : Result Wanted E) (wanted : Wanted) (request : desk.Request) (body : ℕ) → result ≡ Ok wanted → IfOk result (λ w. body_after w ≤ most_of_body) → wanted ≡ Asks request body
+    → body ≤ most_of_body
+small_body {E} result wanted request body is small asks =
+    let P : Result Wanted E → Type 0 = λ r. IfOk r (λ w. body_after w ≤ most_of_body) in
+    let own : body_after wanted ≤ most_of_body = subst P is small in
+    subst (λ (w : Wanted). body_after w ≤ most_of_body) asks own

@@ -150,7 +150,7 @@ head_size-resumed (a ∷ b ∷ c ∷ bytes) more none =
     let split = none_further ((a == 10) && nat_lt 0 (empty_line (b ∷ c ∷ bytes))) (1 + empty_line (b ∷ c ∷ bytes)) (head_size (b ∷ c ∷ bytes)) none in
     resumed_past a (b ∷ c ∷ bytes) more (empty_line (b ∷ c ∷ bytes)) refl split.0 (head_size-resumed (b ∷ c ∷ bytes) more split.1) (omega arith)
 
--- the search in `all` from the last two of the `old` bytes on
+-- if the `old` bytes have no head, the head of `all` is found by the search from the last two `old` bytes on
 pub search_resumed : (old more all slice : List ℕ) (from : ℕ) (found : Option ℕ) → head_size old ≡ None → all ≡ old ++ more → from ≡ length old - 2 → slice ≡ all
     → found ≡ head_size (take (length slice - from) (drop from slice)) → head_size all ≡ further from found
 search_resumed old more all slice from found none all_is from_is slice_is found_is =

@@ -76,7 +76,7 @@ with_request head fields spans h rest size encoded request at e few is other mad
     ap (λ r. cond (nat_lt (length rest) size) NoRequest (Asks r)) (request_same head fields spans h request at made)
     ∙ sym (within head fields spans h rest size encoded at e few is ∙ ap (λ t. cond (t || nat_lt (length rest) size) NoRequest (Asks (request_of h))) other)
 
--- a head for which this is asked, whatever follows
+-- if the spans give a head, and `wanted` asks for what that head asks for, whatever follows, then `IsWanted` holds
 pub wanted_from : {E : Type 0} (result : Result Wanted E) (head : List ℕ) (fields : List HeaderSpan) (spans : RequestSpans) → ((h : RequestHead) × IsHeadAt head fields spans h)
     → IfOk result (λ wanted. (h : RequestHead) → IsRequestAt head fields spans h → (rest : List ℕ) → asks_then wanted rest ≡ asking_by h rest) → IfOk result (IsWanted head)
 wanted_from (Ok wanted) head fields spans it asks = λ rest. Headed it.0 it.1.is (asks it.0 it.1.at rest)

@@ -9,6 +9,6 @@ seen_asking TooLarge = desk.TooLarge
 seen_asking NoRequest = desk.NoRequest
 seen_asking (Asks request) = desk.Asks request
 
--- some bytes ask for this: those that were left to read, all to the end, if the link tells them
+-- some bytes ask for `asking`: those that were left to read, all to the end, if the link tells them
 abbrev pub IsAskedOver : Option (List ℕ) → desk.Asking → Type 0
 IsAskedOver left asking = (bytes : List ℕ) × IfSome left (λ told. bytes ≡ told) × desk.AreAsking bytes asking

@@ -38,11 +38,17 @@ asks_then TooLarge rest = desk.TooLarge
 asks_then NoRequest rest = desk.NoRequest
 asks_then (Asks request body) rest = if nat_lt (length rest) body then desk.NoRequest else desk.Asks request
 
--- `head` is a whole head, these bytes follow it, and together they ask for this
+-- how many bytes must follow the head
+abbrev pub body_after : Wanted → ℕ
+body_after TooLarge = 0
+body_after NoRequest = 0
+body_after (Asks request body) = body
+
+-- `head` is a whole head, `rest` follows it, and together they ask for `asking`
 pub data AskTogether (head rest : List ℕ) (asking : desk.Asking) : Type 0 where
   Headed : (h : RequestHead) → desk.IsHead head h → asking ≡ desk.asking_by h rest → AskTogether head rest asking
   Misheaded : ((h : RequestHead) → ¬ (desk.IsHead head h)) → asking ≡ desk.NoRequest → AskTogether head rest asking
 
--- whatever follows the head, this is asked for
+-- whatever follows the head, it asks for what `asks_then wanted` says
 abbrev pub IsWanted : List ℕ → Wanted → Type 0
 IsWanted head wanted = (rest : List ℕ) → AskTogether head rest (asks_then wanted rest)

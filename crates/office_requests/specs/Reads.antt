@@ -1,7 +1,7 @@
 -- What is read from a link.
-use Rattle.std.specs.Prelude.{◌≡◌, ℕ, ◌<◌, ◌≤◌, Bool, List, length, MatchBool, Option, None, IfSome}
+use Rattle.std.specs.Prelude.{◌≡◌, ℕ, ◌+◌, ◌<◌, ◌≤◌, Bool, List, length, MatchBool, Option, None, IfSome}
 use Rattle.std.specs.Io.KnownBytes.{Consumes, IsAtEnd}
-use Rattle.define_desk.specs.Requests.{head_size, most_of_head}
+use Rattle.define_desk.specs.Requests.{head_size, most_of_body, most_of_head}
 
 -- `bytes` were read. `head` is the size of their head; if they have none, they are as many as a head may have, or the link is at its end
 pub record ReadsFront (old new : Option (List ℕ)) (bytes : List ℕ) (head : Option ℕ) : Type 0 where
@@ -15,3 +15,11 @@ pub record ReadsFront (old new : Option (List ℕ)) (bytes : List ℕ) (head : O
 abbrev pub Skips : ℕ → Option (List ℕ) → Option (List ℕ) → Bool → Type 0
 Skips count old new are_all =
     (bytes : List ℕ) × Consumes old new bytes × MatchBool are_all (length bytes ≡ count) ((length bytes < count) × IsAtEnd new)
+
+-- at most `most` bytes were read
+abbrev pub LosesAtMost : ℕ → Option (List ℕ) → Option (List ℕ) → Type 0
+LosesAtMost most old new = (bytes : List ℕ) × Consumes old new bytes × (length bytes ≤ most)
+
+-- the most bytes that are read for one request
+abbrev pub most_read : ℕ
+most_read = most_of_head + most_of_body

@@ -1,9 +1,9 @@
 //! Reads a link up to the end of a head, and skips bytes of it.
 
 ghost use Rattle.std.specs.Prelude.{◌≡◌, ◌≢◌, ◌≤◌, IfOk, OnErr, OnOk};
-ghost use Rattle.outside.specs.Content.{LosesFront};
 ghost use Rattle.outside.specs.Faults.{Rose};
-ghost use Rattle.office_requests.specs.Reads.{ReadsFront, Skips};
+ghost use Rattle.define_desk.specs.Requests.{most_of_head};
+ghost use Rattle.office_requests.specs.Reads.{LosesAtMost, ReadsFront, Skips};
 
 use crate::askings::RequestStop;
 use crate::ends::head_size;
@@ -29,7 +29,7 @@ pub(crate) fn read_front<L: Link>(alloc: Global, link: &mut L) -> Result<Front, 
         (λ front. ReadsFront (L.left link.old) (L.left link.new) front.bytes.items front.head) }
     ensures fault { result ≡ Err RequestStop.LinkFault
         → Rose (L.faults link.old) (L.faults link.new) }
-    ensures lost { LosesFront (L.left link.old) (L.left link.new) }
+    ensures lost { LosesAtMost most_of_head (L.left link.old) (L.left link.new) }
     ensures written { L.written link.new ≡ L.written link.old }
     ensures none { result ≢ Err RequestStop.LinkFault → L.faults link.new ≡ L.faults link.old }
     ensures never_falls { L.faults link.old ≤ L.faults link.new }
@@ -61,7 +61,7 @@ pub(crate) fn read_front<L: Link>(alloc: Global, link: &mut L) -> Result<Front, 
 /// Reads `count` bytes and forgets them. True if all came, and false if the link ended before.
 pub(crate) fn skip<L: Link>(link: &mut L, count: usize) -> Result<bool, Failed>
     ensures skips { IfOk result (Skips count (L.left link.old) (L.left link.new)) }
-    ensures lost { LosesFront (L.left link.old) (L.left link.new) }
+    ensures lost { LosesAtMost count (L.left link.old) (L.left link.new) }
     ensures written { L.written link.new ≡ L.written link.old }
     ensures never_falls { L.faults link.old ≤ L.faults link.new }
     ensures cause { OnErr result (Rose (L.faults link.old) (L.faults link.new)) }

@@ -1,11 +1,11 @@
 //! What a head asks for.
 
-ghost use Rattle.std.specs.Prelude.{◌≡◌, ℕ, codes, length, List, All, IfNone, IfOk, IfSome, IsUtf8, string_bytes, take};
+ghost use Rattle.std.specs.Prelude.{◌≡◌, ◌≤◌, ℕ, codes, length, List, All, IfNone, IfOk, IfSome, IsUtf8, string_bytes, take};
 ghost use Rattle.std.specs.Str.{IsCharBoundary};
 ghost use Rattle.httparse.specs.Grammar.{RequestHead};
 ghost use Rattle.httparse.specs.Spans.{IsHeaderWithin, IsRequestAt, IsWithin, span_bytes};
-ghost use Rattle.define_desk.specs.Requests.{IsHead, asking_by, path_of};
-ghost use Rattle.office_requests.specs.Heads.{IsHeadAt, IsHeadBy, IsWanted, asks_then, pairs_at, values_with};
+ghost use Rattle.define_desk.specs.Requests.{IsHead, asking_by, most_of_body, path_of};
+ghost use Rattle.office_requests.specs.Heads.{IsHeadAt, IsHeadBy, IsWanted, asks_then, body_after, pairs_at, values_with};
 
 use crate::fields::{body_size, is_encoded, keys};
 use crate::requests::Request;
@@ -25,13 +25,14 @@ pub(crate) enum Wanted {
     TooLarge,
     /// It is no request.
     NoRequest,
-    /// It is this request, if a body of so many bytes follows.
+    /// It is `request`, if a body of `body` bytes follows.
     Asks { request: Request, body: usize },
 }
 
 /// Returns what the head asks for.
 pub(crate) fn wanted_by(alloc: Global, head: &[u8]) -> Result<Wanted, AllocError>
-    ensures { IfOk result (IsWanted head.now) }
+    ensures asks { IfOk result (IsWanted head.now) }
+    ensures small { IfOk result (λ wanted. body_after wanted ≤ most_of_body) }
 {
     let mut fields = [EMPTY_HEADER_SPAN; MOST_FIELDS];
     match read_head(head, &mut fields) {
@@ -61,7 +62,8 @@ fn wanted_of(
     spans: &RequestSpans,
 ) -> Result<Wanted, AllocError>
     requires { IsHeadBy head.now fields.now spans.now }
-    ensures { IfOk result (λ wanted. (h : RequestHead) → IsRequestAt head.now fields.now spans.now h
+    ensures small { IfOk result (λ wanted. body_after wanted ≤ most_of_body) }
+    ensures asks { IfOk result (λ wanted. (h : RequestHead) → IsRequestAt head.now fields.now spans.now h
         → (rest : List ℕ) → asks_then wanted rest ≡ asking_by h rest) }
 {
     let given = &fields[..spans.headers];

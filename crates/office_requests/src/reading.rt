@@ -1,10 +1,10 @@
 //! Reads what the bytes of a link ask for.
 
 ghost use Rattle.std.specs.Prelude.{◌≡◌, ◌≢◌, ◌≤◌, IfOk};
-ghost use Rattle.outside.specs.Content.{LosesFront};
 ghost use Rattle.outside.specs.Faults.{Rose};
 ghost use Rattle.define_desk.specs.Requests.{asking_without};
 ghost use Rattle.office_requests.specs.Askings.{IsAskedOver, seen_asking};
+ghost use Rattle.office_requests.specs.Reads.{LosesAtMost, most_read};
 
 use crate::askings::{Asking, RequestStop};
 use crate::fronts::{MOST_OF_HEAD, read_front, skip};
@@ -13,8 +13,7 @@ use outside::Link;
 use std::alloc::Global;
 
 /// Returns what the bytes that are left ask for. It reads no further than it must to know that, so a client that waits for an answer
-/// and keeps the connection open gets one. Each read but a last one takes at least one byte, so there are at most 8,192 + 65,536 + 2
-/// reads.
+/// and keeps the connection open gets one. It reads at most the 8,192 bytes of a head and the 65,536 of a body.
 pub fn read_asking<L: Link>(alloc: Global, link: &mut L) -> Result<Asking, RequestStop>
     ensures asking { IfOk result (λ asking. IsAskedOver (L.left link.old) (seen_asking asking)) }
 
@@ -23,7 +22,7 @@ pub fn read_asking<L: Link>(alloc: Global, link: &mut L) -> Result<Asking, Reque
         → Rose (L.faults link.old) (L.faults link.new) }
 
     // What the call does to the link, whatever it returns.
-    ensures front { LosesFront (L.left link.old) (L.left link.new) }
+    ensures front { LosesAtMost most_read (L.left link.old) (L.left link.new) }
     ensures written { L.written link.new ≡ L.written link.old }
     ensures none { result ≢ Err RequestStop.LinkFault → L.faults link.new ≡ L.faults link.old }
     ensures never_falls { L.faults link.old ≤ L.faults link.new }

@@ -147,7 +147,7 @@ fn outcome_of<S: Alter>(alloc: Global, keeper: &mut SqliteOver<S>) -> Taken {
     }
 }
 
-/// True if the store is taken so after this change by hand, with a fault for a call that fails, and its rows stay.
+/// True if after the change by hand the store is taken as `wanted` says, a call that fails counts a fault, and the rows of the store stay.
 fn is_taken(alloc: Global, change: &str, wanted: Taken) -> Option<bool> {
     let mut connection = store(alloc)?;
     connection.execute_batch(change).ok()?;
@@ -180,7 +180,7 @@ fn assembled<R: Threads + Sync>(rt: &R, alloc: Global) -> Option<String> {
     spelled(alloc, map.tables())
 }
 
-/// Makes each of these changes, and sees that the store is taken so.
+/// Makes each of these changes by itself, and asserts that the store is then taken as `wanted` says.
 fn judge(rt: &impl Abort, alloc: Global, changes: &[&str], wanted: Taken) {
     for change in changes {
         assert!(rt; is_taken(alloc, change, wanted) == Some(true), "{change}");

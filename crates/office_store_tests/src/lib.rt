@@ -1,5 +1,5 @@
-//! Tests of the keepers over `sqlite`, by public calls alone. They are in a crate of their own, since a crate with tests is proved twice, and
-//! tests over files in memory take long to prove. Nothing stands on it.
+//! Tests of the keepers over `sqlite`, by public calls alone. They are in a crate of their own, since a crate with tests is proved twice,
+//! and tests over files in memory take long to prove. Nothing stands on it.
 #![tactic(auto)]
 
 #[cfg(test)]

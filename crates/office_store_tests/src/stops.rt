@@ -1,5 +1,5 @@
-//! The machine stops at each call of a file: while a new store is made, while a change of each kind is stored, and while a store of version 1
-//! is brought to version 2. Opened again, the store holds what it held before or after the step.
+//! The machine stops at each call of a file: while a new store is made, while a change of each kind is stored, and while a store of version
+//! 1 is brought to version 2. Opened again, the store holds what it held before or after the step.
 
 use crate::assembly::{Asked, HOUSEHOLDS, command_of, done};
 use crate::disks::{
@@ -66,7 +66,8 @@ fn tried(
     )
 }
 
-/// Does a step over files that pass so many calls on. Returns how far it comes, and the files as a stop of the machine leaves them.
+/// Does a step over files of which the log passes `log_calls` calls on and the other `db_calls`. Returns how far it comes, and the files as
+/// a stop of the machine leaves them.
 fn stopped(
     alloc: Global,
     kept: &Kept,

@@ -57,18 +57,22 @@ link_after_read link size = record link { left = (after_read (source_of link) si
 abbrev pub link_after_put : LinkState → List ℕ → LinkState
 link_after_put link piece = record link { written = (after_put (sink_of link) piece).written; calls = (after_put (sink_of link) piece).calls }
 
--- a door in memory: its links and its calls, `listen` and `next` together
+-- a door in memory: its links, the port at which it listens, if it does, and its calls, `listen` and `next` together
 pub record DoorState : Type 0 where
   pub links : DoorLinks LinkState
+  pub port : Option ℕ
   pub calls : Calls
 
--- the door after a call of `listen`
-abbrev pub door_after_listen : DoorState → DoorState
-door_after_listen door = record door { calls = after_call door.calls (next_fails door.calls) }
+-- the door after a call of `listen` at `port`
+abbrev pub door_after_listen : DoorState → ℕ → DoorState
+door_after_listen door port = record door {
+  port = if next_fails door.calls then door.port else Some port;
+  calls = after_call door.calls (next_fails door.calls);
+}
 
 -- the door after a call of `next`, which gives a link unless the call is to fail
 abbrev pub door_after_next : DoorState → DoorState
-door_after_next door = record {
+door_after_next door = record door {
   links = if next_fails door.calls then door.links else after_next door.links;
   calls = after_call door.calls (next_fails door.calls);
 }

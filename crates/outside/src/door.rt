@@ -1,5 +1,5 @@
 //! A door, which gives one link after the other and takes them back, as a trait. `MemDoor` is one in memory, and `TcpDoor` one over a port.
-ghost use Rattle.std.specs.Prelude.{◌≡◌, ◌≤◌, ℕ, IfOk, IfSome, OnErr, OnOk, Option, option_map};
+ghost use Rattle.std.specs.Prelude.{◌≡◌, ◌≤◌, ℕ, IfOk, IfSome, OnErr, OnOk, Option, Some, option_map};
 ghost use Rattle.outside.specs.Faults.{Rose};
 ghost use Rattle.outside.specs.Links.{DoorLinks, IsOneOut, after_back, after_next, first_of};
 
@@ -16,8 +16,12 @@ pub trait Door {
     /// How many faults the door has counted.
     ghost faults: { Self → ℕ };
 
+    /// The port at which the door listens, if it does.
+    ghost opened_at: { Self → Option ℕ };
+
     /// Opens the door at `port`. A call that fails counts a fault; no other call counts one. No link is given or lost.
     fn listen(&mut self, port: u16) -> Result<(), Failed>
+        ensures port { OnOk result (opened_at self.new ≡ Some port) }
         ensures same { links self.new ≡ links self.old }
         ensures never_falls { faults self.old ≤ faults self.new }
         ensures cause { OnErr result (Rose (faults self.old) (faults self.new)) }
@@ -29,6 +33,7 @@ pub trait Door {
         ensures first { IfOk result (λ link. IfSome (links self.old) (λ told. link ≡ first_of told.coming)) }
         ensures given { OnOk result (links self.new ≡ option_map after_next (links self.old)) }
         ensures same { OnErr result (links self.new ≡ links self.old) }
+        ensures stays { opened_at self.new ≡ opened_at self.old }
         ensures never_falls { faults self.old ≤ faults self.new }
         ensures cause { OnErr result (Rose (faults self.old) (faults self.new)) }
         ensures none { OnOk result (faults self.new ≡ faults self.old) };
@@ -37,5 +42,6 @@ pub trait Door {
     fn back(&mut self, link: Self::Link)
         requires { IsOneOut (links self.old) }
         ensures last { links self.new ≡ option_map (λ told. after_back told link) (links self.old) }
+        ensures stays { opened_at self.new ≡ opened_at self.old }
         ensures none { faults self.new ≡ faults self.old };
 }

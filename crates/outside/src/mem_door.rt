@@ -1,5 +1,5 @@
 //! A door in memory, for tests.
-ghost use Rattle.std.specs.Prelude.{◌≡◌, ◌≤◌, length, drop, is_err, Some, IfOk, OnErr, OnOk};
+ghost use Rattle.std.specs.Prelude.{◌≡◌, ◌≤◌, length, drop, is_err, None, Some, IfOk, OnErr, OnOk};
 ghost use Rattle.outside.specs.Faults.{Rose};
 ghost use Rattle.outside.specs.Memory.{next_fails, no_calls};
 ghost use Rattle.outside.specs.Links.{IsOneOut, after_back, after_next, door_after_back, door_after_listen, door_after_next, first_of, none_given};
@@ -11,12 +11,13 @@ use std::collections::VecDeque;
 use std::marker::Model;
 
 /// Links in memory, with a list of the calls that are to fail. Contracts speak of the links that are still to come, of how many were given,
-/// and of those that were given back. The room for those is taken when the door is made.
+/// of those that were given back, and of the port. The room for those that are given back is taken when the door is made.
 #[derive(Drop)]
 pub struct MemDoor {
     coming: VecDeque<MemLink>,
     total: usize,
     back: Vec<MemLink>,
+    port: Option<u16>,
     calls: CallPlan,
 }
 
@@ -32,6 +33,7 @@ impl Model for MemDoor {
         given = d.total - length d.coming.items;
         back = d.back.items;
       };
+      port = d.port;
       calls = d.calls;
     } };
 
@@ -44,6 +46,7 @@ impl MemDoor {
     pub fn new(alloc: Global, links: Vec<MemLink>, failing: &[u64]) -> Result<MemDoor, AllocError>
         ensures links { IfOk result (λ door. door.links ≡ none_given links.items) }
         ensures calls { IfOk result (λ door. door.calls ≡ no_calls failing.now) }
+        ensures shut { IfOk result (λ door. door.port ≡ None) }
     {
         let total = links.len();
         let back = Vec::with_capacity(alloc, total)?;
@@ -52,6 +55,7 @@ impl MemDoor {
             coming: VecDeque::from(links),
             total,
             back,
+            port: None,
             calls,
         })
     }
@@ -70,6 +74,13 @@ impl MemDoor {
         self.back.as_slice()
     }
 
+    /// Returns the port at which the door listens, if it does.
+    pub fn port(&self) -> Option<u16>
+        ensures { result ≡ self.now.port }
+    {
+        self.port
+    }
+
     /// Returns how many calls have failed.
     pub fn faults(&self) -> u64
         ensures { result ≡ self.now.calls.faults }
@@ -83,9 +94,12 @@ impl Door for MemDoor {
 
     ghost links = { λ d. Some d.links };
 
+    ghost opened_at = { λ d. d.port };
+
     ghost faults = { λ d. d.calls.faults };
 
-    fn listen(&mut self, _port: u16) -> Result<(), Failed>
+    fn listen(&mut self, port: u16) -> Result<(), Failed>
+        ensures port { OnOk result (self.new.port ≡ Some port) }
         ensures same { Some self.new.links ≡ Some self.old.links }
         ensures never_falls { self.old.calls.faults ≤ self.new.calls.faults }
         ensures cause { OnErr result (Rose self.old.calls.faults self.new.calls.faults) }
@@ -93,17 +107,22 @@ impl Door for MemDoor {
 
         // What a call does, exactly.
         ensures failed { is_err result ≡ next_fails self.old.calls }
-        ensures state { self.new ≡ door_after_listen self.old }
+        ensures state { self.new ≡ door_after_listen self.old port }
     {
         let is_fault = self.calls.next_fails();
         self.calls.count(is_fault);
-        if is_fault { Err(Failed) } else { Ok(()) }
+        if is_fault {
+            return Err(Failed);
+        }
+        self.port = Some(port);
+        Ok(())
     }
 
     fn next(&mut self) -> Result<Option<MemLink>, Failed>
         ensures first { IfOk result (λ link. link ≡ first_of self.old.links.coming) }
         ensures given { OnOk result (Some self.new.links ≡ Some (after_next self.old.links)) }
         ensures same { OnErr result (Some self.new.links ≡ Some self.old.links) }
+        ensures stays { self.new.port ≡ self.old.port }
         ensures never_falls { self.old.calls.faults ≤ self.new.calls.faults }
         ensures cause { OnErr result (Rose self.old.calls.faults self.new.calls.faults) }
         ensures none { OnOk result (self.new.calls.faults ≡ self.old.calls.faults) }
@@ -123,6 +142,7 @@ impl Door for MemDoor {
     fn back(&mut self, link: MemLink)
         requires { IsOneOut (Some self.old.links) }
         ensures last { Some self.new.links ≡ Some (after_back self.old.links link) }
+        ensures stays { self.new.port ≡ self.old.port }
         ensures none { self.new.calls.faults ≡ self.old.calls.faults }
 
         // What the call does, exactly.

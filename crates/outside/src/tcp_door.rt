@@ -1,5 +1,5 @@
 //! A door over a port of this machine, 127.0.0.1. The desk waits at such a door.
-ghost use Rattle.std.specs.Prelude.{◌≡◌, ◌≤◌, None, if◌then◌else◌, is_err, IfOk, IfSome, IsSome, OnErr, OnOk, option_map};
+ghost use Rattle.std.specs.Prelude.{◌≡◌, ◌≤◌, None, Some, if◌then◌else◌, is_err, IfOk, IfSome, IsSome, OnErr, OnOk, option_map};
 ghost use Rattle.outside.specs.Faults.{Rose, raised};
 ghost use Rattle.outside.specs.Links.{IsOneOut, after_back, after_next, first_of};
 
@@ -20,7 +20,7 @@ const LINGERING: u64 = 500;
 /// How often `back` reads at most what the client still sends, a few thousand bytes at a time.
 const LAST_READS: usize = 64;
 
-/// A port of this machine. It tells no links: contracts speak of its count of faults alone. Each error of the system is a fault, and so is
+/// A port of this machine. It tells no links: contracts speak of its port and of its count of faults alone. Each error of the system is a fault, and so is
 /// a `next` before the door listens. `next` waits for a connection, and never returns `None`. `back` closes the connection.
 ///
 /// A read or a put of a link fails if the client lets it wait for 10 seconds.
@@ -28,6 +28,7 @@ const LAST_READS: usize = 64;
 pub struct TcpDoor<R: Net + Drop> {
     rt: R,
     listener: Option<R::Listener>,
+    port: Option<u16>,
     faults: u64,
 }
 
@@ -39,6 +40,7 @@ impl<R: Net + Drop> TcpDoor<R> {
         TcpDoor {
             rt,
             listener: None,
+            port: None,
             faults: 0,
         }
     }
@@ -56,9 +58,12 @@ impl<R: Net + Drop> Door for TcpDoor<R> {
 
     ghost links = { λ _. None };
 
+    ghost opened_at = { λ d. d.port };
+
     ghost faults = { λ d. d.faults };
 
     fn listen(&mut self, port: u16) -> Result<(), Failed>
+        ensures port { OnOk result (⟦<TcpDoor<R> as Door>⟧.opened_at self.new ≡ Some port) }
         ensures same { ⟦<TcpDoor<R> as Door>⟧.links self.new
             ≡ ⟦<TcpDoor<R> as Door>⟧.links self.old }
         ensures never_falls { ⟦<TcpDoor<R> as Door>⟧.faults self.old
@@ -76,6 +81,7 @@ impl<R: Net + Drop> Door for TcpDoor<R> {
         match TcpListener::bind(&self.rt, (ADDRESS, port)) {
             Ok(listener) => {
                 self.listener = Some(listener);
+                self.port = Some(port);
                 Ok(())
             }
             Err(_) => {
@@ -92,6 +98,8 @@ impl<R: Net + Drop> Door for TcpDoor<R> {
             ≡ option_map after_next (⟦<TcpDoor<R> as Door>⟧.links self.old)) }
         ensures same { OnErr result (⟦<TcpDoor<R> as Door>⟧.links self.new
             ≡ ⟦<TcpDoor<R> as Door>⟧.links self.old) }
+        ensures stays { ⟦<TcpDoor<R> as Door>⟧.opened_at self.new
+            ≡ ⟦<TcpDoor<R> as Door>⟧.opened_at self.old }
         ensures never_falls { ⟦<TcpDoor<R> as Door>⟧.faults self.old
             ≤ ⟦<TcpDoor<R> as Door>⟧.faults self.new }
         ensures cause { OnErr result (Rose (⟦<TcpDoor<R> as Door>⟧.faults self.old)
@@ -121,6 +129,8 @@ impl<R: Net + Drop> Door for TcpDoor<R> {
         requires { IsOneOut (⟦<TcpDoor<R> as Door>⟧.links self.old) }
         ensures last { ⟦<TcpDoor<R> as Door>⟧.links self.new
             ≡ option_map (λ told. after_back told link) (⟦<TcpDoor<R> as Door>⟧.links self.old) }
+        ensures stays { ⟦<TcpDoor<R> as Door>⟧.opened_at self.new
+            ≡ ⟦<TcpDoor<R> as Door>⟧.opened_at self.old }
         ensures none { ⟦<TcpDoor<R> as Door>⟧.faults self.new
             ≡ ⟦<TcpDoor<R> as Door>⟧.faults self.old }
     {

@@ -1,15 +1,15 @@
 //! The lottery of a point: turns of peeling, and tails if peeling gets stuck. Stands on `peels`, `tails`, `remainders` and `seen`;
 //! `proof_run` calls `lottery_of_point`. Promise: nothing of the budget is given back.
 
-ghost use Rattle.std.specs.Prelude.{◌≡◌, length, IfOk, OnOk};
+ghost use Rattle.std.specs.Prelude.{◌≡◌, length, IfOk, IfNone, OnOk};
 ghost use Rattle.proof_peeling.specs.Shapes.{HasTable, IsPeelingRun};
 ghost use Rattle.proof_limits.specs.Budgets.{SpendsOn};
 
-use crate::peels::{Turn, peel};
+use crate::peels::{MOST_NODES, Turn, peel};
 use crate::remainders::Remainder;
 use crate::rows::PanelRows;
 use crate::seen::SeenPanels;
-use crate::tails::{Tail, tail_of};
+use crate::tails::{Tail, TailLimits, tail_of};
 use proof_limits::{Budget, Narrow, ProveStop, wide_mul};
 use proof_program::Program;
 use proof_stages::Chances;
@@ -27,6 +27,24 @@ const MOST_DOUBLED: i64 = 72_057_594_037_927_936;
 
 /// The width of the tails of all rounds but the last: 2^46.
 const TAIL_WIDTH: i64 = 70_368_744_177_664;
+
+/// How many further panels a tail may search for.
+const TAIL_STEPS: usize = 600;
+
+/// The width of the short tails, which are tried before the others: 2^40.
+const SHORT_WIDTH: i64 = 1_099_511_627_776;
+
+/// How many further panels a short tail may search for.
+const SHORT_STEPS: usize = 40;
+
+/// The most nodes at which each search of a short tail looks.
+const SHORT_NODES: u64 = 100;
+
+/// How often panels are put back for short tails: 2, then 4, and so on up to 64.
+const SHORT_TAILS: u32 = 6;
+
+/// How often panels are put back for the other tails at most.
+const TAILS: u32 = 63;
 
 /// A panel with its weight.
 #[derive(Debug, Drop)]
@@ -89,9 +107,31 @@ pub fn lottery_of_point(
     run.lottery(budget)
 }
 
-/// Returns the width of the tails of all rounds but the last.
-fn tail_width() -> Narrow {
-    match Narrow::new(TAIL_WIDTH) {
+/// Returns the limits of the tails of a round.
+fn tail_limits(is_last: bool) -> TailLimits {
+    TailLimits {
+        width: if is_last {
+            Narrow::GREATEST
+        } else {
+            width_of(TAIL_WIDTH)
+        },
+        steps: TAIL_STEPS,
+        nodes: MOST_NODES,
+    }
+}
+
+/// Returns the limits of short tails.
+fn short_limits() -> TailLimits {
+    TailLimits {
+        width: width_of(SHORT_WIDTH),
+        steps: SHORT_STEPS,
+        nodes: SHORT_NODES,
+    }
+}
+
+/// Returns a number as a width, or the greatest width if the number is none.
+fn width_of(number: i64) -> Narrow {
+    match Narrow::new(number) {
         Some(width) => width,
         None => Narrow::GREATEST,
     }
@@ -139,7 +179,8 @@ fn is_too_wide(found: &Result<Peeled, ProveStop>) -> bool {
 }
 
 impl PeelingRun<'_> {
-    /// Makes the lottery: one turn without pseudo-random shifts, then rounds of turns, with tails after each round.
+    /// Makes the lottery: one turn without pseudo-random shifts, then rounds of turns, with tails after each round. Before the tails of the
+    /// first round short ones are tried.
     fn lottery(&mut self, budget: &mut Budget) -> Result<Peeled, ProveStop>
         requires run { IsPeelingRun self.old }
         requires table { HasTable self.old }
@@ -157,7 +198,12 @@ impl PeelingRun<'_> {
             next = end;
             let is_last = round + 1 == TURNS.len();
             self.go_to_best()?;
-            let found = self.tails(is_last, budget);
+            if round == 0 {
+                if let Some(found) = self.short_tails(budget)? {
+                    return Ok(found);
+                }
+            }
+            let found = self.tails(tail_limits(is_last), TAILS, budget);
             if is_last || !is_too_wide(&found) {
                 return found;
             }
@@ -300,28 +346,47 @@ impl PeelingRun<'_> {
         self.return_to_best()
     }
 
-    /// Tries tails. If the remainder is no mix of panels, or a tail ends in doubt, puts back 2 panels, then 4, 8 and so on, and tries
-    /// again. Once no panel is left to put back, returns `Outside` or `Doubt`.
-    fn tails(&mut self, is_last: bool, budget: &mut Budget) -> Result<Peeled, ProveStop>
+    /// Tries short tails. Returns what they found; or None if they ended in doubt or passed their width, and then begins anew with the best
+    /// remainder.
+    fn short_tails(&mut self, budget: &mut Budget) -> Result<Option<Peeled>, ProveStop>
+        requires run { IsPeelingRun self.old }
+        requires table { HasTable self.old }
+        ensures run { IsPeelingRun self.new }
+        ensures table { IfOk result (λ found. IfNone found (HasTable self.new)) }
+        ensures spends { SpendsOn budget.old budget.new }
+    {
+        match self.tails(short_limits(), SHORT_TAILS, budget) {
+            Ok(Peeled::Doubt) | Err(ProveStop::Wide(_) | ProveStop::BeyondWidth) => {
+                self.begin_anew()?;
+                Ok(None)
+            }
+            Ok(found) => Ok(Some(found)),
+            Err(stop) => Err(stop),
+        }
+    }
+
+    /// Tries tails, at most `most` times. If the remainder is no mix of panels, or a tail ends in doubt, puts back 2 panels, then 4, 8 and so on, and tries
+    /// again. Once no panel is left to put back, returns `Outside` or `Doubt`; `Doubt` too after the last time.
+    fn tails(
+        &mut self,
+        limits: TailLimits,
+        most: u32,
+        budget: &mut Budget,
+    ) -> Result<Peeled, ProveStop>
         requires run { IsPeelingRun self.old }
         requires table { HasTable self.old }
         ensures run { IsPeelingRun self.new }
         ensures spends { SpendsOn budget.old budget.new }
     {
-        let width = if is_last {
-            Narrow::GREATEST
-        } else {
-            tail_width()
-        };
         let mut count: u64 = 1;
-        'doublings: for _ in 1..64 {
+        'doublings: for _ in 0..most {
             let tail = tail_of(
                 self.alloc,
                 &mut self.table,
                 &self.rows.rows,
                 &mut self.seen,
                 &self.remainder,
-                width,
+                &limits,
                 budget,
             )?;
             match tail {
@@ -333,7 +398,7 @@ impl PeelingRun<'_> {
             count = count.saturating_mul(2);
             self.put_back(count)?;
         }
-        Err(ProveStop::Lost)
+        Ok(Peeled::Doubt)
     }
 
     /// Returns the panels that were taken off, with their weights times `denominator`, and those of the tail. `denominator` is that of the

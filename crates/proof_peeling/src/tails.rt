@@ -7,7 +7,6 @@ ghost use Rattle.proof_peeling.specs.Shapes.{IsPanelMix};
 ghost use Rattle.proof_limits.specs.Budgets.{SpendsOn};
 
 use crate::faces::Face;
-use crate::peels::MOST_NODES;
 use crate::remainders::Remainder;
 use crate::rows::{PanelRow, value_at};
 use crate::seen::SeenPanels;
@@ -16,8 +15,16 @@ use proof_limits::{Budget, Narrow, ProveStop, Span, times, wide_sub};
 use proof_table::{PseudoRandom, Table};
 use std::alloc::Global;
 
-/// How many further panels a tail may search for.
-const MOST_STEPS: usize = 600;
+/// How far a tail may go.
+#[derive(Clone, Copy, Debug)]
+pub(crate) struct TailLimits {
+    /// The greatest entry of the tail's table, in absolute value.
+    pub(crate) width: Narrow,
+    /// How many further panels the tail may search for.
+    pub(crate) steps: usize,
+    /// The most nodes at which each of these searches looks.
+    pub(crate) nodes: u64,
+}
 
 /// The greatest pseudo-random number that is a panel's part of the goal. These parts break ties between panels.
 const MOST_TIE_BREAK: u64 = 64;
@@ -45,14 +52,14 @@ struct PanelMix {
     rows: Vec<Span>,
 }
 
-/// Looks for weights of panels that make up a remainder exactly. Stops if an entry of the tail's table is greater than `width`.
+/// Looks for weights of panels that make up a remainder exactly. Stops if an entry of the tail's table is too wide.
 pub(crate) fn tail_of(
     alloc: Global,
     table: &mut Table,
     rows: &[PanelRow],
     seen: &mut SeenPanels,
     remainder: &Remainder,
-    width: Narrow,
+    limits: &TailLimits,
     budget: &mut Budget,
 ) -> Result<Tail, ProveStop>
     requires columns { length remainder.now.parts.items ≡ table.old.columns }
@@ -61,17 +68,17 @@ pub(crate) fn tail_of(
     ensures spends { SpendsOn budget.old budget.new }
 {
     let face = Face::of(alloc, remainder, rows)?;
-    let mut mix = PanelMix::new(alloc, remainder, &face, width)?;
+    let mut mix = PanelMix::new(alloc, remainder, &face, limits.width)?;
     let numbers = panels_of(alloc, seen, rows, &face)?;
     for number in &numbers {
         mix.join(alloc, seen, *number, remainder.total)?;
     }
-    'steps: for _ in 0..MOST_STEPS {
+    'steps: for _ in 0..limits.steps {
         if mix.has_point(budget)? {
             return mix.weights(alloc);
         }
         let (wishes, need) = mix.wanted(alloc, remainder)?;
-        let found = beat(alloc, table, &face, &wishes, need, budget)?;
+        let found = beat(alloc, table, &face, &wishes, need, limits.nodes, budget)?;
         match found {
             Found::Point(point) => {
                 let number = seen.see(&point)?;
@@ -116,13 +123,14 @@ fn point_of(alloc: Global, members: &[usize], volunteers: usize) -> Result<Vec<N
     Ok(point)
 }
 
-/// Searches for a panel of the face whose wishes sum to at least `need`.
+/// Searches for a panel of the face whose wishes sum to at least `need`, at no more than `most` nodes.
 fn beat(
     alloc: Global,
     table: &mut Table,
     face: &Face,
     wishes: &[Narrow],
     need: Narrow,
+    most: u64,
     budget: &mut Budget,
 ) -> Result<Found, ProveStop>
     requires wishes { length wishes.now ≡ table.old.columns }
@@ -139,7 +147,7 @@ fn beat(
         &face.rows,
         wishes,
         span,
-        MOST_NODES,
+        most,
         budget,
     )
 }

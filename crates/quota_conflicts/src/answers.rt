@@ -47,7 +47,7 @@ pub fn why(
 
 /// Returns a stop as it is reported: as lost if an entry passed a width below 2^62, or if pivots or nodes are left although the stop says
 /// that they are spent.
-fn reported(stop: ProveStop, budget: &Budget) -> ProveStop
+pub fn reported(stop: ProveStop, budget: &Budget) -> ProveStop
     ensures { StopsSo budget.now result }
 {
     match stop {

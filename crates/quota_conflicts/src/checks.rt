@@ -65,7 +65,7 @@ impl Conflict {
     }
 }
 
-/// Returns the conflict of the quotas, or None if the tree doesn't show that each selection misses them.
+/// Returns the conflict of the quotas, or None if one of them isn't the pool's or the tree doesn't show that each selection misses one.
 pub(crate) fn checked(
     alloc: Global,
     pool: &Pool,

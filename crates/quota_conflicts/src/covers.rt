@@ -35,10 +35,7 @@ pub(crate) fn covers(
 }
 
 /// Returns the standings of volunteers.
-pub(crate) fn standings(
-    alloc: Global,
-    volunteers: &[Volunteer],
-) -> Result<Vec<Standing>, AllocError>
+pub fn standings(alloc: Global, volunteers: &[Volunteer]) -> Result<Vec<Standing>, AllocError>
     ensures { IfOk result (λ all. all.items ≡ map (λ volunteer. volunteer.standing) volunteers.now) }
 {
     volunteers
@@ -118,7 +115,7 @@ pub(crate) fn weighted(
 }
 
 /// Returns the standings, with another one for volunteer `i`.
-fn with_standing(
+pub fn with_standing(
     alloc: Global,
     standings: &[Standing],
     i: usize,

@@ -5,6 +5,9 @@ use define_conflicts::{Counted, Quota, Side};
 use pool_model::{Category, Pool, share_household};
 use std::alloc::{AllocError, Global};
 
+/// The number of the size's constraint.
+pub(crate) const SIZE: usize = 0;
+
 /// A side of a numbered constraint.
 #[derive(Clone, Copy, Debug)]
 pub(crate) struct Kept {
@@ -13,7 +16,7 @@ pub(crate) struct Kept {
 }
 
 /// Returns whom each constraint counts, in the order of their numbers.
-pub(crate) fn counted_by_number(alloc: Global, pool: &Pool) -> Result<Vec<Counted>, AllocError> {
+pub fn counted_by_number(alloc: Global, pool: &Pool) -> Result<Vec<Counted>, AllocError> {
     let mut counted = Vec::new(alloc);
     counted.push(Counted::Everybody)?;
     for (place, category) in pool.categories().iter().enumerate() {

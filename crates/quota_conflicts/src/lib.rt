@@ -1,10 +1,10 @@
 //! Why a pool has no quota panel: quotas that can't be met together, as few as can be found; or a quota panel. Stands on the engine of
 //! `prove` (`proof_branching`, `proof_program`, `proof_stages`, `proof_table`, `proof_limits`), which searches, on `pool_model` and
-//! `proof_model`, and on the definitions of `define_conflicts`. `command_why` stands on it.
+//! `proof_model`, and on the definitions of `define_conflicts`. `command_why` stands on it, and `loosening_by_proof` on its sums.
 //!
 //! Promises: what `why` returns is checked by this crate itself, by adding and comparing whole numbers (`misses`, `covers`). So a conflict
 //! is one, whatever the search did, and a panel is a quota panel. `conflict_text` writes exactly the text of a conflict. Which of several
-//! conflicts is found is no promise.
+//! conflicts is found is no promise. `asked` and `given` are exactly the sums of the definitions if they fit.
 #![tactic(auto)]
 
 mod answers;
@@ -20,7 +20,11 @@ mod selections;
 mod shrinking;
 mod texts;
 
-pub use answers::{Explanation, why};
+pub use answers::{Explanation, reported, why};
 pub use checks::Conflict;
+pub use covers::{standings, with_standing};
 pub use define_conflicts::{Counted, Quota, Side};
+pub use kept::counted_by_number;
+pub use misses::{asked, given, greatest_weight};
+pub use searches::selection_of;
 pub use texts::conflict_text;

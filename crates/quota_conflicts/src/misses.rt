@@ -42,7 +42,7 @@ fn rounds(more: usize, greatest: usize) -> usize
 }
 
 /// Returns a number from 1 on that no weight passes: the greatest weight, or 1.
-fn greatest_weight(weighted: &[WeightedQuota]) -> usize
+pub fn greatest_weight(weighted: &[WeightedQuota]) -> usize
     ensures light { IsTrue (list_all (λ it. nat_le it.weight result) weighted.now) }
     ensures some { 1 ≤ result }
 {
@@ -54,7 +54,7 @@ fn greatest_weight(weighted: &[WeightedQuota]) -> usize
 }
 
 /// Returns what is asked of a selection that keeps the standings, or None if that doesn't fit.
-fn asked(pool: &Pool, weighted: &[WeightedQuota], standings: &[Standing]) -> Option<usize>
+pub fn asked(pool: &Pool, weighted: &[WeightedQuota], standings: &[Standing]) -> Option<usize>
     requires { length standings.now ≡ length pool.now.volunteers }
     ensures { IfSome result (λ sum. sum ≡ asked_of pool.now weighted.now standings.now) }
 {
@@ -67,7 +67,7 @@ fn asked(pool: &Pool, weighted: &[WeightedQuota], standings: &[Standing]) -> Opt
 }
 
 /// Returns what a selection that keeps the standings can give, or None if that doesn't fit.
-fn given(pool: &Pool, weighted: &[WeightedQuota], standings: &[Standing]) -> Option<usize>
+pub fn given(pool: &Pool, weighted: &[WeightedQuota], standings: &[Standing]) -> Option<usize>
     requires { length standings.now ≡ length pool.now.volunteers }
     ensures { IfSome result (λ sum. sum ≡ given_of pool.now weighted.now standings.now) }
 {

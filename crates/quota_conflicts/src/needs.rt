@@ -1,13 +1,14 @@
-//! Whether each quota of a conflict is needed: for each, a witness is a selection that meets all others. `checks` uses `each_needed`.
+//! Whether each quota of a conflict is needed: for each, a witness is a selection that meets all others, and has the panel's size if no
+//! quota is of the size. `checks` uses `each_needed`.
 
 ghost use Rattle.std.specs.Bool.{OnTrue};
-ghost use Rattle.std.specs.Prelude.{◌<◌, IfOk, IsTrue, length};
+ghost use Rattle.std.specs.Prelude.{◌≡◌, ◌<◌, ◌==◌, ◌||◌, IfOk, IsTrue, length};
 ghost use Rattle.std.specs.List.{remove};
-ghost use Rattle.define_conflicts.specs.Quotas.{EachNeeded, IsNeeded, is_selection as is_selection_of, meets as meets_of};
+ghost use Rattle.define_conflicts.specs.Quotas.{EachNeeded, IsNeeded, is_everybody, is_selection as is_selection_of, meets as meets_of, names_size};
 
 use crate::quotas::meets;
 use crate::selections::is_selection;
-use define_conflicts::Quota;
+use define_conflicts::{Counted, Quota};
 use pool_model::{Panel, Pool};
 use std::alloc::{AllocError, Global};
 
@@ -28,7 +29,7 @@ pub(crate) fn each_needed(
     Ok(true)
 }
 
-/// True if one of the witnesses meets all quotas but the one at this place.
+/// True if one of the witnesses meets all quotas but the one at this place, and has the panel's size if no quota is of the size.
 fn is_needed(
     alloc: Global,
     pool: &Pool,
@@ -42,7 +43,7 @@ fn is_needed(
     let mut others = Vec::from_slice(alloc, quotas)?;
     let _ = others.remove(place);
     for witness in witnesses {
-        if is_witness(pool, witness, &others) {
+        if is_witness(pool, witness, &others) && has_size(pool, witness, quotas) {
             return Ok(true);
         }
     }
@@ -55,4 +56,27 @@ fn is_witness(pool: &Pool, panel: &Panel, quotas: &[Quota]) -> bool
     ensures meets { OnTrue result (IsTrue (meets_of pool.now panel.now quotas.now)) }
 {
     is_selection(pool, panel) && meets(pool, panel.members(), quotas)
+}
+
+/// True if one of the quotas is of the size, or the panel has the size.
+fn has_size(pool: &Pool, panel: &Panel, quotas: &[Quota]) -> bool
+    ensures { OnTrue result (IsTrue (names_size quotas.now || length panel.now == pool.now.size)) }
+{
+    names_the_size(quotas) || panel.members().len() == pool.size()
+}
+
+/// True if one of the quotas is of the size.
+fn names_the_size(quotas: &[Quota]) -> bool
+    ensures { result ≡ names_size quotas.now }
+{
+    quotas.iter().any(|quota| counts_everybody(quota.counted))
+}
+
+fn counts_everybody(counted: Counted) -> bool
+    ensures { result ≡ is_everybody counted }
+{
+    match counted {
+        Counted::Everybody => true,
+        Counted::WithValue(_, _) | Counted::OfHousehold(_) => false,
+    }
 }

@@ -86,6 +86,29 @@ impl Search {
         }
     }
 
+    /// Looks for a selection that meets the kept bounds, at no more than `most` nodes, and makes no tree if there is none.
+    pub(crate) fn selection(
+        &mut self,
+        alloc: Global,
+        kept: &[Kept],
+        most: u64,
+        budget: &mut Budget,
+    ) -> Result<Option<Panel>, ProveStop>
+        requires { IsSearch self.old }
+        ensures search { IsSearch self.new }
+        ensures spends { SpendsOn budget.old budget.new }
+    {
+        let rows = kept_spans(alloc, &self.program, kept)?;
+        let spans = self.program.spans();
+        match search(alloc, &mut self.table, spans, &rows, most, budget)? {
+            Found::Point(point) => {
+                let selection = selection_of(alloc, &self.program, &point)?;
+                Ok(Some(selection))
+            }
+            Found::Nothing | Found::Doubt => Ok(None),
+        }
+    }
+
     /// Returns the lines of a tree that shows that no selection meets the kept bounds: one leaf if the classes have no point, else the
     /// tree of a search over single volunteers.
     fn refutation(
@@ -164,7 +187,11 @@ fn numbers(alloc: Global, program: &Program) -> Result<Vec<usize>, AllocError>
 }
 
 /// Returns the selection that has the first members of each column, as many as the point says.
-fn selection_of(alloc: Global, program: &Program, point: &[Narrow]) -> Result<Panel, ProveStop> {
+pub fn selection_of(
+    alloc: Global,
+    program: &Program,
+    point: &[Narrow],
+) -> Result<Panel, ProveStop> {
     program.facts();
     let mut left = Vec::new(alloc);
     for number in point {

@@ -3,9 +3,10 @@
 ghost use Rattle.proof_limits.specs.Budgets.{SpendsOn};
 ghost use Rattle.quota_conflicts.specs.Searches.{IsSearch};
 
-use crate::kept::without;
+use crate::kept::{Kept, SIZE, is_kept, without};
 use crate::lines::{Line, used_bounds};
 use crate::searches::{Search, Tried};
+use define_conflicts::Side;
 use pool_model::{Panel, Pool};
 use proof_limits::{Budget, ProveStop};
 use std::alloc::{AllocError, Global};
@@ -16,7 +17,8 @@ const MOST_TRIES: usize = 2802;
 /// The most nodes at which a search for a selection without one bound looks.
 const MOST_NODES: u64 = 400;
 
-/// Returns the lines of a tree that uses as few bounds as were found, and adds to `witnesses` selections that meet all but one of them.
+/// Returns the lines of a tree that uses as few bounds as were found, and adds to `witnesses` selections that meet all but one of them. If
+/// the size isn't among the bounds, selections of the panel's size are looked for too.
 /// Stops early, with what it has, if the budget is spent or a search stops otherwise. The error is want of memory.
 pub(crate) fn shrunk(
     alloc: Global,
@@ -41,6 +43,7 @@ pub(crate) fn shrunk(
         match search.try_kept(alloc, pool, &others, MOST_NODES, budget) {
             Ok(Tried::Met(witness)) => {
                 witnesses.push(witness)?;
+                push_of_size(alloc, search, others, witnesses, budget)?;
                 place += 1;
             }
             Ok(Tried::Refuted(fewer)) => lines = fewer,
@@ -50,4 +53,32 @@ pub(crate) fn shrunk(
         }
     }
     Ok(lines)
+}
+
+/// Adds a selection of the panel's size that meets the kept bounds, if the size isn't among them and one is found. The error is want of
+/// memory; a search that stops otherwise adds nothing.
+fn push_of_size(
+    alloc: Global,
+    search: &mut Search,
+    kept: Vec<Kept>,
+    witnesses: &mut Vec<Panel>,
+    budget: &mut Budget,
+) -> Result<(), AllocError>
+    requires { IsSearch search.old }
+    ensures search { IsSearch search.new }
+    ensures spends { SpendsOn budget.old budget.new }
+{
+    if is_kept(&kept, SIZE, Side::AtLeast) || is_kept(&kept, SIZE, Side::AtMost) {
+        return Ok(());
+    }
+    let mut sized = kept;
+    for side in [Side::AtLeast, Side::AtMost] {
+        sized.push(Kept { number: SIZE, side })?;
+    }
+    match search.selection(alloc, &sized, MOST_NODES, budget) {
+        Ok(Some(witness)) => witnesses.push(witness)?,
+        Err(ProveStop::OutOfMemory) => return Err(AllocError),
+        Ok(None) | Err(_) => {}
+    }
+    Ok(())
 }

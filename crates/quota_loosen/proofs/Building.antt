@@ -84,7 +84,7 @@ value_is_new pool category_of i d fresh right inside =
     let few : leb 50 (length (take i category_of.values)) ≡ false = lt-leb 50 (length (take i category_of.values)) (omega (arith, length-take i category_of.values)) in
     rw (some, nobody, last, new, good.1, limits, few) refl
 
--- one more value
+-- adding value `i` to the pool with the first `i` values of the category gives the pool with the first `i + 1`
 pub values_grow : (pool : Pool) (category_of : Category) (i : ℕ) (d : BoundedValue) → i < length category_of.values →
     value_added (with_values pool category_of i) (get_or category_of.values i d) ≡ with_values pool category_of (i + 1)
 values_grow pool category_of i d inside =

@@ -39,7 +39,7 @@ pub loosening_from : (pool : Pool) (all : Classes) (counts : List ℕ) → all �
     Some (loosening_for pool (first_panel (classes_of pool) counts)) ≡ least_loosening pool
 loosening_from pool all counts e n = sym (ap (option_map (λ counts. loosening_for pool (first_panel (classes_of pool) counts))) (cheapest_from pool all counts e n))
 
--- a loosening by its parts
+-- a loosening with the cost, the pool and the panel of the cheapest team is the loosening for this team
 pub loosening_is : (pool : Pool) (all : Classes) (counts : List ℕ) (total : ℕ) (made : Pool) (panel : List ℕ) → all ≡ classes_of pool → cheapest_team (classes_of pool) ≡ Some counts → total ≡ cost (classes_of pool) counts →
     panel ≡ first_panel all counts → made ≡ loosened pool panel → record { total = total; pool = made; panel = panel } ≡ loosening_for pool (first_panel (classes_of pool) counts)
 loosening_is pool all counts total made panel e f g h k =

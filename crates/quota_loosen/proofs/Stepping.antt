@@ -140,7 +140,7 @@ parent_stands all depth rest rest' before child after stands there same e f g tr
   least = subst (λ kept. IsLeastCost all after.least kept) (sym f) (subst (λ least. IsLeastCost all least child.kept.items) (sym g) there.least);
 }
 
--- if a search at a front of all classes keeps it, it is at the same front, and knows what it costs
+-- if a search keeps the front of all classes that it is at, it is still at this front, and its `least` is the front's cost
 pub stands_kept : (all : Classes) (depth : ℕ) (rest : List Class) (before after : Search) (least : ℕ) → StandsAt all depth rest before → depth ≡ length all.classes → after.counts.items ≡ before.counts.items →
     after.kept.items ≡ before.counts.items → after.least ≡ Some least → least ≡ sure_cost all (take depth before.counts.items) → after.tally ≡ before.tally → StandsAt all depth rest after
 stands_kept all depth rest before after least stands whole e f g cost_is h =

@@ -63,7 +63,7 @@ fn add_category(
 }
 
 // Returns how many members of the team have the value at `value` of the category at `category`.
-fn number_with(volunteers: &[Volunteer], team: &[usize], category: usize, value: usize) -> usize
+pub fn number_with(volunteers: &[Volunteer], team: &[usize], category: usize, value: usize) -> usize
     requires { IsTrue (list_all (λ i. nat_lt i (length volunteers.now)) team.now) }
     ensures { result ≡ members_with volunteers.now team.now category value }
 {

@@ -1,8 +1,9 @@
 //! The least loosening of a pool.
 
-ghost use Rattle.std.specs.Prelude.{◌≡◌, Some, IfOk};
+ghost use Rattle.std.specs.Prelude.{◌≡◌, Some, IfOk, IsTrue};
 ghost use Rattle.define_loosenings.specs.Costs.{cheapest_team, cost};
 ghost use Rattle.define_loosenings.specs.Loosenings.{loosening_for};
+ghost use Rattle.define_loosenings.specs.Teams.{is_team, team_cost};
 ghost use Rattle.define_searches.specs.Classes.{classes_of};
 ghost use Rattle.define_searches.specs.Compositions.{first_panel as first_panel_of};
 ghost use Rattle.quota_loosen.specs.Answers.{Loosens};
@@ -31,6 +32,25 @@ impl Model for Loosened {
 }
 
 impl Loosened {
+    /// Returns the loosening for a team, which costs `total`: each bound moves just so far that the team meets it.
+    pub fn for_team(
+        alloc: Global,
+        pool: &Pool,
+        team: Panel,
+        total: usize,
+    ) -> Result<Loosened, AllocError>
+        requires team { IsTrue (is_team pool.now team) }
+        requires total { total ≡ team_cost pool.now team }
+        ensures { IfOk result (λ made. made ≡ loosening_for pool.now team) }
+    {
+        let pool = loosened(alloc, pool, &team)?;
+        Ok(Loosened {
+            total,
+            pool,
+            panel: team,
+        })
+    }
+
     /// Returns how far bounds moved in all.
     pub fn total(&self) -> usize
         ensures { result ≡ self.now.total }

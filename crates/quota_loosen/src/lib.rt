@@ -1,8 +1,8 @@
 //! The least loosening of a pool's quotas: the bounds that are moved least in all so that there is a quota panel, by a search under a
 //! budget of visits. Stands on `alike`, which makes the classes, `define_loosenings`, which says what is found and what a visit is, and
-//! `pool_model`. Used by the command `loosen`.
+//! `pool_model`. Used by the command `loosen`, and `loosening_by_proof`.
 //!
-//! Promise: `loosen`. All else is a helper.
+//! Promises: `loosen`, `Loosened::for_team`, and `number_with`. All else is a helper.
 #![tactic(auto)]
 
 mod bounds;
@@ -12,5 +12,6 @@ mod searching;
 mod tallies;
 mod tally;
 
+pub use bounds::number_with;
 pub use least::{Loosened, loosen};
 pub use searching::LoosenStop;

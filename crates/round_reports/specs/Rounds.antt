@@ -42,7 +42,7 @@ pub record KeepsDraw (round : Round) : Type 0 where
   pub agrees : WeightsAgree (bundle_of round)
   pub named : HasTicket round
 
--- this is drawn in the round
+-- `drawn` is what the round drew: nothing until the round is drawn, then what its digits draw from its bundle
 abbrev pub IsDrawnIn : Round → Option Draw → Type 0
 IsDrawnIn Open drawn = drawn ≡ None
 IsDrawnIn (Solved bundle) drawn = drawn ≡ None

@@ -16,11 +16,11 @@ use sealed_draw::{Draw, seal};
 use std::alloc::{AllocError, Global};
 use text_lines::push_line;
 
-/// Returns the report of a round: lines of fields, parted by TAB and each ended by LF. They are the round's number, the title, the phase, the
-/// size of a panel and the number of volunteers; past `Open` the number of the lottery's panels and its total; from the seal on the seal; of a
-/// round that was drawn the digits, the ticket with how many digits were read, and the members; for each value its bounds, how many have it
-/// who aren't gone, and how many members; past `Open` each volunteer's chance in lowest terms; and `end`. Stops exactly if the round has no
-/// pool, for the same reason. Running out of memory is allowed at any time.
+/// Returns the report of a round: lines of fields, parted by TAB and each ended by LF. They are the round's number, the title, the phase,
+/// the size of a panel and the number of volunteers; past `Open` the number of the lottery's panels and its total; from the seal on the
+/// seal; of a round that was drawn the digits, the ticket with how many digits were read, and the members; for each value its bounds, how
+/// many have it who aren't gone, and how many members; past `Open` each volunteer's chance in lowest terms; and `end`. Stops exactly if the
+/// round has no pool, for the same reason. Running out of memory is allowed at any time.
 pub fn round_report(alloc: Global, tables: &Tables, round: usize) -> Result<Vec<u8>, PoolStop>
     ensures { TellsReport (report_of tables.now round) result }
 {

@@ -21,8 +21,8 @@ loop-value_place-preserved c =
     let read : v ≡ get_or values i v = c.value-item.is ∙ ap (λ (all : List BoundedValue). get_or all i v) c.values-value-items.ensures in
     let lines : ℕ × BoundedValue → List (List ℕ) = λ (value_place, value). value_parts value.name (share_of pool.volunteers counts total place value_place value) (sizes_of pool) in
     let added : c.push_value.new.text.items ≡ before ++ text_of (lines (i, v)) =
-    c.in_ok-push_value.ensures ∙ ap (λ name. before ++ text_of (value_parts name c.share_of-share.result c.sizes-sizes.result)) c.name.ensures
-    ∙ ap (λ share. before ++ text_of (value_parts v.name share c.sizes-sizes.result))
+    c.in_ok-push_value.ensures ∙ ap (λ name. before ++ text_of (value_parts name c.share_of-share.result c.sizes_of-sizes.result)) c.name.ensures
+    ∙ ap (λ share. before ++ text_of (value_parts v.name share c.sizes_of-sizes.result))
     (c.share_of-share.ensures.value ∙ ap (λ volunteers. share_of volunteers counts total place i v) c.volunteers.ensures)
-    ∙ ap (λ sizes. before ++ text_of (value_parts v.name (share_of pool.volunteers counts total place i v) sizes)) c.sizes-sizes.ensures in
+    ∙ ap (λ sizes. before ++ text_of (value_parts v.name (share_of pool.volunteers counts total place i v) sizes)) c.sizes_of-sizes.ensures in
     lines_of_each values i v inside read lines c.args.text.now.items before c.push_value.new.text.items c.loop-value_place.invariant added

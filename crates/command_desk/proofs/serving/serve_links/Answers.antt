@@ -8,7 +8,7 @@ use Rattle.command_desk.proofs.Turned.{all_turns, failed_turn, last_turn, no_tur
 use Rattle.command_desk.proofs.serving.serve_links.Goals as goal
 
 pub loop-turn-init : goal.loop-turn-init
-loop-turn-init g c = record { way = no_turn _ _; back = c.requires; none = refl; place = refl }
+loop-turn-init g c = record { way = no_turn _ _; back = c.requires; none = refl; port = refl; place = refl }
 
 pub add-requires : goal.add-requires
 add-requires g c =
@@ -27,6 +27,7 @@ loop-turn-preserved g c =
           c.loop-turn.counts c.add.new.self c.loop-turn._turn c.in-Ok-Some.ended here.way (rw c.in-Ok-Some.field-0-is at c.in-Ok-Some.ensures.turn) c.add.ensures.served c.add.ensures.broken;
       back = c.in-Ok-Some.ensures.back;
       none = c.in-Ok-Some.ensures.none ∙ here.none;
+      port = c.visit_next.ensures.port ∙ here.port;
       place = c.in-Ok-Some.ensures.place ∙ here.place;
     }
 

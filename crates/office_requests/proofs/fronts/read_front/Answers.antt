@@ -1,4 +1,4 @@
-use Rattle.std.proofs.Common.{◌≡◌, ℕ, List, ◌++◌, ◌+◌, ◌-◌, ◌≤◌, ◌∙◌, ap, length, sym, subst, take, rules, arith, length-append}
+use Rattle.std.proofs.Common.{◌≡◌, ℕ, List, ◌++◌, ◌+◌, ◌-◌, ◌≤◌, ◌∙◌, ap, length, refl, sym, subst, take, rules, arith, length-append}
 use Rattle.std.proofs.KnownBytes.{Consumes-trans}
 use Rattle.std.proofs.lemmas.Grind.{common_steps}
 use Rattle.std.proofs.lemmas.List.{length-take, length-take-le}
@@ -11,7 +11,14 @@ use Rattle.office_requests.proofs.fronts.read_front.Goals as goal
 
 pub returns-then-is_err-clause-lost : goal.returns-then-is_err-clause-lost
 returns-then-is_err-clause-lost g c =
-    (c.loop-room.bytes.items ++ take c.in-Ok.count c.read.new.room, Consumes-trans _ _ _ _ _ c.loop-room.invariant.read c.in-Ok.ensures.given.0)
+    let all = c.loop-room.bytes.items ++ take c.in-Ok.count c.read.new.room in
+    let few : length c.read.new.room ≤ c.min-size.result = omega (arith, c.read.auto.room, length-take c.min-size.result c.loop-room.room) in
+    let left : c.min-size.result ≤ most_of_head - length c.loop-room.bytes.items = omega (arith, c.min-size.ensures, c.len-in-loop-room.ensures, c.loop-room.bytes.ok) in
+    let before : length c.loop-room.bytes.items ≤ most_of_head = omega (arith, c.loop-room.invariant.within, c.loop-room.bytes.ok) in (
+      all,
+      Consumes-trans _ _ _ _ _ c.loop-room.invariant.read c.in-Ok.ensures.given.0,
+      within_after c.loop-room.bytes.items c.read.new.room all c.in-Ok.count c.min-size.result most_of_head refl c.in-Ok.ensures.fits.0 few left before,
+    )
 
 pub overflow_add-head : goal.overflow_add-head
 overflow_add-head g c =

@@ -1,7 +1,7 @@
 use Rattle.std.proofs.Common.{◌≡◌, ◌-◌, length, subst, sym, take, arith}
 use Rattle.define_desk.specs.Requests as desk
 use Rattle.office_requests.specs.Askings.{IsAskedOver}
-use Rattle.office_requests.proofs.AskingLaws.{asked_cut, asked_headless, asked_large, asked_no, asked_whole, fits_at, lost_twice, none_left, wanted_ok}
+use Rattle.office_requests.proofs.AskingLaws.{asked_cut, asked_headless, asked_large, asked_no, asked_whole, fits_at, lost_once, lost_twice, none_left, small_body, wanted_ok}
 use Rattle.office_requests.proofs.reading.read_asking.Goals as goal
 
 pub returns-in_default-clause-asking : goal.returns-in_default-clause-asking
@@ -13,13 +13,13 @@ returns-in_default-clause-asking g c =
 
 pub returns-in-TooLarge-clause-asking : goal.returns-in-TooLarge-clause-asking
 returns-in-TooLarge-clause-asking g c =
-    let asks = wanted_ok c.wanted_by.result (take c.in-Some.size c.deref-2.result.now) c.in-Ok.wanted c.in-Ok.is c.wanted_by.ensures in
+    let asks = wanted_ok c.wanted_by.result (take c.in-Some.size c.deref-2.result.now) c.in-Ok.wanted c.in-Ok.is c.wanted_by.ensures.asks in
     asked_large (g.L.Link.left c.args.link.now) (g.L.Link.left c.read_front.new.link) c.in_ok-front.front.bytes.items c.deref-2.result.now c.in-Some.size c.in_ok-front.front.head c.in-Ok.wanted
     c.in_ok-front.ensures.front c.in-Some.is c.deref-2.ensures.value asks c.in-TooLarge.is
 
 pub returns-in-NoRequest-clause-asking : goal.returns-in-NoRequest-clause-asking
 returns-in-NoRequest-clause-asking g c =
-    let asks = wanted_ok c.wanted_by.result (take c.in-Some.size c.deref-2.result.now) c.in-Ok.wanted c.in-Ok.is c.wanted_by.ensures in
+    let asks = wanted_ok c.wanted_by.result (take c.in-Some.size c.deref-2.result.now) c.in-Ok.wanted c.in-Ok.is c.wanted_by.ensures.asks in
     asked_no (g.L.Link.left c.args.link.now) (g.L.Link.left c.read_front.new.link) c.in_ok-front.front.bytes.items c.deref-2.result.now c.in-Some.size c.in_ok-front.front.head c.in-Ok.wanted
     c.in_ok-front.ensures.front c.in-Some.is c.deref-2.ensures.value asks c.in-NoRequest.is
 
@@ -31,24 +31,33 @@ overflow_sub-come g c =
 pub returns-in-Ok-true-clause-asking : goal.returns-in-Ok-true-clause-asking
 returns-in-Ok-true-clause-asking g c =
     let missing : c.saturating_sub.result ≡ c.in-Asks.body - (length c.in_ok-front.front.bytes.items - c.in-Some.size) = omega (arith, c.saturating_sub.ensures, c.len.ensures, c.in_ok-front.front.bytes.ok) in
-    let asks = wanted_ok c.wanted_by.result (take c.in-Some.size c.deref-2.result.now) c.in-Ok.wanted c.in-Ok.is c.wanted_by.ensures in
+    let asks = wanted_ok c.wanted_by.result (take c.in-Some.size c.deref-2.result.now) c.in-Ok.wanted c.in-Ok.is c.wanted_by.ensures.asks in
     asked_whole (g.L.Link.left c.args.link.now) (g.L.Link.left c.read_front.new.link) (g.L.Link.left c.skip.new.link) c.in_ok-front.front.bytes.items c.deref-2.result.now c.in-Some.size c.in_ok-front.front.head
     c.in-Ok.wanted c.in-Asks.request c.in-Asks.body c.saturating_sub.result c.in-Ok-true.field-0 c.in_ok-front.ensures.front c.in-Some.is c.deref-2.ensures.value asks c.in-Asks.is missing
     c.in-Ok-true.ensures.skips c.in-Ok-true.field-0-test
 
 pub returns-in-Ok-true-clause-front : goal.returns-in-Ok-true-clause-front
-returns-in-Ok-true-clause-front g c = lost_twice _ _ _ c.in_ok-front.ensures.lost c.in-Ok-true.ensures.lost
+returns-in-Ok-true-clause-front g c =
+    let missing : c.saturating_sub.result ≡ c.in-Asks.body - (length c.in_ok-front.front.bytes.items - c.in-Some.size) = omega (arith, c.saturating_sub.ensures, c.len.ensures, c.in_ok-front.front.bytes.ok) in
+    lost_twice _ _ _ c.saturating_sub.result c.in-Asks.body (length c.in_ok-front.front.bytes.items - c.in-Some.size) c.in_ok-front.ensures.lost c.in-Ok-true.ensures.lost missing
+    (small_body c.wanted_by.result c.in-Ok.wanted c.in-Asks.request c.in-Asks.body c.in-Ok.is c.wanted_by.ensures.small c.in-Asks.is)
 
 pub returns-in-Ok-false-clause-asking : goal.returns-in-Ok-false-clause-asking
 returns-in-Ok-false-clause-asking g c =
     let missing : c.saturating_sub.result ≡ c.in-Asks.body - (length c.in_ok-front.front.bytes.items - c.in-Some.size) = omega (arith, c.saturating_sub.ensures, c.len.ensures, c.in_ok-front.front.bytes.ok) in
-    let asks = wanted_ok c.wanted_by.result (take c.in-Some.size c.deref-2.result.now) c.in-Ok.wanted c.in-Ok.is c.wanted_by.ensures in
+    let asks = wanted_ok c.wanted_by.result (take c.in-Some.size c.deref-2.result.now) c.in-Ok.wanted c.in-Ok.is c.wanted_by.ensures.asks in
     asked_cut (g.L.Link.left c.args.link.now) (g.L.Link.left c.read_front.new.link) (g.L.Link.left c.skip.new.link) c.in_ok-front.front.bytes.items c.deref-2.result.now c.in-Some.size c.in_ok-front.front.head
     c.in-Ok.wanted c.in-Asks.request c.in-Asks.body c.saturating_sub.result c.in-Ok-false.field-0 c.in_ok-front.ensures.front c.in-Some.is c.deref-2.ensures.value asks c.in-Asks.is missing
     c.in-Ok-false.ensures.skips c.in-Ok-false.field-0-test
 
 pub returns-in-Ok-false-clause-front : goal.returns-in-Ok-false-clause-front
-returns-in-Ok-false-clause-front g c = lost_twice _ _ _ c.in_ok-front.ensures.lost c.in-Ok-false.ensures.lost
+returns-in-Ok-false-clause-front g c =
+    let missing : c.saturating_sub.result ≡ c.in-Asks.body - (length c.in_ok-front.front.bytes.items - c.in-Some.size) = omega (arith, c.saturating_sub.ensures, c.len.ensures, c.in_ok-front.front.bytes.ok) in
+    lost_twice _ _ _ c.saturating_sub.result c.in-Asks.body (length c.in_ok-front.front.bytes.items - c.in-Some.size) c.in_ok-front.ensures.lost c.in-Ok-false.ensures.lost missing
+    (small_body c.wanted_by.result c.in-Ok.wanted c.in-Asks.request c.in-Asks.body c.in-Ok.is c.wanted_by.ensures.small c.in-Asks.is)
 
 pub returns-clause-front : goal.returns-clause-front
-returns-clause-front g c = lost_twice _ _ _ c.in_ok-front.ensures.lost c.in-Err.ensures.lost
+returns-clause-front g c =
+    let missing : c.saturating_sub.result ≡ c.in-Asks.body - (length c.in_ok-front.front.bytes.items - c.in-Some.size) = omega (arith, c.saturating_sub.ensures, c.len.ensures, c.in_ok-front.front.bytes.ok) in
+    lost_twice _ _ _ c.saturating_sub.result c.in-Asks.body (length c.in_ok-front.front.bytes.items - c.in-Some.size) c.in_ok-front.ensures.lost c.in-Err.ensures.lost missing
+    (small_body c.wanted_by.result c.in-Ok.wanted c.in-Asks.request c.in-Asks.body c.in-Ok.is c.wanted_by.ensures.small c.in-Asks.is)

@@ -1,0 +1,2 @@
+pub mod HasBytes
+pub mod Telling

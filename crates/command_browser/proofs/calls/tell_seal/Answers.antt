@@ -1,0 +1,13 @@
+use Rattle.std.proofs.Common.{ℕ, Vec, Global}
+use Rattle.std.proofs.lemmas.Result.{IfOk-weaker}
+use Rattle.command_shell.specs.Formats.{bundle_format}
+use Rattle.command_meanings.specs.Seal.{SealMeans}
+use Rattle.command_browser.proofs.HasBytes.{seal_some, text_some}
+use Rattle.command_browser.proofs.Telling.{told_so}
+use Rattle.command_browser.proofs.calls.tell_seal.Goals as goal
+
+pub tell-requires : goal.tell-requires
+tell-requires c = IfOk-weaker c.text_of.result _ _ (λ text right. text_some bundle_format SealMeans seal_some _ _ right) c.text_of.ensures
+
+pub returns : goal.returns
+returns c = told_so (λ (text : Vec ℕ Global). text.items) _ _ _ _ _ c.text_of.ensures c.tell.ensures.told c.tell.ensures.none c.tell.ensures.alone

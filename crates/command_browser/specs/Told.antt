@@ -1,0 +1,44 @@
+-- What a call tells a page in a browser: the text that the command tells for the same bytes and words, and where it is put. Over the shell's
+-- answers, lines and subjects. The contract of every exported call cites it.
+use Rattle.std.specs.Prelude.{◌≡◌, ◌≤◌, ◌<◌, ℕ, List, length, drop, ◌++◌, codes}
+use Rattle.command_shell.specs.Answers.{IsTheAnswer, RightAnswers, Saying, bytes_of}
+use Rattle.command_shell.specs.Lines.{input_limit, too_long_line}
+use Rattle.command_shell.specs.Subjects.{About, Format}
+
+-- ---- the text
+
+-- the text is that of an answer about the bytes, or the bytes are more than an input may have. `Means` says which answers are right about a
+-- value
+pub data TextAbout {Value : Type 0} (format : Format Value) (Means : Value → Saying → Type 0) (bytes text : List ℕ) : Type 0 where
+  Answers : (answer : Saying) → length bytes ≤ input_limit → About format Means bytes answer → text ≡ bytes_of answer → TextAbout format Means bytes text
+  TooLong : input_limit < length bytes → text ≡ too_long_line → TextAbout format Means bytes text
+
+-- the text that a command of this meaning tells for these bytes: that of the one right answer
+abbrev pub TextOf : {Value : Type 0} → Format Value → (Value → RightAnswers) → List ℕ → List ℕ → Type 0
+TextOf format meaning bytes text = TextAbout format (λ value. IsTheAnswer (meaning value)) bytes text
+
+-- the line for words that are not UTF-8
+abbrev pub words_not_utf8_line : List ℕ
+words_not_utf8_line = codes "error: invalid UTF-8 was detected in one or more arguments\n"
+
+-- the text is right, and the words of the call are UTF-8; or they aren't, and it is the line that says so
+pub data WithWords (AreUtf8 : Type 0) (Right : List ℕ → Type 0) (text : List ℕ) : Type 0 where
+  Read : AreUtf8 → Right text → WithWords AreUtf8 Right text
+  NotUtf8 : (AreUtf8 → ⊥) → text ≡ words_not_utf8_line → WithWords AreUtf8 Right text
+
+-- ---- where it is put
+
+-- the count is the length of the text, which no text has as 0. If the room is long enough, the text is at its beginning, and the rest is as
+-- before; else all of it is as before
+pub record IsPut (text before after : List ℕ) (count : ℕ) : Type 0 where
+  pub whole : count ≡ length text
+  pub some : 1 ≤ count
+  pub fits : count ≤ length before → after ≡ text ++ drop count before
+  pub short : length before < count → after ≡ before
+
+-- how a call ends. `Right` says which texts are right
+pub data Told (Right : List ℕ → Type 0) (before after : List ℕ) (count : ℕ) : Type 0 where
+  -- a right text was told, or the room was too short for it
+  Tells : (text : List ℕ) → Right text → IsPut text before after count → Told Right before after count
+  -- the count is 0: memory was wanting, which may come at any time
+  WantsMemory : count ≡ 0 → after ≡ before → Told Right before after count

@@ -1,0 +1,91 @@
+//! The exported calls. The page lends `room` for the text. The result is the text's length, or 0 for want of memory; the text is put only
+//! if the room is long enough for it.
+
+ghost use Rattle.std.specs.Prelude.{IsUtf8, None};
+ghost use Rattle.command_shell.specs.Formats.{bundle_format, proof_format};
+ghost use Rattle.command_meanings.specs.Draw.{DrawMeans};
+ghost use Rattle.command_meanings.specs.ItsBundle.{BundleMeans};
+ghost use Rattle.command_meanings.specs.Seal.{SealMeans};
+ghost use Rattle.command_meanings.specs.Verify.{VerifyMeans};
+ghost use Rattle.command_page.specs.Inputs.{bundle_or_proof_format};
+ghost use Rattle.command_page.specs.Page.{DrawnPageMeans, PageMeans};
+ghost use Rattle.command_questions.specs.Questions.{QuestionMeans};
+ghost use Rattle.command_questions.specs.declared.questions.Question.TheVariants.{Chances};
+ghost use Rattle.command_browser.specs.Told.{TextOf, Told, WithWords};
+
+use crate::room::tell;
+use crate::texts::{text_of, text_of_draw, text_of_drawn_page};
+use command_bundles::Seal;
+use command_page::Page;
+use command_proofs::{ItsBundle, Verify};
+use command_questions::Question;
+use std::alloc::Global;
+
+/// Tells what `verify` tells of a proof.
+#[unsafe(no_mangle)]
+pub extern "C" fn tell_verify(alloc: Global, proof: &[u8], room: &mut [u8]) -> usize
+    ensures { Told (TextOf proof_format VerifyMeans proof.now) room.old room.new result }
+{
+    tell(text_of(alloc, &Verify, proof), room)
+}
+
+/// Tells what `bundle` tells of a proof: the text of its bundle, or that it has none.
+#[unsafe(no_mangle)]
+pub extern "C" fn tell_bundle(alloc: Global, proof: &[u8], room: &mut [u8]) -> usize
+    ensures { Told (TextOf proof_format BundleMeans proof.now) room.old room.new result }
+{
+    tell(text_of(alloc, &ItsBundle, proof), room)
+}
+
+/// Tells what `seal` tells of a bundle.
+#[unsafe(no_mangle)]
+pub extern "C" fn tell_seal(alloc: Global, bundle: &[u8], room: &mut [u8]) -> usize
+    ensures { Told (TextOf bundle_format SealMeans bundle.now) room.old room.new result }
+{
+    tell(text_of(alloc, &Seal, bundle), room)
+}
+
+/// Tells what `draw` tells of a bundle for this seal and these digits.
+#[unsafe(no_mangle)]
+pub extern "C" fn tell_draw(
+    alloc: Global,
+    bundle: &[u8],
+    seal: &[u8],
+    digits: &[u8],
+    room: &mut [u8],
+) -> usize
+    ensures { Told (WithWords (IsUtf8 seal.now × IsUtf8 digits.now) (TextOf bundle_format (DrawMeans seal.now digits.now) bundle.now))
+        room.old room.new result }
+{
+    tell(text_of_draw(alloc, bundle, seal, digits), room)
+}
+
+/// Tells what `chances` tells of a bundle.
+#[unsafe(no_mangle)]
+pub extern "C" fn tell_chances(alloc: Global, bundle: &[u8], room: &mut [u8]) -> usize
+    ensures { Told (TextOf bundle_format (QuestionMeans Chances) bundle.now) room.old room.new result }
+{
+    tell(text_of(alloc, &Question::Chances, bundle), room)
+}
+
+/// Tells what `page` tells of a bundle or a proof: a whole HTML page, or why there is none.
+#[unsafe(no_mangle)]
+pub extern "C" fn tell_page(alloc: Global, input: &[u8], room: &mut [u8]) -> usize
+    ensures { Told (TextOf bundle_or_proof_format PageMeans input.now) room.old room.new result }
+{
+    tell(text_of(alloc, &Page, input), room)
+}
+
+/// Tells what `page --drawn` tells of a bundle or a proof for these digits.
+#[unsafe(no_mangle)]
+pub extern "C" fn tell_drawn_page(
+    alloc: Global,
+    input: &[u8],
+    digits: &[u8],
+    room: &mut [u8],
+) -> usize
+    ensures { Told (WithWords (IsUtf8 digits.now) (TextOf bundle_or_proof_format (DrawnPageMeans None digits.now) input.now))
+        room.old room.new result }
+{
+    tell(text_of_drawn_page(alloc, input, digits), room)
+}

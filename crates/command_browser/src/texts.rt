@@ -1,0 +1,110 @@
+//! The texts that commands tell for some bytes, as the shell's `call` tells them for a source that holds these bytes.
+
+ghost use Rattle.std.specs.Prelude.{◌≡◌, IfOk, IsUtf8, None};
+ghost use Rattle.command_shell.specs.Answers.{Stops, bytes_of, saying};
+ghost use Rattle.command_shell.specs.declared.status.Cause.TheVariants.{Input};
+ghost use Rattle.command_shell.specs.Formats.{bundle_format};
+ghost use Rattle.command_shell.specs.Lines.{input_line as words_of_input};
+ghost use Rattle.command_shell.specs.Subjects.{About};
+ghost use Rattle.command_meanings.specs.Draw.{DrawMeans};
+ghost use Rattle.command_page.specs.Inputs.{bundle_or_proof_format};
+ghost use Rattle.command_page.specs.Page.{DrawnPageMeans};
+ghost use Rattle.command_browser.specs.Told.{TextAbout, TextOf, WithWords};
+
+use command_bundles::Draw;
+use command_page::DrawnPage;
+use command_shell::{Answer, Cause, Command, Subject, input_line};
+use std::alloc::{AllocError, Global};
+use std::str;
+use text_lines::{TextFault, TextStop};
+
+/// The most bytes that an input may have.
+const INPUT_LIMIT: usize = 16_777_216;
+
+const TOO_LONG_LINE: &[u8] = b"input\t0\t10\n";
+
+const WORDS_NOT_UTF8_LINE: &[u8] = b"error: invalid UTF-8 was detected in one or more arguments\n";
+
+/// Returns the text that `draw` tells about a bundle for this seal and these digits.
+pub(crate) fn text_of_draw(
+    alloc: Global,
+    bundle: &[u8],
+    seal: &[u8],
+    digits: &[u8],
+) -> Result<Vec<u8>, AllocError>
+    ensures { IfOk result (λ text. WithWords (IsUtf8 seal.now × IsUtf8 digits.now)
+        (TextOf bundle_format (DrawMeans seal.now digits.now) bundle.now) text.items) }
+{
+    match (str::from_utf8(seal), str::from_utf8(digits)) {
+        (Ok(seal), Ok(digits)) => text_of(alloc, &Draw { seal, digits }, bundle),
+        _ => Vec::from_slice(alloc, WORDS_NOT_UTF8_LINE),
+    }
+}
+
+/// Returns the text that `page --drawn` tells about a bundle or a proof for these digits.
+pub(crate) fn text_of_drawn_page(
+    alloc: Global,
+    input: &[u8],
+    digits: &[u8],
+) -> Result<Vec<u8>, AllocError>
+    ensures { IfOk result (λ text. WithWords (IsUtf8 digits.now)
+        (TextOf bundle_or_proof_format (DrawnPageMeans None digits.now) input.now) text.items) }
+{
+    match str::from_utf8(digits) {
+        Ok(digits) => text_of(
+            alloc,
+            &DrawnPage {
+                tickets: None,
+                digits,
+            },
+            input,
+        ),
+        Err(_) => Vec::from_slice(alloc, WORDS_NOT_UTF8_LINE),
+    }
+}
+
+/// Returns the text that `command` tells for `bytes`.
+pub(crate) fn text_of<C: Command>(
+    alloc: Global,
+    command: &C,
+    bytes: &[u8],
+) -> Result<Vec<u8>, AllocError>
+    ensures { IfOk result (λ text. TextAbout C.About.format (C.means command.now) bytes.now text.items) }
+{
+    if INPUT_LIMIT < bytes.len() {
+        return Vec::from_slice(alloc, TOO_LONG_LINE);
+    }
+    let answer = answer_about(alloc, command, bytes)?;
+    Ok(text_in(answer))
+}
+
+/// Returns the command's answer about the value that `bytes` spell, or the line of their first fault.
+fn answer_about<C: Command>(alloc: Global, command: &C, bytes: &[u8]) -> Result<Answer, AllocError>
+    ensures { IfOk result (λ answer. About C.About.format (C.means command.now) bytes.now (saying answer)) }
+{
+    match C::About::read(alloc, bytes) {
+        Ok(about) => command.answer(alloc, &about, bytes),
+        Err(TextStop::Fault(fault)) => at_fault(alloc, fault),
+        Err(TextStop::OutOfMemory) => Err(AllocError),
+    }
+}
+
+/// Returns the answer for a text whose first fault is `fault`.
+fn at_fault(alloc: Global, fault: TextFault) -> Result<Answer, AllocError>
+    ensures { IfOk result (λ answer. saying answer ≡ Stops Input (words_of_input (record { line = fault.line; kind = fault.kind }))) }
+{
+    Ok(Answer::Stops {
+        cause: Cause::Input,
+        line: input_line(alloc, fault.line, fault.kind)?,
+    })
+}
+
+/// Returns the text or the line of an answer.
+fn text_in(answer: Answer) -> Vec<u8>
+    ensures { result.items ≡ bytes_of (saying answer) }
+{
+    match answer {
+        Answer::Prints { printed: _, text } => text,
+        Answer::Stops { cause: _, line } => line,
+    }
+}

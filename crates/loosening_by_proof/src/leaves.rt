@@ -1,0 +1,71 @@
+//! Makes a leaf of the multipliers by which a table refutes that few misses will do. No promise: `bounds` decides.
+
+use crate::bounds::Leaf;
+use define_conflicts::{Counted, Quota, Side, WeightedQuota};
+use proof_limits::Narrow;
+use proof_program::Program;
+use std::alloc::{AllocError, Global};
+
+/// A pool has at most 20 categories with 50 values, each with two quotas.
+const MOST_VALUE_QUOTAS: usize = 2000;
+
+/// Returns the leaf of the multipliers of a program's rows. `counted` has whom each constraint counts, by its number.
+pub(crate) fn leaf_of(
+    alloc: Global,
+    program: &Program,
+    counted: &[Counted],
+    multipliers: &[Narrow],
+) -> Result<Leaf, AllocError> {
+    let mut values = vec![in alloc; 0; MOST_VALUE_QUOTAS]?;
+    let mut met = Vec::new(alloc);
+    for (row, multiplier) in program.rows().iter().zip(multipliers) {
+        if multiplier.is_zero() {
+            continue;
+        }
+        let side = side_of(*multiplier);
+        let weight = weight_of(*multiplier);
+        match counted.get(row.number()) {
+            Some(Counted::WithValue(_, _)) => put(&mut values, row.number(), side, weight),
+            Some(counted) => {
+                let quota = Quota {
+                    counted: *counted,
+                    side,
+                };
+                met.push(WeightedQuota { quota, weight })?;
+            }
+            None => {}
+        }
+    }
+    Ok(Leaf { values, met })
+}
+
+/// Writes the weight of a value's quota. The constraints of values are numbered from 1 on, and each has two quotas.
+fn put(values: &mut [usize], number: usize, side: Side, weight: usize) {
+    if let Some(place) = place_of(number, side) {
+        if let Some(own) = values.get_mut(place) {
+            *own = weight;
+        }
+    }
+}
+
+fn place_of(number: usize, side: Side) -> Option<usize> {
+    let first = number.checked_sub(1)?.checked_mul(2)?;
+    match side {
+        Side::AtLeast => Some(first),
+        Side::AtMost => first.checked_add(1),
+    }
+}
+
+/// Returns the side of the bound that a multiplier is of.
+fn side_of(multiplier: Narrow) -> Side {
+    if multiplier.get() < 0 {
+        Side::AtLeast
+    } else {
+        Side::AtMost
+    }
+}
+
+/// Returns the absolute value of a multiplier.
+fn weight_of(multiplier: Narrow) -> usize {
+    usize::try_from(multiplier.get().unsigned_abs()).unwrap_or(0)
+}

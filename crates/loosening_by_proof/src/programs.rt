@@ -1,0 +1,96 @@
+//! The table of a pool's program in which a value's number may miss its bounds: two columns for each value, by how many members it is
+//! wanting and by how many it is too great, and a last row, by how many it is in all. Promises: the sizes.
+
+ghost use Rattle.std.specs.Prelude.{◌≡◌, length, IfOk, OnOk};
+ghost use Rattle.loosening_by_proof.specs.Searches.{AreSizes};
+
+use define_conflicts::Counted;
+use proof_limits::{Narrow, ProveStop, Span};
+use proof_program::Program;
+use proof_table::Table;
+use std::alloc::{AllocError, Global};
+
+/// The greatest number by which a bound may be missed in the table. It is never reached: no pool has more than 400 volunteers, and no bound
+/// passes 999.
+const MOST_MISSES: u32 = 1000000;
+
+/// The part of the goal of a column of misses: a run begins with none.
+const FEW_MISSES: i64 = -2;
+
+/// Adds the columns of misses and the row of their sum to a program's table, and their spans to those of the program.
+pub(crate) fn add_misses(
+    alloc: Global,
+    program: &Program,
+    counted: &[Counted],
+    table: &mut Table,
+    columns: &mut Vec<Span>,
+    rows: &mut Vec<Span>,
+) -> Result<(), ProveStop>
+    requires { AreSizes table.old columns.old.items rows.old.items }
+    ensures { OnOk result (AreSizes table.new columns.new.items rows.new.items) }
+{
+    for (row, quota) in program.rows().iter().enumerate() {
+        if let Some(Counted::WithValue(_, _)) = counted.get(quota.number()) {
+            add_column(alloc, table, columns, row, Narrow::ONE)?;
+            add_column(alloc, table, columns, row, -Narrow::ONE)?;
+        }
+    }
+    let sum = sum_of_misses(alloc, table.columns(), program.columns())?;
+    table.add_row(&sum)?;
+    rows.push(Span::reaching(Narrow::ZERO, Narrow::from(MOST_MISSES)))?;
+    let parts = parts(alloc, table.columns(), program.columns())?;
+    table.aim(&parts, 1)
+}
+
+/// Adds a column of misses, with this entry in a row.
+fn add_column(
+    alloc: Global,
+    table: &mut Table,
+    columns: &mut Vec<Span>,
+    row: usize,
+    entry: Narrow,
+) -> Result<(), ProveStop>
+    requires { table.old.columns ≡ length columns.old.items }
+    ensures columns { OnOk result (table.new.columns ≡ length columns.new.items) }
+    ensures rows { OnOk result (table.new.rows ≡ table.old.rows) }
+{
+    let entries = unit(alloc, table.rows(), row, entry)?;
+    table.add_column(&entries, FEW_MISSES)?;
+    columns.push(Span::reaching(Narrow::ZERO, Narrow::from(MOST_MISSES)))?;
+    Ok(())
+}
+
+/// Returns a list of zeros, but for `entry` at `place`.
+fn unit(alloc: Global, count: usize, place: usize, entry: Narrow) -> Result<Vec<Narrow>, AllocError>
+    ensures { IfOk result (λ entries. length entries.items ≡ count) }
+{
+    let mut entries = vec![in alloc; Narrow::ZERO; count]?;
+    if place < entries.len() {
+        entries[place] = entry;
+    }
+    Ok(entries)
+}
+
+/// Returns the coefficients of the sum of all misses: 0 for the first `volunteers` columns, and 1 for the others.
+fn sum_of_misses(
+    alloc: Global,
+    columns: usize,
+    volunteers: usize,
+) -> Result<Vec<Narrow>, AllocError>
+    ensures { IfOk result (λ sum. length sum.items ≡ columns) }
+{
+    let mut sum = vec![in alloc; Narrow::ONE; columns]?;
+    for column in 0..volunteers.min(columns) {
+        sum[column] = Narrow::ZERO;
+    }
+    Ok(sum)
+}
+
+/// Returns the parts of the goal: 0 for the first `volunteers` columns.
+fn parts(alloc: Global, columns: usize, volunteers: usize) -> Result<Vec<i64>, AllocError> {
+    let mut parts = Vec::new(alloc);
+    for column in 0..columns {
+        parts.push(if column < volunteers { 0 } else { FEW_MISSES })?;
+    }
+    Ok(parts)
+}

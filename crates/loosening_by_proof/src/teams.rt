@@ -1,0 +1,124 @@
+//! Whether a panel is a team of a pool, and what a team costs.
+
+ghost use Rattle.std.specs.Prelude.{◌≡◌, IsTrue, nat_lt, count_by, length, sum_by, IfSome};
+ghost use Rattle.std.specs.List.{list_all, enumerate_from};
+ghost use Rattle.define_pools.specs.Lists.{includes};
+ghost use Rattle.define_pools.specs.Pool.{allows, keeps_households, keeps_standings, members_with, share_household as share};
+ghost use Rattle.define_loosenings.specs.Teams.{is_team as is_team_of, missed_by as missed_by_number, team_cost as team_cost_of};
+
+use pool_model::{BoundedValue, Category, Panel, Pool, Standing, Volunteer, share_household};
+use quota_loosen::number_with;
+
+/// True if the panel is a team of the pool: it has the pool's size, its members are volunteers, it has everyone who is seated and no one
+/// who is gone, and no two members share a household.
+pub fn is_team(pool: &Pool, panel: &Panel) -> bool
+    ensures { result ≡ is_team_of pool.now panel.now }
+{
+    let members = panel.members();
+    members.len() == pool.size()
+        && are_below(members, pool.volunteers().len())
+        && keep_standings(pool.volunteers(), members)
+        && keep_households(pool.volunteers(), members)
+}
+
+fn are_below(members: &[usize], count: usize) -> bool
+    ensures { result ≡ list_all (λ i. nat_lt i count) members.now }
+{
+    members.iter().all(|i| *i < count)
+}
+
+fn keep_standings(volunteers: &[Volunteer], members: &[usize]) -> bool
+    ensures { result ≡ keeps_standings volunteers.now members.now }
+{
+    volunteers.iter().enumerate().all(|(i, volunteer)| permits(
+        volunteer.standing(),
+        is_member(members, i),
+    ))
+}
+
+fn is_member(members: &[usize], i: usize) -> bool
+    ensures { result ≡ includes members.now i }
+{
+    members.iter().any(|member| *member == i)
+}
+
+fn permits(standing: Standing, is_in: bool) -> bool
+    ensures { result ≡ allows standing is_in }
+{
+    match standing {
+        Standing::Open => true,
+        Standing::Seated => is_in,
+        Standing::Gone => !is_in,
+    }
+}
+
+fn keep_households(volunteers: &[Volunteer], members: &[usize]) -> bool
+    ensures { result ≡ keeps_households volunteers.now members.now }
+{
+    members
+        .iter()
+        .all(|i| number_of_household(volunteers, members, *i) <= 1)
+}
+
+/// Returns how many members are of the household of volunteer `i`.
+fn number_of_household(volunteers: &[Volunteer], members: &[usize], i: usize) -> usize
+    ensures { result ≡ count_by (share volunteers.now i) members.now }
+{
+    members
+        .iter()
+        .filter(|j| share_household(volunteers, i, **j))
+        .count()
+}
+
+/// Returns what a team costs, or None if that doesn't fit.
+pub fn team_cost(pool: &Pool, team: &Panel) -> Option<usize>
+    requires { IsTrue (is_team_of pool.now team.now) }
+    ensures { IfSome result (λ cost. cost ≡ team_cost_of pool.now team.now) }
+{
+    cost(pool.categories(), pool.volunteers(), team.members())
+}
+
+/// Returns the sum over the values of all categories of how far the members miss their bounds.
+fn cost(categories: &[Category], volunteers: &[Volunteer], members: &[usize]) -> Option<usize>
+    requires { IsTrue (list_all (λ i. nat_lt i (length volunteers.now)) members.now) }
+    ensures { IfSome result (λ cost. cost ≡ sum_by (λ (c, category).
+        sum_by (λ (v, value). missed_by_number value.lower value.upper (members_with volunteers.now members.now c v)) (enumerate_from 0 category.values))
+        (enumerate_from 0 categories.now)) }
+{
+    let mut sum: usize = 0;
+    for (c, category) in categories.iter().enumerate() {
+        let missed = category_cost(category.values(), volunteers, members, c)?;
+        sum = sum.checked_add(missed)?;
+    }
+    Some(sum)
+}
+
+/// Returns the sum over the values of a category of how far the members miss their bounds.
+fn category_cost(
+    values: &[BoundedValue],
+    volunteers: &[Volunteer],
+    members: &[usize],
+    category: usize,
+) -> Option<usize>
+    requires { IsTrue (list_all (λ i. nat_lt i (length volunteers.now)) members.now) }
+    ensures { IfSome result (λ cost. cost ≡
+        sum_by (λ (v, value). missed_by_number value.lower value.upper (members_with volunteers.now members.now category v)) (enumerate_from 0 values.now)) }
+{
+    let mut sum: usize = 0;
+    for (v, value) in values.iter().enumerate() {
+        let number = number_with(volunteers, members, category, v);
+        let missed = missed_by(value, number)?;
+        sum = sum.checked_add(missed)?;
+    }
+    Some(sum)
+}
+
+/// Returns how far a number is below the least or above the greatest number of a value.
+fn missed_by(value: &BoundedValue, number: usize) -> Option<usize>
+    ensures { IfSome result (λ missed. missed ≡ missed_by_number value.now.lower value.now.upper number) }
+{
+    value
+        .lower()
+        .saturating_sub(number)
+        .checked_add(number.saturating_sub(value.upper()))
+}
