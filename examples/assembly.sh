@@ -3,8 +3,9 @@
 #
 #     examples/assembly.sh FOLDER [PEOPLE]
 #
-# All files go into FOLDER, which is new. PEOPLE is the table of the people. The variable PROGRAM names the program; without it, it is
-# ./sortition of this repository. Stops at the first command that refuses. docs/CLERK.md explains each step.
+# All files go into FOLDER, which is new; after a failure remove it. PEOPLE is the table of the people, with the columns of ours. The variable
+# PROGRAM names the program; without it, it is ./sortition of this repository. Stops at the first command that refuses. docs/CLERK.md explains
+# each step.
 set -eu
 here=$(dirname "$0")
 folder=${1:?"usage: examples/assembly.sh FOLDER [PEOPLE]"}

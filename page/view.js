@@ -106,6 +106,7 @@ async function check(file) {
   part('verdict').replaceChildren(element('p', 'Checking …'));
   part('name').textContent = `${file.name}, ${file.size.toLocaleString('en')} bytes`;
   bundle = null;
+  hideBundle();
   try {
     const bytes = new Uint8Array(await file.slice(0, MOST_BYTES + 1).arrayBuffer());
     const call = await checker;
@@ -129,8 +130,10 @@ async function check(file) {
 
 // Shows the panel that the digits draw.
 async function draw() {
+  const turn = chosen;
   try {
     const call = await checker;
+    if (turn !== chosen || bundle === null) return;
     const seal = encoder.encode(part('given').value.trim());
     const digits = encoder.encode(part('digits').value.trim());
     const text = decoder.decode(call('tell_draw', bundle, seal, digits));
@@ -142,11 +145,19 @@ async function draw() {
   }
 }
 
+// Takes a panel off the page that other digits or another seal drew.
+function forgetDrawn() {
+  compareSeals();
+  if (!part('drawn').childElementCount) return;
+  part('drawn').replaceChildren();
+  if (bundle !== null) showPicture('tell_page');
+}
+
 function begin() {
   const input = part('file');
   const drop = part('drop');
   input.addEventListener('change', () => input.files.length && check(input.files[0]));
-  part('given').addEventListener('input', compareSeals);
+  for (const id of ['given', 'digits']) part(id).addEventListener('input', forgetDrawn);
   part('dice').addEventListener('submit', event => {
     event.preventDefault();
     draw();

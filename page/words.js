@@ -40,6 +40,11 @@ const REASONS = {
   13: 'The cap and the weights of the stage are too great.',
 };
 
+// The reasons of a proof that there is no panel, if their words are others.
+const REASONS_OF_NONE = {
+  12: 'A line doesn’t show that there is no panel, or names a constraint that isn’t there.',
+};
+
 // Reasons behind which the number of a line of the proof is told; behind the others those of volunteers are.
 const TELLS_LINE = new Set(['11', '12']);
 
@@ -61,11 +66,13 @@ function inputWords(fields, what) {
 function refusedWords(fields, ids) {
   const [, stage, reason, ...shown] = fields;
   const at = stage === '0' ? '' : ` at stage ${stage}`;
-  const why = REASONS[reason] ?? `The reason has the number ${reason}.`;
+  const why = (stage === '0' && REASONS_OF_NONE[reason]) || (REASONS[reason] ?? `The reason has the number ${reason}.`);
   const by = !shown.length ? ''
     : TELLS_LINE.has(reason) ? ` It is line ${shown[0]} of the file.`
     : ` Shown by: ${shown.map(number => ids[Number(number)] ?? number).join(', ')}.`;
-  const only = Number(reason) >= 11
+  const only = stage === '0' && Number(reason) >= 11
+    ? 'This proof doesn’t show that there is no panel. Another proof may show it.'
+    : Number(reason) >= 11
     ? 'This proof doesn’t show that the lottery is right. That says nothing against the lottery; another proof may show it.'
     : Number(reason) >= 4
       ? 'The lottery may be right nevertheless, by other stages.'

@@ -65,7 +65,7 @@ pub(crate) const LEAD: &[u8] =
 
 /// The draw, to its members: the digits, the tickets in all, how many digits were read, the ticket, and the seal.
 pub(crate) const DRAWN: &[u8] = b"<h2>The panel that the digits draw</h2>
-<p>The digits of the dice are <code>~</code>. There are <strong>~</strong> tickets in all, which are numbered from 0. The first <strong>~</strong> digits were read, and name the ticket <strong>~</strong>. The seal of the lottery is <code>~</code>.</p>";
+<p>The digits of the dice are <code>~</code>. There are <strong>~</strong> tickets in all, which are numbered from 0. Digits that were read: <strong>~</strong>. They name the ticket <strong>~</strong>. The seal of the lottery is <code>~</code>.</p>";
 
 /// How to check a draw in the lottery's own tickets.
 pub(crate) const CHECK: &[u8] =
@@ -128,7 +128,7 @@ pub(crate) const END_OF_CATEGORY: &[u8] = b"</table>";
 
 /// The words above the curve: the least and the greatest chance; the equal chance, how many have it, and for how many seats; how many are seated, and how many are gone.
 pub(crate) const CURVE_WORDS: &[u8] = b"<h2>The chances</h2>
-<p>The chances go from ~ to ~. A plain equal lottery, which looks at no category and at no household, would give ~ to each of the ~ volunteers who are neither seated nor gone, for ~ seats. Of the others ~ are seated, with a seat for sure, and ~ are gone, with none.</p>";
+<p>The chances go from ~ to ~. A plain equal lottery, which looks at no category and at no household, would give ~ to each volunteer who is neither seated nor gone (volunteers: ~, seats for them: ~). Seated, with a seat for sure: ~. Gone, with none: ~.</p>";
 
 /// Above the points of the curve: the width of the picture, and the level lines of the equal lottery: the end of the first, the start, height and end of the second, and the start and end of the third.
 pub(crate) const CURVE: &[u8] = b"<figure>
@@ -168,9 +168,9 @@ pub(crate) const CLOSING: &[u8] = b"</tbody>
 <h2>How to check this page</h2>
 <ol>
 <li><code>sortition seal</code> reads the bundle and prints its seal. So does <code>sha256sum</code>. Both print the one above.</li>
-<li><code>sortition page</code> reads the bundle and prints this page again, byte for byte, with a heading of its own if this one names a round; give it <code>--drawn</code> and the digits if the page shows a panel that they draw. <code>sortition chances</code> prints the same chances.</li>
-<li><code>sortition bundle</code> reads the proof that was published with the bundle, and prints this bundle: its seal is the one above. <code>sortition verify</code> reads the same proof. If it prints <code>valid</code>, every panel meets the quotas, and no other lottery over such panels gives a greater least chance, or the same least chance and a greater second one, and so on.</li>
-<li>When the dice are thrown, anybody can read their digits. <code>sortition draw</code> reads the bundle, is given the seal and the digits, and prints the panel.</li>
+<li><code>sortition page</code> reads the bundle and prints this page again, but for the title and the heading if this one names a round. If the page shows a draw, give it <code>--drawn</code> and the digits, and <code>--tickets</code> and the number of tickets if this isn't the lottery's own. <code>sortition chances</code> prints the same chances.</li>
+<li>If a proof was published with the bundle, <code>sortition bundle</code> reads it and prints this bundle: its seal is the one above. <code>sortition verify</code> reads the same proof. If it prints <code>valid</code>, every panel meets the quotas, and no other lottery over such panels gives a greater least chance, or the same least chance and a greater second one, and so on.</li>
+<li>When the dice are thrown, anybody can read their digits. <code>sortition draw</code> reads the bundle, is given the seal and the digits, and prints the panel; <code>sortition short-draw</code> does so in a round number of tickets.</li>
 </ol>
 </main>
 </body>

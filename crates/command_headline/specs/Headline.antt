@@ -355,8 +355,8 @@ WrongAlone (Some (asks.Check it)) told = HeldNoText bundle_format told
 -- `make` and words that ask for nothing never have status 3; for imports see `TextIsWrong`
 WrongAlone other told = ⊥
 
--- status 4: an operation or a total passed its limit, and errs gained the line that says which. For `prove` and `why` the line may name any
--- operation whose result is too great, not only one of the run
+-- status 4: an operation or a total passed its limit, and errs gained the line that says which. For `prove`, `why` and `loosen-by-proof` the
+-- line may name any operation whose result is too great, not only one of the run
 abbrev pub PassedAlone : Option Asked → Told → Type 0
 PassedAlone (Some (asks.Lottery it)) told = (pool : Pool) × HeldPool told.source pool × (line : List ℕ) × GainsLine told.errs line × PassesWidth it.limits pool line
 PassedAlone (Some (asks.Make it)) told = (line : List ℕ) × GainsLine told.errs line × PassesWidth it.limits (made_pool it.seed it.volunteers) line
@@ -365,8 +365,8 @@ PassedAlone (Some (asks.LoosenByProof it)) told = (line : List ℕ) × GainsLine
 PassedAlone (Some (asks.Why it)) told = (line : List ℕ) × GainsLine told.errs line × PassesProofWidth line
 PassedAlone other told = ⊥
 
--- status 5: a budget was spent, and errs gained the line that says which. For `prove` and `why`
--- nothing says what a search leaves of its budget, so each of their lines is right at any time
+-- status 5: a budget was spent, and errs gained the line that says which. For `prove`, `why` and `loosen-by-proof` nothing says what a search
+-- leaves of its budget, so each of their lines is right at any time
 abbrev pub SpentAlone : Option Asked → Told → Type 0
 SpentAlone (Some (asks.Panel it)) told = (pool : Pool) × HeldPool told.source pool × (line : List ℕ) × GainsLine told.errs line × SpendsVisits it.nodes pool line
 SpentAlone (Some (asks.Loosen it)) told = (pool : Pool) × HeldPool told.source pool × (line : List ℕ) × GainsLine told.errs line × SpendsSearch it.nodes pool line
@@ -522,7 +522,7 @@ NumberPassed (Some (asks.ProveRound store proving)) told =
     (pool : Pool) × IsRoundPool proving.round told pool × (line : List ℕ) × GainsLine told.call.errs line × PassesProofWidth line
 NumberPassed other told = PassedAlone other told.call
 
--- status 5: a budget was spent. Over a store only `solve` and `prove` of an open round can end with it. For `prove` and `why` alone see
+-- status 5: a budget was spent. Over a store only `solve` and `prove` of an open round can end with it. For commands without a store see
 -- `SpentAlone`
 abbrev pub BudgetSpent : Option Asked → StoreTold → Type 0
 BudgetSpent (Some (asks.Step store (steps.Solve round limits workers))) told =
@@ -575,7 +575,7 @@ pub record Keeps (it : Option Asked) (told : StoreTold) : Type 0 where
   pub text : told.call.status ≡ 3 → TextIsWrong it told
   -- status 4 comes only if a number passed its limit
   pub number : told.call.status ≡ 4 → NumberPassed it told
-  -- status 5 comes only if a budget was spent; see `SpentAlone` for `prove` and `why`
+  -- status 5 comes only if a budget was spent; see `SpentAlone` for `prove`, `why` and `loosen-by-proof`
   pub budget : told.call.status ≡ 5 → BudgetSpent it told
   -- status 6 comes only if a rule was broken
   pub rule : told.call.status ≡ 6 → RuleBroken it told
@@ -626,7 +626,7 @@ abbrev pub is_serve_status : ℕ → Bool
 is_serve_status number = list_any (λ status. number == status) (0 ∷ 8 ∷ 9 ∷ 10 ∷ 12 ∷ [])
 
 pub record KeepsDesk (path : List ℕ) (port connections : ℕ) (told : DeskTold) : Type 0 where
-  -- status 0: links that came to the port were attended and counted
+  -- status 0: links were attended and counted, and the door listens at the port
   pub done : told.store.call.status ≡ 0 → TellsServed path port connections told
   -- status 8 comes only if out counted a fault, and what the visits changed is kept
   pub write_fault : told.store.call.status ≡ 8 → HasFaulted told.store.call.out × Serves path connections told

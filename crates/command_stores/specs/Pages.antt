@@ -14,7 +14,8 @@ abbrev pub title_of : Option Charter → List ℕ
 title_of None = []
 title_of (Some charter) = charter.title
 
--- the part about the draw of a round whose bundle has this seal. A round is drawn from all tickets of its lottery
+-- the part about the draw of a round whose bundle has this seal. A round is drawn from all tickets of its lottery.
+-- Who dropped out since is in the report, not here
 abbrev pub draw_of_round : Round → List ℕ → List ℕ
 draw_of_round Open seal = []
 draw_of_round (Solved bundle) seal = []
